@@ -1,0 +1,3 @@
+pub mod Raised
+pub mod Told
+pub mod Updates

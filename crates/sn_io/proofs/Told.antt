@@ -1,0 +1,32 @@
+use Rattle.std.proofs.Common.{◌≡◌, ℕ, ◌+◌, ◌-◌, List, Option, None, Some, ◌++◌, length, take, drop, is_some, IfSome, IsSomeAnd, refl, ap, subst, ◌∙◌, sym, append_assoc, length-drop, arith}
+use Rattle.std.proofs.Math.Seq.{take-add}
+use Rattle.std.proofs.lemmas.List.{take_all}
+use Rattle.std.specs.FinMap.{get}
+use Rattle.std.specs.Io.KnownBytes.{append_known}
+use Rattle.sn_io.specs.Counts.{ByName}
+use Rattle.sn_io.specs.Inputs.{told_file}
+
+-- what `&piece[done..]` has
+pub rest_is : (piece : List ℕ) (done : ℕ) → take (length piece - done) (drop done piece) ≡ drop done piece
+rest_is piece done = take_all (length piece - done) (drop done piece) (omega (arith, length-drop done piece))
+
+-- a front of the rest goes out behind the front that went out
+pub told_more : (told : Option (List ℕ)) (piece : List ℕ) (done more : ℕ) → append_known (append_known told (take done piece)) (take more (take (length piece - done) (drop done piece))) ≡ append_known told (take (done + more) piece)
+told_more None piece done more = refl
+told_more (Some out) piece done more = ap (λ ys. Some ys) (append_assoc out (take done piece) (take more (take (length piece - done) (drop done piece))) ∙ ap (λ ys. out ++ ys) (ap (λ ys. take done piece ++ take more ys) (rest_is piece done) ∙ sym (take-add done more piece)))
+
+-- a file that is told has a known name
+pub told_known : (told now : Option (ByName (List ℕ))) (counts : ByName ℕ) (name : List ℕ) (P : List ℕ → Type 0) → now ≡ told → ((files : ByName (List ℕ)) (other : List ℕ) → now ≡ Some files → is_some (get files other) ≡ is_some (get counts other)) → IsSomeAnd (told_file told name) P → get counts name ≡ None → ⊥
+told_known None now counts name P same law here unknown = here
+told_known (Some files) now counts name P same law here unknown =
+    let known : is_some (get files name) ≡ is_some (get counts name) = law files name same in
+    let missing : is_some (get counts name) ≡ is_some {T = ℕ} None = ap is_some unknown in
+    elim (get files name) as (λ o. get files name ≡ o → IsSomeAnd o P → ⊥) [
+      | None ↦ λ _ none. none
+      | Some file ↦ λ is _. let held : is_some (get files name) ≡ is_some (Some file) = ap is_some is in cc
+    ] refl here
+
+-- what holds of a value holds of the told one that it equals
+pub told_is : {X : Type 0} (P : X → Type 0) (told : Option X) (x y : X) → y ≡ x → IfSome told (λ z. x ≡ z) → P y → IfSome told P
+told_is P None x y e same h = tt
+told_is P (Some z) x y e same h = subst P (e ∙ same) h

@@ -1,0 +1,5 @@
+pub mod Counts
+pub mod Entries
+pub mod Inputs
+pub mod Known
+pub mod MemSink

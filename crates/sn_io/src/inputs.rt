@@ -1,0 +1,94 @@
+//! Files that are read by name, with a count of faults for each name.
+ghost use Rattle.std.specs.Prelude.{◌≡◌, ℕ, ◌<◌, ◌≤◌, ◌↔◌, ◌⊎◌, List, Option, None, Some, is_some, length, IfOk, OnErr, IfSome, IsSomeAnd, IsErrOf, IsOkUnless};
+ghost use Rattle.std.specs.FinMap.{get};
+ghost use Rattle.sn_io.specs.Counts.{ByName, OnlyRises, RoseAt};
+ghost use Rattle.sn_io.specs.Inputs.{Reads, told_file};
+
+use sn_base::seq::Seq;
+use std::alloc::Global;
+
+/// Why a read gave no bytes.
+#[derive(Clone, Copy, Debug, PartialEq, Eq)]
+pub enum InputFault {
+    /// The read failed, and the name's count rose.
+    Failed,
+    /// The name isn't known.
+    Missing,
+}
+
+/// Files that are read by name. Reading changes nothing that is told or known, and no count falls.
+pub trait Inputs {
+    /// What each file holds, where that is told.
+    ghost told: { Self → Option (ByName (List ℕ)) };
+
+    /// The known names, each with the number of its faults.
+    ghost faults: { Self → ByName ℕ };
+
+    /// Reads bytes of a file from the place `at` on into the front of `into`, and says how many.
+    fn read_at(&mut self, name: &str, at: u64, into: &mut [u8]) -> Result<usize, InputFault>
+        ensures told { told self.new ≡ told self.old }
+        ensures faults { OnlyRises name.now (faults self.old) (faults self.new) }
+        ensures missing { IsErrOf result InputFault.Missing ↔ (get (faults self.old) name.now ≡ None) }
+        ensures unchanged { IsErrOf result InputFault.Missing → self.new ≡ self.old }
+        ensures failed { IsErrOf result InputFault.Failed → RoseAt name.now (faults self.old) (faults self.new) }
+        ensures untouched { OnErr result (into.new ≡ into.old) }
+        ensures within { IfOk result (λ n. n ≤ length into.old) }
+        ensures bytes { IfOk result (λ n. IfSome (told_file (told self.old) name.now) (λ file. Reads file at n into.old into.new)) };
+
+    /// Where contents are told, the names held are the names known.
+    ghost same_names: { (s : Self) (files : ByName (List ℕ)) (name : List ℕ) → told s ≡ Some files → is_some (get files name) ≡ is_some (get (faults s) name) };
+}
+
+/// Why a file isn't read whole.
+#[derive(Clone, Copy, Debug, PartialEq, Eq)]
+pub enum ReadError {
+    /// The name isn't known.
+    Missing,
+    /// A read failed, and the name's count rose.
+    ReadFault,
+    /// The file has more bytes than the limit.
+    TooLarge,
+    /// Want of memory.
+    Memory,
+}
+
+/// Reads a whole file of at most `limit` bytes.
+pub fn read_whole<I: Inputs>(
+    alloc: Global,
+    files: &mut I,
+    name: &str,
+    limit: u64,
+) -> Result<Seq<u8>, ReadError>
+    ensures bytes { IfOk result (λ bytes. IfSome (told_file (I.told files.old) name.now) (λ file. bytes ≡ file)) }
+    ensures most { IfOk result (λ bytes. length bytes ≤ limit) }
+    ensures whole { IsSomeAnd (told_file (I.told files.old) name.now) (λ file. length file ≤ limit) → ¬ RoseAt name.now (I.faults files.old) (I.faults files.new) → IsOkUnless result ReadError.Memory }
+
+    ensures missing { IsErrOf result ReadError.Missing ↔ (get (I.faults files.old) name.now ≡ None) }
+    ensures unchanged { IsErrOf result ReadError.Missing → files.new ≡ files.old }
+    ensures fault { IsErrOf result ReadError.ReadFault → RoseAt name.now (I.faults files.old) (I.faults files.new) }
+    ensures large { IsErrOf result ReadError.TooLarge → IfSome (told_file (I.told files.old) name.now) (λ file. limit < length file) }
+
+    // `ReadFault` and `Memory` go before `TooLarge`.
+    ensures is_large { IsSomeAnd (told_file (I.told files.old) name.now) (λ file. limit < length file) → IsErrOf result ReadError.TooLarge ⊎ (IsErrOf result ReadError.ReadFault ⊎ IsErrOf result ReadError.Memory) }
+
+    ensures told { I.told files.new ≡ I.told files.old }
+    ensures faults { OnlyRises name.now (I.faults files.old) (I.faults files.new) }
+{
+    let mut bytes = Vec::new(alloc);
+    let mut piece = [0; 65536];
+    loop {
+        match files.read_at(name, bytes.len() as u64, &mut piece) {
+            Ok(0) => return Ok(Seq::from_vec(bytes)),
+            Ok(count) => {
+                if count as u64 > limit - bytes.len() as u64 {
+                    return Err(ReadError::TooLarge);
+                }
+                if bytes.extend_from_slice(&piece[..count]).is_err() {
+                    return Err(ReadError::Memory);
+                }
+            }
+            Err(InputFault::Failed) => return Err(ReadError::ReadFault),
+            Err(InputFault::Missing) => return Err(ReadError::Missing),
+        }
+    }
+}

@@ -1,0 +1,8 @@
+//! Files that are read and sinks that are written, each with counts of faults.
+#![tactic(auto)]
+
+pub mod inputs;
+mod known;
+pub mod mem_sink;
+pub mod real;
+pub mod sink;

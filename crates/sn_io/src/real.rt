@@ -1,0 +1,160 @@
+//! The trusted edge: files of the system and the standard streams.
+ghost use Rattle.std.specs.Prelude.{◌≡◌, ◌≤◌, ℕ, List, None, IfOk, OnErr, is_some, length, map, nat_eq};
+ghost use Rattle.std.specs.List.{list_any};
+ghost use Rattle.std.specs.Cmp.Lexicographic.{pointwise};
+ghost use Rattle.std.specs.FinMap.{get};
+ghost use Rattle.std.specs.String.{string_bytes};
+ghost use Rattle.sn_io.specs.Known.{counts_of, none_told};
+
+use crate::inputs::{InputFault, Inputs};
+use crate::known::{Entry, knows, one_more, raise};
+use crate::sink::{Failed, Sink};
+use sn_base::memory::Memory;
+use std::alloc::Global;
+use std::io::{Stderr, Stdout, Write};
+use std::marker::Model;
+use std::os::unix::fs::FileExt;
+use std::{fs, io};
+
+#[derive(Drop)]
+enum Stream {
+    Out(Stdout),
+    Err(Stderr),
+}
+
+impl Stream {
+    fn write(&mut self, piece: &[u8]) -> io::Result<usize>
+        ensures { IfOk result (λ n. n ≤ length piece.now) }
+    {
+        match self {
+            Stream::Out(to) => to.write(piece),
+            Stream::Err(to) => to.write(piece),
+        }
+    }
+}
+
+/// A standard stream. Contracts see the count of its faults.
+#[derive(Drop)]
+pub struct RealSink {
+    stream: Stream,
+    fault_count: u64,
+}
+
+impl Model for RealSink {
+    ghost use Rattle.std.specs.Prelude.{ℕ};
+
+    ghost Value = { ℕ };
+
+    ghost view = { λ a. a.fault_count };
+}
+
+impl RealSink {
+    /// Standard output.
+    pub fn out(rt: &HostRuntime) -> RealSink
+        ensures { result ≡ 0 }
+    {
+        RealSink {
+            stream: Stream::Out(rt.stdout()),
+            fault_count: 0,
+        }
+    }
+
+    /// Standard error.
+    pub fn err(rt: &HostRuntime) -> RealSink
+        ensures { result ≡ 0 }
+    {
+        RealSink {
+            stream: Stream::Err(rt.stderr()),
+            fault_count: 0,
+        }
+    }
+}
+
+/// A write that takes nothing of a piece that has bytes is a fault.
+impl Sink for RealSink {
+    ghost written = { λ _. None };
+
+    ghost faults = { λ count. count };
+
+    ghost empty_takes = { λ _. 0 };
+
+    fn write(&mut self, piece: &[u8]) -> Result<usize, Failed> {
+        match self.stream.write(piece) {
+            Ok(count) if count > 0 || piece.is_empty() => Ok(count),
+            _ => {
+                self.fault_count = one_more(self.fault_count);
+                Err(Failed)
+            }
+        }
+    }
+}
+
+/// Files of the system, whose names are the words of a command line.
+#[derive(Drop)]
+pub struct RealInputs {
+    rt: HostRuntime,
+    known: Vec<Entry>,
+}
+
+impl Model for RealInputs {
+    ghost use Rattle.sn_io.specs.Known.{Known};
+    ghost use Rattle.sn_io.specs.Entries.{entries};
+
+    ghost Value = { Known };
+
+    ghost view = { λ a. entries a.known.items };
+}
+
+impl RealInputs {
+    /// Knows exactly these words as names, none of them with a fault so far.
+    pub fn new(rt: &HostRuntime, alloc: Global, words: &[String]) -> Result<RealInputs, Memory>
+        ensures known { IfOk result (λ files. (name : List ℕ) → is_some (get (counts_of files) name) ≡ list_any (λ w. pointwise nat_eq (string_bytes w) name) words.now) }
+        ensures counts { IfOk result (λ files. files ≡ map (λ w. (string_bytes w, 0)) words.now) }
+    {
+        let mut known = Vec::new(alloc);
+        for word in words {
+            let Ok(name) = word.clone() else {
+                return Err(Memory);
+            };
+            if known.push(Entry { name, count: 0 }).is_err() {
+                return Err(Memory);
+            }
+        }
+        Ok(RealInputs { rt: *rt, known })
+    }
+}
+
+/// Reads bytes of a file from a place on. They come through a buffer of its own, so that an `Err` leaves `into` as
+/// it was.
+fn read_file(rt: &HostRuntime, name: &str, at: u64, into: &mut [u8]) -> io::Result<usize>
+    ensures within { IfOk result (λ n. n ≤ length into.old) }
+    ensures untouched { OnErr result (into.new ≡ into.old) }
+{
+    let mut piece = [0; 65536];
+    let most = into.len().min(piece.len());
+    let file = fs::open(rt, name)?;
+    let count = file.read_at(&mut piece[..most], at)?;
+    into[..count].copy_from_slice(&piece[..count]);
+    Ok(count)
+}
+
+impl Inputs for RealInputs {
+    ghost told = { λ _. None };
+
+    ghost faults = { counts_of };
+
+    ghost same_names = { λ s files name e. none_told e };
+
+    fn read_at(&mut self, name: &str, at: u64, into: &mut [u8]) -> Result<usize, InputFault> {
+        if !knows(&self.known, name) {
+            return Err(InputFault::Missing);
+        }
+        match read_file(&self.rt, name, at, into) {
+            Ok(count) => Ok(count),
+            Err(_) => {
+                raise(&mut self.known, name);
+                Err(InputFault::Failed)
+            }
+        }
+    }
+}
