@@ -32,7 +32,7 @@ unmoved {same = same} E k d g h is there (x ∷ xs) far =
     let other : same k x ≡ false = E.congr k d x is ∙ far.0 in
     ap (λ (n : ℕ). with_head x n (map (paired h) xs)) (there x other) ∙ ap (λ es. (x, g x) ∷ es) (unmoved E k d g h is there xs far.1)
 
-lookup_over : {K : Type 0} {same : K → K → Bool} → ((x y : K) → same x y ≡ true → x ≡ y) → (k : K) (g : K → ℕ) (unit : ℕ) (ks : List K) → unwrap_or (lookup (same k) (map (paired g) ks)) unit ≡ cond (list_any (same k) ks) (g k) unit
+pub lookup_over : {K : Type 0} {same : K → K → Bool} → ((x y : K) → same x y ≡ true → x ≡ y) → (k : K) (g : K → ℕ) (unit : ℕ) (ks : List K) → unwrap_or (lookup (same k) (map (paired g) ks)) unit ≡ cond (list_any (same k) ks) (g k) unit
 lookup_over exact k g unit [] = refl
 lookup_over {same = same} exact k g unit (d ∷ ks) =
     by_test (same k d)
@@ -42,7 +42,7 @@ lookup_over {same = same} exact k g unit (d ∷ ks) =
     ∙ sym (ap (λ b. cond (b || list_any (same k) ks) (g k) unit) isnt))
 
 -- an insertion over keys that are apart: the key takes w, and the others keep what they have
-put_over : {K : Type 0} {same : K → K → Bool} → IsEquivalence same → (k : K) (w : ℕ) (g h : K → ℕ) → ((x : K) → same k x ≡ true → h x ≡ w) → ((x : K) → same k x ≡ false → h x ≡ g x) → (ks : List K) → Apart same ks
+pub put_over : {K : Type 0} {same : K → K → Bool} → IsEquivalence same → (k : K) (w : ℕ) (g h : K → ℕ) → ((x : K) → same k x ≡ true → h x ≡ w) → ((x : K) → same k x ≡ false → h x ≡ g x) → (ks : List K) → Apart same ks
     → put_entry same (map (paired g) ks) k w ≡ cond (list_any (same k) ks) (map (paired h) ks) (map (paired h) ks ++ (k, w) ∷ [])
 put_over E k w g h here there [] apart = refl
 put_over {same = same} E k w g h here there (d ∷ ks) apart =
@@ -58,7 +58,7 @@ put_over {same = same} E k w g h here there (d ∷ ks) apart =
     ∙ sym (ap (λ b. cond (b || list_any (same k) ks) (map (paired h) (d ∷ ks)) (map (paired h) (d ∷ ks) ++ (k, w) ∷ [])) isnt))
 
 -- the values at a key, with one pair more
-values_push : {K : Type 0} (same : K → K → Bool) (x k : K) (v : ℕ) (pairs : List (K × ℕ)) → values_at same x (pairs ++ (k, v) ∷ []) ≡ values_at same x pairs ++ cond (same x k) (v ∷ []) []
+pub values_push : {K : Type 0} (same : K → K → Bool) (x k : K) (v : ℕ) (pairs : List (K × ℕ)) → values_at same x (pairs ++ (k, v) ∷ []) ≡ values_at same x pairs ++ cond (same x k) (v ∷ []) []
 values_push {K = K} same x k v pairs =
     let last : List (K × ℕ) = (k, v) ∷ [] in
     ap (map (λ p. p.1)) (filter-append (λ p. same x p.0) pairs last)
@@ -66,7 +66,7 @@ values_push {K = K} same x k v pairs =
     ∙ ap (λ vs. values_at same x pairs ++ vs) (elim (same x k) as (λ b. map (λ (p : K × ℕ). p.1) (cond b last []) ≡ cond b (v ∷ []) []) [ true ↦ refl | false ↦ refl ])
 
 -- where no pair has the key, it has no value
-values_none : {K : Type 0} (same : K → K → Bool) (k : K) (pairs : List (K × ℕ)) → list_any (same k) (map (λ p. p.0) pairs) ≡ false → values_at same k pairs ≡ []
+pub values_none : {K : Type 0} (same : K → K → Bool) (k : K) (pairs : List (K × ℕ)) → list_any (same k) (map (λ p. p.0) pairs) ≡ false → values_at same k pairs ≡ []
 values_none same k [] none = refl
 values_none same k (p ∷ ps) none =
     by_test (same k p.0)
@@ -126,7 +126,7 @@ reduced_row step unit places value rows row =
     ∙ folded_push nat_list_eq_equiv same_row_exact step unit pairs key (slice_index row value)
     ∙ ap (λ (n : ℕ). put_entry same_row (folded same_row step unit pairs) key (step n (slice_index row value))) (sym (folded_at nat_list_eq_equiv same_row_exact step unit pairs key))
 
-values_had : (has : ℕ → Type 0) (k : List ℕ) (places : List ℕ) (value : ℕ) (rows : List (List ℕ)) → AllByRecursion (λ row. has (slice_index row value)) rows → AllByRecursion has (values_at same_row k (map (keyed places value) rows))
+pub values_had : (has : ℕ → Type 0) (k : List ℕ) (places : List ℕ) (value : ℕ) (rows : List (List ℕ)) → AllByRecursion (λ row. has (slice_index row value)) rows → AllByRecursion has (values_at same_row k (map (keyed places value) rows))
 values_had has k places value [] h = tt
 values_had has k places value (row ∷ rows) h =
     let rest = values_had has k places value rows h.1 in
@@ -143,11 +143,11 @@ group_had {has = has} {unit = unit} {step = step} L places value rows key all =
     subst has (sym (folded_at nat_list_eq_equiv same_row_exact step unit (map (keyed places value) rows) key))
     (fold_had L unit vs L.unit_had (values_had has key places value rows (recursion_from_All (λ row. has (slice_index row value)) rows all)))
 
-all_paired : {K : Type 0} (P : K → Type 0) (f : K → ℕ) (ks : List K) → AllByRecursion P ks → AllByRecursion (λ (g : K × ℕ). P g.0) (map (paired f) ks)
+pub all_paired : {K : Type 0} (P : K → Type 0) (f : K → ℕ) (ks : List K) → AllByRecursion P ks → AllByRecursion (λ (g : K × ℕ). P g.0) (map (paired f) ks)
 all_paired P f [] h = tt
 all_paired P f (k ∷ ks) h = (h.0, all_paired P f ks h.1)
 
-keys_short : (n : ℕ) (places : List ℕ) (value : ℕ) (rows : List (List ℕ)) → length places < n → AllByRecursion (λ k. length k < n) (map (λ p. p.0) (map (keyed places value) rows))
+pub keys_short : (n : ℕ) (places : List ℕ) (value : ℕ) (rows : List (List ℕ)) → length places < n → AllByRecursion (λ k. length k < n) (map (λ p. p.0) (map (keyed places value) rows))
 keys_short n places value [] few = tt
 keys_short n places value (row ∷ rows) few = (rw length-map few, keys_short n places value rows few)
 

@@ -1,8 +1,9 @@
 -- Small lemmas on tests, filters and lists that the crates above share.
-use Rattle.std.proofs.Common.{◌≡◌, ℕ, ◌+◌, List, [], ◌∷◌, ◌++◌, map, filter, take, slice_get, Bool, true, false, not, ◌||◌, cond, nat_eq, Option, None, Some, is_some, is_none, unwrap_or, IfSome, refl, ap, sym, ◌∙◌, subst, eq-eqb}
+use Rattle.std.proofs.Common.{◌≡◌, ℕ, ◌+◌, List, [], ◌∷◌, ◌++◌, map, filter, take, slice_get, Bool, true, false, not, ◌||◌, cond, nat_eq, Option, None, Some, is_some, is_none, unwrap_or, IfSome, refl, ap, sym, ◌∙◌, subst, eq-eqb, append-nil, append_assoc}
 use Rattle.std.specs.List.{list_any, find, AllByRecursion}
 use Rattle.std.proofs.lemmas.Bool.{false≢true, eqb-true}
 use Rattle.std.proofs.lemmas.List.{take_more, map-append}
+use Rattle.std.proofs.lemmas.List.Folds.{list_any-append}
 use Rattle.std.proofs.lemmas.Option.{slice_get_within, get_or_from_slice_get}
 
 -- ---- tests
@@ -72,6 +73,17 @@ take_one xs i x e = take_more xs i x (slice_get_within xs i x e) ∙ ap (λ y. t
 
 pub map_one : {X Y : Type 0} (f : X → Y) (xs : List X) (i : ℕ) (x : X) → slice_get xs i ≡ Some x → map f (take (i + 1) xs) ≡ map f (take i xs) ++ f x ∷ []
 map_one f xs i x e = ap (map f) (take_one xs i x e) ∙ map-append f (take i xs) (x ∷ [])
+
+-- what holds of no element, and of a list with one element more wherever it holds of the list, holds of every list
+pub by_pushes : {X : Type 0} (P : List X → Type 0) → P [] → ((xs : List X) (x : X) → P xs → P (xs ++ x ∷ [])) → (xs : List X) → P xs
+by_pushes {X = X} P none push xs = behind [] xs none
+  where
+    behind : (front back : List X) → P front → P (front ++ back)
+    behind front [] h = subst P (sym (append-nil front)) h
+    behind front (x ∷ back) h = subst P (append_assoc front (x ∷ []) back) (behind (front ++ x ∷ []) back (push front x h))
+
+pub any_push : {X : Type 0} (t : X → Bool) (xs : List X) (x : X) → list_any t (xs ++ x ∷ []) ≡ (list_any t xs || t x)
+any_push t xs x = list_any-append t xs (x ∷ []) ∙ ap (λ b. list_any t xs || b) (or_false (t x))
 
 -- ---- filters
 
