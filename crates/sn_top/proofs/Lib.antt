@@ -1,0 +1,4 @@
+pub mod RunLemmas
+pub mod NumberLemmas
+pub mod RunSteps
+pub mod PlainLemmas

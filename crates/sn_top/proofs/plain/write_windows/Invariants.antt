@@ -1,0 +1,21 @@
+use Rattle.std.proofs.Common.{◌≡◌, ◌+◌, ◌≤◌, ◌++◌, List, ℕ, true, length}
+use Rattle.std.specs.Io.KnownBytes.{append_known}
+use Rattle.sn_top.specs.Blocks.{blocks, all_few}
+use Rattle.sn_top.specs.Windows.{windows_of}
+use Rattle.sn_top.specs.Numbering.{is_fresh}
+use Rattle.sn_top.specs.NumberingOf.{numbering, time_of, next_packets}
+use Rattle.sn_top.specs.Plain.{window_text, numbered_packets}
+use Rattle.sn_top.proofs.PlainLemmas.{Progress}
+use Rattle.sn_top.proofs.plain.write_windows.Given as goal
+
+abbrev pub invariant-windows : goal.invariant-windows
+invariant-windows g l = record {
+  progress : Progress (window_text l.query l.link l.file) (numbered_packets l.query l.fn.packets) (next_packets l.windows l.rest) l.closed (g.O.Sink.written l.initial.out) (g.O.Sink.written l.out);
+  fresh : is_fresh time_of (numbering l.windows) l.rest ≡ true;
+  left : l.closed + length l.rest ≤ length l.fn.packets;
+  faults : g.O.Sink.faults l.initial.out ≤ g.O.Sink.faults l.out;
+  empty_takes : g.O.Sink.empty_takes l.initial.out ≤ g.O.Sink.empty_takes l.out;
+}
+
+abbrev pub decreases-windows : goal.decreases-windows
+decreases-windows g l = length l.rest

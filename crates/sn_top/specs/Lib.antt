@@ -1,0 +1,9 @@
+pub mod Windows
+pub mod Numbering
+pub mod NumberingOf
+pub mod Blocks
+pub mod Text
+pub mod Words
+pub mod Refusals
+pub mod Outcome
+pub mod Plain
