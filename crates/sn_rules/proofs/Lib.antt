@@ -1,0 +1,5 @@
+pub mod Common
+pub mod Laws
+pub mod Choices
+pub mod Chains
+pub mod Faults
