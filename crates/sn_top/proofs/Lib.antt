@@ -1,4 +1,5 @@
 pub mod RunLemmas
 pub mod NumberLemmas
 pub mod RunSteps
+pub mod RowLemmas
 pub mod PlainLemmas

@@ -4,7 +4,7 @@ use Rattle.std.specs.Prelude.{nat_le, ◌==◌}
 use Rattle.sn_base.proofs.Lists.{by_test}
 use Rattle.std.specs.Io.KnownBytes.{append_known}
 use Rattle.std.proofs.Math.Seq.{take-append-add}
-use Rattle.std.proofs.lemmas.Bool.{lt-leb, le-leb, eqb-false}
+use Rattle.std.proofs.lemmas.Bool.{lt-leb, le-leb, eqb-false, false≢true}
 use Rattle.std.proofs.lemmas.List.{length-map, length-take-le, take_all, take-append-le}
 use Rattle.sn_pcap.specs.declared.packet.Packet.{Packet}
 use Rattle.sn_top.specs.declared.refusal.Refusal.{Refusal}
@@ -12,6 +12,8 @@ use Rattle.sn_top.specs.declared.refusal.Refusal.TheVariants.{Memory, Usage, Que
 use Rattle.sn_top.specs.Windows.{record_at, in_window, windows_of, run_of, first_run, first_number}
 use Rattle.sn_top.specs.Blocks.{most_records, is_few, all_few, answered, blocks}
 use Rattle.sn_top.specs.Outcome.{Outcome, is_chance, WentOutFront, Keeps}
+use Rattle.sn_top.specs.Text.{total_line}
+use Rattle.sn_top.specs.Plain.{with_total}
 use Rattle.sn_top.proofs.RunLemmas.{Rises, windows_step, few_here, few_step, blocks_step}
 
 -- ---- what goes out
@@ -169,3 +171,66 @@ module _ (block : ℕ → List Packet → List ℕ) (xs ys : List (ℕ × Packet
 
 pub is_some_left : (n : ℕ) → (n == 0) ≡ false → 0 < n
 is_some_left n e = let ne = eqb-false n 0 e in omega arith
+
+-- ---- one text behind another
+
+-- nothing went out, and the answer is a chance
+pub chance_keeps : {A : Type 0} (o : Outcome A) (r : Refusal) (now : Option (List ℕ)) → is_chance {A = A} (Err r) ≡ true → Keeps o (Err r) now now
+chance_keeps o r now chance = record { front = no_front o.text now; ends = λ e. absurd (false≢true (sym e ∙ chance)); whole = λ e. absurd (false≢true (sym e ∙ chance)) }
+
+-- a text behind one that went out
+pub behind_text : {A : Type 0} (first : List ℕ) (o : Outcome A) (answer : Result A Refusal) (before now later : Option (List ℕ)) → now ≡ append_known before first → Keeps o answer now later → Keeps (record { text = first ++ o.text; end = o.end }) answer before later
+behind_text first o answer before now later told k = record {
+  front = front k.front;
+  ends = k.ends;
+  whole = λ e. k.whole e ∙ ap (λ t. append_known t o.text) told ∙ told_twice before first o.text;
+}
+  where
+    front : WentOutFront o.text now later → WentOutFront (first ++ o.text) before later
+    front (n, within, e) = (
+      length first + n,
+      rw length-append (omega arith),
+      e ∙ ap (λ t. append_known t (take n o.text)) told ∙ told_twice before first (take n o.text) ∙ ap (append_known before) (sym (take-append-add first o.text n))
+    )
+
+-- a chance in the first of two texts
+pub first_stops : {A B : Type 0} (o : Outcome A) (more : List ℕ) (end : Result B Refusal) (r : Refusal) (before now : Option (List ℕ)) → is_chance {A = B} (Err r) ≡ true → Keeps o (Err r) before now → Keeps (record { text = o.text ++ more; end = end }) (Err r) before now
+first_stops o more end r before now chance k = record { front = front k.front; ends = λ e. absurd (false≢true (sym e ∙ chance)); whole = λ e. absurd (false≢true (sym e ∙ chance)) }
+  where
+    front : WentOutFront o.text before now → WentOutFront (o.text ++ more) before now
+    front (n, within, e) = (n, rw length-append (omega arith), e ∙ ap (append_known before) (sym (take-append-le n o.text more within)))
+
+-- ---- the total
+
+abbrev pub whole_of : (ℕ → List Packet → List ℕ) → List (ℕ × Packet) → Outcome (Unit {0})
+whole_of block xs = record { text = blocks block xs ++ with_total (all_few xs) (length (windows_of xs)); end = cond (all_few xs) (Ok tt) (Err TooLarge) }
+
+few_whole : (block : ℕ → List Packet → List ℕ) (xs : List (ℕ × Packet)) (few : Bool) → few ≡ all_few xs → (answer : Result (Unit {0}) Refusal) (before now : Option (List ℕ))
+    → Keeps (record { text = blocks block xs ++ with_total few (length (windows_of xs)); end = cond few (Ok tt) (Err TooLarge) }) answer before now → Keeps (whole_of block xs) answer before now
+few_whole block xs few e answer before now k = subst (λ (b : Bool). Keeps (record { text = blocks block xs ++ with_total b (length (windows_of xs)); end = cond b (Ok tt) (Err TooLarge) }) answer before now) e k
+
+ok_few : (few : Bool) (n closed : ℕ) → ◌≡◌ {A = Result ℕ Refusal} (Ok closed) (cond few (Ok n) (Err TooLarge)) → (few ≡ true) × (closed ≡ n)
+ok_few true n closed e = (refl, cc)
+ok_few false n closed e = err_ok (sym e)
+
+err_few : (few : Bool) (n : ℕ) (r : Refusal) → ◌≡◌ {A = Result ℕ Refusal} (Err r) (cond few (Ok n) (Err TooLarge)) → (few ≡ false) × (r ≡ TooLarge)
+err_few true n r e = err_ok e
+err_few false n r e = (refl, cc)
+
+-- the blocks didn't all go out, or a window has too many records
+pub no_total : (block : ℕ → List Packet → List ℕ) (xs : List (ℕ × Packet)) (r : Refusal) (before now : Option (List ℕ)) → Keeps (outcome_of block xs) (Err r) before now → Keeps (whole_of block xs) (Err r) before now
+no_total block xs r before now k =
+    by_test (is_chance {A = Unit {0}} (Err r))
+    (λ chance. first_stops (outcome_of block xs) (with_total (all_few xs) (length (windows_of xs))) (cond (all_few xs) (Ok tt) (Err TooLarge)) r before now chance k)
+    (λ not-chance.
+    let c : is_chance {A = ℕ} (Err r) ≡ false = chance_any ℕ (Unit {0}) r ∙ not-chance in
+    let few = err_few (all_few xs) (length (windows_of xs)) r (k.ends c) in
+    let text : now ≡ append_known before (blocks block xs ++ []) = k.whole c ∙ ap (append_known before) (sym (append-nil (blocks block xs))) in
+    few_whole block xs false (sym few.0) (Err r) before now (record { front = all_front (blocks block xs ++ []) before now text; ends = λ _. ap Err few.1; whole = λ _. text }))
+
+-- the blocks went out, and then the total or a front of it
+pub then_total : (block : ℕ → List Packet → List ℕ) (xs : List (ℕ × Packet)) (closed : ℕ) (answer : Result (Unit {0}) Refusal) (before now later : Option (List ℕ)) → Keeps (outcome_of block xs) (Ok closed) before now → Keeps (one_block (total_line closed)) answer now later → Keeps (whole_of block xs) answer before later
+then_total block xs closed answer before now later k t =
+    let few = ok_few (all_few xs) (length (windows_of xs)) closed (k.ends refl) in
+    few_whole block xs true (sym few.0) answer before later
+    (behind_text (blocks block xs) (one_block (total_line (length (windows_of xs)))) answer before now later (k.whole refl) (subst (λ (n : ℕ). Keeps (one_block (total_line n)) answer now later) few.1 t))

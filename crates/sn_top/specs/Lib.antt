@@ -6,4 +6,5 @@ pub mod Text
 pub mod Words
 pub mod Refusals
 pub mod Outcome
+pub mod Rows
 pub mod Plain

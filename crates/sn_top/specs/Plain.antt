@@ -1,15 +1,19 @@
 -- What `plain` adds to the output.
 use Rattle.std.specs.Prelude.{◌≡◌, ℕ, ◌*◌, List, [], ◌++◌, Bool, true, false, Result, Ok, Err, length, if◌then◌else◌}
 use Rattle.sn_base.specs.declared.link.Link.{Link}
+use Rattle.sn_pcap.specs.Capture.{Records}
+use Rattle.sn_pcap.specs.declared.header.Header.{Header}
+use Rattle.sn_pcap.specs.declared.header.HeadFault.{HeadFault}
 use Rattle.sn_pcap.specs.declared.packet.Packet.{Packet}
 use Rattle.sn_pcap.specs.declared.packet.Ending.{Ending}
 use Rattle.sn_pcap.specs.declared.packet.Ending.TheVariants.{Clean, Cut, Bad}
 use Rattle.sn_top.specs.declared.query.Query.{Query}
 use Rattle.sn_top.specs.declared.refusal.Refusal.{Refusal}
-use Rattle.sn_top.specs.declared.refusal.Refusal.TheVariants.{Damaged, TooLarge}
+use Rattle.sn_top.specs.declared.refusal.Refusal.TheVariants.{Head, Damaged, TooLarge}
 use Rattle.sn_top.specs.Windows.{numbered, windows_of}
 use Rattle.sn_top.specs.Blocks.{blocks, all_few}
 use Rattle.sn_top.specs.NumberingOf.{time_of}
+use Rattle.sn_top.specs.Rows.{answer_rows}
 use Rattle.sn_top.specs.Text.{block_text, total_line}
 use Rattle.sn_top.specs.Outcome.{Outcome, refused}
 
@@ -17,12 +21,9 @@ use Rattle.sn_top.specs.Outcome.{Outcome, refused}
 abbrev pub window_ns : Query → ℕ
 window_ns query = query.window_us * 1000
 
-abbrev pub rows_of : Query → Link → List ℕ → List Packet → List (List ℕ)
-rows_of query link file packets = []
-
 -- the block of a window
 abbrev pub window_text : Query → Link → List ℕ → ℕ → List Packet → List ℕ
-window_text query link file number packets = block_text query.name number (rows_of query link file packets)
+window_text query link file number packets = block_text query.name number (answer_rows query.filters link file packets)
 
 -- the packets, each with the number of its window
 abbrev pub numbered_packets : Query → List Packet → List (ℕ × Packet)
@@ -34,3 +35,25 @@ windows_outcome query link file packets = record {
   text = blocks (window_text query link file) packets;
   end = (if all_few packets then Ok (length (windows_of packets)) else Err TooLarge);
 }
+
+-- What a capture's packets add, and how they end: the blocks of the windows, and the total where no window has too many
+-- records. A capture that ends in a damaged record adds nothing so far.
+abbrev pub with_total : Bool → ℕ → List ℕ
+with_total true windows = total_line windows
+with_total false windows = []
+
+abbrev pub packets_outcome : Query → Link → List ℕ → List (ℕ × Packet) → Outcome (Unit {0})
+packets_outcome query link file packets = record {
+  text = blocks (window_text query link file) packets ++ with_total (all_few packets) (length (windows_of packets));
+  end = (if all_few packets then Ok tt else Err TooLarge);
+}
+
+abbrev pub records_outcome : Query → Link → List ℕ → List Packet → Ending → Outcome (Unit {0})
+records_outcome query link file packets Clean = packets_outcome query link file (numbered_packets query packets)
+records_outcome query link file packets (Cut n) = refused Damaged
+records_outcome query link file packets (Bad n) = refused Damaged
+
+-- what a capture adds: its header is refused, or its records are answered
+abbrev pub AfterHead : Query → List ℕ → Result Header HeadFault → Outcome (Unit {0}) → Type 0
+AfterHead query file (Err fault) outcome = outcome ≡ refused (Head fault)
+AfterHead query file (Ok header) outcome = (packets : List Packet) × (ending : Ending) × Records header file 24 packets ending × (outcome ≡ records_outcome query header.link file packets ending)

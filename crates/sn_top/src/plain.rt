@@ -1,19 +1,36 @@
 //! The command `plain`.
-ghost use Rattle.std.specs.Prelude.{◌≡◌, ◌≤◌, ◌⊎◌, Err, Ok};
+ghost use Rattle.std.specs.Prelude.{◌≡◌, ◌≤◌, ◌⊎◌, List, All, Err, Ok};
+ghost use Rattle.sn_pcap.specs.Capture.{IsWithin, Records, head_of};
+ghost use Rattle.sn_pcap.specs.declared.packet.Packet.{Packet};
+ghost use Rattle.sn_pcap.specs.declared.packet.Ending.{Ending};
 ghost use Rattle.sn_io.specs.Counts.{Rose};
-ghost use Rattle.sn_top.specs.Outcome.{Keeps};
-ghost use Rattle.sn_top.specs.Plain.{window_text, rows_of, numbered_packets, windows_outcome};
+ghost use Rattle.sn_top.specs.Outcome.{Outcome, Keeps};
+ghost use Rattle.sn_top.specs.Plain.{window_text, numbered_packets, windows_outcome, packets_outcome, records_outcome, AfterHead};
 
 use crate::query::Query;
 use crate::refusal::Refusal;
+use crate::rows::answer_rows;
 use crate::runs::first_window;
-use crate::text::block;
+use crate::text::{block, total};
 use crate::windows::Windows;
 use sn_base::link::Link;
-use sn_base::row::Row;
 use sn_io::sink::{Sink, write_all_to};
-use sn_pcap::packet::Packet;
+use sn_pcap::header::{Header, head};
+use sn_pcap::packet::{Ending, Packet, packets};
 use std::alloc::Global;
+
+/// Writes a text.
+fn write_text<O: Sink>(text: &[u8], out: &mut O) -> Result<(), Refusal>
+    ensures keeps { Keeps (record { text = text.now; end = Ok tt }) result (O.written out.old) (O.written out.new) }
+    ensures write_fault { result ≡ Err Refusal.WriteFault → Rose (O.faults out.old) (O.faults out.new) ⊎ Rose (O.empty_takes out.old) (O.empty_takes out.new) }
+    ensures faults { O.faults out.old ≤ O.faults out.new }
+    ensures empty_takes { O.empty_takes out.old ≤ O.empty_takes out.new }
+{
+    match write_all_to(out, text) {
+        Ok(()) => Ok(()),
+        Err(_) => Err(Refusal::WriteFault),
+    }
+}
 
 /// Writes the block of a window.
 fn write_window<O: Sink>(
@@ -25,19 +42,15 @@ fn write_window<O: Sink>(
     packets: &[Packet],
     out: &mut O,
 ) -> Result<(), Refusal>
+    requires { All (IsWithin file.now) packets.now }
     ensures keeps { Keeps (record { text = window_text query.now link file.now number packets.now; end = Ok tt }) result (O.written out.old) (O.written out.new) }
     ensures write_fault { result ≡ Err Refusal.WriteFault → Rose (O.faults out.old) (O.faults out.new) ⊎ Rose (O.empty_takes out.old) (O.empty_takes out.new) }
     ensures faults { O.faults out.old ≤ O.faults out.new }
     ensures empty_takes { O.empty_takes out.old ≤ O.empty_takes out.new }
 {
-    let rows: [Row; 0] = [];
-    let Ok(text) = block(alloc, &query.name, number, &rows) else {
-        return Err(Refusal::Memory);
-    };
-    match write_all_to(out, text.as_slice()) {
-        Ok(()) => Ok(()),
-        Err(_) => Err(Refusal::WriteFault),
-    }
+    let rows = answer_rows(alloc, query.filters.as_slice(), link, file, packets)?;
+    let text = block(alloc, &query.name, number, rows.as_slice())?;
+    write_text(text.as_slice(), out)
 }
 
 /// Writes the blocks of the windows in order, and says how many windows there are.
@@ -49,7 +62,8 @@ fn write_windows<O: Sink>(
     packets: &[Packet],
     out: &mut O,
 ) -> Result<u64, Refusal>
-    requires { (1 ≤ query.now.window_us) × (query.now.window_us ≤ 3600000000) }
+    requires window { (1 ≤ query.now.window_us) × (query.now.window_us ≤ 3600000000) }
+    requires within { All (IsWithin file.now) packets.now }
     ensures keeps { Keeps (windows_outcome query.now link file.now (numbered_packets query.now packets.now)) result (O.written out.old) (O.written out.new) }
     ensures write_fault { result ≡ Err Refusal.WriteFault → Rose (O.faults out.old) (O.faults out.new) ⊎ Rose (O.empty_takes out.old) (O.empty_takes out.new) }
     ensures faults { O.faults out.old ≤ O.faults out.new }
@@ -67,4 +81,59 @@ fn write_windows<O: Sink>(
         closed += 1;
     }
     Ok(closed)
+}
+
+/// Writes the blocks of the windows and the total.
+fn answer_packets<O: Sink>(
+    alloc: Global,
+    query: &Query,
+    link: Link,
+    file: &[u8],
+    packets: &[Packet],
+    out: &mut O,
+) -> Result<(), Refusal>
+    requires window { (1 ≤ query.now.window_us) × (query.now.window_us ≤ 3600000000) }
+    requires within { All (IsWithin file.now) packets.now }
+    ensures keeps { Keeps (packets_outcome query.now link file.now (numbered_packets query.now packets.now)) result (O.written out.old) (O.written out.new) }
+    ensures write_fault { result ≡ Err Refusal.WriteFault → Rose (O.faults out.old) (O.faults out.new) ⊎ Rose (O.empty_takes out.old) (O.empty_takes out.new) }
+{
+    let windows = write_windows(alloc, query, link, file, packets, out)?;
+    let text = total(alloc, windows)?;
+    write_text(text.as_slice(), out)
+}
+
+/// Answers the records of a capture.
+fn answer_records<O: Sink>(
+    alloc: Global,
+    query: &Query,
+    header: &Header,
+    file: &[u8],
+    out: &mut O,
+) -> Result<(), Refusal>
+    requires { (1 ≤ query.now.window_us) × (query.now.window_us ≤ 3600000000) }
+    ensures keeps { (packets : List Packet) (ending : Ending) → Records header.now file.now 24 packets ending → Keeps (records_outcome query.now header.now.link file.now packets ending) result (O.written out.old) (O.written out.new) }
+    ensures write_fault { result ≡ Err Refusal.WriteFault → Rose (O.faults out.old) (O.faults out.new) ⊎ Rose (O.empty_takes out.old) (O.empty_takes out.new) }
+{
+    let (found, ending) = packets(alloc, header, file)?;
+    match ending {
+        Ending::Clean => answer_packets(alloc, query, header.link, file, found.as_slice(), out),
+        Ending::Cut(_) | Ending::Bad(_) => Err(Refusal::Damaged),
+    }
+}
+
+/// Answers a capture.
+fn answer_capture<O: Sink>(
+    alloc: Global,
+    query: &Query,
+    file: &[u8],
+    out: &mut O,
+) -> Result<(), Refusal>
+    requires { (1 ≤ query.now.window_us) × (query.now.window_us ≤ 3600000000) }
+    ensures keeps { (outcome : Outcome (Unit {0})) → AfterHead query.now file.now (head_of file.now) outcome → Keeps outcome result (O.written out.old) (O.written out.new) }
+    ensures write_fault { result ≡ Err Refusal.WriteFault → Rose (O.faults out.old) (O.faults out.new) ⊎ Rose (O.empty_takes out.old) (O.empty_takes out.new) }
+{
+    match head(file) {
+        Ok(header) => answer_records(alloc, query, &header, file, out),
+        Err(fault) => Err(Refusal::Head(fault)),
+    }
 }

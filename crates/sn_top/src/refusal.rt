@@ -2,6 +2,7 @@
 ghost use Rattle.std.specs.Prelude.{◌≡◌};
 
 use crate::windows::TooMany;
+use sn_base::memory::Memory;
 use sn_pcap::header::HeadFault;
 
 /// Why a command ends otherwise than with its whole text.
@@ -72,5 +73,15 @@ impl From<TooMany> for Refusal {
 
     fn from(_: TooMany) -> Refusal {
         Refusal::TooLarge
+    }
+}
+
+impl From<Memory> for Refusal {
+    ghost use Rattle.sn_top.specs.declared.refusal.Refusal.TheVariants as refusals;
+
+    ghost from_gives = { λ _ refusal. refusal ≡ refusals.Memory };
+
+    fn from(_: Memory) -> Refusal {
+        Refusal::Memory
     }
 }

@@ -1,4 +1,6 @@
-use Rattle.std.proofs.Common.{◌≡◌, ℕ, ◌+◌, ◌<◌, ◌≤◌, ◌*◌, List, [], subst, map, length, take, drop, true, refl, ap, sym, ◌∙◌, arith}
+use Rattle.std.proofs.Common.{◌≡◌, ℕ, ◌+◌, ◌<◌, ◌≤◌, ◌*◌, List, [], All, subst, map, length, take, drop, true, refl, ap, sym, ◌∙◌, arith}
+use Rattle.std.proofs.lemmas.List.Elements.{All-drop}
+use Rattle.sn_pcap.specs.Capture.{IsWithin}
 use Rattle.std.proofs.lemmas.Bool.{eqb-true}
 use Rattle.std.proofs.lemmas.Result.{err_from_is_err_and}
 use Rattle.sn_pcap.specs.declared.packet.Packet.{Packet}
@@ -20,6 +22,7 @@ windows-init g c =
     let same : next_packets c.new-windows.result packets ≡ numbered_packets query packets = ap (λ s. numbered_from time_of s packets) is ∙ numbered_is time_of window packets in
     record {
       progress = begins (window_text query c.args.link c.args.file.now) (numbered_packets query packets) (next_packets c.new-windows.result packets) (g.O.Sink.written c.args.out.now) same;
+      within = c.requires.within;
       fresh = ap (λ s. is_fresh time_of s packets) is ∙ fresh_begun time_of window packets;
       left = omega arith;
       faults = omega arith;
@@ -31,7 +34,7 @@ pub returns-in_err-length-clause-keeps : goal.returns-in_err-length-clause-keeps
 returns-in_err-length-clause-keeps g c =
     let w = c.windows in
     let p = err_from_is_err_and c.from_residual.result c.from_residual.ensures.1 in
-    let large : 4194304 < first_run (next_packets w.windows w.rest.now) = c.in_err-length.ensures.too_many refl in
+    let large : 4194304 < first_run (next_packets w.windows w.rest.now) = c.in_err-length.ensures.too_many (refl {a = true}) in
     rw (p.1, p.2) (too_large (window_text c.args.query.now c.args.link c.args.file.now) (numbered_packets c.args.query.now c.args.packets.now) w.closed (g.O.Sink.written c.args.out.now) (g.O.Sink.written w.out)
     (next_packets w.windows w.rest.now) w.invariant.progress (numbers_rise time_of (numbering w.windows) w.rest.now) large)
 
@@ -68,6 +71,7 @@ windows-preserved g c =
     let later : next_packets c.in_ok-length.after c.split_at.result.1.now ≡ drop (first_run ys) ys = ap (next_packets c.in_ok-length.after) c.split_at.ensures.back ∙ found.after ∙ ap (λ k. drop k ys) found.run in
     record {
       progress = subst (λ (zs : List (ℕ × Packet)). Progress block all zs (w.closed + 1) (g.O.Sink.written c.args.out.now) (g.O.Sink.written c.write_window.new.out)) (sym later) t;
+      within = subst (λ (ps : List Packet). All (IsWithin c.args.file.now) ps) (sym c.split_at.ensures.back) (All-drop (IsWithin c.args.file.now) c.in_ok-length.length w.rest.now w.invariant.within);
       fresh = ap (is_fresh time_of (numbering c.in_ok-length.after)) c.split_at.ensures.back ∙ found.fresh;
       left = let some-taken = found.some left in let back = c.split_at.ensures.back_len in let was = w.invariant.left in omega arith;
       faults = let was = w.invariant.faults in let is = c.in_ok-write_window.ensures.faults in omega arith;

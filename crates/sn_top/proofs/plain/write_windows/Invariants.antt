@@ -1,5 +1,6 @@
-use Rattle.std.proofs.Common.{◌≡◌, ◌+◌, ◌≤◌, ◌++◌, List, ℕ, true, length}
+use Rattle.std.proofs.Common.{◌≡◌, ◌+◌, ◌≤◌, ◌++◌, List, ℕ, true, length, All}
 use Rattle.std.specs.Io.KnownBytes.{append_known}
+use Rattle.sn_pcap.specs.Capture.{IsWithin}
 use Rattle.sn_top.specs.Blocks.{blocks, all_few}
 use Rattle.sn_top.specs.Windows.{windows_of}
 use Rattle.sn_top.specs.Numbering.{is_fresh}
@@ -11,6 +12,7 @@ use Rattle.sn_top.proofs.plain.write_windows.Given as goal
 abbrev pub invariant-windows : goal.invariant-windows
 invariant-windows g l = record {
   progress : Progress (window_text l.query l.link l.file) (numbered_packets l.query l.fn.packets) (next_packets l.windows l.rest) l.closed (g.O.Sink.written l.initial.out) (g.O.Sink.written l.out);
+  within : All (IsWithin l.file) l.rest;
   fresh : is_fresh time_of (numbering l.windows) l.rest ≡ true;
   left : l.closed + length l.rest ≤ length l.fn.packets;
   faults : g.O.Sink.faults l.initial.out ≤ g.O.Sink.faults l.out;
