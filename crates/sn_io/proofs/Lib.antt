@@ -1,3 +1,5 @@
+pub mod FileLemmas
+pub mod PutLemmas
 pub mod Raised
 pub mod Told
 pub mod Updates

@@ -15,10 +15,10 @@ not_true true h = absurd (h refl)
 not_true false h = refl
 
 -- the test of an entry, as the map makes it
-pub named_is : (name : List ℕ) (entry : List ℕ × ℕ) → is_named name entry ≡ same_name name entry.0
+pub named_is : {X : Type 0} (name : List ℕ) (entry : List ℕ × X) → is_named name entry ≡ same_name name entry.0
 named_is name entry = nat_list_eq_equiv.symm entry.0 name ∙ texts_ties name entry.0
 
-apart : (name q k : List ℕ) → (q ≡ name → ⊥) → pointwise nat_eq k name ≡ true → same_name q k ≡ false
+pub apart : (name q k : List ℕ) → (q ≡ name → ⊥) → pointwise nat_eq k name ≡ true → same_name q k ≡ false
 apart name q k ne is = not_true _ (λ e. ne ((bytes_decides q k).0 (texts_ties q k ∙ e) ∙ (bytes_decides k name).0 is))
 
 find_other : (name : List ℕ) (known : Known) (q : List ℕ) → (q ≡ name → ⊥) → find (slice_cmp nat_cmp) q (raised name known) ≡ find (slice_cmp nat_cmp) q known
@@ -70,7 +70,7 @@ rose_some : (o : Option ℕ) → is_some o ≡ true → Rose (unwrap_or o 0) (un
 rose_some None is = cc
 rose_some (Some n) is = counted_rose n
 
-knows_find : {X : Type 0} (f : X → List ℕ × ℕ) (name : List ℕ) (xs : List X) → list_any (λ x. is_named name (f x)) xs ≡ is_some (find (slice_cmp nat_cmp) name (map f xs))
+pub knows_find : {X Y : Type 0} (f : X → List ℕ × Y) (name : List ℕ) (xs : List X) → list_any (λ x. is_named name (f x)) xs ≡ is_some (find (slice_cmp nat_cmp) name (map f xs))
 knows_find f name [] = refl
 knows_find f name (x ∷ xs) =
     ap (λ b. b || list_any (λ y. is_named name (f y)) xs) (named_is name (f x))

@@ -1,8 +1,9 @@
-use Rattle.std.proofs.Common.{◌≡◌, ℕ, zero, suc, ◌<◌, ◌≤◌, List, [], ◌∷◌, length, map, Bool, true, false, cond, None, Some, get_or, set, refl, ap, sym, ◌∙◌, arith}
-use Rattle.std.specs.List.{position, position_or_len}
+use Rattle.std.proofs.Common.{is_some, ◌||◌, ◌≡◌, ℕ, zero, suc, ◌<◌, ◌≤◌, List, [], ◌∷◌, length, map, Bool, true, false, cond, None, Some, get_or, set, refl, ap, sym, ◌∙◌, arith}
+use Rattle.std.specs.List.{position, position_or_len, list_any}
 use Rattle.std.proofs.lemmas.List.Quantifiers.{position-Some}
 use Rattle.std.proofs.lemmas.List.Sums.{fails_before_first}
-use Rattle.std.proofs.lemmas.Bool.{ltb-false}
+use Rattle.std.proofs.lemmas.Bool.{false≢true, ltb-false}
+use Rattle.std.proofs.lemmas.List.Folds.{Any-from_list_any}
 use Rattle.sn_io.specs.Known.{with_first}
 
 here : {X : Type 0} (test : X → Bool) (change : X → X) (x : X) (xs : List X) → test x ≡ true → with_first test change (x ∷ xs) ≡ change x ∷ xs
@@ -57,3 +58,31 @@ map-with_first_unseen f test change (x ∷ xs) unseen =
       | true ↦ ap (λ y. y ∷ map f xs) (unseen x)
       | false ↦ ap (λ ys. f x ∷ ys) (map-with_first_unseen f test change xs unseen)
     ]
+
+any_at : {X : Type 0} (test : X → Bool) (xs : List X) (i : ℕ) (d : X) → i < length xs → test (get_or xs i d) ≡ true → list_any test xs ≡ true
+any_at test [] i d within passes = absurd (omega arith)
+any_at test (x ∷ xs) zero d within passes = ap (λ b. b || list_any test xs) passes
+any_at test (x ∷ xs) (suc i) d within passes =
+    ap (λ b. test x || b) (any_at test xs i d (omega arith) passes) ∙ elim (test x) as (λ b. (b || true) ≡ true) [ true ↦ refl | false ↦ refl ]
+
+any_of_place : {X : Type 0} (test : X → Bool) (xs : List X) (i : ℕ) → position test xs ≡ Some i → list_any test xs ≡ true
+any_of_place test [] i e = cc
+any_of_place test (x ∷ xs) i e = let at = position-Some test (x ∷ xs) i x e in any_at test (x ∷ xs) i x at.0 at.1
+
+none_of_none : {X : Type 0} (test : X → Bool) (xs : List X) → position test xs ≡ None → list_any test xs ≡ false
+none_of_none test xs e =
+    elim (list_any test xs) as (λ b. list_any test xs ≡ b → b ≡ false) [
+      | true ↦ λ some.
+          let any = Any-from_list_any test xs some in
+          let past : length xs ≤ position_or_len test xs = ltb-false (position_or_len test xs) (length xs) (not_found _ (position_or_len test xs) e) in
+          absurd (false≢true (sym (fails_before_first test xs any.0 any.1 (omega (arith, any.2))) ∙ (ap test any.3 ∙ any.4)))
+      | false ↦ λ _. refl
+    ] refl
+
+-- a first place is found exactly where some item passes
+pub position_any : {X : Type 0} (test : X → Bool) (xs : List X) → is_some (position test xs) ≡ list_any test xs
+position_any test xs =
+    elim (position test xs) as (λ o. position test xs ≡ o → is_some o ≡ list_any test xs) [
+      | Some i ↦ λ e. sym (any_of_place test xs i e)
+      | None ↦ λ e. sym (none_of_none test xs e)
+    ] refl

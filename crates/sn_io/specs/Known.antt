@@ -16,7 +16,7 @@ abbrev pub counted : ℕ → ℕ
 counted n = if nat_lt n (2 ^ 64 - 1) then n + 1 else n
 
 -- whether an entry has this name
-abbrev pub is_named : List ℕ → (List ℕ × ℕ) → Bool
+abbrev pub is_named : {X : Type 0} → List ℕ → (List ℕ × X) → Bool
 is_named name entry = pointwise nat_eq entry.0 name
 
 -- the list with its first item that passes a test changed

@@ -3,6 +3,7 @@
 
 pub mod inputs;
 mod known;
+pub mod mem_inputs;
 pub mod mem_sink;
 pub mod real;
 pub mod sink;
