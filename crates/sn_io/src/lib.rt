@@ -7,3 +7,5 @@ pub mod mem_inputs;
 pub mod mem_sink;
 pub mod real;
 pub mod sink;
+#[cfg(test)]
+mod tests;
