@@ -32,9 +32,6 @@ held_first name files place d first =
     let at = position-Some (has_name name) files place d first in
     get-from_entries nat_list_cmp_total (map named_bytes files) name ∙ find_first name files place d at.0 at.1 at.2
 
-pub place_within : (name : List ℕ) (files : List FileState) (place : ℕ) (d : FileState) → position (has_name name) files ≡ Some place → place < length files
-place_within name files place d first = (position-Some (has_name name) files place d first).0
-
 -- what a fault changes
 pub known_with_fault : (name : List ℕ) (files : List FileState) → known_of (with_fault name files) ≡ raised name (known_of files)
 known_with_fault name files = map-with_first counted_name (has_name name) (λ f. record f { count = counted f.count }) (is_named name) (λ entry. (entry.0, counted entry.1)) files (λ f. refl) (λ f. refl)

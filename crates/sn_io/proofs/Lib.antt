@@ -1,3 +1,4 @@
+pub mod CountLemmas
 pub mod FileLemmas
 pub mod PutLemmas
 pub mod Raised

@@ -1,6 +1,6 @@
-use Rattle.std.proofs.Common.{◌≡◌, ℕ, ◌+◌, ◌-◌, List, Option, None, Some, ◌++◌, length, take, drop, is_some, IfSome, IsSomeAnd, refl, ap, subst, ◌∙◌, sym, append_assoc, length-drop, arith}
+use Rattle.std.proofs.Common.{◌≡◌, ℕ, ◌+◌, ◌-◌, List, [], Option, None, Some, ◌++◌, length, take, drop, is_some, IfSome, IsSomeAnd, refl, ap, subst, ◌∙◌, sym, append_assoc, length-drop, arith}
 use Rattle.std.proofs.Math.Seq.{take-add}
-use Rattle.std.proofs.lemmas.List.{take_all}
+use Rattle.std.proofs.lemmas.List.{take_all, append-nil}
 use Rattle.std.specs.FinMap.{get}
 use Rattle.std.specs.Io.KnownBytes.{append_known}
 use Rattle.sn_io.specs.Counts.{ByName}
@@ -30,3 +30,13 @@ told_known (Some files) now counts name P same law here unknown =
 pub told_is : {X : Type 0} (P : X → Type 0) (told : Option X) (x y : X) → y ≡ x → IfSome told (λ z. x ≡ z) → P y → IfSome told P
 told_is P None x y e same h = tt
 told_is P (Some z) x y e same h = subst P (e ∙ same) h
+
+-- two pieces, one behind the other
+pub append_known-append : (told : Option (List ℕ)) (first second : List ℕ) → append_known (append_known told first) second ≡ append_known told (first ++ second)
+append_known-append None first second = refl
+append_known-append (Some out) first second = ap (λ ys. Some ys) (append_assoc out first second)
+
+-- where nothing went out
+pub append_known-nil : (told : Option (List ℕ)) → append_known told [] ≡ told
+append_known-nil None = refl
+append_known-nil (Some out) = ap (λ ys. Some ys) (append-nil out)
