@@ -39,6 +39,9 @@ pub trait Inputs {
     ghost same_names: { (s : Self) (files : ByName (List ℕ)) (name : List ℕ) → told s ≡ Some files → is_some (get files name) ≡ is_some (get (faults s) name) };
 }
 
+/// The most bytes of a file that are read at once.
+pub const PIECE: usize = 65536;
+
 /// Why a file isn't read whole.
 #[derive(Clone, Copy, Debug, PartialEq, Eq)]
 pub enum ReadError {
@@ -52,7 +55,8 @@ pub enum ReadError {
     Memory,
 }
 
-/// Reads a whole file of at most `limit` bytes.
+/// Reads a whole file of at most `limit` bytes, piece by piece. `Missing` comes exactly where the name isn't known,
+/// `ReadFault` only where its count rose, and `TooLarge` exactly where the file has a byte behind the limit.
 pub fn read_whole<I: Inputs>(
     alloc: Global,
     files: &mut I,
@@ -75,7 +79,7 @@ pub fn read_whole<I: Inputs>(
     ensures faults { OnlyRises name.now (I.faults files.old) (I.faults files.new) }
 {
     let mut bytes = Vec::new(alloc);
-    let mut piece = [0; 65536];
+    let mut piece = [0; PIECE];
     loop {
         match files.read_at(name, bytes.len() as u64, &mut piece) {
             Ok(0) => return Ok(Seq::from_vec(bytes)),

@@ -6,7 +6,7 @@ ghost use Rattle.std.specs.FinMap.{get};
 ghost use Rattle.std.specs.String.{string_bytes};
 ghost use Rattle.sn_io.specs.Known.{counts_of, none_told};
 
-use crate::inputs::{InputFault, Inputs};
+use crate::inputs::{InputFault, Inputs, PIECE};
 use crate::known::{Entry, knows, one_more, raise};
 use crate::sink::{Failed, Sink};
 use sn_base::memory::Memory;
@@ -130,7 +130,7 @@ fn read_file(rt: &HostRuntime, name: &str, at: u64, into: &mut [u8]) -> io::Resu
     ensures within { IfOk result (λ n. n ≤ length into.old) }
     ensures untouched { OnErr result (into.new ≡ into.old) }
 {
-    let mut piece = [0; 65536];
+    let mut piece = [0; PIECE];
     let most = into.len().min(piece.len());
     let file = fs::open(rt, name)?;
     let count = file.read_at(&mut piece[..most], at)?;

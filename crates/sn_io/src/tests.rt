@@ -88,8 +88,8 @@ fn reads_real_files(rt: HostRuntime) -> Result<(), Fail> {
     for word in ["here.bin", "nowhere.bin", "."] {
         words.push(String::from_str(alloc, word)?)?;
     }
-    fs::write(&rt, "here.bin", b"real bytes".as_slice())?;
     let mut files = RealInputs::new(&rt, alloc, &words)?;
+    fs::write(&rt, "here.bin", b"real bytes".as_slice())?;
     let whole = read_whole(alloc, &mut files, "here.bin", 10);
     let large = read_whole(alloc, &mut files, "here.bin", 9);
     fs::remove_file(&rt, "here.bin")?;
