@@ -2,4 +2,5 @@ pub mod RunLemmas
 pub mod NumberLemmas
 pub mod RunSteps
 pub mod RowLemmas
+pub mod ReadLemmas
 pub mod PlainLemmas

@@ -7,4 +7,6 @@ pub mod Words
 pub mod Refusals
 pub mod Outcome
 pub mod Rows
+pub mod Reading
+pub mod Read
 pub mod Plain

@@ -47,7 +47,8 @@ fn passes(filters: &[Filter], tuple: &Tuple) -> bool
     filters.iter().all(|filter| holds(filter, tuple))
 }
 
-fn is_same(a: Field, b: Field) -> bool
+/// Whether two fields are the same.
+pub fn is_same_field(a: Field, b: Field) -> bool
     ensures { result ≡ same_field a b }
 {
     a.number() == b.number()
@@ -56,7 +57,7 @@ fn is_same(a: Field, b: Field) -> bool
 fn is_read(filters: &[Filter], field: Field) -> bool
     ensures { result ≡ is_read filters.now field }
 {
-    filters.iter().any(|filter| is_same(filter.field, field))
+    filters.iter().any(|filter| is_same_field(filter.field, field))
 }
 
 /// The fields that the filters read, in the order of their numbers.
