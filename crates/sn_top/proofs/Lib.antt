@@ -4,3 +4,5 @@ pub mod RunSteps
 pub mod RowLemmas
 pub mod ReadLemmas
 pub mod PlainLemmas
+pub mod FileLemmas
+pub mod StageLemmas

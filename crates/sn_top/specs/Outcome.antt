@@ -2,7 +2,7 @@
 use Rattle.std.specs.Prelude.{◌≡◌, ℕ, ◌≤◌, List, [], Bool, true, false, Result, Ok, Err, Option, length, take}
 use Rattle.std.specs.Io.KnownBytes.{append_known}
 use Rattle.sn_top.specs.declared.refusal.Refusal.{Refusal}
-use Rattle.sn_top.specs.declared.refusal.Refusal.TheVariants.{Memory, ReadFault, WriteFault}
+use Rattle.sn_top.specs.declared.refusal.Refusal.TheVariants.{Memory, Missing, ReadFault, WriteFault}
 
 pub record Outcome (A : Type 0) : Type 0 where
   pub text : List ℕ
@@ -30,3 +30,14 @@ pub record Keeps {A : Type 0} (outcome : Outcome A) (answer : Result A Refusal) 
   pub front : WentOutFront outcome.text before now
   pub ends : is_chance answer ≡ false → answer ≡ outcome.end
   pub whole : is_chance answer ≡ false → now ≡ append_known before outcome.text
+
+-- the answer is the one that is due, unless something failed by chance
+abbrev pub IsDue : {A : Type 0} → Result A Refusal → Result A Refusal → Type 0
+IsDue due answer = is_chance answer ≡ false → answer ≡ due
+
+-- no read failed, and no file word was missing
+abbrev pub ReadsWell : {A : Type 0} → Result A Refusal → Type 0
+ReadsWell (Ok a) = Unit {0}
+ReadsWell (Err Missing) = ⊥
+ReadsWell (Err ReadFault) = ⊥
+ReadsWell (Err refusal) = Unit {0}

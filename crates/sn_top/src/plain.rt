@@ -1,19 +1,24 @@
 //! The command `plain`.
-ghost use Rattle.std.specs.Prelude.{◌≡◌, ◌≤◌, ◌⊎◌, List, All, Err, Ok};
+ghost use Rattle.std.specs.Prelude.{◌≡◌, ◌≢◌, ◌≤◌, ◌^◌, ◌↔◌, ◌⊎◌, ℕ, List, Some, None, All, Err, Ok, IfOk, IfErr, length};
+ghost use Rattle.std.specs.FinMap.{get};
 ghost use Rattle.sn_pcap.specs.Capture.{IsWithin, Records, head_of};
 ghost use Rattle.sn_pcap.specs.declared.packet.Packet.{Packet};
 ghost use Rattle.sn_pcap.specs.declared.packet.Ending.{Ending};
-ghost use Rattle.sn_io.specs.Counts.{Rose};
-ghost use Rattle.sn_top.specs.Outcome.{Outcome, Keeps};
-ghost use Rattle.sn_top.specs.Plain.{window_text, numbered_packets, windows_outcome, packets_outcome, records_outcome, AfterHead};
+ghost use Rattle.sn_io.specs.Counts.{ByName, Rose, RoseAt, OnlyRises};
+ghost use Rattle.sn_top.specs.Outcome.{Outcome, Keeps, IsDue, ReadsWell};
+ghost use Rattle.sn_top.specs.Reading.{query_of};
+ghost use Rattle.sn_top.specs.Plain.{window_text, numbered_packets, windows_outcome, packets_outcome, records_outcome, AfterHead, file_of, read_query, query_stage, AfterCapture, IsPlain};
 
 use crate::query::Query;
+use crate::reader::{ParseFault, parse};
 use crate::refusal::Refusal;
 use crate::rows::answer_rows;
 use crate::runs::first_window;
 use crate::text::{block, total};
 use crate::windows::Windows;
 use sn_base::link::Link;
+use sn_base::seq::Seq;
+use sn_io::inputs::{Inputs, ReadError, read_whole};
 use sn_io::sink::{Sink, write_all_to};
 use sn_pcap::header::{Header, head};
 use sn_pcap::packet::{Ending, Packet, packets};
@@ -22,6 +27,7 @@ use std::alloc::Global;
 /// Writes a text.
 fn write_text<O: Sink>(text: &[u8], out: &mut O) -> Result<(), Refusal>
     ensures keeps { Keeps (record { text = text.now; end = Ok tt }) result (O.written out.old) (O.written out.new) }
+    ensures reads { ReadsWell result }
     ensures write_fault { result ≡ Err Refusal.WriteFault → Rose (O.faults out.old) (O.faults out.new) ⊎ Rose (O.empty_takes out.old) (O.empty_takes out.new) }
     ensures faults { O.faults out.old ≤ O.faults out.new }
     ensures empty_takes { O.empty_takes out.old ≤ O.empty_takes out.new }
@@ -44,6 +50,7 @@ fn write_window<O: Sink>(
 ) -> Result<(), Refusal>
     requires { All (IsWithin file.now) packets.now }
     ensures keeps { Keeps (record { text = window_text query.now link file.now number packets.now; end = Ok tt }) result (O.written out.old) (O.written out.new) }
+    ensures reads { ReadsWell result }
     ensures write_fault { result ≡ Err Refusal.WriteFault → Rose (O.faults out.old) (O.faults out.new) ⊎ Rose (O.empty_takes out.old) (O.empty_takes out.new) }
     ensures faults { O.faults out.old ≤ O.faults out.new }
     ensures empty_takes { O.empty_takes out.old ≤ O.empty_takes out.new }
@@ -65,6 +72,7 @@ fn write_windows<O: Sink>(
     requires window { (1 ≤ query.now.window_us) × (query.now.window_us ≤ 3600000000) }
     requires within { All (IsWithin file.now) packets.now }
     ensures keeps { Keeps (windows_outcome query.now link file.now (numbered_packets query.now packets.now)) result (O.written out.old) (O.written out.new) }
+    ensures reads { ReadsWell result }
     ensures write_fault { result ≡ Err Refusal.WriteFault → Rose (O.faults out.old) (O.faults out.new) ⊎ Rose (O.empty_takes out.old) (O.empty_takes out.new) }
     ensures faults { O.faults out.old ≤ O.faults out.new }
     ensures empty_takes { O.empty_takes out.old ≤ O.empty_takes out.new }
@@ -95,6 +103,7 @@ fn answer_packets<O: Sink>(
     requires window { (1 ≤ query.now.window_us) × (query.now.window_us ≤ 3600000000) }
     requires within { All (IsWithin file.now) packets.now }
     ensures keeps { Keeps (packets_outcome query.now link file.now (numbered_packets query.now packets.now)) result (O.written out.old) (O.written out.new) }
+    ensures reads { ReadsWell result }
     ensures write_fault { result ≡ Err Refusal.WriteFault → Rose (O.faults out.old) (O.faults out.new) ⊎ Rose (O.empty_takes out.old) (O.empty_takes out.new) }
 {
     let windows = write_windows(alloc, query, link, file, packets, out)?;
@@ -112,6 +121,7 @@ fn answer_records<O: Sink>(
 ) -> Result<(), Refusal>
     requires { (1 ≤ query.now.window_us) × (query.now.window_us ≤ 3600000000) }
     ensures keeps { (packets : List Packet) (ending : Ending) → Records header.now file.now 24 packets ending → Keeps (records_outcome query.now header.now.link file.now packets ending) result (O.written out.old) (O.written out.new) }
+    ensures reads { ReadsWell result }
     ensures write_fault { result ≡ Err Refusal.WriteFault → Rose (O.faults out.old) (O.faults out.new) ⊎ Rose (O.empty_takes out.old) (O.empty_takes out.new) }
 {
     let (found, ending) = packets(alloc, header, file)?;
@@ -130,10 +140,80 @@ fn answer_capture<O: Sink>(
 ) -> Result<(), Refusal>
     requires { (1 ≤ query.now.window_us) × (query.now.window_us ≤ 3600000000) }
     ensures keeps { (outcome : Outcome (Unit {0})) → AfterHead query.now file.now (head_of file.now) outcome → Keeps outcome result (O.written out.old) (O.written out.new) }
+    ensures reads { ReadsWell result }
     ensures write_fault { result ≡ Err Refusal.WriteFault → Rose (O.faults out.old) (O.faults out.new) ⊎ Rose (O.empty_takes out.old) (O.empty_takes out.new) }
 {
     match head(file) {
         Ok(header) => answer_records(alloc, query, &header, file, out),
         Err(fault) => Err(Refusal::Head(fault)),
     }
+}
+
+/// The most bytes of a file.
+const MOST_BYTES: u64 = 1 << 30;
+
+/// Reads a file whole.
+fn read_file<I: Inputs>(alloc: Global, files: &mut I, name: &str) -> Result<Seq<u8>, Refusal>
+    ensures due { (held : ByName (List ℕ)) → I.told files.old ≡ Some held → IsDue (file_of held name.now) result }
+    ensures within { IfOk result (λ bytes. length bytes ≤ 2 ^ 30) }
+    ensures missing { result ≡ Err Refusal.Missing ↔ (get (I.faults files.old) name.now ≡ None) }
+    ensures fault { result ≡ Err Refusal.ReadFault → RoseAt name.now (I.faults files.old) (I.faults files.new) }
+    ensures writes { result ≢ Err Refusal.WriteFault }
+    ensures told { I.told files.new ≡ I.told files.old }
+    ensures faults { OnlyRises name.now (I.faults files.old) (I.faults files.new) }
+{
+    match read_whole(alloc, files, name, MOST_BYTES) {
+        Ok(bytes) => Ok(bytes),
+        Err(ReadError::Missing) => Err(Refusal::Missing),
+        Err(ReadError::ReadFault) => Err(Refusal::ReadFault),
+        Err(ReadError::TooLarge) => Err(Refusal::TooLarge),
+        Err(ReadError::Memory) => Err(Refusal::Memory),
+    }
+}
+
+/// Reads the query of a text.
+fn read_text(alloc: Global, text: &[u8]) -> Result<Query, Refusal>
+    requires { length text.now ≤ 2 ^ 30 }
+    ensures due { IsDue (read_query (query_of text.now)) result }
+    ensures window { IfOk result (λ query. (1 ≤ query.window_us) × (query.window_us ≤ 3600000000)) }
+    ensures only { IfErr result (λ refusal. (refusal ≡ Refusal.Queries) ⊎ (refusal ≡ Refusal.Memory)) }
+{
+    match parse(alloc, text) {
+        Ok(query) => Ok(query),
+        Err(ParseFault::Unbuilt) => Err(Refusal::Queries),
+        Err(ParseFault::Memory) => Err(Refusal::Memory),
+    }
+}
+
+/// Reads the query of a file.
+fn read_queries<I: Inputs>(alloc: Global, files: &mut I, name: &str) -> Result<Query, Refusal>
+    ensures due { (held : ByName (List ℕ)) → I.told files.old ≡ Some held → IsDue (query_stage (file_of held name.now)) result }
+    ensures window { IfOk result (λ query. (1 ≤ query.window_us) × (query.window_us ≤ 3600000000)) }
+    ensures missing { result ≡ Err Refusal.Missing ↔ (get (I.faults files.old) name.now ≡ None) }
+    ensures fault { result ≡ Err Refusal.ReadFault → RoseAt name.now (I.faults files.old) (I.faults files.new) }
+    ensures writes { result ≢ Err Refusal.WriteFault }
+    ensures told { I.told files.new ≡ I.told files.old }
+    ensures faults { OnlyRises name.now (I.faults files.old) (I.faults files.new) }
+{
+    let text = read_file(alloc, files, name)?;
+    read_text(alloc, text.as_slice())
+}
+
+/// Reads a capture and answers it.
+fn answer_file<I: Inputs, O: Sink>(
+    alloc: Global,
+    query: &Query,
+    files: &mut I,
+    name: &str,
+    out: &mut O,
+) -> Result<(), Refusal>
+    requires { (1 ≤ query.now.window_us) × (query.now.window_us ≤ 3600000000) }
+    ensures keeps { (held : ByName (List ℕ)) → I.told files.old ≡ Some held → (outcome : Outcome (Unit {0})) → AfterCapture query.now (file_of held name.now) outcome → Keeps outcome result (O.written out.old) (O.written out.new) }
+    ensures missing { result ≡ Err Refusal.Missing → get (I.faults files.old) name.now ≡ None }
+    ensures fault { result ≡ Err Refusal.ReadFault → RoseAt name.now (I.faults files.old) (I.faults files.new) }
+    ensures write_fault { result ≡ Err Refusal.WriteFault → Rose (O.faults out.old) (O.faults out.new) ⊎ Rose (O.empty_takes out.old) (O.empty_takes out.new) }
+    ensures faults { OnlyRises name.now (I.faults files.old) (I.faults files.new) }
+{
+    let file = read_file(alloc, files, name)?;
+    answer_capture(alloc, query, file.as_slice(), out)
 }
