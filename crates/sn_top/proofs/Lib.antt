@@ -6,3 +6,4 @@ pub mod ReadLemmas
 pub mod PlainLemmas
 pub mod FileLemmas
 pub mod StageLemmas
+pub mod TopLemmas

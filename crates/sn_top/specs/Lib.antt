@@ -10,3 +10,4 @@ pub mod Rows
 pub mod Reading
 pub mod Read
 pub mod Plain
+pub mod Top

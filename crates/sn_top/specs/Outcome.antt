@@ -2,7 +2,7 @@
 use Rattle.std.specs.Prelude.{◌≡◌, ℕ, ◌≤◌, List, [], Bool, true, false, Result, Ok, Err, Option, length, take}
 use Rattle.std.specs.Io.KnownBytes.{append_known}
 use Rattle.sn_top.specs.declared.refusal.Refusal.{Refusal}
-use Rattle.sn_top.specs.declared.refusal.Refusal.TheVariants.{Memory, Missing, ReadFault, WriteFault}
+use Rattle.sn_top.specs.declared.refusal.Refusal.TheVariants.{Memory, Usage, Missing, ReadFault, WriteFault}
 
 pub record Outcome (A : Type 0) : Type 0 where
   pub text : List ℕ
@@ -35,9 +35,10 @@ pub record Keeps {A : Type 0} (outcome : Outcome A) (answer : Result A Refusal) 
 abbrev pub IsDue : {A : Type 0} → Result A Refusal → Result A Refusal → Type 0
 IsDue due answer = is_chance answer ≡ false → answer ≡ due
 
--- no read failed, and no file word was missing
+-- no read failed, no file word was missing, and the words were in the grammar
 abbrev pub ReadsWell : {A : Type 0} → Result A Refusal → Type 0
 ReadsWell (Ok a) = Unit {0}
 ReadsWell (Err Missing) = ⊥
 ReadsWell (Err ReadFault) = ⊥
+ReadsWell (Err Usage) = ⊥
 ReadsWell (Err refusal) = Unit {0}

@@ -9,5 +9,6 @@ pub mod refusal;
 pub mod rows;
 pub mod runs;
 pub mod text;
+pub mod top;
 pub mod windows;
 pub mod words;

@@ -159,6 +159,7 @@ fn read_file<I: Inputs>(alloc: Global, files: &mut I, name: &str) -> Result<Seq<
     ensures missing { result ≡ Err Refusal.Missing ↔ (get (I.faults files.old) name.now ≡ None) }
     ensures fault { result ≡ Err Refusal.ReadFault → RoseAt name.now (I.faults files.old) (I.faults files.new) }
     ensures writes { result ≢ Err Refusal.WriteFault }
+    ensures words { result ≢ Err Refusal.Usage }
     ensures told { I.told files.new ≡ I.told files.old }
     ensures faults { OnlyRises name.now (I.faults files.old) (I.faults files.new) }
 {
@@ -192,6 +193,7 @@ fn read_queries<I: Inputs>(alloc: Global, files: &mut I, name: &str) -> Result<Q
     ensures missing { result ≡ Err Refusal.Missing ↔ (get (I.faults files.old) name.now ≡ None) }
     ensures fault { result ≡ Err Refusal.ReadFault → RoseAt name.now (I.faults files.old) (I.faults files.new) }
     ensures writes { result ≢ Err Refusal.WriteFault }
+    ensures words { result ≢ Err Refusal.Usage }
     ensures told { I.told files.new ≡ I.told files.old }
     ensures faults { OnlyRises name.now (I.faults files.old) (I.faults files.new) }
 {
@@ -212,8 +214,28 @@ fn answer_file<I: Inputs, O: Sink>(
     ensures missing { result ≡ Err Refusal.Missing → get (I.faults files.old) name.now ≡ None }
     ensures fault { result ≡ Err Refusal.ReadFault → RoseAt name.now (I.faults files.old) (I.faults files.new) }
     ensures write_fault { result ≡ Err Refusal.WriteFault → Rose (O.faults out.old) (O.faults out.new) ⊎ Rose (O.empty_takes out.old) (O.empty_takes out.new) }
+    ensures words { result ≢ Err Refusal.Usage }
     ensures faults { OnlyRises name.now (I.faults files.old) (I.faults files.new) }
 {
     let file = read_file(alloc, files, name)?;
     answer_capture(alloc, query, file.as_slice(), out)
+}
+
+/// `plain QUERIES CAPTURE`: reads the query, then the capture, and writes the answers of each window.
+pub fn plain<I: Inputs, O: Sink>(
+    alloc: Global,
+    queries: &str,
+    capture: &str,
+    files: &mut I,
+    out: &mut O,
+) -> Result<(), Refusal>
+    ensures keeps { (held : ByName (List ℕ)) → I.told files.old ≡ Some held → (outcome : Outcome (Unit {0})) → IsPlain held queries.now capture.now outcome → Keeps outcome result (O.written out.old) (O.written out.new) }
+    ensures missing { result ≡ Err Refusal.Missing → (get (I.faults files.old) queries.now ≡ None) ⊎ (get (I.faults files.old) capture.now ≡ None) }
+    ensures unknown { get (I.faults files.old) queries.now ≡ None → result ≡ Err Refusal.Missing }
+    ensures fault { result ≡ Err Refusal.ReadFault → RoseAt queries.now (I.faults files.old) (I.faults files.new) ⊎ RoseAt capture.now (I.faults files.old) (I.faults files.new) }
+    ensures write_fault { result ≡ Err Refusal.WriteFault → Rose (O.faults out.old) (O.faults out.new) ⊎ Rose (O.empty_takes out.old) (O.empty_takes out.new) }
+    ensures words { result ≢ Err Refusal.Usage }
+{
+    let query = read_queries(alloc, files, queries)?;
+    answer_file(alloc, &query, files, capture, out)
 }
