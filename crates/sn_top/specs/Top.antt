@@ -1,7 +1,9 @@
 -- What the top call answers, and why.
-use Rattle.std.specs.Prelude.{◌≡◌, ℕ, ◌⊎◌, ◌==◌, List, [], Option, Result, Ok, Err, if◌then◌else◌, codes}
+use Rattle.std.specs.Prelude.{◌≡◌, ℕ, ◌⊎◌, List, [], Option, None, Result, Ok, Err, codes}
 use Rattle.std.specs.Io.KnownBytes.{append_known}
-use Rattle.sn_io.specs.Counts.{Rose}
+use Rattle.std.specs.FinMap.{get}
+use Rattle.sn_io.specs.Counts.{ByName, Rose, RoseAt}
+use Rattle.sn_top.specs.Words.{word_at}
 use Rattle.sn_top.specs.declared.refusal.Refusal.{Refusal}
 use Rattle.sn_top.specs.Refusals.{status_of, line_of, head_line}
 use Rattle.sn_top.specs.Outcome.{Outcome, WentOutFront}
@@ -62,3 +64,19 @@ abbrev pub IsLineOf : ℕ → List ℕ → Type 0
 IsLineOf status line =
     ((status ≡ 0) × (line ≡ [])) ⊎ (((status ≡ 1) × (line ≡ codes "sonata: memory\n")) ⊎ (((status ≡ 2) × (line ≡ codes "sonata: usage\n")) ⊎ (((status ≡ 3) × (line ≡ codes "sonata: queries unbuilt\n"))
     ⊎ (((status ≡ 5) × IsCaptureLine line) ⊎ (((status ≡ 9) × (line ≡ codes "sonata: read fault\n")) ⊎ (((status ≡ 10) × (line ≡ codes "sonata: write fault\n")) ⊎ ((status ≡ 12) × (line ≡ codes "sonata: too large\n"))))))))
+
+-- a line of this status is told
+abbrev pub IsStatusTold : ℕ → ℕ → ℕ → ℕ → ℕ → Option (List ℕ) → Option (List ℕ) → Type 0
+IsStatusTold status faults_before faults_now takes_before takes_now before now = (line : List ℕ) × IsLineOf status line × IsTold line faults_before faults_now takes_before takes_now before now
+
+-- the count of a file word of the command rose
+abbrev pub AnyRose : List (List ℕ) → ByName ℕ → ByName ℕ → Type 0
+AnyRose words before now = RoseAt (word_at words 1) before now ⊎ RoseAt (word_at words 2) before now
+
+-- a file word of the command isn't known
+abbrev pub AnyUnknown : List (List ℕ) → ByName ℕ → Type 0
+AnyUnknown words counts = (get counts (word_at words 1) ≡ None) ⊎ (get counts (word_at words 2) ≡ None)
+
+-- a count of the output rose: a write failed, or took nothing of a rest that has bytes
+abbrev pub OutRose : ℕ → ℕ → ℕ → ℕ → Type 0
+OutRose faults_before faults_now takes_before takes_now = Rose faults_before faults_now ⊎ Rose takes_before takes_now

@@ -5,7 +5,7 @@ ghost use Rattle.sn_io.specs.Counts.{ByName, Rose, RoseAt};
 ghost use Rattle.sn_top.specs.Words.{texts, word_at, is_plain};
 ghost use Rattle.sn_top.specs.Outcome.{Outcome, Keeps};
 ghost use Rattle.sn_top.specs.Plain.{IsPlain};
-ghost use Rattle.sn_top.specs.Top.{end_status, end_line, IsRun, IsTold, IsLineOf};
+ghost use Rattle.sn_top.specs.Top.{end_status, end_line, IsRun, IsTold, IsStatusTold, AnyRose, AnyUnknown, OutRose};
 
 use crate::plain::plain;
 use crate::refusal::Refusal;
@@ -50,4 +50,48 @@ fn run<I: Inputs, O: Sink>(
         Ok(Command::Plain) => plain(alloc, given[1].as_str(), given[2].as_str(), files, out),
         Err(_) => Err(Refusal::Usage),
     }
+}
+
+/// Tells the line on an answer.
+fn tell<E: Sink>(answer: Result<(), Refusal>, err: &mut E)
+    ensures { IsTold (end_line answer) (E.faults err.old) (E.faults err.new) (E.empty_takes err.old) (E.empty_takes err.new) (E.written err.old) (E.written err.new) }
+{
+    let _ = write_all_to(err, line_of(answer));
+}
+
+/// Runs a command: its text goes to `out`, a line on its status to `err`, and the status is the answer.
+///
+/// The words are those after the program's name. `plain QUERIES CAPTURE` is the one command so far. A fault in
+/// writing the line to `err` is dropped, and the status stays.
+pub fn top<I: Inputs, O: Sink, E: Sink>(
+    alloc: Global,
+    words: &[String],
+    files: &mut I,
+    out: &mut O,
+    err: &mut E,
+) -> u8
+    // 2: exactly where the words aren't in the grammar. Then nothing is written.
+    ensures usage { (result ≡ 2) ↔ (is_plain (texts words.now) ≡ false) }
+    ensures nothing { result ≡ 2 → O.written out.new ≡ O.written out.old }
+
+    // With a command's words over files whose contents are told, the run is that of its one outcome.
+    ensures run { is_plain (texts words.now) ≡ true → (held : ByName (List ℕ)) → I.told files.old ≡ Some held → (outcome : Outcome (Unit {0})) →
+        IsPlain held (word_at (texts words.now) 1) (word_at (texts words.now) 2) outcome →
+        IsRun outcome (AnyRose (texts words.now) (I.faults files.old) (I.faults files.new)) (OutRose (O.faults out.old) (O.faults out.new) (O.empty_takes out.old) (O.empty_takes out.new)) result (O.written out.old) (O.written out.new) }
+
+    // 9 over any files: only where the count of a file word rose, or a file word isn't known; always where the first isn't.
+    ensures read_fault { result ≡ 9 → AnyRose (texts words.now) (I.faults files.old) (I.faults files.new) ⊎ AnyUnknown (texts words.now) (I.faults files.old) }
+    ensures unknown { is_plain (texts words.now) ≡ true → get (I.faults files.old) (word_at (texts words.now) 1) ≡ None → result ≡ 9 }
+    // 10 over any sink: only where a write failed in this call, or took nothing of a rest that has bytes.
+    ensures write_fault { result ≡ 10 → OutRose (O.faults out.old) (O.faults out.new) (O.empty_takes out.old) (O.empty_takes out.new) }
+
+    // The line of the status is told; that of 5 says what is wrong with the capture.
+    ensures line { IsStatusTold result (E.faults err.old) (E.faults err.new) (E.empty_takes err.old) (E.empty_takes err.new) (E.written err.old) (E.written err.new) }
+    ensures capture_line { is_plain (texts words.now) ≡ true → (held : ByName (List ℕ)) → I.told files.old ≡ Some held → (outcome : Outcome (Unit {0})) →
+        IsPlain held (word_at (texts words.now) 1) (word_at (texts words.now) 2) outcome → result ≡ 5 →
+        IsTold (end_line outcome.end) (E.faults err.old) (E.faults err.new) (E.empty_takes err.old) (E.empty_takes err.new) (E.written err.old) (E.written err.new) }
+{
+    let answer = run(alloc, words, files, out);
+    tell(answer, err);
+    status_of(answer)
 }
