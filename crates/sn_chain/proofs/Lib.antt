@@ -1,0 +1,5 @@
+pub mod ChainLemmas
+pub mod OfferLemmas
+pub mod Places
+pub mod RegisterLemmas
+pub mod ResidenceLemmas

@@ -1,0 +1,5 @@
+pub mod Cells
+pub mod Chain
+pub mod Found
+pub mod Registers
+pub mod Residence
