@@ -1,14 +1,16 @@
 -- A chain after a list of offers.
-use Rattle.std.proofs.Common.{◌≡◌, ℕ, ◌*◌, ◌≤◌, List, [], ◌∷◌, ◌++◌, fold, All, Option, None, replicate, refl, ap, sym, subst, ◌∙◌}
+use Rattle.std.proofs.Common.{◌≡◌, ℕ, ◌*◌, ◌≤◌, List, [], ◌∷◌, ◌++◌, fold, map, All, Option, None, replicate, refl, ap, sym, subst, ◌∙◌}
 use Rattle.std.specs.List.{list_any}
 use Rattle.std.specs.Cmp.Lexicographic.{nat_list_eq_equiv}
 use Rattle.std.proofs.lemmas.List.Elements.{recursion_from_All}
 use Rattle.std.proofs.lemmas.List.Sums.{fold-append}
 use Rattle.sn_base.specs.Folds.{FoldLaws}
-use Rattle.sn_base.specs.Groups.{Row, same_row}
+use Rattle.sn_base.specs.Groups.{Row, paired, same_row}
 use Rattle.sn_base.proofs.FoldedLemmas.{same_row_exact}
 use Rattle.sn_chain.specs.Registers.{cell}
-use Rattle.sn_chain.specs.Chain.{ChainState, places_of, has_home, empty_chain, holder, vacancy, answer_at, answer_for, after_offer, after_offers, keys_of, resident_at}
+use Rattle.sn_chain.specs.Chain.{ChainState, places_of, has_home, empty_chain, holder, vacancy, answer_at, answer_for, after_offer, after_offers, keys_of, resident_at, total_of}
+use Rattle.sn_chain.specs.Homes.{held_in_order, homes_by_place}
+use Rattle.sn_chain.proofs.HomeLemmas.{shown_in_order}
 use Rattle.sn_chain.proofs.Places.{within_cells}
 use Rattle.sn_chain.proofs.RegisterLemmas.{Stands, after, offers_stand, answers_stand}
 
@@ -53,3 +55,10 @@ module _ {F : Type 0} (join : F → ℕ → ℕ → ℕ) (f : F) {has : ℕ → 
   answers_show before later key v had =
       ap (λ (c : ChainState F). answer_at (holder c key) (vacancy c key)) (same_shape before)
       ∙ answers_stand nat_list_eq_equiv same_row_exact (places_of depth slots) (depth * slots) (within_cells slots depth some) L (after_offers join (empty_chain f depth slots) before).cells before (chain_stands before had) key v later
+
+  pub offers_in_order : (offers : List (Row × ℕ)) → All (λ (o : Row × ℕ). has o.1) offers →
+      held_in_order (after_offers join (empty_chain f depth slots) offers).cells ≡ map (paired (total_of (join f) unit offers)) (homes_by_place depth slots (keys_of offers))
+  offers_in_order offers had =
+      let s = chain_stands offers had in
+      shown_in_order nat_list_eq_equiv same_row_exact (places_of depth slots) (depth * slots) (within_cells slots depth some) (paired (total_of (join f) unit offers)) (keys_of offers)
+      (after_offers join (empty_chain f depth slots) offers).cells s.long s.shown

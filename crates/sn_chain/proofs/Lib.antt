@@ -1,4 +1,5 @@
 pub mod ChainLemmas
+pub mod HomeLemmas
 pub mod OfferLemmas
 pub mod Places
 pub mod RegisterLemmas
