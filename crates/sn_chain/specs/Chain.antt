@@ -1,4 +1,4 @@
-use Rattle.std.specs.Prelude.{ℕ, ◌+◌, ◌*◌, List, map, fold, replicate, Bool, true, false, nat_eq, refl, Option, Some, None}
+use Rattle.std.specs.Prelude.{◌≡◌, ℕ, ◌+◌, ◌*◌, ◌<◌, List, map, fold, replicate, Bool, true, false, nat_eq, slice_index, refl, Option, Some, None}
 use Rattle.std.specs.Option.{option_map}
 use Rattle.std.specs.Map.{lookup}
 use Rattle.std.specs.List.{range_with_len}
@@ -13,6 +13,10 @@ use Rattle.sn_chain.specs.declared.offer.Offer.TheVariants.{New, Held, Over}
 -- a key's place in a register: slot s of register i is place i * slots + s
 abbrev pub place_in : ℕ → Row → ℕ → ℕ
 place_in slots key register = register * slots + slot register key slots
+
+-- the slots of a key, one for each register
+abbrev pub AreSlots : ℕ → ℕ → Row → List ℕ → Type 0
+AreSlots depth slots key at = (register : ℕ) → register < depth → slice_index at register ≡ slot register key slots
 
 -- a key's places in so many registers from this one on
 abbrev pub places_from : ℕ → ℕ → ℕ → Row → List ℕ

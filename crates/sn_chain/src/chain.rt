@@ -1,7 +1,8 @@
 //! A chain of registers.
 ghost use Rattle.std.specs.Prelude.{◌≡◌, ◌≤◌, map, IfOk, IfSome};
 ghost use Rattle.sn_chain.specs.Cells.{forgotten};
-ghost use Rattle.sn_chain.specs.Chain.{empty_chain, after_offer, answer_at, holder, vacancy};
+ghost use Rattle.std.specs.Option.{ForSome};
+ghost use Rattle.sn_chain.specs.Chain.{AreSlots, empty_chain, after_offer, answer_at, holder, vacancy};
 ghost use Rattle.sn_chain.specs.Registers.{cell};
 
 use crate::cell::Cell;
@@ -70,7 +71,27 @@ impl<F: Fold> Chain<F> {
         ensures answer { result ≡ answer_at (holder self.old key.now) (vacancy self.old key.now) }
         ensures after { self.new ≡ after_offer F.join self.old key.now v }
     {
-        match look(&self.cells, self.round, self.depth, self.slots, key) {
+        self.offer_by(key, v, None)
+    }
+
+    /// Does what `offer` does, where the key's slots are known: slot `i` of `at` is that of register `i`, for
+    /// each register of the chain. Takes no memory.
+    pub fn offer_at(&mut self, key: &Row, v: u64, at: &[u32; 4]) -> Offer
+        requires had { F.takes self.old.fold v }
+        requires slots { AreSlots self.old.depth self.old.slots key.now at.now }
+        ensures answer { result ≡ answer_at (holder self.old key.now) (vacancy self.old key.now) }
+        ensures after { self.new ≡ after_offer F.join self.old key.now v }
+    {
+        self.offer_by(key, v, Some(at))
+    }
+
+    fn offer_by(&mut self, key: &Row, v: u64, known: Option<&[u32; 4]>) -> Offer
+        requires had { F.takes self.old.fold v }
+        requires slots { ForSome known (λ at. AreSlots self.old.depth self.old.slots key.now at.now) }
+        ensures answer { result ≡ answer_at (holder self.old key.now) (vacancy self.old key.now) }
+        ensures after { self.new ≡ after_offer F.join self.old key.now v }
+    {
+        match look(&self.cells, self.round, self.depth, self.slots, key, known) {
             Found::Held(at) => {
                 let cell = &mut self.cells[at];
                 cell.value = self.fold.step(cell.value, v);
@@ -128,6 +149,7 @@ mod tests {
     use super::*;
     use sn_base::any_fold::AnyFold;
     use sn_base::fold::{Max, SatSum};
+    use sn_base::slot::slot_of;
     use std::test::Fail;
 
     fn key(column: u64) -> Row {
@@ -164,8 +186,18 @@ mod tests {
         let mut chain = Chain::make(rt.alloc(), fold, 4, 65536)?;
         assert_eq!(rt; chain.offer(&key(1), 7), Offer::New);
         assert_eq!(rt; chain.offer(&key(1), 5), Offer::Held);
-        let place = sn_base::slot::slot_of(0, &key(1), 65536);
+        let place = slot_of(0, &key(1), 65536);
         assert_eq!(rt; chain.get(place), Some((key(1), 7)));
+        Ok(())
+    }
+
+    #[test]
+    fn takes_a_slot_that_is_known(rt: HostRuntime) -> Result<(), Fail> {
+        let mut chain = Chain::make(rt.alloc(), SatSum { v: 16 }, 1, 256)?;
+        let first = key(1);
+        let at = [slot_of(0, &first, 256), 0, 0, 0];
+        assert_eq!(rt; chain.offer_at(&first, 3, &at), Offer::New);
+        assert_eq!(rt; chain.get(164), Some((first, 3)));
         Ok(())
     }
 }

@@ -8,6 +8,9 @@ use Rattle.sn_chain.specs.Registers.{cell, holds, held_place, empty_place}
 use Rattle.sn_chain.proofs.Places.{place_found, place_passed, first_so_far, or_within, read_cell, register_within}
 use Rattle.sn_chain.proofs.register.look.Goals as goal
 
+pub place-at-requires-clause-known : goal.place-at-requires-clause-known
+place-at-requires-clause-known c = λ at is. let below : c.loop-register.register < c.args.depth = omega arith in c.requires.known at is c.loop-register.register below
+
 pub returns-then-holds-clause-found : goal.returns-then-holds-clause-found
 returns-then-holds-clause-found c =
     let cells = all_shown_by c.args.round c.args.cells.now in

@@ -2,7 +2,7 @@ use Rattle.std.proofs.Common.{◌≡◌, ◌<◌, List, length, subst, arith}
 use Rattle.sn_chain.specs.declared.cell.Cell.{Cell}
 use Rattle.sn_chain.specs.declared.register.Found.TheVariants as found
 use Rattle.sn_chain.proofs.OfferLemmas.{found_in, offer_held, offer_new, offer_over, answer_over}
-use Rattle.sn_chain.proofs.chain.Chain.offer.Goals as goal
+use Rattle.sn_chain.proofs.chain.Chain.offer_by.Goals as goal
 
 pub returns-in-Held-clause-after : goal.returns-in-Held-clause-after
 returns-in-Held-clause-after g c =
