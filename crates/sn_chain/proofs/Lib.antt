@@ -1,0 +1,6 @@
+pub mod ChainLemmas
+pub mod HomeLemmas
+pub mod OfferLemmas
+pub mod Places
+pub mod RegisterLemmas
+pub mod ResidenceLemmas

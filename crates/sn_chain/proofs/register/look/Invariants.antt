@@ -1,0 +1,17 @@
+use Rattle.std.proofs.Common.{◌≡◌, ◌-◌, ◌<◌, length, IfSome}
+use Rattle.std.specs.Option.{option_or}
+use Rattle.sn_base.specs.Groups.{same_row}
+use Rattle.sn_chain.specs.Cells.{all_shown_by}
+use Rattle.sn_chain.specs.Chain.{places_of, places_from}
+use Rattle.sn_chain.specs.Registers.{held_place, empty_place}
+use Rattle.sn_chain.proofs.register.look.Given as goal
+
+abbrev pub invariant-loop-register : goal.invariant-loop-register
+invariant-loop-register l =
+    let cells = all_shown_by l.round l.cells in
+    let rest = places_from l.slots l.register (l.depth - l.register) l.key in
+    record {
+      held : held_place same_row cells rest l.key ≡ held_place same_row cells (places_of l.depth l.slots l.key) l.key;
+      empty : option_or l.empty (empty_place cells rest) ≡ empty_place cells (places_of l.depth l.slots l.key);
+      within : IfSome l.empty (λ p. p < length l.cells);
+    }

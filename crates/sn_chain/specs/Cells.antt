@@ -1,0 +1,30 @@
+use Rattle.std.specs.Prelude.{◌≡◌, ℕ, ◌*◌, ◌≤◌, List, map, length, Option, Some, None, if◌then◌else◌, nat_eq}
+use Rattle.std.specs.List.{AllByRecursion}
+use Rattle.sn_base.specs.Groups.{Row}
+use Rattle.sn_chain.specs.declared.cell.Cell.{Cell}
+
+-- what a cell holds in a round: its key and value, where it was taken in that round
+abbrev pub shown_by : ℕ → Cell → Option (Row × ℕ)
+shown_by round c = if nat_eq c.round round then Some (c.key, c.value) else None
+
+abbrev pub all_shown_by : ℕ → List Cell → List (Option (Row × ℕ))
+all_shown_by round cells = map (shown_by round) cells
+
+-- a cell as it was before the first round
+abbrev pub forgotten : Cell → Cell
+forgotten c = record c { round = 0 }
+
+-- a cell was taken in no later round, and its value is one of the fold's
+pub record IsCell (has : ℕ → Type 0) (round : ℕ) (c : Cell) : Type 0 where
+  pub no_later : c.round ≤ round
+  pub had : has c.value
+
+-- the cells of so many registers with so many slots each
+pub record AreCells (has : ℕ → Type 0) (depth slots round : ℕ) (cells : List Cell) : Type 0 where
+  pub some_depth : 1 ≤ depth
+  pub most_depth : depth ≤ 4
+  pub some_slots : 1 ≤ slots
+  pub most_slots : slots ≤ 65536
+  pub first_round : 1 ≤ round
+  pub long : length cells ≡ depth * slots
+  pub each : AllByRecursion (IsCell has round) cells

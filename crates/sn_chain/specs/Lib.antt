@@ -1,0 +1,6 @@
+pub mod Cells
+pub mod Chain
+pub mod Found
+pub mod Homes
+pub mod Registers
+pub mod Residence

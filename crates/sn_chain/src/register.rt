@@ -1,0 +1,72 @@
+//! The search of a key in its cells.
+ghost use Rattle.std.specs.Prelude.{◌≡◌, ◌*◌, ◌+◌, ◌<◌, ◌≤◌, length, slice_index};
+ghost use Rattle.std.specs.Option.{ForSome};
+ghost use Rattle.sn_base.specs.Groups.{same_row};
+ghost use Rattle.sn_base.specs.Slot.{slot};
+ghost use Rattle.sn_chain.specs.Cells.{all_shown_by};
+ghost use Rattle.sn_chain.specs.Chain.{AreSlots, place_in, places_of};
+ghost use Rattle.sn_chain.specs.Found.{found_at, IsWithin};
+ghost use Rattle.sn_chain.specs.Registers.{held_place, empty_place};
+
+use crate::cell::Cell;
+use sn_base::row::Row;
+use sn_base::slot::slot_of;
+
+/// Where a key is, or may go.
+pub(crate) enum Found {
+    /// The place that holds the key.
+    Held(usize),
+    /// The first of the key's places that is empty, where none holds it.
+    Empty(usize),
+    /// All its places hold other keys.
+    Full,
+}
+
+/// A key's place in a register, by the key's slots where they are known.
+fn place(register: u32, key: &Row, slots: u32, known: Option<&[u32; 4]>) -> usize
+    requires register { register < 4 }
+    requires some { 1 ≤ slots }
+    requires most { slots ≤ 65536 }
+    requires known { ForSome known (λ at. slice_index at.now register ≡ slot register key.now slots) }
+    ensures value { result ≡ place_in slots key.now register }
+    ensures within { result < register * slots + slots }
+{
+    let slot = match known {
+        Some(at) => at[register as usize],
+        None => slot_of(register, key, slots),
+    };
+    register as usize * slots as usize + slot as usize
+}
+
+/// Looks for a key in its cells, register by register, by the key's slots where they are known. Else a key
+/// that is held costs one hash for each register up to its own.
+pub(crate) fn look(
+    cells: &[Cell],
+    round: u64,
+    depth: u32,
+    slots: u32,
+    key: &Row,
+    known: Option<&[u32; 4]>,
+) -> Found
+    requires depth { depth ≤ 4 }
+    requires some { 1 ≤ slots }
+    requires most { slots ≤ 65536 }
+    requires cells { length cells.now ≡ depth * slots }
+    requires known { ForSome known (λ at. AreSlots depth slots key.now at.now) }
+    ensures found { result ≡ found_at (held_place same_row (all_shown_by round cells.now) (places_of depth slots key.now) key.now) (empty_place (all_shown_by round cells.now) (places_of depth slots key.now)) }
+    ensures within { IsWithin result (length cells.now) }
+{
+    let mut empty = None;
+    for register in 0..depth {
+        let at = place(register, key, slots, known);
+        let cell = &cells[at];
+        if cell.holds(round, key) {
+            return Found::Held(at);
+        }
+        empty = empty.or(cell.empty_at(round, at));
+    }
+    match empty {
+        Some(at) => Found::Empty(at),
+        None => Found::Full,
+    }
+}
