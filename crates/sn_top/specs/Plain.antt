@@ -96,3 +96,8 @@ AfterQuery files capture (Ok query) outcome = AfterCapture query (file_of files 
 -- The first stage that refuses ends it.
 unfoldable pub IsPlain : ByName (List ℕ) → List ℕ → List ℕ → Outcome (Unit {0}) → Type 0
 IsPlain files queries capture outcome = AfterQuery files capture (query_stage (file_of files queries)) outcome
+
+-- `plain` over these files has an outcome
+pub record HasOutcome (files : ByName (List ℕ)) (queries capture : List ℕ) : Type 0 where
+  pub outcome : Outcome (Unit {0})
+  pub is : IsPlain files queries capture outcome
