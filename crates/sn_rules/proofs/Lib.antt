@@ -3,4 +3,5 @@ pub mod Laws
 pub mod Choices
 pub mod Chains
 pub mod Words
+pub mod Lists
 pub mod Faults
