@@ -4,6 +4,7 @@
 //! clause is one equation: what it gives is what its rule reads from the tokens left at that place.
 #![tactic(auto)]
 
+pub mod commas;
 pub mod list;
 pub mod stop;
 pub mod words;
