@@ -3,7 +3,7 @@ use Rattle.std.proofs.Common.{◌≡◌, ℕ, List, Result, Ok, Err, refl, ap, s
 use Rattle.sn_io.specs.Counts.{ByName}
 use Rattle.sn_pcap.specs.declared.header.Header.{Header}
 use Rattle.sn_pcap.specs.declared.header.HeadFault.{HeadFault}
-use Rattle.sn_pcap.specs.Capture.{head_of}
+use Rattle.sn_top.specs.Captures.{built_head}
 use Rattle.sn_pcap.proofs.OneCapture.{records_some, records_once}
 use Rattle.sn_top.specs.declared.query.Query.{Query}
 use Rattle.sn_top.specs.declared.refusal.Refusal.{Refusal}
@@ -22,7 +22,7 @@ head_some query file (Ok header) =
 
 capture_some : (query : Query) (file : Result (List ℕ) Refusal) → Some (AfterCapture query file)
 capture_some query (Err refusal) = (refused refusal, refl)
-capture_some query (Ok file) = head_some query file (head_of file)
+capture_some query (Ok file) = head_some query file (built_head file)
 
 query_some : (files : ByName (List ℕ)) (capture : List ℕ) (query : Result Query Refusal) → Some (AfterQuery files capture query)
 query_some files capture (Err refusal) = (refused refusal, refl)
@@ -40,7 +40,7 @@ head_once query file (Ok header) o p (ps, e, are, is) (qs, f, also, its) =
 
 capture_once : (query : Query) (file : Result (List ℕ) Refusal) (o p : Outcome (Unit {0})) → AfterCapture query file o → AfterCapture query file p → o ≡ p
 capture_once query (Err refusal) o p first second = first ∙ sym second
-capture_once query (Ok file) o p first second = head_once query file (head_of file) o p first second
+capture_once query (Ok file) o p first second = head_once query file (built_head file) o p first second
 
 query_once : (files : ByName (List ℕ)) (capture : List ℕ) (query : Result Query Refusal) (o p : Outcome (Unit {0})) → AfterQuery files capture query o → AfterQuery files capture query p → o ≡ p
 query_once files capture (Err refusal) o p first second = first ∙ sym second

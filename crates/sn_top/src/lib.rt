@@ -1,6 +1,7 @@
 //! The top call.
 #![tactic(auto)]
 
+pub mod capture;
 pub mod law;
 pub mod parts;
 pub mod plain;
