@@ -1,9 +1,17 @@
-//! Values that every crate above speaks of: rows, names, lists, links, and want of memory.
+//! Values that every crate above speaks of: rows, names, lists, schemas, folds, slots, prefix sets, links,
+//! lanes, and want of memory.
 #![tactic(auto)]
 
+pub mod any_fold;
+pub mod column;
+pub mod fold;
+pub mod lane;
 pub mod link;
+pub mod mask;
+pub mod members;
 pub mod memory;
 pub mod name;
 pub mod row;
+pub mod schema;
 pub mod seq;
 pub mod slot;

@@ -12,7 +12,7 @@ use std::hash::{Hash, Hasher};
 use std::marker::Model;
 
 /// One to thirty-two bytes.
-#[derive(Clone, Copy)]
+#[derive(Clone, Copy, Debug)]
 pub struct Name {
     bytes: [u8; 32],
     count: usize,
@@ -106,5 +106,21 @@ impl Hash for Name {
 
     fn hash<H: Hasher>(&self, state: &mut H) {
         self.as_bytes().hash(state);
+    }
+}
+
+#[cfg(test)]
+mod tests {
+    use super::*;
+    use std::test::Fail;
+
+    #[test]
+    fn takes_one_to_thirty_two_bytes(rt: HostRuntime) -> Result<(), Fail> {
+        assert!(rt; Name::new(b"").is_none());
+        assert!(rt; Name::new(&[b'a'; 33]).is_none());
+        assert!(rt;
+            Name::new(&[b'a'; 32]).is_some_and(|name| name.as_bytes() == [b'a'; 32].as_slice())
+        );
+        Ok(())
     }
 }

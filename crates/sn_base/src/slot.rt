@@ -37,3 +37,27 @@ pub fn slot_of(index: u32, key: &Row, slots: u32) -> u32
     }
     (hash % u64::from(slots)) as u32
 }
+
+#[cfg(test)]
+mod tests {
+    use super::*;
+    use std::test::Fail;
+
+    #[test]
+    fn gives_the_known_slots(rt: HostRuntime) -> Result<(), Fail> {
+        let table: [(u32, &[u64], u32); 5] = [
+            (0, &[], 37),
+            (1, &[], 36),
+            (0, &[0], 197),
+            (1, &[0], 164),
+            (0, &[1], 164),
+        ];
+        for (index, columns, slot) in table {
+            let Some(key) = Row::new(columns) else {
+                continue;
+            };
+            assert_eq!(rt; slot_of(index, &key, 256), slot);
+        }
+        Ok(())
+    }
+}
