@@ -1,0 +1,114 @@
+//! The tuple of a packet.
+ghost use Rattle.std.specs.Prelude.{◌≡◌, ◌<◌, ◌^◌, slice_index, take};
+ghost use Rattle.sn_fields.specs.Fields.{number_of, width_of};
+ghost use Rattle.sn_fields.specs.declared.field.Field.{Field};
+ghost use Rattle.sn_fields.specs.Tuples.{field_of, tuple};
+
+use crate::field::Field;
+use crate::headers::{
+    IcmpHeader, IpHeader, LinkHeader, TcpHeader, UdpHeader, icmp_header, ip_part, link_part,
+    tcp_header, udp_header,
+};
+use sn_base::link::Link;
+use std::marker::Model;
+
+/// A number for each field. Contracts see the list of these numbers, by field number.
+#[derive(Clone, Copy)]
+pub struct Tuple {
+    wire: u32,
+    link: LinkHeader,
+    ip: IpHeader,
+    tcp: TcpHeader,
+    udp: UdpHeader,
+    icmp: IcmpHeader,
+}
+
+impl Model for Tuple {
+    ghost use Rattle.std.specs.Prelude.{ℕ, ◌<◌, ◌^◌, ◌==◌, List, [], ◌∷◌, slice_index};
+    ghost use Rattle.std.specs.Coded.{coded_ℕ, coded_list};
+    ghost use Rattle.sn_fields.specs.Tuples.{where_present, valid_back};
+
+    ghost Value = { List ℕ };
+
+    ghost coded = { coded_list coded_ℕ };
+
+    ghost view = { λ a. a.wire ∷ a.link.destination ∷ a.link.source ∷ a.link.kind ∷ a.link.vlan
+        ∷ where_present a.ip.valid 1 ∷ a.ip.length ∷ a.ip.ttl ∷ a.ip.protocol ∷ a.ip.source ∷ a.ip.destination
+        ∷ where_present a.tcp.valid 1 ∷ a.tcp.source ∷ a.tcp.destination ∷ a.tcp.sequence ∷ a.tcp.acknowledgment ∷ a.tcp.flags
+        ∷ where_present a.udp.valid 1 ∷ a.udp.source ∷ a.udp.destination ∷ a.udp.length
+        ∷ where_present a.icmp.valid 1 ∷ a.icmp.kind ∷ a.icmp.code ∷ [] };
+
+    ghost invariant = { λ a. (a.link.destination < 2 ^ 48) × (a.link.source < 2 ^ 48) × (a.link.vlan < 2 ^ 12) };
+
+    ghost inverse = { λ xs. record {
+      wire = slice_index xs 0;
+      link = record { destination = slice_index xs 1; source = slice_index xs 2; kind = slice_index xs 3; vlan = slice_index xs 4 };
+      ip = record { valid = slice_index xs 5 == 1; length = slice_index xs 6; ttl = slice_index xs 7; protocol = slice_index xs 8; source = slice_index xs 9; destination = slice_index xs 10 };
+      tcp = record { valid = slice_index xs 11 == 1; source = slice_index xs 12; destination = slice_index xs 13; sequence = slice_index xs 14; acknowledgment = slice_index xs 15; flags = slice_index xs 16 };
+      udp = record { valid = slice_index xs 17 == 1; source = slice_index xs 18; destination = slice_index xs 19; length = slice_index xs 20 };
+      icmp = record { valid = slice_index xs 21 == 1; kind = slice_index xs 22; code = slice_index xs 23 };
+    } };
+
+    ghost inverse_ok = { λ a h i. record {
+      wire = a.wire;
+      link = a.link;
+      ip = record { valid = valid_back a.ip.valid i; length = a.ip.length; ttl = a.ip.ttl; protocol = a.ip.protocol; source = a.ip.source; destination = a.ip.destination };
+      tcp = record { valid = valid_back a.tcp.valid i; source = a.tcp.source; destination = a.tcp.destination; sequence = a.tcp.sequence; acknowledgment = a.tcp.acknowledgment; flags = a.tcp.flags };
+      udp = record { valid = valid_back a.udp.valid i; source = a.udp.source; destination = a.udp.destination; length = a.udp.length };
+      icmp = record { valid = valid_back a.icmp.valid i; kind = a.icmp.kind; code = a.icmp.code };
+    } };
+}
+
+impl Tuple {
+    /// The number of a field, which is below 2 to its width.
+    pub fn get(&self, field: Field) -> u64
+        ensures value { result ≡ slice_index self.now (number_of field) }
+        ensures below { result < 2 ^ width_of field }
+    {
+        match field {
+            Field::PacketLength => u64::from(self.wire),
+            Field::EthernetDestination => self.link.destination,
+            Field::EthernetSource => self.link.source,
+            Field::EthernetType => u64::from(self.link.kind),
+            Field::VlanId => u64::from(self.link.vlan),
+            Field::IpValid => u64::from(self.ip.valid),
+            Field::IpLength => u64::from(self.ip.length),
+            Field::IpTimeToLive => u64::from(self.ip.ttl),
+            Field::IpProtocol => u64::from(self.ip.protocol),
+            Field::IpSource => u64::from(self.ip.source),
+            Field::IpDestination => u64::from(self.ip.destination),
+            Field::TcpValid => u64::from(self.tcp.valid),
+            Field::TcpSourcePort => u64::from(self.tcp.source),
+            Field::TcpDestinationPort => u64::from(self.tcp.destination),
+            Field::TcpSequence => u64::from(self.tcp.sequence),
+            Field::TcpAcknowledgment => u64::from(self.tcp.acknowledgment),
+            Field::TcpFlags => u64::from(self.tcp.flags),
+            Field::UdpValid => u64::from(self.udp.valid),
+            Field::UdpSourcePort => u64::from(self.udp.source),
+            Field::UdpDestinationPort => u64::from(self.udp.destination),
+            Field::UdpLength => u64::from(self.udp.length),
+            Field::IcmpValid => u64::from(self.icmp.valid),
+            Field::IcmpType => u64::from(self.icmp.kind),
+            Field::IcmpCode => u64::from(self.icmp.code),
+        }
+    }
+}
+
+/// The tuple of a packet: of what stands at its front, its length on the wire, and its captured bytes.
+/// A field whose header isn't present is 0. It depends on the first 128 bytes alone, which hold all headers.
+pub fn tuple_of(link: Link, wire: u32, bytes: &[u8]) -> Tuple
+    ensures fields { result ≡ tuple link wire bytes.now }
+    ensures each { (field : Field) → slice_index result (number_of field) ≡ field_of link wire bytes.now field }
+    ensures front { result ≡ tuple link wire (take 128 bytes.now) }
+{
+    let frame = link_part(link, bytes);
+    let ip = ip_part(frame.header.kind, bytes, frame.end);
+    Tuple {
+        wire,
+        link: frame.header,
+        ip: ip.header,
+        tcp: tcp_header(&ip, bytes),
+        udp: udp_header(&ip, bytes),
+        icmp: icmp_header(&ip, bytes),
+    }
+}
