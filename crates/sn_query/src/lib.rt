@@ -11,3 +11,6 @@ mod ops;
 pub mod parse;
 mod queries;
 mod words;
+
+#[cfg(test)]
+mod tests;
