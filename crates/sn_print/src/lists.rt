@@ -20,7 +20,11 @@ pub(crate) trait Shown {
 }
 
 /// Writes items one behind the other.
-pub(crate) fn put_each<S: Shown>(alloc: Global, items: &[S::Item], out: &mut Printer) -> Result<(), Memory>
+pub(crate) fn put_each<S: Shown>(
+    alloc: Global,
+    items: &[S::Item],
+    out: &mut Printer,
+) -> Result<(), Memory>
     ensures { OnOk result (state out.new ≡ puts (state out.old) (items_spelled S.spell items.now)) }
 {
     for item in items {
@@ -40,7 +44,11 @@ fn put_more<S: Shown>(alloc: Global, items: &[S::Item], out: &mut Printer) -> Re
 }
 
 /// Writes items with commas between them.
-pub(crate) fn put_list<S: Shown>(alloc: Global, items: &[S::Item], out: &mut Printer) -> Result<(), Memory>
+pub(crate) fn put_list<S: Shown>(
+    alloc: Global,
+    items: &[S::Item],
+    out: &mut Printer,
+) -> Result<(), Memory>
     ensures { OnOk result (state out.new ≡ puts (state out.old) (list_spelled S.spell items.now)) }
 {
     match items {

@@ -135,13 +135,21 @@ fn text_of_symbol(place: u8) -> &'static [u8]
 fn last_word(word: &[u8]) -> Last
     ensures { result ≡ last_of (word_lexeme word.now) }
 {
-    if is_same(word, b"at") { Last::At } else { Last::Other }
+    if is_same(word, b"at") {
+        Last::At
+    } else {
+        Last::Other
+    }
 }
 
 fn last_symbol(place: u8) -> Last
     ensures { result ≡ last_of (symbol place) }
 {
-    if place == 5 { Last::Opening } else { Last::Other }
+    if place == 5 {
+        Last::Opening
+    } else {
+        Last::Other
+    }
 }
 
 fn add(text: &mut Vec<u8>, gap: &[u8], token: &[u8]) -> Result<(), Memory>
@@ -183,7 +191,11 @@ impl Printer {
         let Ok(text) = value.to_string(alloc) else {
             return Err(Memory);
         };
-        add(&mut self.text, gap_before_number(self.last), text.as_bytes())?;
+        add(
+            &mut self.text,
+            gap_before_number(self.last),
+            text.as_bytes(),
+        )?;
         self.last = Last::Other;
         Ok(())
     }
@@ -192,7 +204,11 @@ impl Printer {
     pub fn symbol(&mut self, place: u8) -> Result<(), Memory>
         ensures { OnOk result (state self.new ≡ put (state self.old) (plain (symbol place))) }
     {
-        add(&mut self.text, gap_before_symbol(self.last, place), text_of_symbol(place))?;
+        add(
+            &mut self.text,
+            gap_before_symbol(self.last, place),
+            text_of_symbol(place),
+        )?;
         self.last = last_symbol(place);
         Ok(())
     }
