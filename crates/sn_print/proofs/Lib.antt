@@ -1,1 +1,4 @@
+pub mod Numerals
+pub mod Symbols
+pub mod Written
 pub mod Reductions
