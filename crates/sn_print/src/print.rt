@@ -1,7 +1,7 @@
 //! The whole text.
 ghost use Rattle.std.specs.Prelude.{◌≡◌, OnOk, IfOk};
-ghost use Rattle.sn_rules.specs.Rules.{kept};
 ghost use Rattle.sn_grammar.specs.Grammar.{file_rule};
+ghost use Rattle.sn_print.specs.Again.{IsParsed, StandsFor};
 ghost use Rattle.sn_print.specs.Layout.{layout};
 ghost use Rattle.sn_print.specs.Printing.{state, puts};
 
@@ -25,9 +25,11 @@ fn put_file(alloc: Global, file: &QueryFile, out: &mut Printer) -> Result<(), Me
 
 /// The canonical text of a file that `parse` can give.
 pub fn print(alloc: Global, file: &QueryFile) -> Result<Seq<u8>, Memory>
-    requires { file_rule.fits kept file.now }
+    requires { IsParsed file.now }
     // The tokens that the grammar gives the file, each with the blanks that belong before it.
-    ensures { IfOk result (λ text. text ≡ layout (file_rule.spell file.now)) }
+    ensures text { IfOk result (λ text. text ≡ layout (file_rule.spell file.now)) }
+    // Read again, it is the same file but for the lines.
+    ensures again { IfOk result (λ text. StandsFor text file.now) }
 {
     let mut out = Printer::new(alloc);
     put_file(alloc, file, &mut out)?;
