@@ -12,3 +12,6 @@ pub mod typed;
 pub mod typed_op;
 pub mod typed_query;
 mod typing;
+
+#[cfg(test)]
+mod tests;
