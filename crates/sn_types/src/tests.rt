@@ -121,6 +121,54 @@ fn file_of(alloc: Global, refine: Option<Refine>, ops: Seq<Op>) -> Result<QueryF
     })
 }
 
+/// A file of one query of two branches, which are joined on line 2.
+fn joined_file(alloc: Global, left: Seq<Op>, right: Seq<Op>, key: Name) -> Result<QueryFile, Memory>
+    requires left { Within 1 12 (length left) }
+    requires left_each { AllByRecursion (λ op. BranchOp op.what) left }
+    requires right { Within 1 12 (length right) }
+    requires right_each { AllByRecursion (λ op. BranchOp op.what) right }
+    ensures { IfOk result KeepsLimits }
+{
+    let mut branches = Seq::new(alloc);
+    branches.push(Branch { ops: left })?;
+    branches.push(Branch { ops: right })?;
+    let mut keys = Seq::new(alloc);
+    keys.push(key)?;
+    let mut queries = Seq::new(alloc);
+    queries.push(Query {
+        name: name(b"q"),
+        refine: None,
+        branches,
+        join: Some(Join {
+            line: 2,
+            keys,
+            post: Seq::new(alloc),
+        }),
+    })?;
+    Ok(QueryFile {
+        window_us: 1000000,
+        queries,
+    })
+}
+
+/// The operator `map ip.dst as d, 1 as n`.
+fn counted(alloc: Global) -> Result<Op, Memory>
+    ensures { IfOk result (λ op. BranchOp op.what) }
+{
+    let op = map_two(
+        alloc,
+        MapCol {
+            expr: Expr::Copy(name(b"ip.dst")),
+            name: name(b"d"),
+        },
+        MapCol {
+            expr: Expr::Const(1),
+            name: name(b"n"),
+        },
+    )?;
+    Ok(op)
+}
+
 /// A refine line on line 2.
 fn refine(alloc: Global, first: u32, second: u32) -> Result<Option<Refine>, Memory>
     requires first { first ≤ 64 }
@@ -143,12 +191,18 @@ fn finds_unknown_names(rt: HostRuntime) -> Result<(), Fail> {
     let mut ops = Seq::new(alloc);
     ops.push(filter(alloc, name(b"tcp.flag"), Cmp::Eq, 2)?)?;
     let file = file_of(alloc, None, ops)?;
-    assert_eq!(rt; check(alloc, file).err(), Some(TypeFault::UnknownField { line: 2 }));
+    assert_eq!(rt;
+        check(alloc, file).err(),
+        Some(TypeFault::UnknownField { line: 2 })
+    );
     let mut ops = Seq::new(alloc);
     ops.push(map_one(alloc, Expr::Copy(name(b"ip.dst")), name(b"d"))?)?;
     ops.push(filter(alloc, name(b"e"), Cmp::Eq, 1)?)?;
     let file = file_of(alloc, None, ops)?;
-    assert_eq!(rt; check(alloc, file).err(), Some(TypeFault::UnknownColumn { line: 2 }));
+    assert_eq!(rt;
+        check(alloc, file).err(),
+        Some(TypeFault::UnknownColumn { line: 2 })
+    );
     Ok(())
 }
 
@@ -161,7 +215,10 @@ fn finds_a_missing_map_and_a_narrow_sum(rt: HostRuntime) -> Result<(), Fail> {
         what: What::Distinct,
     })?;
     let file = file_of(alloc, None, ops)?;
-    assert_eq!(rt; check(alloc, file).err(), Some(TypeFault::NoMap { line: 2 }));
+    assert_eq!(rt;
+        check(alloc, file).err(),
+        Some(TypeFault::NoMap { line: 2 })
+    );
     let mut ops = Seq::new(alloc);
     ops.push(map_two(
         alloc,
@@ -176,7 +233,10 @@ fn finds_a_missing_map_and_a_narrow_sum(rt: HostRuntime) -> Result<(), Fail> {
     )?)?;
     ops.push(sum(alloc, name(b"d"), name(b"n"), 8)?)?;
     let file = file_of(alloc, None, ops)?;
-    assert_eq!(rt; check(alloc, file).err(), Some(TypeFault::TooWide { line: 2 }));
+    assert_eq!(rt;
+        check(alloc, file).err(),
+        Some(TypeFault::TooWide { line: 2 })
+    );
     Ok(())
 }
 
@@ -186,16 +246,40 @@ fn finds_faults_of_refined_queries(rt: HostRuntime) -> Result<(), Fail> {
     let mut ops = Seq::new(alloc);
     ops.push(map_one(alloc, Expr::Copy(name(b"ip.dst")), name(b"d"))?)?;
     let file = file_of(alloc, refine(alloc, 32, 8)?, ops)?;
-    assert_eq!(rt; check(alloc, file).err(), Some(TypeFault::Levels { line: 2 }));
+    assert_eq!(rt;
+        check(alloc, file).err(),
+        Some(TypeFault::Levels { line: 2 })
+    );
     let mut ops = Seq::new(alloc);
     ops.push(map_one(alloc, Expr::Copy(name(b"ip.src")), name(b"s"))?)?;
     let file = file_of(alloc, refine(alloc, 8, 32)?, ops)?;
-    assert_eq!(rt; check(alloc, file).err(), Some(TypeFault::RefineLost { line: 2 }));
+    assert_eq!(rt;
+        check(alloc, file).err(),
+        Some(TypeFault::RefineLost { line: 2 })
+    );
     let mut ops = Seq::new(alloc);
     ops.push(filter(alloc, name(b"ip.dst"), Cmp::Eq, 1)?)?;
     ops.push(map_one(alloc, Expr::Copy(name(b"ip.dst")), name(b"d"))?)?;
     let file = file_of(alloc, refine(alloc, 8, 32)?, ops)?;
-    assert_eq!(rt; check(alloc, file).err(), Some(TypeFault::RefineFilter { line: 2 }));
+    assert_eq!(rt;
+        check(alloc, file).err(),
+        Some(TypeFault::RefineFilter { line: 2 })
+    );
+    Ok(())
+}
+
+#[test]
+fn finds_a_column_of_both_branches(rt: HostRuntime) -> Result<(), Fail> {
+    let alloc = rt.alloc();
+    let mut left = Seq::new(alloc);
+    left.push(counted(alloc)?)?;
+    let mut right = Seq::new(alloc);
+    right.push(counted(alloc)?)?;
+    let file = joined_file(alloc, left, right, name(b"d"))?;
+    assert_eq!(rt;
+        check(alloc, file).err(),
+        Some(TypeFault::JoinKeys { line: 2 })
+    );
     Ok(())
 }
 
@@ -203,17 +287,7 @@ fn finds_faults_of_refined_queries(rt: HostRuntime) -> Result<(), Fail> {
 fn copies_a_checked_file(rt: HostRuntime) -> Result<(), Fail> {
     let alloc = rt.alloc();
     let mut ops = Seq::new(alloc);
-    ops.push(map_two(
-        alloc,
-        MapCol {
-            expr: Expr::Copy(name(b"ip.dst")),
-            name: name(b"d"),
-        },
-        MapCol {
-            expr: Expr::Const(1),
-            name: name(b"n"),
-        },
-    )?)?;
+    ops.push(counted(alloc)?)?;
     ops.push(sum(alloc, name(b"d"), name(b"n"), 16)?)?;
     ops.push(filter(alloc, name(b"n"), Cmp::Gt, 1)?)?;
     let file = file_of(alloc, refine(alloc, 8, 32)?, ops)?;
