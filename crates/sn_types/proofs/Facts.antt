@@ -35,7 +35,7 @@ use Rattle.sn_types.proofs.Sources.{source_of, none_in_both, none_in_each, later
 some_none : {X : Type 0} {x : X} → Some x ≡ None → ⊥
 some_none e = cc
 
-if_none : (b : Bool) (f : TypeFault) (o : Option TypeFault) → cond b (Some f) o ≡ None → (b ≡ false) × (o ≡ None)
+pub if_none : (b : Bool) (f : TypeFault) (o : Option TypeFault) → cond b (Some f) o ≡ None → (b ≡ false) × (o ≡ None)
 if_none true f o e = absurd (some_none e)
 if_none false f o e = (refl, e)
 

@@ -1,3 +1,5 @@
 pub mod Facts
 pub mod Items
+pub mod Known
 pub mod Sources
+pub mod WellFormedLemmas

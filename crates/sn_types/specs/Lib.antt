@@ -2,3 +2,4 @@ pub mod Cuts
 pub mod Typed
 pub mod Typing
 pub mod Values
+pub mod WellFormed

@@ -6,9 +6,15 @@ pub mod check;
 mod copies;
 mod cuts;
 pub mod evaluate;
+pub mod laws;
 mod packet;
 mod resolve;
 pub mod typed;
 pub mod typed_op;
 pub mod typed_query;
 mod typing;
+
+pub use sn_walk::fault::TypeFault;
+
+#[cfg(test)]
+mod tests;
