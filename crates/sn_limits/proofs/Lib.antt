@@ -1,0 +1,4 @@
+pub mod Items
+pub mod Leaves
+pub mod OpLemmas
+pub mod FileLemmas

@@ -1,0 +1,124 @@
+-- The text of printed answers.
+use Rattle.std.specs.Prelude.{ℕ, ◌/◌, ◌%◌, ◌^◌, ◌<◌, List, [], ◌∷◌, ◌++◌, length, Bool, Option, None, Some, codes, if◌then◌else◌}
+use Rattle.std.specs.List.{flat_map, AllByRecursion}
+use Rattle.std.specs.Fmt.{decimal}
+use Rattle.sn_base.specs.declared.column.Column.{Column}
+use Rattle.sn_base.specs.Columns.{IsOf}
+use Rattle.sn_base.specs.Groups.{Row}
+use Rattle.sn_pcap.specs.declared.packet.Ending.{Ending}
+use Rattle.sn_pcap.specs.declared.packet.Ending.TheVariants.{Clean, Cut, Bad}
+use Rattle.sn_types.specs.declared.answers.Answers.{Answers}
+use Rattle.sn_types.specs.declared.answers.Part.{Part}
+use Rattle.sn_types.specs.declared.typed_query.TypedQuery.{TypedQuery}
+use Rattle.sn_types.specs.Typed.{query_at, final_columns}
+
+-- ---- the words of the lines
+
+unfoldable pub window_words : List ℕ
+window_words = codes "window "
+
+unfoldable pub emitted_words : List ℕ
+emitted_words = codes " emitted "
+
+unfoldable pub query_words : List ℕ
+query_words = codes "query "
+
+unfoldable pub level_words : List ℕ
+level_words = codes " level "
+
+unfoldable pub rows_words : List ℕ
+rows_words = codes " rows "
+
+unfoldable pub total_words : List ℕ
+total_words = codes "total windows "
+
+unfoldable pub cut_words : List ℕ
+cut_words = codes "capture cut at byte "
+
+unfoldable pub bad_words : List ℕ
+bad_words = codes "capture bad at byte "
+
+-- ---- rows
+
+-- an address: its four bytes in decimal, the highest first, with dots between them
+abbrev pub dotted : ℕ → List ℕ
+dotted number = decimal (number / 2 ^ 24 % 256) ++ 46 ∷ decimal (number / 2 ^ 16 % 256) ++ 46 ∷ decimal (number / 2 ^ 8 % 256) ++ 46 ∷ decimal (number % 256)
+
+-- a number of a column: dotted where the column is one of addresses, else decimal
+abbrev pub number_text : Column → ℕ → List ℕ
+number_text column number = if column.address then dotted number else decimal number
+
+-- one space, and a number of a column
+abbrev pub spaced_text : Column → ℕ → List ℕ
+spaced_text column number = 32 ∷ number_text column number
+
+-- each number of a row behind one space
+abbrev pub spaced_texts : List Column → Row → List ℕ
+spaced_texts (column ∷ columns) (number ∷ numbers) = spaced_text column number ++ spaced_texts columns numbers
+spaced_texts _ _ = []
+
+-- the numbers of a row, each by its column, with one space between two of them
+abbrev pub numbers_text : List Column → Row → List ℕ
+numbers_text (column ∷ columns) (number ∷ numbers) = number_text column number ++ spaced_texts columns numbers
+numbers_text _ _ = []
+
+-- a row on a line of its own
+abbrev pub row_line : List Column → Row → List ℕ
+row_line columns row = numbers_text columns row ++ 10 ∷ []
+
+-- ---- blocks
+
+-- how many tuples were emitted, where they are counted
+abbrev pub emitted_text : Option ℕ → List ℕ
+emitted_text None = []
+emitted_text (Some emitted) = emitted_words ++ decimal emitted
+
+-- `window N`, or `window N emitted E`
+abbrev pub window_line : ℕ → Option ℕ → List ℕ
+window_line window emitted = window_words ++ decimal window ++ emitted_text emitted ++ 10 ∷ []
+
+-- ` level L`
+abbrev pub level_text : ℕ → List ℕ
+level_text level = level_words ++ decimal level
+
+-- ` rows R`, at the end of a line
+abbrev pub count_text : ℕ → List ℕ
+count_text rows = rows_words ++ decimal rows ++ 10 ∷ []
+
+-- `query NAME level L rows R`
+abbrev pub query_line : List ℕ → ℕ → ℕ → List ℕ
+query_line name level rows = query_words ++ name ++ level_text level ++ count_text rows
+
+-- the answer of a query at a level: the query's line, and the rows in their order
+abbrev pub answer_text : TypedQuery → ℕ → List Row → List ℕ
+answer_text query level rows = query_line query.name level (length rows) ++ flat_map (row_line (final_columns query)) rows
+
+abbrev pub part_text : List TypedQuery → Part → List ℕ
+part_text queries part = answer_text (query_at queries part.query) part.level part.rows
+
+-- the emitted number is told where it is counted
+abbrev pub counted : Bool → ℕ → Option ℕ
+counted counts emitted = if counts then Some emitted else None
+
+-- the block of a window: its line, and its parts in their order
+abbrev pub block_text : List TypedQuery → Answers → Bool → List ℕ
+block_text queries answers counts = window_line answers.window (counted counts answers.emitted) ++ flat_map (part_text queries) answers.parts
+
+-- ---- the lines behind the blocks
+
+-- `total windows K`, or `total windows K emitted T`
+abbrev pub total_line : ℕ → Option ℕ → List ℕ
+total_line windows emitted = total_words ++ decimal windows ++ emitted_text emitted ++ 10 ∷ []
+
+-- `capture cut at byte B` or `capture bad at byte B`; no line for a capture without damage
+abbrev pub damage_line : Ending → List ℕ
+damage_line Clean = []
+damage_line (Cut at) = cut_words ++ decimal at ++ 10 ∷ []
+damage_line (Bad at) = bad_words ++ decimal at ++ 10 ∷ []
+
+-- ---- what can be printed
+
+-- a part's query is one of these, and its rows are of the query's final columns
+pub record IsPartOf (queries : List TypedQuery) (part : Part) : Type 0 where
+  pub query : part.query < length queries
+  pub rows : AllByRecursion (IsOf (final_columns (query_at queries part.query))) part.rows

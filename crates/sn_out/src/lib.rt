@@ -1,0 +1,7 @@
+//! Printed answers.
+#![tactic(auto)]
+
+pub mod block;
+pub mod lines;
+mod pieces;
+mod rows;

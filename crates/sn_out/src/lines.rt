@@ -1,0 +1,95 @@
+//! The lines behind the blocks.
+ghost use Rattle.std.specs.Prelude.{◌≡◌, ◌++◌, OnOk, IfOk};
+ghost use Rattle.sn_out.specs.Text.{total_words, cut_words, bad_words, total_line, damage_line};
+
+use crate::pieces::{push_bytes, push_emitted, push_number};
+use sn_base::memory::Memory;
+use sn_base::seq::Seq;
+use sn_pcap::packet::Ending;
+use std::alloc::Global;
+
+#[tactic(auto, unfolding(crate::specs::Text::total_words))]
+fn push_total_words(text: &mut Vec<u8>) -> Result<(), Memory>
+    ensures { OnOk result (text.new.items ≡ text.old.items ++ total_words) }
+{
+    push_bytes(text, b"total windows ")
+}
+
+#[tactic(auto, unfolding(crate::specs::Text::cut_words))]
+fn push_cut_words(text: &mut Vec<u8>) -> Result<(), Memory>
+    ensures { OnOk result (text.new.items ≡ text.old.items ++ cut_words) }
+{
+    push_bytes(text, b"capture cut at byte ")
+}
+
+#[tactic(auto, unfolding(crate::specs::Text::bad_words))]
+fn push_bad_words(text: &mut Vec<u8>) -> Result<(), Memory>
+    ensures { OnOk result (text.new.items ≡ text.old.items ++ bad_words) }
+{
+    push_bytes(text, b"capture bad at byte ")
+}
+
+/// The last line: the number of windows, and that of all emitted tuples where they are counted.
+pub fn total(alloc: Global, windows: u64, emitted: Option<u64>) -> Result<Seq<u8>, Memory>
+    ensures { IfOk result (λ text. text ≡ total_line windows emitted) }
+{
+    let mut text = Vec::new(alloc);
+    push_total_words(&mut text)?;
+    push_number(&mut text, windows)?;
+    push_emitted(&mut text, emitted)?;
+    push_bytes(&mut text, b"\n")?;
+    Ok(Seq::from_vec(text))
+}
+
+/// The line that tells at which byte a damaged capture's records end. Nothing for a capture without damage.
+pub fn damage(alloc: Global, ending: Ending) -> Result<Seq<u8>, Memory>
+    ensures { IfOk result (λ text. text ≡ damage_line ending) }
+{
+    let mut text = Vec::new(alloc);
+    let at = match ending {
+        Ending::Clean => return Ok(Seq::from_vec(text)),
+        Ending::Cut(at) => {
+            push_cut_words(&mut text)?;
+            at
+        }
+        Ending::Bad(at) => {
+            push_bad_words(&mut text)?;
+            at
+        }
+    };
+    push_number(&mut text, at)?;
+    push_bytes(&mut text, b"\n")?;
+    Ok(Seq::from_vec(text))
+}
+
+#[cfg(test)]
+mod tests {
+    use super::*;
+    use std::test::Fail;
+
+    #[test]
+    fn prints_the_last_lines(rt: HostRuntime) -> Result<(), Fail> {
+        let plain = total(rt.alloc(), 0, None);
+        assert!(rt; plain.is_ok_and(|text| text.as_slice() == b"total windows 0\n".as_slice()));
+        let counted = total(rt.alloc(), 2, Some(6));
+        assert!(rt;
+            counted.is_ok_and(|text| text.as_slice() == b"total windows 2 emitted 6\n".as_slice())
+        );
+        Ok(())
+    }
+
+    #[test]
+    fn prints_damage(rt: HostRuntime) -> Result<(), Fail> {
+        let cut = damage(rt.alloc(), Ending::Cut(164));
+        assert!(rt;
+            cut.is_ok_and(|text| text.as_slice() == b"capture cut at byte 164\n".as_slice())
+        );
+        let bad = damage(rt.alloc(), Ending::Bad(164));
+        assert!(rt;
+            bad.is_ok_and(|text| text.as_slice() == b"capture bad at byte 164\n".as_slice())
+        );
+        let clean = damage(rt.alloc(), Ending::Clean);
+        assert!(rt; clean.is_ok_and(|text| text.as_slice().is_empty()));
+        Ok(())
+    }
+}
