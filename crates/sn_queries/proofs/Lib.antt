@@ -1,0 +1,5 @@
+pub mod Ending
+pub mod Halting
+pub mod RealFaults
+pub mod OneReading
+pub mod SomeReading
