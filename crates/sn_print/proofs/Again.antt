@@ -2,7 +2,6 @@
 use Rattle.std.proofs.Common.{◌≡◌, ℕ, List, [], ◌∷◌, ◌++◌, refl, sym, ap, ◌∙◌, subst}
 use Rattle.std.specs.Prelude.{codes}
 use Rattle.sn_rules.specs.Tokens.{Mark, word, number, finish, plain, faces, mark_faces}
-use Rattle.sn_rules.specs.Rules.{kept, Accepts}
 use Rattle.sn_text.specs.Cutting.{tokens_of}
 use Rattle.sn_grammar.specs.declared.ast.QueryFile.{QueryFile}
 use Rattle.sn_grammar.specs.Grammar.{file_rule}
@@ -10,7 +9,7 @@ use Rattle.sn_grammar.proofs.Queries.{file_good}
 use Rattle.sn_print.specs.Layout.{layout}
 use Rattle.sn_print.specs.Printing.{queries_spelled}
 use Rattle.sn_print.specs.Again.{IsParsed, StandsFor}
-use Rattle.sn_print.proofs.Written.{Each, layout_read}
+use Rattle.sn_print.proofs.Written.{layout_read}
 use Rattle.sn_print.proofs.Cut.{Ended, cut_fine, each_of, spelled_faces}
 
 abbrev front_of : QueryFile → List Mark

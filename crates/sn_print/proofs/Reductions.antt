@@ -1,7 +1,7 @@
 -- How a reduction is spelled.
-use Rattle.std.proofs.Common.{◌≡◌, ℕ, zero, suc, List, [], ◌∷◌, ◌++◌, refl, ap}
+use Rattle.std.proofs.Common.{◌≡◌, ℕ, zero, suc, List, ◌∷◌, refl}
 use Rattle.std.specs.Prelude.{codes}
-use Rattle.sn_rules.specs.Tokens.{Mark, plain, word}
+use Rattle.sn_rules.specs.Tokens.{plain, word}
 use Rattle.sn_grammar.specs.declared.ast.Reduce.{Reduce}
 use Rattle.sn_grammar.specs.declared.ast.FoldWord.{FoldWord}
 use Rattle.sn_grammar.specs.declared.ast.FoldWord.TheVariants as folds

@@ -1,5 +1,5 @@
 -- Symbols that are written are read back.
-use Rattle.std.proofs.Common.{◌≡◌, ℕ, zero, suc, ◌≤◌, Bool, true, false, List, [], ◌∷◌, ◌++◌, length, Option, Some, None, refl, arith}
+use Rattle.std.proofs.Common.{◌≡◌, ℕ, zero, suc, ◌≤◌, false, List, [], ◌∷◌, ◌++◌, length, None, refl, arith}
 use Rattle.std.specs.Prelude.{◌==◌}
 use Rattle.sn_rules.specs.Tokens.{Lexeme, symbol}
 use Rattle.sn_text.specs.Cutting.{is_word_byte, lexeme_at, gap}

@@ -1,5 +1,5 @@
 -- Tokens that are written with the blanks between them are cut out again.
-use Rattle.std.proofs.Common.{◌≡◌, ℕ, zero, suc, ◌+◌, ◌^◌, ◌<◌, ◌≤◌, Bool, true, false, cond, List, [], ◌∷◌, ◌++◌, length, map, take, drop, fold, Option, Some, None, refl, sym, ap, ◌∙◌, subst, append_assoc, arith, inl, inr, ◌⊎◌}
+use Rattle.std.proofs.Common.{◌≡◌, ℕ, ◌^◌, ◌<◌, ◌≤◌, Bool, true, false, cond, List, [], ◌∷◌, ◌++◌, length, take, drop, fold, Option, Some, None, refl, sym, ap, ◌∙◌, subst, append_assoc, arith, inl, inr, ◌⊎◌}
 use Rattle.std.specs.Prelude.{◌==◌, ◌||◌, codes}
 use Rattle.std.specs.Fmt.{decimal}
 use Rattle.std.proofs.Math.Seq.{take-append_seam, drop-append_seam}
@@ -8,14 +8,14 @@ use Rattle.std.proofs.lemmas.Bool.{eqb-true}
 use Rattle.sn_rules.specs.Tokens.{Lexeme, word, number, symbol, finish, bad, Tok, Mark, plain, faces, mark_faces}
 use Rattle.sn_rules.specs.Words.{same}
 use Rattle.sn_rules.proofs.Common.{either_way}
-use Rattle.sn_text.specs.Cutting.{is_digit, is_name_start, is_word_byte, run, number_lexeme, number_of, lexeme_at, Place, gap, behind, when_gap, skip_from, skip, tok_at, after_at, is_last, tokens, tokens_of}
+use Rattle.sn_text.specs.Cutting.{is_digit, is_name_start, is_word_byte, run, number_lexeme, number_of, lexeme_at, Place, gap, behind, skip_from, skip, tok_at, after_at, is_last, tokens, tokens_of}
 use Rattle.sn_text.proofs.Next.{tokens_next}
 use Rattle.sn_print.specs.declared.printer.Last.{Last}
 use Rattle.sn_print.specs.declared.printer.Last.TheVariants as lasts
 use Rattle.sn_print.specs.Layout as layouts
 use Rattle.sn_print.specs.Layout.{new_line, space, symbol_text, lexeme_text, word_gap, symbol_gap, last_of, State, put, start, layout}
 use Rattle.sn_print.proofs.Numerals.{Digits, digit_byte, differ, number_read, decimal_digits}
-use Rattle.sn_print.proofs.Symbols.{HeadOk, at_symbol, Read, symbol_read, open_read}
+use Rattle.sn_print.proofs.Symbols.{HeadOk, symbol_read, open_read}
 
 abbrev pub AllWord : List ℕ → Type 0
 AllWord [] = Unit {0}

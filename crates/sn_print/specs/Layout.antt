@@ -1,5 +1,5 @@
 -- The canonical text of a list of lexemes: each token with the blanks before it.
-use Rattle.std.specs.Prelude.{ℕ, Bool, true, false, List, [], ◌∷◌, ◌++◌, fold, ◌==◌, ◌||◌, codes, if◌then◌else◌}
+use Rattle.std.specs.Prelude.{ℕ, List, [], ◌∷◌, ◌++◌, fold, ◌==◌, ◌||◌, codes, if◌then◌else◌}
 use Rattle.std.specs.Fmt.{decimal}
 use Rattle.sn_rules.specs.Tokens.{Lexeme, word, number, symbol, finish, bad, Mark}
 use Rattle.sn_rules.specs.Words.{same}

@@ -1,7 +1,7 @@
 -- The printer of the code, as a state.
-use Rattle.std.specs.Prelude.{◌≡◌, ℕ, zero, suc, List, [], ◌∷◌, ◌++◌, fold, Option, Some, None, codes}
+use Rattle.std.specs.Prelude.{ℕ, zero, suc, List, [], ◌∷◌, ◌++◌, fold, Option, Some, None, codes}
 use Rattle.sn_rules.specs.Tokens.{Mark, plain, word, number, symbol}
-use Rattle.sn_rules.specs.Rules.{items_spelled, chain_spelled, maybe_spelled}
+use Rattle.sn_rules.specs.Rules.{chain_spelled, maybe_spelled}
 use Rattle.sn_grammar.specs.declared.ast.FoldWord.{FoldWord}
 use Rattle.sn_grammar.specs.declared.ast.FoldWord.TheVariants as folds
 use Rattle.sn_grammar.specs.declared.ast.Query.{Query}

@@ -1,12 +1,12 @@
 -- Which faults a rule gives, for rules made in these ways.
-use Rattle.std.proofs.Common.{◌≡◌, ℕ, zero, suc, Bool, true, false, cond, List, [], ◌∷◌, ◌++◌, length, Option, Some, None, Result, Ok, Err, refl, sym, ap, subst, ◌∙◌, inl, inr, ◌⊎◌}
+use Rattle.std.proofs.Common.{◌≡◌, ℕ, zero, suc, Bool, true, false, cond, List, [], ◌∷◌, ◌++◌, length, Option, Some, None, Result, Ok, Err, refl, subst, inl, inr, ◌⊎◌}
 use Rattle.sn_rules.specs.declared.Flaw.{Flaw}
 use Rattle.sn_rules.specs.declared.Flaw.TheVariants.{Lex, Expected, TooMany, Range, Twice, Missing}
-use Rattle.sn_rules.specs.Tokens.{Lexeme, word, number, symbol, finish, bad, Tok, Mark, Read, got, fails, short, bind}
-use Rattle.sn_rules.specs.Rules.{kept, aside, Rule, judged, token_at, one, pair, pair_on, embedded, renamed, maybe, maybe_at, either, either_at, closed, unless, links_at, links, many, chain, past, past_at, either_rule}
+use Rattle.sn_rules.specs.Tokens.{Lexeme, word, number, symbol, finish, bad, Tok, Read, got, fails, short, bind}
+use Rattle.sn_rules.specs.Rules.{kept, Rule, judged, token_at, pair, pair_on, embedded, renamed, maybe, maybe_at, either, either_at, closed, unless, links_at, links, many, chain, past, past_at, either_rule}
 use Rattle.std.specs.Prelude.{nat_le}
-use Rattle.sn_rules.specs.Words.{wrong, is_symbol, passed, the, keyword, sign, the_end, line_at, line_of_word, line_of_sign, judged_as, judged_by, leaf, in_range, number_in, never, full, ◌▸◌, ◌◂◌, behind_comma, commas}
-use Rattle.sn_rules.proofs.Common.{either_way, bind_fails, fails_same}
+use Rattle.sn_rules.specs.Words.{wrong, is_symbol, passed, the, sign, line_at, judged_as, judged_by, leaf, never, full, ◌▸◌, ◌◂◌, behind_comma, commas}
+use Rattle.sn_rules.proofs.Common.{bind_fails, fails_same}
 
 -- the faults of the query text
 abbrev pub Ours : Flaw → Type 0

@@ -1,4 +1,4 @@
-use Rattle.std.proofs.Common.{◌≡◌, ap, ◌∙◌}
+use Rattle.std.proofs.Common.{ap, ◌∙◌}
 use Rattle.sn_grammar.specs.Grammar.{file_rule}
 use Rattle.sn_print.specs.Printing.{puts}
 use Rattle.sn_print.proofs.Again.{stands_again}
