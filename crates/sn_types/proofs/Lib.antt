@@ -1,5 +1,6 @@
 pub mod Facts
 pub mod Items
 pub mod Known
+pub mod RowLemmas
 pub mod Sources
 pub mod WellFormedLemmas
