@@ -95,7 +95,7 @@ ShiftsLawfully what.Distinct = Unit {0}
 ShiftsLawfully (what.Reduce r) = Unit {0}
 
 branch_expr : (e : Expr) → IsBranchExpr e → IsPostExpr e
-branch_expr (Const n) h = tt
+branch_expr (Const n) h = h
 branch_expr (Copy a) h = tt
 branch_expr (Mask a bits) h = tt
 branch_expr (Shift a k) h = h

@@ -1,5 +1,5 @@
 -- The limits that the grammar of query texts keeps, over the value of a text.
-use Rattle.std.specs.Prelude.{◌≡◌, ℕ, ◌≤◌, ◌<◌, List, length, map, false, Option, Some, None, IfSome}
+use Rattle.std.specs.Prelude.{◌≡◌, ℕ, ◌≤◌, ◌<◌, ◌^◌, List, length, map, false, Option, Some, None, IfSome}
 use Rattle.std.specs.List.{AllByRecursion, list_any}
 use Rattle.sn_base.specs.Groups.{Apart, same_row}
 use Rattle.sn_grammar.specs.declared.ast.QueryFile.{QueryFile}
@@ -25,9 +25,9 @@ pub record CondLimits (c : Cond) : Type 0 where
   pub count : length c.relaxed ≤ 4
   pub levels : AllByRecursion (λ r. r.level ≤ 64) c.relaxed
 
--- a sum of columns and a ratio stand behind a join alone
+-- a constant has 64 bits, and a shift is by less than 64; a sum of columns and a ratio stand behind a join alone
 abbrev pub IsBranchExpr : Expr → Type 0
-IsBranchExpr (Const n) = Unit {0}
+IsBranchExpr (Const n) = n < 2 ^ 64
 IsBranchExpr (Copy a) = Unit {0}
 IsBranchExpr (Mask a bits) = Unit {0}
 IsBranchExpr (Shift a k) = k < 64
@@ -35,7 +35,7 @@ IsBranchExpr (Sum a b) = ⊥
 IsBranchExpr (Ratio a k b) = ⊥
 
 abbrev pub IsPostExpr : Expr → Type 0
-IsPostExpr (Const n) = Unit {0}
+IsPostExpr (Const n) = n < 2 ^ 64
 IsPostExpr (Copy a) = Unit {0}
 IsPostExpr (Mask a bits) = Unit {0}
 IsPostExpr (Shift a k) = k < 64
