@@ -2,4 +2,6 @@ pub mod Common
 pub mod Laws
 pub mod Choices
 pub mod Chains
+pub mod Words
+pub mod Lists
 pub mod Faults
