@@ -2,7 +2,12 @@
 #![tactic(auto)]
 
 pub mod fault;
-pub mod switch;
 mod numbers;
 mod read;
 mod settings;
+pub mod switch;
+#[cfg(test)]
+mod tests;
+mod text;
+
+pub use text::parse;

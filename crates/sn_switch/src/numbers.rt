@@ -8,12 +8,12 @@ ghost use Rattle.sn_read.specs.Reading.{Reads};
 ghost use Rattle.sn_switch_rules.specs.Grammar.{within, one_number, below, size_test, past_size, size_rule, sizes, numbers};
 ghost use Rattle.sn_switch_rules.proofs.Goods.{size_listed};
 
-use sn_switch_rules::item::Setting;
 use sn_base::seq::Seq;
 use sn_read::commas::{Commas, list};
 use sn_read::stop::Stop;
 use sn_read::words::wrong_of;
 use sn_rules::Flaw;
+use sn_switch_rules::item::Setting;
 use sn_text::place::{Lexer, Piece};
 use sn_text::scan::scan;
 use std::alloc::Global;
@@ -44,7 +44,12 @@ fn number<'a>(at: Lexer<'a>, low: u64, high: u64) -> Result<(u64, Lexer<'a>), St
     }
 }
 
-fn one_number<'a>(alloc: Global, at: Lexer<'a>, low: u64, high: u64) -> Result<(Seq<u64>, Lexer<'a>), Stop<'a>>
+fn one_number<'a>(
+    alloc: Global,
+    at: Lexer<'a>,
+    low: u64,
+    high: u64,
+) -> Result<(Seq<u64>, Lexer<'a>), Stop<'a>>
     ensures { Reads result ((one_number low high).read kept (left at.entry)) }
 {
     let (number, rest) = number(at, low, high)?;
@@ -110,7 +115,11 @@ impl Commas for SizeItems {
         }
     }
 
-    fn item<'a>(_alloc: Global, taken: &[u64], at: Lexer<'a>) -> Result<(u64, Lexer<'a>), Stop<'a>> {
+    fn item<'a>(
+        _alloc: Global,
+        taken: &[u64],
+        at: Lexer<'a>,
+    ) -> Result<(u64, Lexer<'a>), Stop<'a>> {
         size(at, taken)
     }
 }
@@ -123,7 +132,11 @@ fn sizes<'a>(alloc: Global, at: Lexer<'a>) -> Result<(Seq<u64>, Lexer<'a>), Stop
 }
 
 /// The numbers of a setting, and the place behind them.
-pub(crate) fn numbers<'a>(alloc: Global, setting: Setting, at: Lexer<'a>) -> Result<(Seq<u64>, Lexer<'a>), Stop<'a>>
+pub(crate) fn numbers<'a>(
+    alloc: Global,
+    setting: Setting,
+    at: Lexer<'a>,
+) -> Result<(Seq<u64>, Lexer<'a>), Stop<'a>>
     ensures { Reads result ((numbers setting).read kept (left at.entry)) }
 {
     match setting {

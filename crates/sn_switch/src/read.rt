@@ -55,7 +55,11 @@ impl Items for SwitchItems {
         None
     }
 
-    fn item<'a>(alloc: Global, seen: &[Item], at: Lexer<'a>) -> Result<(Item, Lexer<'a>), Stop<'a>> {
+    fn item<'a>(
+        alloc: Global,
+        seen: &[Item],
+        at: Lexer<'a>,
+    ) -> Result<(Item, Lexer<'a>), Stop<'a>> {
         item(alloc, seen, at)
     }
 }

@@ -7,10 +7,10 @@ ghost use Rattle.sn_read.specs.Reading.{Reads, Peeked};
 ghost use Rattle.sn_switch_rules.specs.Settings.{setting_of, setting_in, begins, place, is, has};
 ghost use Rattle.sn_switch_rules.specs.Grammar.{once, setting_rule};
 
-use sn_switch_rules::item::{Item, Setting};
 use sn_read::stop::Stop;
 use sn_read::words::wrong_of;
 use sn_rules::Flaw;
+use sn_switch_rules::item::{Item, Setting};
 use sn_text::place::{Lexer, Piece};
 use sn_text::scan::scan;
 

@@ -1,13 +1,13 @@
 -- The rules of the switch text keep the laws.
-use Rattle.std.proofs.Common.{◌≡◌, ℕ, Bool, true, false, cond, List, [], ◌∷◌, ◌++◌, map, Option, Some, None, refl, sym, ap, subst, ◌∙◌, arith}
-use Rattle.std.specs.Prelude.{codes, not, nat_le, ◌&&◌, ◌||◌, ◌==◌}
+use Rattle.std.proofs.Common.{◌≡◌, ℕ, Bool, true, false, cond, List, [], ◌∷◌, ◌++◌, map, Option, Some, None, refl, sym, ap, subst, ◌∙◌}
+use Rattle.std.specs.Prelude.{codes, nat_le, ◌&&◌, ◌||◌}
 use Rattle.std.specs.Cmp.Lexicographic.{same_text}
-use Rattle.std.specs.List.{list_all, list_any}
+use Rattle.std.specs.List.{list_all}
 use Rattle.sn_rules.specs.declared.Flaw.{Flaw}
 use Rattle.sn_rules.specs.declared.Flaw.TheVariants.{Range, Twice, Missing}
-use Rattle.sn_rules.specs.Tokens.{Lexeme, word, number, symbol, finish, bad, Tok, Mark, plain, Spelled, fails}
-use Rattle.sn_rules.specs.Rules.{kept, aside, closed, is_limit, Rule, anything, pair_on, embedded, renamed, many, holds_of}
-use Rattle.sn_rules.specs.Words.{same, leaf, number_by, is_symbol, sign, first, with_second, never, commas, ◌◂◌}
+use Rattle.sn_rules.specs.Tokens.{Lexeme, word, number, symbol, finish, bad, Tok, plain, Spelled, fails}
+use Rattle.sn_rules.specs.Rules.{kept, aside, closed, is_limit, Rule, anything, pair_on}
+use Rattle.sn_rules.specs.Words.{same, number_by, is_symbol, sign, first, with_second, never, ◌◂◌}
 use Rattle.sn_rules.proofs.Common.{bearers, bearers_spelled}
 use Rattle.sn_rules.proofs.Laws.{Good, pair_on_good}
 use Rattle.sn_rules.proofs.Choices.{Undoes, embedded_good, renamed_good, Past}
@@ -17,7 +17,7 @@ use Rattle.sn_rules.proofs.Lists.{unmapped, commas_sign}
 use Rattle.sn_switch_rules.specs.declared.item.Setting.{Setting}
 use Rattle.sn_switch_rules.specs.declared.item.Setting.TheVariants as settings
 use Rattle.sn_switch_rules.specs.declared.item.Item.{Item}
-use Rattle.sn_switch_rules.specs.Settings.{text_of, word_of, setting_of, setting_in, is_there, begins, is, has}
+use Rattle.sn_switch_rules.specs.Settings.{text_of, word_of, setting_in, is_there, begins, is, has}
 use Rattle.sn_switch_rules.specs.Grammar.{once, setting_rule, within, alone, lone, one_number, below, size_test, past_size, size_rule, sizes, numbers, to_item, from_item, item_rule, end_in, end_face, is_whole, complete, end_rule, items_rule, switch_rule}
 
 abbrev no_flaw : Option Flaw
@@ -223,8 +223,14 @@ unfolding item_rule
 bare_setting a = refl
 
 whole_steady : (seen other : List Item) → map item_bare seen ≡ map item_bare other → is_whole seen ≡ is_whole other
-whole_steady seen other e = rw (has_steady item_bare bare_setting settings.Stages seen other e, has_steady item_bare bare_setting settings.Actions seen other e, has_steady item_bare bare_setting settings.Bits seen other e,
-    has_steady item_bare bare_setting settings.Meta seen other e, has_steady item_bare bare_setting settings.Chain seen other e, has_steady item_bare bare_setting settings.Slots seen other e) refl
+whole_steady seen other e = rw (
+  has_steady item_bare bare_setting settings.Stages seen other e,
+  has_steady item_bare bare_setting settings.Actions seen other e,
+  has_steady item_bare bare_setting settings.Bits seen other e,
+  has_steady item_bare bare_setting settings.Meta seen other e,
+  has_steady item_bare bare_setting settings.Chain seen other e,
+  has_steady item_bare bare_setting settings.Slots seen other e,
+) refl
 
 items_end : (t : Tok) (us : List Tok) → t.face ≡ finish → items_rule.follow (t ∷ us) ≡ true
 unfolding items_rule item_rule

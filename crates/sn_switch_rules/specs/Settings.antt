@@ -1,5 +1,5 @@
 -- The settings of a switch text and their words.
-use Rattle.std.specs.Prelude.{ℕ, Bool, true, false, List, [], ◌∷◌, Option, Some, None, ◌==◌, ◌||◌, codes, if◌then◌else◌}
+use Rattle.std.specs.Prelude.{ℕ, Bool, true, false, List, Option, Some, None, ◌==◌, codes, if◌then◌else◌}
 use Rattle.std.specs.List.{list_any}
 use Rattle.sn_rules.specs.Tokens.{Lexeme, word}
 use Rattle.sn_rules.specs.Words.{same}
