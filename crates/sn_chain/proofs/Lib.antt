@@ -1,3 +1,4 @@
+pub mod AnswerLemmas
 pub mod ChainLemmas
 pub mod HomeLemmas
 pub mod OfferLemmas

@@ -65,7 +65,9 @@ impl<F: Fold> Chain<F> {
         }
     }
 
-    /// Offers a key with a value. Takes no memory.
+    /// Offers a key with a value. `Held` exactly where the key is held, and its value becomes the fold's
+    /// step from it to `v`. Else `New` exactly where one of the key's slots is free: the key takes the first,
+    /// with value `v`. Else `Over`, and nothing changes. Takes no memory.
     pub fn offer(&mut self, key: &Row, v: u64) -> Offer
         requires { F.takes self.old.fold v }
         ensures answer { result ≡ answer_at (holder self.old key.now) (vacancy self.old key.now) }

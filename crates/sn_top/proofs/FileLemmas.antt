@@ -1,11 +1,10 @@
 -- Files that are read whole, over plain values.
-use Rattle.std.proofs.Common.{◌≡◌, ◌≢◌, ℕ, ◌<◌, ◌≤◌, ◌^◌, ◌⊎◌, List, Bool, true, false, cond, Option, Some, None, Result, Ok, Err, length, is_some, IfSome, inl, inr, refl, ap, sym, ◌∙◌, subst, arith}
+use Rattle.std.proofs.Common.{◌≡◌, ℕ, ◌<◌, ◌≤◌, ◌^◌, List, true, false, cond, Option, Some, None, Ok, Err, length, is_some, IfSome, refl, ap, sym, ◌∙◌, subst, arith}
 use Rattle.std.specs.Prelude.{nat_lt}
 use Rattle.std.specs.FinMap.{get}
 use Rattle.std.proofs.lemmas.Bool.{lt-ltb, le-ltb, false≢true}
 use Rattle.sn_io.specs.Counts.{ByName}
 use Rattle.sn_io.specs.Inputs.{told_file}
-use Rattle.sn_top.specs.declared.refusal.Refusal.{Refusal}
 use Rattle.sn_top.specs.declared.refusal.Refusal.TheVariants.{Missing, TooLarge}
 use Rattle.sn_top.specs.Plain.{most_bytes, within_limit, file_of}
 

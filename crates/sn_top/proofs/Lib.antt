@@ -7,3 +7,4 @@ pub mod PlainLemmas
 pub mod FileLemmas
 pub mod StageLemmas
 pub mod TopLemmas
+pub mod OutcomeLemmas

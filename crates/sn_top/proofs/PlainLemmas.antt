@@ -1,5 +1,5 @@
 -- The stages of `plain`, over plain values.
-use Rattle.std.proofs.Common.{◌≡◌, ℕ, ◌+◌, ◌-◌, ◌≤◌, ◌<◌, List, [], ◌∷◌, ◌++◌, Bool, true, false, cond, ◌&&◌, map, Option, None, Some, Result, Ok, Err, length, take, drop, refl, ap, sym, ◌∙◌, subst, arith, append_assoc, append-nil, length-append}
+use Rattle.std.proofs.Common.{◌≡◌, ℕ, ◌+◌, ◌≤◌, ◌<◌, List, [], ◌∷◌, ◌++◌, Bool, true, false, cond, ◌&&◌, map, Option, None, Some, Result, Ok, Err, length, take, drop, refl, ap, sym, ◌∙◌, subst, arith, append_assoc, append-nil, length-append}
 use Rattle.std.specs.Prelude.{nat_le, ◌==◌}
 use Rattle.sn_base.proofs.Lists.{by_test}
 use Rattle.std.specs.Io.KnownBytes.{append_known}
@@ -9,8 +9,8 @@ use Rattle.std.proofs.lemmas.List.{length-map, length-take-le, take_all, take-ap
 use Rattle.sn_pcap.specs.declared.packet.Packet.{Packet}
 use Rattle.sn_top.specs.declared.refusal.Refusal.{Refusal}
 use Rattle.sn_top.specs.declared.refusal.Refusal.TheVariants.{Memory, Usage, Queries, Head, Damaged, Missing, ReadFault, WriteFault, TooLarge}
-use Rattle.sn_top.specs.Windows.{record_at, in_window, windows_of, run_of, first_run, first_number}
-use Rattle.sn_top.specs.Blocks.{most_records, is_few, all_few, answered, blocks}
+use Rattle.sn_top.specs.Windows.{record_at, windows_of, run_of, first_run, first_number}
+use Rattle.sn_top.specs.Blocks.{most_records, is_few, all_few, blocks}
 use Rattle.sn_top.specs.Outcome.{Outcome, is_chance, WentOutFront, Keeps}
 use Rattle.sn_top.specs.Text.{total_line}
 use Rattle.sn_top.specs.Plain.{with_total}
@@ -149,7 +149,8 @@ module _ (block : ℕ → List Packet → List ℕ) (xs ys : List (ℕ × Packet
     length h.done + k,
     rw (next_block, length-append, length-append) (omega arith),
     e ∙ ap (λ o. append_known o (take k (block number packets))) h.told ∙ told_twice before h.done (take k (block number packets))
-    ∙ ap (append_known before) (sym (ap (take (length h.done + k)) next_block ∙ take-append-add h.done (block number packets ++ blocks block left) k ∙ ap (λ zs. h.done ++ zs) (take-append-le k (block number packets) (blocks block left) within))))
+        ∙ ap (append_known before) (sym (ap (take (length h.done + k)) next_block ∙ take-append-add h.done (block number packets ++ blocks block left) k ∙ ap (λ zs. h.done ++ zs) (take-append-le k (block number packets) (blocks block left) within))),
+  )
 
   -- its block failed to go out whole
   pub stops : (refusal : Refusal) → Keeps (one_block (block number packets)) (Err refusal) now later → Keeps (outcome_of block xs) (Err refusal) before later
@@ -190,7 +191,7 @@ behind_text first o answer before now later told k = record {
     front (n, within, e) = (
       length first + n,
       rw length-append (omega arith),
-      e ∙ ap (λ t. append_known t (take n o.text)) told ∙ told_twice before first (take n o.text) ∙ ap (append_known before) (sym (take-append-add first o.text n))
+      e ∙ ap (λ t. append_known t (take n o.text)) told ∙ told_twice before first (take n o.text) ∙ ap (append_known before) (sym (take-append-add first o.text n)),
     )
 
 -- a chance in the first of two texts

@@ -1,14 +1,13 @@
 -- One stage behind another, over plain values.
-use Rattle.std.proofs.Common.{◌≡◌, ◌≢◌, ℕ, List, [], Bool, true, false, Option, Some, None, Result, Ok, Err, refl, ap, sym, ◌∙◌, subst}
-use Rattle.std.specs.Io.KnownBytes.{append_known}
+use Rattle.std.proofs.Common.{◌≡◌, ℕ, List, [], Option, Result, Ok, Err, refl, ap, sym, ◌∙◌, subst}
 use Rattle.sn_io.specs.Counts.{ByName}
-use Rattle.sn_pcap.specs.Capture.{head_of}
+use Rattle.sn_top.specs.Captures.{built_head}
 use Rattle.sn_top.specs.declared.query.Query.{Query}
 use Rattle.sn_top.specs.declared.refusal.Refusal.{Refusal}
-use Rattle.sn_top.specs.Outcome.{Outcome, refused, is_chance, WentOutFront, Keeps, IsDue}
-use Rattle.sn_top.specs.Plain.{AfterHead, AfterCapture, AfterQuery, query_stage, read_query, file_of}
+use Rattle.sn_top.specs.Outcome.{Outcome, refused, is_chance, Keeps, IsDue}
+use Rattle.sn_top.specs.Plain.{AfterHead, AfterCapture, AfterQuery, query_stage, file_of}
 use Rattle.sn_base.proofs.Lists.{by_test}
-use Rattle.sn_top.proofs.PlainLemmas.{no_front, chance_any, chance_keeps, all_front}
+use Rattle.sn_top.proofs.PlainLemmas.{no_front, chance_any, chance_keeps}
 use Rattle.sn_io.proofs.Told.{append_known-nil}
 
 -- a refusal that adds nothing, and a run that wrote nothing
@@ -25,7 +24,7 @@ stage_stops {A = A} due r outcome now is_due after =
 pub after_file_refused : (query : Query) (file : Result (List ℕ) Refusal) (r : Refusal) (outcome : Outcome (Unit {0})) → AfterCapture query file outcome → file ≡ Err r → outcome ≡ refused r
 after_file_refused query file r outcome h e = subst (λ (f : Result (List ℕ) Refusal). AfterCapture query f outcome) e h
 
-pub after_file : (query : Query) (file : Result (List ℕ) Refusal) (bytes : List ℕ) (outcome : Outcome (Unit {0})) → AfterCapture query file outcome → file ≡ Ok bytes → AfterHead query bytes (head_of bytes) outcome
+pub after_file : (query : Query) (file : Result (List ℕ) Refusal) (bytes : List ℕ) (outcome : Outcome (Unit {0})) → AfterCapture query file outcome → file ≡ Ok bytes → AfterHead query bytes (built_head bytes) outcome
 after_file query file bytes outcome h e = subst (λ (f : Result (List ℕ) Refusal). AfterCapture query f outcome) e h
 
 pub after_query_refused : (held : ByName (List ℕ)) (capture : List ℕ) (query : Result Query Refusal) (r : Refusal) (outcome : Outcome (Unit {0})) → AfterQuery held capture query outcome → query ≡ Err r → outcome ≡ refused r

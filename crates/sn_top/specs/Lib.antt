@@ -6,6 +6,7 @@ pub mod Text
 pub mod Words
 pub mod Refusals
 pub mod Outcome
+pub mod Captures
 pub mod Rows
 pub mod Reading
 pub mod Read

@@ -3,7 +3,8 @@ use Rattle.std.specs.Prelude.{◌≡◌, ℕ, ◌*◌, List, [], ◌++◌, Bool,
 use Rattle.std.specs.FinMap.{get}
 use Rattle.sn_io.specs.Counts.{ByName}
 use Rattle.sn_base.specs.declared.link.Link.{Link}
-use Rattle.sn_pcap.specs.Capture.{Records, head_of}
+use Rattle.sn_pcap.specs.Capture.{Records}
+use Rattle.sn_top.specs.Captures.{built_head}
 use Rattle.sn_pcap.specs.declared.header.Header.{Header}
 use Rattle.sn_pcap.specs.declared.header.HeadFault.{HeadFault}
 use Rattle.sn_pcap.specs.declared.packet.Packet.{Packet}
@@ -86,7 +87,7 @@ query_stage (Ok text) = read_query (query_of text)
 
 abbrev pub AfterCapture : Query → Result (List ℕ) Refusal → Outcome (Unit {0}) → Type 0
 AfterCapture query (Err refusal) outcome = outcome ≡ refused refusal
-AfterCapture query (Ok file) outcome = AfterHead query file (head_of file) outcome
+AfterCapture query (Ok file) outcome = AfterHead query file (built_head file) outcome
 
 abbrev pub AfterQuery : ByName (List ℕ) → List ℕ → Result Query Refusal → Outcome (Unit {0}) → Type 0
 AfterQuery files capture (Err refusal) outcome = outcome ≡ refused refusal
@@ -96,3 +97,8 @@ AfterQuery files capture (Ok query) outcome = AfterCapture query (file_of files 
 -- The first stage that refuses ends it.
 unfoldable pub IsPlain : ByName (List ℕ) → List ℕ → List ℕ → Outcome (Unit {0}) → Type 0
 IsPlain files queries capture outcome = AfterQuery files capture (query_stage (file_of files queries)) outcome
+
+-- `plain` over these files has an outcome
+pub record HasOutcome (files : ByName (List ℕ)) (queries capture : List ℕ) : Type 0 where
+  pub outcome : Outcome (Unit {0})
+  pub is : IsPlain files queries capture outcome

@@ -1,11 +1,13 @@
 -- The query texts that are read so far: one query of one to twelve filters, each with one condition.
-use Rattle.std.specs.Prelude.{◌≡◌, ℕ, ◌≤◌, List, [], ◌∷◌, Bool, true, false, ◌&&◌, ◌||◌, ◌==◌, nat_eq, nat_le, nat_lt, length, map, Option, Some, None, codes, find, if◌then◌else◌}
+use Rattle.std.specs.Prelude.{ℕ, List, [], ◌∷◌, Bool, true, false, not, ◌&&◌, ◌||◌, ◌==◌, nat_eq, nat_le, nat_lt, length, map, Option, Some, None, codes, find, if◌then◌else◌}
 use Rattle.std.specs.List.{list_any}
 use Rattle.std.specs.Cmp.Lexicographic.{pointwise}
 use Rattle.sn_fields.specs.declared.field.Field.{Field}
 use Rattle.sn_fields.specs.Fields.{name_of, fields}
-use Rattle.sn_rules.specs.Tokens.{Lexeme, Tok, word, number, symbol, finish, bad, tok_face}
-use Rattle.sn_text.specs.Cutting.{tokens_of}
+use Rattle.sn_rules.specs.Tokens.{Lexeme, Tok, word, number, symbol, finish, bad}
+use Rattle.sn_text.specs.Cutting.{tokens_of, is_digit, is_word_byte}
+use Rattle.sn_top.specs.declared.parts.Place.{Place}
+use Rattle.sn_top.specs.declared.parts.Place.TheVariants.{Outside, InName, InNumber}
 use Rattle.sn_top.specs.declared.parts.Part.{Part}
 use Rattle.sn_top.specs.declared.parts.Part.TheVariants as parts
 use Rattle.sn_top.specs.declared.query.Cmp.{Cmp}
@@ -140,6 +142,29 @@ query_in (a ∷ b ∷ c ∷ d ∷ e ∷ f ∷ rest) =
     if is_head a c e f then query_made (window_in b) (name_in d) (limited (filters_in rest)) else None
 query_in _ = None
 
+-- ---- the bytes of a text
+
+-- A byte stands outside words, in a word that began otherwise than with a digit, or in one that began with a digit.
+
+abbrev pub is_in_number : Place → Bool
+is_in_number InNumber = true
+is_in_number _ = false
+
+-- where the next byte stands, behind this one
+abbrev pub at_behind : Place → ℕ → Place
+at_behind Outside b = if is_digit b then InNumber else if is_word_byte b then InName else Outside
+at_behind InName b = if is_word_byte b then InName else Outside
+at_behind InNumber b = if is_word_byte b then InNumber else Outside
+
+-- no tab, no carriage return, no comment, and no other byte than a digit in a word that began with one
+abbrev pub is_plain_byte : Place → ℕ → Bool
+is_plain_byte at b = not (b == 9) && not (b == 13) && not (b == 35) && (is_digit b || not (is_in_number at && is_word_byte b))
+
+-- so far spaces and line feeds alone separate tokens, numbers are decimal, and there are no comments
+abbrev pub is_plain_from : Place → List ℕ → Bool
+is_plain_from at [] = true
+is_plain_from at (b ∷ bs) = is_plain_byte at b && is_plain_from (at_behind at b) bs
+
 -- the query for which a text stands, if it is one that is read so far
 unfoldable pub query_of : List ℕ → Option Query
-query_of text = query_in (parts_of text)
+query_of text = if is_plain_from Outside text then query_in (parts_of text) else None

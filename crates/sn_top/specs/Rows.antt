@@ -1,5 +1,5 @@
 -- The rows of a query of filters.
-use Rattle.std.specs.Prelude.{◌≡◌, ℕ, ◌+◌, List, [], ◌∷◌, Bool, not, ◌==◌, nat_lt, nat_le, map, filter, slice_index, if◌then◌else◌}
+use Rattle.std.specs.Prelude.{ℕ, List, [], ◌∷◌, Bool, not, ◌==◌, nat_lt, nat_le, map, filter, slice_index, if◌then◌else◌}
 use Rattle.std.specs.List.{list_all, list_any}
 use Rattle.sn_base.specs.Sorted.{sorted_rows}
 use Rattle.sn_base.specs.declared.link.Link.{Link}

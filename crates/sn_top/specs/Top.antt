@@ -5,7 +5,7 @@ use Rattle.std.specs.FinMap.{get}
 use Rattle.sn_io.specs.Counts.{ByName, Rose, RoseAt}
 use Rattle.sn_top.specs.Words.{word_at}
 use Rattle.sn_top.specs.declared.refusal.Refusal.{Refusal}
-use Rattle.sn_top.specs.Refusals.{status_of, line_of, head_line}
+use Rattle.sn_top.specs.Refusals.{status_of, line_of}
 use Rattle.sn_top.specs.Outcome.{Outcome, WentOutFront}
 
 -- the exit status of an end, and the line on it

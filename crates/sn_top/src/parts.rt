@@ -15,3 +15,13 @@ pub enum Part {
     /// A word of more bytes, or no token.
     Other,
 }
+
+/// Where a byte of a text stands.
+#[derive(Clone, Copy)]
+pub enum Place {
+    Outside,
+    /// In a word that began otherwise than with a digit.
+    InName,
+    /// In a word that began with a digit.
+    InNumber,
+}

@@ -1,7 +1,8 @@
 //! The command `plain`.
 ghost use Rattle.std.specs.Prelude.{◌≡◌, ◌≢◌, ◌≤◌, ◌^◌, ◌↔◌, ◌⊎◌, ℕ, List, Some, None, All, Err, Ok, IfOk, IfErr, length};
 ghost use Rattle.std.specs.FinMap.{get};
-ghost use Rattle.sn_pcap.specs.Capture.{IsWithin, Records, head_of};
+ghost use Rattle.sn_pcap.specs.Capture.{IsWithin, Records};
+ghost use Rattle.sn_top.specs.Captures.{built_head};
 ghost use Rattle.sn_pcap.specs.declared.packet.Packet.{Packet};
 ghost use Rattle.sn_pcap.specs.declared.packet.Ending.{Ending};
 ghost use Rattle.sn_io.specs.Counts.{ByName, Rose, RoseAt, OnlyRises};
@@ -9,6 +10,7 @@ ghost use Rattle.sn_top.specs.Outcome.{Outcome, Keeps, IsDue, ReadsWell};
 ghost use Rattle.sn_top.specs.Reading.{query_of};
 ghost use Rattle.sn_top.specs.Plain.{window_text, numbered_packets, windows_outcome, packets_outcome, records_outcome, AfterHead, file_of, read_query, query_stage, AfterCapture, IsPlain};
 
+use crate::capture::built_head;
 use crate::query::Query;
 use crate::reader::{ParseFault, parse};
 use crate::refusal::Refusal;
@@ -20,7 +22,7 @@ use sn_base::link::Link;
 use sn_base::seq::Seq;
 use sn_io::inputs::{Inputs, ReadError, read_whole};
 use sn_io::sink::{Sink, write_all_to};
-use sn_pcap::header::{Header, head};
+use sn_pcap::header::Header;
 use sn_pcap::packet::{Ending, Packet, packets};
 use std::alloc::Global;
 
@@ -139,11 +141,11 @@ fn answer_capture<O: Sink>(
     out: &mut O,
 ) -> Result<(), Refusal>
     requires { (1 ≤ query.now.window_us) × (query.now.window_us ≤ 3600000000) }
-    ensures keeps { (outcome : Outcome (Unit {0})) → AfterHead query.now file.now (head_of file.now) outcome → Keeps outcome result (O.written out.old) (O.written out.new) }
+    ensures keeps { (outcome : Outcome (Unit {0})) → AfterHead query.now file.now (built_head file.now) outcome → Keeps outcome result (O.written out.old) (O.written out.new) }
     ensures reads { ReadsWell result }
     ensures write_fault { result ≡ Err Refusal.WriteFault → Rose (O.faults out.old) (O.faults out.new) ⊎ Rose (O.empty_takes out.old) (O.empty_takes out.new) }
 {
-    match head(file) {
+    match built_head(file) {
         Ok(header) => answer_records(alloc, query, &header, file, out),
         Err(fault) => Err(Refusal::Head(fault)),
     }

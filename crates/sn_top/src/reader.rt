@@ -1,17 +1,19 @@
 //! The reader of query texts.
 ghost use Rattle.std.specs.Prelude.{◌≡◌, ◌≤◌, ◌<◌, ◌^◌, [], Some, None, IfOk, IfErr, IfSome, IfNone, length, if◌then◌else◌};
 ghost use Rattle.sn_text.specs.Lexing.{seen};
-ghost use Rattle.sn_text.specs.Cutting.{is_last};
-ghost use Rattle.sn_top.specs.Reading.{part_of, parts_of, is_word, is_symbol, is_end, same_word, is_query_word, is_operator_word, is_fold_word, is_keyword, is_built, name_in, window_in, number_of_part, field_in, cmp_of, cmp_in, filter_in, with_filter, is_ending, filters_in, limited, query_made, is_head, query_in, query_of};
+ghost use Rattle.sn_text.specs.Cutting.{is_last, is_word_byte};
+ghost use Rattle.sn_top.specs.Reading.{part_of, parts_of, is_word, is_symbol, is_end, same_word, is_query_word, is_operator_word, is_fold_word, is_keyword, is_built, name_in, window_in, number_of_part, field_in, cmp_of, cmp_in, filter_in, with_filter, is_ending, filters_in, limited, query_made, is_head, query_in, is_in_number, at_behind, is_plain_byte, is_plain_from, query_of};
+ghost use Rattle.sn_top.specs.declared.parts.Place.TheVariants.{Outside};
 ghost use Rattle.sn_top.specs.Read.{IsRefused};
 
-use crate::parts::Part;
+use crate::parts::{Part, Place};
 use crate::query::{Cmp, Filter, Query};
 use crate::rows::{BUILT_FIELDS, is_same_field};
 use sn_base::memory::Memory;
 use sn_base::name::Name;
 use sn_base::seq::Seq;
 use sn_fields::field::{Field, field_named};
+use sn_text::numbers::{is_digit_byte, is_name_byte};
 use sn_text::place::{Lexer, Piece};
 use sn_text::scan::scan;
 use std::alloc::Global;
@@ -136,7 +138,11 @@ fn name_in(part: &Part) -> Option<Name>
     ensures { result ≡ name_in part.now }
 {
     match part {
-        Part::Word(word) => if is_keyword(word.as_bytes()) { None } else { Some(*word) },
+        Part::Word(word) => if is_keyword(word.as_bytes()) {
+            None
+        } else {
+            Some(*word)
+        },
         _ => None,
     }
 }
@@ -147,7 +153,11 @@ fn window_in(part: &Part) -> Option<u64>
     match part {
         Part::Number(number) => {
             let number = *number;
-            if number >= 1 && number <= 3_600_000_000 { Some(number) } else { None }
+            if number >= 1 && number <= 3_600_000_000 {
+                Some(number)
+            } else {
+                None
+            }
         }
         _ => None,
     }
@@ -165,7 +175,9 @@ fn number_in(part: &Part) -> Option<u64>
 fn is_built(field: Field) -> bool
     ensures { result ≡ is_built field }
 {
-    BUILT_FIELDS.iter().any(|built| is_same_field(*built, field))
+    BUILT_FIELDS
+        .iter()
+        .any(|built| is_same_field(*built, field))
 }
 
 fn field_in(part: &Part) -> Option<Field>
@@ -312,8 +324,75 @@ fn query_in(alloc: Global, parts: &[Part]) -> Result<Query, ParseFault>
     }
 }
 
+fn is_in_word(byte: u8) -> bool
+    ensures { result ≡ is_word_byte byte }
+{
+    is_name_byte(byte) || is_digit_byte(byte) || byte == b'.'
+}
+
+fn is_in_number(place: Place) -> bool
+    ensures { result ≡ is_in_number place }
+{
+    matches!(place, Place::InNumber)
+}
+
+fn place_behind(place: Place, byte: u8) -> Place
+    ensures { result ≡ at_behind place byte }
+{
+    let in_word = is_in_word(byte);
+    match place {
+        Place::Outside => {
+            if is_digit_byte(byte) {
+                Place::InNumber
+            } else if in_word {
+                Place::InName
+            } else {
+                Place::Outside
+            }
+        }
+        Place::InName => {
+            if in_word {
+                Place::InName
+            } else {
+                Place::Outside
+            }
+        }
+        Place::InNumber => {
+            if in_word {
+                Place::InNumber
+            } else {
+                Place::Outside
+            }
+        }
+    }
+}
+
+fn is_plain_byte(place: Place, byte: u8) -> bool
+    ensures { result ≡ is_plain_byte place byte }
+{
+    byte != b'\t'
+        && byte != b'\r'
+        && byte != b'#'
+        && (is_digit_byte(byte) || !(is_in_number(place) && is_in_word(byte)))
+}
+
+/// Whether spaces and line feeds alone separate the tokens, numbers are decimal, and there are no comments.
+fn is_plain_text(text: &[u8]) -> bool
+    ensures { result ≡ is_plain_from Outside text.now }
+{
+    let mut place = Place::Outside;
+    for byte in text {
+        if !is_plain_byte(place, *byte) {
+            return false;
+        }
+        place = place_behind(place, *byte);
+    }
+    true
+}
+
 /// The query for which a text stands. So far a text is one query of one to twelve filters, each of one
-/// condition, that read the fields of [`BUILT_FIELDS`]. `Unbuilt` exactly for every other text.
+/// condition, that read the fields of [`BUILT_FIELDS`]; spaces and line feeds alone separate its tokens, its
+/// numbers are decimal, and there are no comments. `Unbuilt` exactly for every other text.
 #[tactic(auto, unfolding(crate::specs::Reading::query_of))]
 pub fn parse(alloc: Global, text: &[u8]) -> Result<Query, ParseFault>
     requires { length text.now ≤ 2 ^ 30 }
@@ -321,6 +400,9 @@ pub fn parse(alloc: Global, text: &[u8]) -> Result<Query, ParseFault>
     ensures window { IfOk result (λ query. (1 ≤ query.window_us) × (query.window_us ≤ 3600000000)) }
     ensures refused { IfErr result (IsRefused (query_of text.now)) }
 {
+    if !is_plain_text(text) {
+        return Err(ParseFault::Unbuilt);
+    }
     let Ok(parts) = parts(alloc, text) else {
         return Err(ParseFault::Memory);
     };

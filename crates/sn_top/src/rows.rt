@@ -57,14 +57,21 @@ pub fn is_same_field(a: Field, b: Field) -> bool
 fn is_read(filters: &[Filter], field: Field) -> bool
     ensures { result ≡ is_read filters.now field }
 {
-    filters.iter().any(|filter| is_same_field(filter.field, field))
+    filters
+        .iter()
+        .any(|filter| is_same_field(filter.field, field))
 }
 
 /// The fields that the filters read, in the order of their numbers.
 fn fields_read(alloc: Global, filters: &[Filter]) -> Result<Vec<Field>, Memory>
     ensures { IfOk result (λ fields. fields.items ≡ fields_read filters.now) }
 {
-    match BUILT_FIELDS.iter().copied().filter(|field| is_read(filters, *field)).collect(alloc) {
+    match BUILT_FIELDS
+        .iter()
+        .copied()
+        .filter(|field| is_read(filters, *field))
+        .collect(alloc)
+    {
         Ok(fields) => Ok(fields),
         Err(_) => Err(Memory),
     }

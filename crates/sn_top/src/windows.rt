@@ -53,7 +53,11 @@ impl Windows {
     {
         let first = self.first.unwrap_or(time);
         let number = self.number.max(time.saturating_sub(first) / self.window_ns);
-        let before = if self.first.is_some() && number == self.number { self.count } else { 0 };
+        let before = if self.first.is_some() && number == self.number {
+            self.count
+        } else {
+            0
+        };
         if before >= MOST_RECORDS {
             return Err(TooMany);
         }

@@ -1,4 +1,4 @@
-use Rattle.std.proofs.Common.{◌≡◌, List, ℕ, ap, sym, ◌∙◌, subst}
+use Rattle.std.proofs.Common.{◌≡◌, List, ℕ, ◌∙◌, subst}
 use Rattle.sn_top.specs.Plain.{window_text, numbered_packets}
 use Rattle.sn_top.specs.Text.{total_line}
 use Rattle.sn_top.specs.Outcome.{Keeps}

@@ -1,4 +1,4 @@
-use Rattle.std.proofs.Common.{◌≡◌, refl, sym, ◌∙◌}
+use Rattle.std.proofs.Common.{refl, sym, ◌∙◌}
 use Rattle.std.proofs.lemmas.Result.{err_from_is_err_and}
 use Rattle.sn_top.specs.Plain.{IsPlain, file_of, query_stage}
 use Rattle.sn_top.proofs.StageLemmas.{stage_stops, after_query_refused, after_query}

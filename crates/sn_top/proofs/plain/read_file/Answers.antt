@@ -1,4 +1,4 @@
-use Rattle.std.proofs.Common.{◌≡◌, ℕ, ◌<◌, ◌^◌, List, None, true, Ok, Err, length, is_some, ap, ◌∙◌}
+use Rattle.std.proofs.Common.{◌≡◌, ℕ, ◌<◌, ◌^◌, List, true, Err, length, is_some, ap, ◌∙◌}
 use Rattle.std.specs.FinMap.{get}
 use Rattle.sn_top.proofs.FileLemmas.{known_file, file_ok, file_large, some_if}
 use Rattle.sn_top.proofs.plain.read_file.Goals as goal

@@ -8,7 +8,6 @@ use Rattle.sn_top.specs.Windows.{record_at, first_run, first_number}
 use Rattle.sn_top.specs.Numbering.{numbered_from, is_fresh}
 use Rattle.sn_top.specs.NumberingOf.{numbering, time_of, next_packets}
 use Rattle.sn_top.specs.Plain.{window_text, numbered_packets}
-use Rattle.sn_top.proofs.RunLemmas.{Rises}
 use Rattle.sn_top.proofs.NumberLemmas.{numbered_is, numbers_rise, as_many, first_records, fresh_begun, none_left}
 use Rattle.sn_top.proofs.PlainLemmas.{Progress, begins, ends, too_large, stops, turns, is_some_left}
 use Rattle.sn_top.proofs.plain.write_windows.Goals as goal
@@ -28,7 +27,6 @@ windows-init g c =
       faults = omega arith;
       empty_takes = omega arith;
     }
-
 
 pub returns-in_err-length-clause-keeps : goal.returns-in_err-length-clause-keeps
 returns-in_err-length-clause-keeps g c =

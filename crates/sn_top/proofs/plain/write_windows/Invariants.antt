@@ -1,8 +1,5 @@
-use Rattle.std.proofs.Common.{◌≡◌, ◌+◌, ◌≤◌, ◌++◌, List, ℕ, true, length, All}
-use Rattle.std.specs.Io.KnownBytes.{append_known}
+use Rattle.std.proofs.Common.{◌≡◌, ◌+◌, ◌≤◌, true, length, All}
 use Rattle.sn_pcap.specs.Capture.{IsWithin}
-use Rattle.sn_top.specs.Blocks.{blocks, all_few}
-use Rattle.sn_top.specs.Windows.{windows_of}
 use Rattle.sn_top.specs.Numbering.{is_fresh}
 use Rattle.sn_top.specs.NumberingOf.{numbering, time_of, next_packets}
 use Rattle.sn_top.specs.Plain.{window_text, numbered_packets}

@@ -1,4 +1,4 @@
-use Rattle.std.proofs.Common.{◌≡◌, sym}
+use Rattle.std.proofs.Common.{sym}
 use Rattle.sn_top.proofs.ReadLemmas.{five_parts}
 use Rattle.sn_top.proofs.reader.first_filter.Goals as goal
 

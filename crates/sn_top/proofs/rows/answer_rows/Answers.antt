@@ -1,7 +1,6 @@
-use Rattle.std.proofs.Common.{◌≡◌, ap, ◌∙◌}
+use Rattle.std.proofs.Common.{ap, ◌∙◌}
 use Rattle.sn_base.specs.Sorted.{sorted_rows}
 use Rattle.sn_base.proofs.SortLemmas.{sorted_is}
-use Rattle.sn_top.specs.Rows.{passing_rows}
 use Rattle.sn_top.proofs.rows.answer_rows.Goals as goal
 
 pub returns-in-Ok : goal.returns-in-Ok

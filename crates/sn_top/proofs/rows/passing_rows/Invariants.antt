@@ -1,5 +1,5 @@
 use Rattle.std.proofs.Common.{◌≡◌, take}
-use Rattle.sn_top.specs.Rows.{fields_read, passing_rows}
+use Rattle.sn_top.specs.Rows.{passing_rows}
 use Rattle.sn_top.proofs.rows.passing_rows.Given as goal
 
 abbrev pub invariant-loop-packet : goal.invariant-loop-packet

@@ -1,8 +1,6 @@
-use Rattle.std.proofs.Common.{◌≡◌, ℕ, ◌⊎◌, List, None, false, inl, inr, refl, ap, sym, ◌∙◌, subst}
-use Rattle.std.proofs.lemmas.Bool.{false≢true}
-use Rattle.std.specs.FinMap.{get}
-use Rattle.sn_top.specs.Words.{texts, word_at, is_plain}
-use Rattle.sn_top.specs.Top.{end_status, end_line, IsTold, AnyRose, AnyUnknown, OutRose}
+use Rattle.std.proofs.Common.{inl, inr, ap, sym, ◌∙◌}
+use Rattle.sn_top.specs.Words.{texts}
+use Rattle.sn_top.specs.Top.{end_status, end_line, AnyRose, OutRose}
 use Rattle.sn_top.proofs.TopLemmas.{is_run, two_is, nine_is, ten_is, line_is, line_due}
 use Rattle.sn_top.proofs.top.top.Goals as goal
 

@@ -1,0 +1,151 @@
+//! Filters and their conditions.
+ghost use Rattle.std.specs.Prelude.{◌≡◌, List};
+ghost use Rattle.sn_rules.specs.declared.Flaw.{Flaw};
+ghost use Rattle.sn_rules.specs.Rules.{kept, maybe_at};
+ghost use Rattle.sn_rules.specs.Words.{is_symbol, sign, ◌▸◌};
+ghost use Rattle.sn_text.specs.Lexing.{left, seen};
+ghost use Rattle.sn_read.specs.Reading.{Reads};
+ghost use Rattle.sn_grammar.specs.Names.{any_number, past_name, past_number};
+ghost use Rattle.sn_grammar.specs.Grammar.{relax_rule, relaxes_rule, cond_rule, filter_rule};
+ghost use Rattle.sn_grammar.proofs.Goods.{relax_listed, cond_listed};
+ghost use Rattle.sn_query.specs.Parts.{and_rule};
+
+use crate::words::{cmp, is_full_at, name, past_name_of, past_number_of};
+use sn_base::seq::Seq;
+use sn_grammar::ast::{Cond, Relax};
+use sn_read::commas::{Commas, list};
+use sn_read::stop::Stop;
+use sn_read::words::{next_is_symbol, next_is_word, number, symbol, word};
+use sn_rules::Flaw;
+use sn_text::place::{Lexer, Piece};
+use std::alloc::Global;
+
+#[tactic(auto, unfolding(sn_grammar::specs::Grammar::relax_rule))]
+fn relax<'a>(at: Lexer<'a>) -> Result<(Relax, Lexer<'a>), Stop<'a>>
+    ensures { Reads result (relax_rule.read kept (left at.entry)) }
+{
+    let (level, rest) = number(at, 0, 64)?;
+    let rest = symbol(rest, 7)?;
+    let (value, rest) = number(rest, 0, u64::MAX)?;
+    Ok((
+        Relax {
+            level: level as u32,
+            value,
+        },
+        rest,
+    ))
+}
+
+/// The constants of a condition for coarser levels.
+struct RelaxItems;
+
+impl Commas for RelaxItems {
+    type Item = Relax;
+
+    ghost limit = { 4 };
+
+    ghost begun = { past_number 0 64 };
+
+    ghost rule = { λ taken. relax_rule };
+
+    ghost laws = { relax_listed };
+
+    fn is_full(count: usize) -> bool {
+        is_full_at(count, 4)
+    }
+
+    fn past(piece: Piece<'_>) -> Flaw {
+        past_number_of(piece, 0, 64)
+    }
+
+    fn item<'a>(_alloc: Global, _taken: &[Relax], at: Lexer<'a>) -> Result<(Relax, Lexer<'a>), Stop<'a>> {
+        relax(at)
+    }
+}
+
+#[tactic(auto, unfolding(sn_grammar::specs::Grammar::relaxes_rule), using(sn_read::proofs::Tokens::there, sn_read::proofs::Tokens::not_there))]
+fn relaxes<'a>(alloc: Global, at: Lexer<'a>) -> Result<(Seq<Relax>, Lexer<'a>), Stop<'a>>
+    ensures { Reads result (relaxes_rule.read kept (left at.entry)) }
+{
+    if !next_is_word(at, b"at") {
+        return Ok((Seq::new(alloc), at));
+    }
+    let rest = word(at, b"at")?;
+    let rest = symbol(rest, 5)?;
+    let (relaxed, rest) = list::<RelaxItems>(alloc, rest)?;
+    let rest = symbol(rest, 6)?;
+    Ok((relaxed, rest))
+}
+
+#[tactic(auto, using(sn_read::proofs::Tokens::there, sn_read::proofs::Tokens::not_there))]
+fn and_number<'a>(at: Lexer<'a>) -> Result<(Option<u64>, Lexer<'a>), Stop<'a>>
+    ensures { Reads result (and_rule.read kept (left at.entry)) }
+{
+    if !next_is_symbol(at, 8) {
+        return Ok((None, at));
+    }
+    let rest = symbol(at, 8)?;
+    let (number, rest) = number(rest, 0, u64::MAX)?;
+    Ok((Some(number), rest))
+}
+
+#[tactic(auto, unfolding(sn_grammar::specs::Grammar::cond_rule))]
+fn cond<'a>(alloc: Global, at: Lexer<'a>) -> Result<(Cond, Lexer<'a>), Stop<'a>>
+    ensures { Reads result (cond_rule.read kept (left at.entry)) }
+{
+    let (name, rest) = match name(at) {
+        Ok(found) => found,
+        Err(stop) => return Err(stop),
+    };
+    let (and, rest) = and_number(rest)?;
+    let (cmp, rest) = cmp(rest)?;
+    let (own, rest) = number(rest, 0, u64::MAX)?;
+    let (relaxed, rest) = relaxes(alloc, rest)?;
+    Ok((
+        Cond {
+            name,
+            and,
+            cmp,
+            own,
+            relaxed,
+        },
+        rest,
+    ))
+}
+
+/// The conditions of a filter.
+struct CondItems;
+
+impl Commas for CondItems {
+    type Item = Cond;
+
+    ghost limit = { 8 };
+
+    ghost begun = { past_name };
+
+    ghost rule = { λ taken. cond_rule };
+
+    ghost laws = { cond_listed };
+
+    fn is_full(count: usize) -> bool {
+        is_full_at(count, 8)
+    }
+
+    fn past(piece: Piece<'_>) -> Flaw {
+        past_name_of(piece)
+    }
+
+    fn item<'a>(alloc: Global, _taken: &[Cond], at: Lexer<'a>) -> Result<(Cond, Lexer<'a>), Stop<'a>> {
+        cond(alloc, at)
+    }
+}
+
+/// A filter, and the place behind it.
+#[tactic(auto, unfolding(sn_grammar::specs::Grammar::filter_rule))]
+pub(crate) fn filter<'a>(alloc: Global, at: Lexer<'a>) -> Result<(Seq<Cond>, Lexer<'a>), Stop<'a>>
+    ensures { Reads result (filter_rule.read kept (left at.entry)) }
+{
+    let rest = word(at, b"filter")?;
+    let (conds, rest) = list::<CondItems>(alloc, rest)?;
+    Ok((conds, rest))
+}

@@ -1,0 +1,123 @@
+//! Keys and folds.
+ghost use Rattle.std.specs.Prelude.{◌≡◌, List};
+ghost use Rattle.sn_rules.specs.declared.Flaw.{Flaw};
+ghost use Rattle.sn_rules.specs.Rules.{kept};
+ghost use Rattle.sn_text.specs.Lexing.{left, seen};
+ghost use Rattle.sn_read.specs.Reading.{Reads};
+ghost use Rattle.sn_grammar.specs.Names.{name_not, past_name};
+ghost use Rattle.sn_grammar.specs.Grammar.{keys_rule, reduce_rule};
+ghost use Rattle.sn_grammar.proofs.Queries.{keys_listed};
+ghost use Rattle.sn_query.specs.Parts.{column_rule, fold_read};
+
+use crate::words::{fold_word, is_full_at, new_name, past_name_of};
+use sn_base::name::Name;
+use sn_base::seq::Seq;
+use sn_grammar::ast::{FoldWord, Reduce};
+use sn_read::commas::{Commas, list};
+use sn_read::stop::Stop;
+use sn_read::words::{next_is_word, number, symbol, word};
+use sn_rules::Flaw;
+use sn_text::place::{Lexer, Piece};
+use std::alloc::Global;
+
+/// The keys of a fold or a join.
+struct KeyItems;
+
+impl Commas for KeyItems {
+    type Item = Name;
+
+    ghost limit = { 8 };
+
+    ghost begun = { past_name };
+
+    ghost rule = { λ taken. name_not taken };
+
+    ghost laws = { keys_listed };
+
+    fn is_full(count: usize) -> bool {
+        is_full_at(count, 8)
+    }
+
+    fn past(piece: Piece<'_>) -> Flaw {
+        past_name_of(piece)
+    }
+
+    fn item<'a>(_alloc: Global, taken: &[Name], at: Lexer<'a>) -> Result<(Name, Lexer<'a>), Stop<'a>> {
+        new_name(at, taken)
+    }
+}
+
+/// Keys, and the place behind them.
+#[tactic(auto, unfolding(sn_grammar::specs::Grammar::keys_rule))]
+pub(crate) fn keys<'a>(alloc: Global, at: Lexer<'a>) -> Result<(Seq<Name>, Lexer<'a>), Stop<'a>>
+    ensures { Reads result (keys_rule.read kept (left at.entry)) }
+{
+    list::<KeyItems>(alloc, at)
+}
+
+/// The column that is folded, in its brackets.
+fn column<'a>(at: Lexer<'a>, keys: &[Name]) -> Result<(Name, Lexer<'a>), Stop<'a>>
+    ensures { Reads result ((column_rule keys.now).read kept (left at.entry)) }
+{
+    let rest = symbol(at, 5)?;
+    let (value, rest) = match new_name(rest, keys) {
+        Ok(found) => found,
+        Err(stop) => return Err(stop),
+    };
+    let rest = symbol(rest, 6)?;
+    Ok((value, rest))
+}
+
+#[tactic(auto, using(crate::proofs::FoldParts::sum_value, crate::proofs::FoldParts::sum_no_word, crate::proofs::FoldParts::sum_no_column, crate::proofs::FoldParts::sum_no_width, crate::proofs::FoldParts::sum_no_number, crate::proofs::FoldParts::other_value, crate::proofs::FoldParts::other_no_word, crate::proofs::FoldParts::other_no_column))]
+fn fold<'a>(keys: Seq<Name>, at: Lexer<'a>) -> Result<(Reduce, Lexer<'a>), Stop<'a>>
+    ensures { Reads result (fold_read keys (left at.entry)) }
+{
+    if next_is_word(at, b"sum") {
+        let rest = word(at, b"sum")?;
+        let (value, rest) = match column(rest, keys.as_slice()) {
+            Ok(found) => found,
+            Err(stop) => return Err(stop),
+        };
+        let rest = word(rest, b"width")?;
+        let (width, rest) = number(rest, 1, 64)?;
+        let width = width as u32;
+        let fold = FoldWord::Sum;
+        return Ok((
+            Reduce {
+                keys,
+                fold,
+                value,
+                width,
+            },
+            rest,
+        ));
+    }
+    let (fold, rest) = fold_word(at)?;
+    let (value, rest) = match column(rest, keys.as_slice()) {
+        Ok(found) => found,
+        Err(stop) => return Err(stop),
+    };
+    Ok((
+        Reduce {
+            keys,
+            fold,
+            value,
+            width: 0,
+        },
+        rest,
+    ))
+}
+
+/// A fold over the rows with equal keys, and the place behind it.
+#[tactic(auto, using(crate::proofs::FoldParts::reduce_no_word, crate::proofs::FoldParts::reduce_no_keys, crate::proofs::FoldParts::reduce_no_colon, crate::proofs::FoldParts::reduce_reads))]
+pub(crate) fn reduce<'a>(alloc: Global, at: Lexer<'a>) -> Result<(Reduce, Lexer<'a>), Stop<'a>>
+    ensures { Reads result (reduce_rule.read kept (left at.entry)) }
+{
+    let rest = word(at, b"reduce")?;
+    let (keys, rest) = match keys(alloc, rest) {
+        Ok(found) => found,
+        Err(stop) => return Err(stop),
+    };
+    let rest = symbol(rest, 7)?;
+    fold(keys, rest)
+}

@@ -1,0 +1,13 @@
+//! The query text: `parse` reads it, and `print` writes it.
+#![tactic(auto)]
+
+pub use sn_grammar::ast;
+
+mod conditions;
+pub mod fault;
+mod folds;
+mod maps;
+mod ops;
+pub mod parse;
+mod queries;
+mod words;

@@ -1,0 +1,165 @@
+//! Operators.
+ghost use Rattle.std.specs.Prelude.{◌≡◌, List};
+ghost use Rattle.sn_rules.specs.declared.Flaw.{Flaw};
+ghost use Rattle.sn_rules.specs.declared.Flaw.TheVariants.{TooMany};
+ghost use Rattle.sn_rules.specs.Rules.{kept};
+ghost use Rattle.sn_rules.specs.Words.{is_symbol, full};
+ghost use Rattle.sn_text.specs.Lexing.{left};
+ghost use Rattle.sn_read.specs.Reading.{Reads, Peeked};
+ghost use Rattle.sn_grammar.specs.Grammar.{what_rule, op_rule, post_what_rule, post_op_rule};
+ghost use Rattle.sn_grammar.proofs.Queries.{ops_alike, post_ops_alike};
+ghost use Rattle.sn_query.specs.Parts.{ops_rule, post_rule};
+
+use crate::conditions::filter;
+use crate::folds::reduce;
+use crate::maps::{map, post_map};
+use crate::words::is_full_at;
+use sn_base::seq::Seq;
+use sn_grammar::ast::{Op, What};
+use sn_read::list::{Items, further};
+use sn_read::stop::Stop;
+use sn_read::words::{next_is_symbol, next_is_word, symbol_line, word};
+use sn_rules::Flaw;
+use sn_text::place::Lexer;
+use std::alloc::Global;
+
+#[tactic(auto, using(crate::proofs::Picks::what_filter_value, crate::proofs::Picks::what_filter_halt, crate::proofs::Picks::what_map_value, crate::proofs::Picks::what_map_halt, crate::proofs::Picks::what_distinct_value, crate::proofs::Picks::what_distinct_halt, crate::proofs::Picks::what_reduce_value, crate::proofs::Picks::what_reduce_halt))]
+fn what<'a>(alloc: Global, at: Lexer<'a>) -> Result<(What, Lexer<'a>), Stop<'a>>
+    ensures { Reads result (what_rule.read kept (left at.entry)) }
+{
+    if next_is_word(at, b"filter") {
+        let (conds, rest) = filter(alloc, at)?;
+        return Ok((What::Filter(conds), rest));
+    }
+    if next_is_word(at, b"map") {
+        let (cols, rest) = map(alloc, at)?;
+        return Ok((What::Map(cols), rest));
+    }
+    if next_is_word(at, b"distinct") {
+        let rest = word(at, b"distinct")?;
+        return Ok((What::Distinct, rest));
+    }
+    let (reduce, rest) = match reduce(alloc, at) {
+        Ok(found) => found,
+        Err(stop) => return Err(stop),
+    };
+    Ok((What::Reduce(reduce), rest))
+}
+
+#[tactic(auto, unfolding(sn_grammar::specs::Grammar::op_rule))]
+fn op<'a>(alloc: Global, at: Lexer<'a>) -> Result<(Op, Lexer<'a>), Stop<'a>>
+    ensures { Reads result (op_rule.read kept (left at.entry)) }
+{
+    let (line, rest) = symbol_line(at, 4)?;
+    let (what, rest) = match what(alloc, rest) {
+        Ok(found) => found,
+        Err(stop) => return Err(stop),
+    };
+    Ok((Op { line, what }, rest))
+}
+
+/// The operators of a branch behind its first one.
+struct OpItems;
+
+impl Items for OpItems {
+    type Item = Op;
+
+    ghost goes = { is_symbol 4 };
+
+    ghost shut = { full 12 TooMany };
+
+    ghost rule = { λ taken. op_rule };
+
+    ghost laws = { ops_alike };
+
+    fn begins(at: Lexer<'_>) -> bool {
+        next_is_symbol(at, 4)
+    }
+
+    fn shut_by(taken: &[Op]) -> Option<Flaw> {
+        if is_full_at(taken.len(), 12) {
+            Some(Flaw::TooMany)
+        } else {
+            None
+        }
+    }
+
+    fn item<'a>(alloc: Global, _taken: &[Op], at: Lexer<'a>) -> Result<(Op, Lexer<'a>), Stop<'a>> {
+        op(alloc, at)
+    }
+}
+
+/// The operators of a branch, and the place behind them.
+pub(crate) fn ops<'a>(alloc: Global, at: Lexer<'a>) -> Result<(Seq<Op>, Lexer<'a>), Stop<'a>>
+    ensures { Reads result (ops_rule.read kept (left at.entry)) }
+{
+    let (first, rest) = match op(alloc, at) {
+        Ok(found) => found,
+        Err(stop) => return Err(stop),
+    };
+    let mut items = Seq::new(alloc);
+    items.push(first)?;
+    further::<OpItems>(alloc, items, rest)
+}
+
+#[tactic(auto, using(crate::proofs::Picks::post_filter_value, crate::proofs::Picks::post_filter_halt, crate::proofs::Picks::post_map_value, crate::proofs::Picks::post_map_halt))]
+fn post_what<'a>(alloc: Global, at: Lexer<'a>) -> Result<(What, Lexer<'a>), Stop<'a>>
+    ensures { Reads result (post_what_rule.read kept (left at.entry)) }
+{
+    if next_is_word(at, b"filter") {
+        let (conds, rest) = filter(alloc, at)?;
+        return Ok((What::Filter(conds), rest));
+    }
+    let (cols, rest) = post_map(alloc, at)?;
+    Ok((What::Map(cols), rest))
+}
+
+#[tactic(auto, unfolding(sn_grammar::specs::Grammar::post_op_rule))]
+fn post_op<'a>(alloc: Global, at: Lexer<'a>) -> Result<(Op, Lexer<'a>), Stop<'a>>
+    ensures { Reads result (post_op_rule.read kept (left at.entry)) }
+{
+    let (line, rest) = symbol_line(at, 4)?;
+    let (what, rest) = match post_what(alloc, rest) {
+        Ok(found) => found,
+        Err(stop) => return Err(stop),
+    };
+    Ok((Op { line, what }, rest))
+}
+
+/// The operators behind a join.
+struct PostItems;
+
+impl Items for PostItems {
+    type Item = Op;
+
+    ghost goes = { is_symbol 4 };
+
+    ghost shut = { full 12 TooMany };
+
+    ghost rule = { λ taken. post_op_rule };
+
+    ghost laws = { post_ops_alike };
+
+    fn begins(at: Lexer<'_>) -> bool {
+        next_is_symbol(at, 4)
+    }
+
+    fn shut_by(taken: &[Op]) -> Option<Flaw> {
+        if is_full_at(taken.len(), 12) {
+            Some(Flaw::TooMany)
+        } else {
+            None
+        }
+    }
+
+    fn item<'a>(alloc: Global, _taken: &[Op], at: Lexer<'a>) -> Result<(Op, Lexer<'a>), Stop<'a>> {
+        post_op(alloc, at)
+    }
+}
+
+/// The operators behind a join, and the place behind them.
+pub(crate) fn post<'a>(alloc: Global, at: Lexer<'a>) -> Result<(Seq<Op>, Lexer<'a>), Stop<'a>>
+    ensures { Reads result (post_rule.read kept (left at.entry)) }
+{
+    further::<PostItems>(alloc, Seq::new(alloc), at)
+}
