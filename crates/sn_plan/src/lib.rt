@@ -1,0 +1,2 @@
+//! Plans: which part of each query runs in the switch, and where.
+#![tactic(auto)]
