@@ -35,3 +35,12 @@ numbers_most limit low high (n ∷ ns) l f = let h = most limit (λ seen. sign 3
 
 pub numbers_read : (limit low high : ℕ) (ts us : List Tok) (ns : List ℕ) → 1 ≤ limit → low ≤ high → (numbers limit low high).read kept ts ≡ got ns us → length ns ≤ limit
 numbers_read limit low high ts us ns l le e = numbers_most limit low high ns l ((numbers_good limit low high le).fitting kept ts us ns e)
+
+pub levels_read : (ts us : List Tok) (ns : List ℕ) → (numbers 4 0 64).read kept ts ≡ got ns us → length ns ≤ 8
+levels_read ts us ns e = let h = numbers_read 4 0 64 ts us ns (omega arith) (omega arith) e in omega (arith, h)
+
+pub slots_read : (ts us : List Tok) (ns : List ℕ) → (numbers 2 1 65536).read kept ts ≡ got ns us → length ns ≤ 8
+slots_read ts us ns e = let h = numbers_read 2 1 65536 ts us ns (omega arith) (omega arith) e in omega (arith, h)
+
+pub stages_read : (ts us : List Tok) (ns : List ℕ) → (numbers 8 0 31).read kept ts ≡ got ns us → length ns ≤ 8
+stages_read ts us ns e = let h = numbers_read 8 0 31 ts us ns (omega arith) (omega arith) e in omega (arith, h)

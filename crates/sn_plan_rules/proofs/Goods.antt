@@ -230,3 +230,14 @@ file_good = pair_good plan_rule end_rule plan_good end_good (record { meets = λ
 pub ends : file_rule.follow [] ≡ true
 unfolding file_rule
 ends = refl
+
+-- ---- the lists of numbers
+
+pub levels_alike : Alike (is_symbol 3) (full 4 Expected) (λ (seen : List ℕ). sign 3 ▸ number_in 0 64)
+levels_alike = numbers_alike 4 0 64 (omega arith)
+
+pub slots_alike : Alike (is_symbol 3) (full 2 Expected) (λ (seen : List ℕ). sign 3 ▸ number_in 1 65536)
+slots_alike = numbers_alike 2 1 65536 (omega arith)
+
+pub stages_alike : Alike (is_symbol 3) (full 8 Expected) (λ (seen : List ℕ). sign 3 ▸ number_in 0 31)
+stages_alike = numbers_alike 8 0 31 (omega arith)
