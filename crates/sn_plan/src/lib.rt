@@ -8,3 +8,6 @@ pub mod fault;
 mod entries;
 mod lists;
 mod pieces;
+mod text;
+
+pub use text::parse;
