@@ -5,9 +5,13 @@ pub use sn_plan_rules::plan;
 pub use sn_plan_rules::short;
 
 pub mod fault;
+mod canonical;
 mod entries;
 mod lists;
 mod pieces;
+#[cfg(test)]
+mod tests;
 mod text;
 
+pub use canonical::print;
 pub use text::parse;
