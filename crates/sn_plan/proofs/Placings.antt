@@ -45,9 +45,10 @@ gaps stages least (t ∷ ts) [] l f h = absurd h.stand
 gaps stages least (stateless ∷ ts) (p ∷ ps) l f h =
     gaps stages (suc least) ts ps (omega (arith, h.below.0, f.0)) (weaker (λ q. p < q) (λ q. suc least ≤ q) (λ q k. omega (arith, f.0)) ps h.rising.0) (record { stand = h.stand.1; rising = h.rising.1; below = h.below.1 })
 gaps stages least (register s ∷ ts) (p ∷ ps) l f h =
-    let e = h.stand.0 in
-    (subst (λ (q : ℕ). least ≤ q) e f.0,
-      gaps stages (suc s) ts ps (omega (arith, e, h.below.0)) (weaker (λ q. p < q) (λ q. suc s ≤ q) (λ q k. omega (arith, e)) ps h.rising.0) (record { stand = h.stand.1; rising = h.rising.1; below = h.below.1 }))
+    let e = h.stand.0 in (
+      subst (λ (q : ℕ). least ≤ q) e f.0,
+      gaps stages (suc s) ts ps (omega (arith, e, h.below.0)) (weaker (λ q. p < q) (λ q. suc s ≤ q) (λ q k. omega (arith, e)) ps h.rising.0) (record { stand = h.stand.1; rising = h.rising.1; below = h.below.1 }),
+    )
 
 pub placing_by_gaps : (stages : ℕ) (ts : List Table) → HasPlacing stages ts ↔ HasGaps stages 0 ts
 placing_by_gaps stages ts = (λ h. gaps stages 0 ts h.0 (omega arith) (from_zero h.0) h.1, λ h. let k = place stages 0 ts h in (k.places, k.placing))

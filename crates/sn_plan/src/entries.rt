@@ -102,7 +102,11 @@ impl Items for EntryItems {
         full_at(seen.len(), 8)
     }
 
-    fn item<'a>(alloc: Global, _seen: &[Entry], at: Lexer<'a>) -> Result<(Entry, Lexer<'a>), Stop<'a>> {
+    fn item<'a>(
+        alloc: Global,
+        _seen: &[Entry],
+        at: Lexer<'a>,
+    ) -> Result<(Entry, Lexer<'a>), Stop<'a>> {
         entry(alloc, at)
     }
 }

@@ -1,12 +1,11 @@
 //! Plans: which part of each query runs in the switch, and where.
 #![tactic(auto)]
 
-pub use sn_plan_rules::plan;
-pub use sn_plan_rules::short;
+pub use sn_plan_rules::{plan, short};
 
-pub mod fault;
 mod canonical;
 mod entries;
+pub mod fault;
 mod lists;
 mod pieces;
 #[cfg(test)]

@@ -20,7 +20,11 @@ use std::alloc::Global;
 /// The comma among the symbols.
 const COMMA: u8 = 3;
 
-pub(crate) fn small_number<'a>(at: Lexer<'a>, low: u32, high: u32) -> Result<(u32, Lexer<'a>), Stop<'a>>
+pub(crate) fn small_number<'a>(
+    at: Lexer<'a>,
+    low: u32,
+    high: u32,
+) -> Result<(u32, Lexer<'a>), Stop<'a>>
     ensures value { Reads result ((number_in low high).read kept (left at.entry)) }
     ensures range { IfOk result (λ x. (low ≤ x.0) × (x.0 ≤ high)) }
 {
@@ -69,7 +73,11 @@ impl Items for LevelItems {
         full_at(seen.len(), 4)
     }
 
-    fn item<'a>(_alloc: Global, _seen: &[u32], at: Lexer<'a>) -> Result<(u32, Lexer<'a>), Stop<'a>> {
+    fn item<'a>(
+        _alloc: Global,
+        _seen: &[u32],
+        at: Lexer<'a>,
+    ) -> Result<(u32, Lexer<'a>), Stop<'a>> {
         next_number(at, 0, 64)
     }
 }
@@ -118,7 +126,11 @@ impl Items for SlotItems {
         full_at(seen.len(), 2)
     }
 
-    fn item<'a>(_alloc: Global, _seen: &[u32], at: Lexer<'a>) -> Result<(u32, Lexer<'a>), Stop<'a>> {
+    fn item<'a>(
+        _alloc: Global,
+        _seen: &[u32],
+        at: Lexer<'a>,
+    ) -> Result<(u32, Lexer<'a>), Stop<'a>> {
         next_number(at, 1, 65536)
     }
 }
@@ -167,7 +179,11 @@ impl Items for StageItems {
         full_at(seen.len(), 8)
     }
 
-    fn item<'a>(_alloc: Global, _seen: &[u32], at: Lexer<'a>) -> Result<(u32, Lexer<'a>), Stop<'a>> {
+    fn item<'a>(
+        _alloc: Global,
+        _seen: &[u32],
+        at: Lexer<'a>,
+    ) -> Result<(u32, Lexer<'a>), Stop<'a>> {
         next_number(at, 0, 31)
     }
 }

@@ -106,7 +106,11 @@ impl Items for PieceItems {
         full_at(seen.len(), 8)
     }
 
-    fn item<'a>(alloc: Global, _seen: &[Piece], at: Lexer<'a>) -> Result<(Piece, Lexer<'a>), Stop<'a>> {
+    fn item<'a>(
+        alloc: Global,
+        _seen: &[Piece],
+        at: Lexer<'a>,
+    ) -> Result<(Piece, Lexer<'a>), Stop<'a>> {
         piece(alloc, at)
     }
 }

@@ -109,7 +109,7 @@ piece_says =
     let d = pair_says (number_in 0 1) (keyword (codes "cut") ▸ pair (number_in 0 12) (sizes_rule ◂ sign 2)) (number_says 0 1) b in
     let e = pair_says (number_in 0 64) (pair (number_in 0 1) (keyword (codes "cut") ▸ pair (number_in 0 12) (sizes_rule ◂ sign 2))) (number_says 0 64) d in
     embedded_says of_plan refl refl to_piece (λ b. Some (from_piece b)) (keyword (codes "piece") ▸ pair (number_in 0 64) (pair (number_in 0 1) (keyword (codes "cut") ▸ pair (number_in 0 12) (sizes_rule ◂ sign 2))))
-        (after_word_says (codes "piece") (pair (number_in 0 64) (pair (number_in 0 1) (keyword (codes "cut") ▸ pair (number_in 0 12) (sizes_rule ◂ sign 2)))) e)
+    (after_word_says (codes "piece") (pair (number_in 0 64) (pair (number_in 0 1) (keyword (codes "cut") ▸ pair (number_in 0 12) (sizes_rule ◂ sign 2)))) e)
 
 pieces_says : Said pieces_rule
 unfolding pieces_rule
@@ -122,7 +122,7 @@ entry_says =
     let b = after_word_says (codes "path") (pair (numbers 4 0 64 ◂ sign 2) pieces_rule) a in
     let d = pair_says name (keyword (codes "path") ▸ pair (numbers 4 0 64 ◂ sign 2) pieces_rule) name_says b in
     embedded_says of_plan refl refl to_entry (λ b. Some (from_entry b)) (keyword (codes "query") ▸ pair name (keyword (codes "path") ▸ pair (numbers 4 0 64 ◂ sign 2) pieces_rule))
-        (after_word_says (codes "query") (pair name (keyword (codes "path") ▸ pair (numbers 4 0 64 ◂ sign 2) pieces_rule)) d)
+    (after_word_says (codes "query") (pair name (keyword (codes "path") ▸ pair (numbers 4 0 64 ◂ sign 2) pieces_rule)) d)
 
 entries_says : Said entries_rule
 unfolding entries_rule

@@ -72,7 +72,7 @@ pub both_good : Good both_rule
 unfolding both_rule
 both_good = after_word (codes "slots") (pair (numbers 2 1 65536) (keyword (codes "stages") ▸ numbers 8 0 31))
     (pair_good (numbers 2 1 65536) (keyword (codes "stages") ▸ numbers 8 0 31) (numbers_good 2 1 65536 (omega arith)) stages_part
-        (headed_follows (numbers 2 1 65536) (keyword (codes "stages") ▸ numbers 8 0 31) (is_word (codes "stages")) (λ b f. same_self (codes "stages")) (λ t us e. numbers_end 2 1 65536 t us (no_comma (codes "stages") t.face e))))
+    (headed_follows (numbers 2 1 65536) (keyword (codes "stages") ▸ numbers 8 0 31) (is_word (codes "stages")) (λ b f. same_self (codes "stages")) (λ t us e. numbers_end 2 1 65536 t us (no_comma (codes "stages") t.face e))))
 
 both_some : (ss ts : List ℕ) → both_rule.fits aside (ss, ts) → with_sizes ss ts ≡ Some (Some (ss, ts))
 unfolding both_rule
@@ -120,7 +120,7 @@ piece_good =
     let d = free_pair (number_in 0 1) (keyword (codes "cut") ▸ pair (number_in 0 12) (sizes_rule ◂ sign 2)) (number_in_good 0 1 (omega arith)) b (λ us. refl) in
     let e = free_pair (number_in 0 64) (pair (number_in 0 1) (keyword (codes "cut") ▸ pair (number_in 0 12) (sizes_rule ◂ sign 2))) (number_in_good 0 64 (omega arith)) d (λ us. refl) in
     renamed_good to_piece from_piece (keyword (codes "piece") ▸ pair (number_in 0 64) (pair (number_in 0 1) (keyword (codes "cut") ▸ pair (number_in 0 12) (sizes_rule ◂ sign 2)))) (λ a. refl) (λ b. refl)
-        (after_word (codes "piece") (pair (number_in 0 64) (pair (number_in 0 1) (keyword (codes "cut") ▸ pair (number_in 0 12) (sizes_rule ◂ sign 2)))) e)
+    (after_word (codes "piece") (pair (number_in 0 64) (pair (number_in 0 1) (keyword (codes "cut") ▸ pair (number_in 0 12) (sizes_rule ◂ sign 2)))) e)
 
 piece_free : (us : List Tok) → piece_rule.follow us ≡ true
 unfolding piece_rule
@@ -156,7 +156,7 @@ entry_good =
     let b = after_word (codes "path") (pair (numbers 4 0 64 ◂ sign 2) pieces_rule) a in
     let d = free_pair name (keyword (codes "path") ▸ pair (numbers 4 0 64 ◂ sign 2) pieces_rule) name_good b (λ us. refl) in
     renamed_good to_entry from_entry (keyword (codes "query") ▸ pair name (keyword (codes "path") ▸ pair (numbers 4 0 64 ◂ sign 2) pieces_rule)) (λ a. refl) (λ b. refl)
-        (after_word (codes "query") (pair name (keyword (codes "path") ▸ pair (numbers 4 0 64 ◂ sign 2) pieces_rule)) d)
+    (after_word (codes "query") (pair name (keyword (codes "path") ▸ pair (numbers 4 0 64 ◂ sign 2) pieces_rule)) d)
 
 entry_heads : (a : Entry) → Heads (is_word (codes "query")) (entry_rule.spell a)
 unfolding entry_rule
