@@ -1,0 +1,50 @@
+-- Which texts stand for which plans, and what the fault of another is.
+use Rattle.std.specs.Prelude.{◌≡◌, ℕ, Bool, List, [], ◌∷◌, ◌++◌, Result, Ok, Err}
+use Rattle.sn_rules.specs.declared.Flaw.{Flaw}
+use Rattle.sn_rules.specs.declared.Flaw.TheVariants as flaws
+use Rattle.sn_rules.specs.Tokens.{Tok}
+use Rattle.sn_rules.specs.Rules.{Accepts, FirstFault}
+use Rattle.sn_text.specs.Lexing.{left}
+use Rattle.sn_read.specs.declared.stop.Stop.{Stop}
+use Rattle.sn_read.specs.declared.stop.Stop.TheVariants as stops
+use Rattle.sn_plan_rules.specs.declared.plan.Plan.{Plan}
+use Rattle.sn_plan_rules.specs.Grammar.{file_rule}
+use Rattle.sn_plan.specs.declared.fault.PlanFault.{PlanFault}
+use Rattle.sn_plan.specs.declared.fault.PlanFault.TheVariants as faults
+
+-- The tokens begin with those of the plan and then the word "cost", or the end of the text, which begins at this byte. What follows doesn't matter.
+pub record StandsFor (ts : List Tok) (plan : Plan) (byte : ℕ) : Type 0 where
+  pub front : List Tok
+  pub at : Tok
+  pub rest : List Tok
+  pub cost : Bool
+  pub parts : ts ≡ (front ++ at ∷ []) ++ rest
+  pub accepted : Accepts file_rule (front ++ at ∷ []) (plan, cost)
+  pub starts : at.start ≡ byte
+
+-- the first fault of the text, on this line
+abbrev pub FaultAt : List Tok → Flaw → ℕ → Type 0
+FaultAt ts flaw line = (column : ℕ) × FirstFault file_rule ts flaw line column
+
+abbrev pub IsFault : List Tok → PlanFault → Type 0
+IsFault ts (faults.Lex line) = FaultAt ts flaws.Lex line
+IsFault ts (faults.Expected line) = FaultAt ts flaws.Expected line
+IsFault ts faults.Memory = Unit {0}
+
+abbrev pub IsValue : Plan → ℕ → Result (Plan × ℕ) PlanFault → Type 0
+IsValue plan byte (Ok x) = (x.0 ≡ plan) × (x.1 ≡ byte)
+IsValue plan byte (Err e) = e ≡ faults.Memory
+
+-- the fault that answers a flaw on a line
+abbrev pub fault_of : Flaw → ℕ → PlanFault
+fault_of flaws.Lex line = faults.Lex line
+fault_of _ line = faults.Expected line
+
+abbrev pub line_of : List Tok → ℕ
+line_of [] = 0
+line_of (t ∷ ts) = t.line
+
+-- what is answered where reading stops
+abbrev pub Answers : Stop → PlanFault → Type 0
+Answers stops.NoMemory e = e ≡ faults.Memory
+Answers (stops.Fault x l) e = e ≡ fault_of x (line_of (left l))

@@ -1,0 +1,13 @@
+//! The switch text: the limits of a switch, and `parse`, which reads them.
+#![tactic(auto)]
+
+pub mod fault;
+mod numbers;
+mod read;
+mod settings;
+pub mod switch;
+#[cfg(test)]
+mod tests;
+mod text;
+
+pub use text::parse;

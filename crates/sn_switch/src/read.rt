@@ -1,0 +1,121 @@
+//! The items of a switch text.
+ghost use Rattle.std.specs.Prelude.{◌≡◌};
+ghost use Rattle.sn_rules.specs.Rules.{kept};
+ghost use Rattle.sn_rules.specs.Words.{never, judged_by};
+ghost use Rattle.sn_text.specs.Lexing.{left, seen};
+ghost use Rattle.sn_read.specs.Reading.{Reads, ReadsAll, EndsAll};
+ghost use Rattle.sn_switch_rules.specs.Settings.{begins, has};
+ghost use Rattle.sn_switch_rules.specs.Grammar.{is_whole, complete, end_in, end_rule, item_rule, items_rule, switch_rule};
+ghost use Rattle.sn_switch_rules.proofs.Goods.{items_alike};
+
+use crate::numbers::numbers;
+use crate::settings::{begins, has, setting};
+use sn_base::seq::Seq;
+use sn_read::list::{Items, further};
+use sn_read::stop::Stop;
+use sn_read::words::{symbol, wrong_of};
+use sn_rules::Flaw;
+use sn_switch_rules::item::{Item, Setting};
+use sn_text::place::{Lexer, Piece};
+use sn_text::scan::scan;
+use std::alloc::Global;
+
+/// The semicolon among the symbols.
+const SEMICOLON: u8 = 2;
+
+#[tactic(auto, unfolding(sn_switch_rules::specs::Grammar::item_rule))]
+fn item<'a>(alloc: Global, taken: &[Item], at: Lexer<'a>) -> Result<(Item, Lexer<'a>), Stop<'a>>
+    ensures { Reads result ((item_rule taken.now).read kept (left at.entry)) }
+{
+    let (setting, rest) = setting(at, taken)?;
+    let (numbers, rest) = numbers(alloc, setting, rest)?;
+    let rest = symbol(rest, SEMICOLON)?;
+    Ok((Item { setting, numbers }, rest))
+}
+
+/// The items of a switch text, each setting once.
+struct SwitchItems;
+
+impl Items for SwitchItems {
+    type Item = Item;
+
+    ghost goes = { begins };
+
+    ghost shut = { never };
+
+    ghost rule = { item_rule };
+
+    ghost laws = { items_alike };
+
+    fn begins(at: Lexer<'_>) -> bool {
+        begins(at)
+    }
+
+    fn shut_by(_seen: &[Item]) -> Option<Flaw> {
+        None
+    }
+
+    fn item<'a>(
+        alloc: Global,
+        seen: &[Item],
+        at: Lexer<'a>,
+    ) -> Result<(Item, Lexer<'a>), Stop<'a>> {
+        item(alloc, seen, at)
+    }
+}
+
+#[tactic(auto, unfolding(sn_switch_rules::specs::Grammar::items_rule))]
+fn items<'a>(alloc: Global, at: Lexer<'a>) -> Result<(Seq<Item>, Lexer<'a>), Stop<'a>>
+    ensures { Reads result (items_rule.read kept (left at.entry)) }
+{
+    further::<SwitchItems>(alloc, Seq::new(alloc), at)
+}
+
+/// Whether each setting has its item.
+fn is_whole(items: &[Item]) -> bool
+    ensures { result ≡ is_whole items.now }
+{
+    has(items, Setting::Stages)
+        && has(items, Setting::Actions)
+        && has(items, Setting::Bits)
+        && has(items, Setting::Meta)
+        && has(items, Setting::Chain)
+        && has(items, Setting::Slots)
+}
+
+fn end_of(piece: Piece<'_>, items: &[Item]) -> Result<(), Flaw>
+    ensures { result ≡ judged_by (complete items.now) kept (seen piece.entry) (end_in (seen piece.entry)) }
+{
+    match piece {
+        Piece::End => {
+            if is_whole(items) {
+                Ok(())
+            } else {
+                Err(Flaw::Missing)
+            }
+        }
+        _ => Err(wrong_of(piece)),
+    }
+}
+
+/// The end of the text behind these items.
+#[tactic(auto, using(crate::proofs::Leaves::end_gives, crate::proofs::Leaves::end_halts))]
+fn end<'a>(at: Lexer<'a>, items: &[Item]) -> Result<(), Stop<'a>>
+    ensures { EndsAll result ((end_rule items.now).read kept (left at.entry)) }
+{
+    let (found, _) = scan(at);
+    match end_of(found.piece, items) {
+        Ok(()) => Ok(()),
+        Err(flaw) => Err(Stop::Fault(flaw, at)),
+    }
+}
+
+/// The items of a whole text.
+#[tactic(auto, unfolding(sn_switch_rules::specs::Grammar::switch_rule))]
+pub(crate) fn read<'a>(alloc: Global, at: Lexer<'a>) -> Result<Seq<Item>, Stop<'a>>
+    ensures { ReadsAll result (switch_rule.read kept (left at.entry)) }
+{
+    let (items, rest) = items(alloc, at)?;
+    end(rest, items.as_slice())?;
+    Ok(items)
+}
