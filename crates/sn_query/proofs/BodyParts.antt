@@ -1,10 +1,9 @@
 -- Parts of a query that may be there.
-use Rattle.std.proofs.Common.{◌≡◌, true, false, List, Option, Some, None, refl, ◌∙◌}
+use Rattle.std.proofs.Common.{◌≡◌, true, false, List, Some, None, refl, ◌∙◌}
 use Rattle.std.specs.Prelude.{codes}
-use Rattle.sn_rules.specs.Tokens.{Tok, got, fails}
+use Rattle.sn_rules.specs.Tokens.{Tok, got}
 use Rattle.sn_rules.specs.Rules.{kept}
 use Rattle.sn_rules.specs.Words.{is_word}
-use Rattle.sn_text.specs.Lexing.{left}
 use Rattle.sn_read.specs.declared.stop.Stop.{Stop}
 use Rattle.sn_read.specs.declared.stop.Stop.TheVariants as stops
 use Rattle.sn_read.specs.Reading.{Halts, Peeked}

@@ -1,12 +1,10 @@
 -- Folds as the code reads them.
-use Rattle.std.proofs.Common.{◌≡◌, ℕ, true, false, List, Result, Ok, Err, refl, sym, ap, ◌∙◌, subst, inl, inr, ◌⊎◌}
+use Rattle.std.proofs.Common.{◌≡◌, ℕ, true, false, List, Result, refl, sym, ◌∙◌, subst, ◌⊎◌}
 use Rattle.std.specs.Prelude.{codes}
-use Rattle.sn_rules.specs.declared.Flaw.{Flaw}
 use Rattle.sn_rules.specs.Tokens.{Tok, Read, got, fails, short, bind}
 use Rattle.sn_rules.specs.Rules.{kept, Rule}
 use Rattle.sn_rules.specs.Words.{is_word, keyword, sign, number_in}
 use Rattle.sn_text.specs.declared.place.Lexer.{Lexer}
-use Rattle.sn_text.specs.Lexing.{left}
 use Rattle.sn_read.specs.declared.stop.Stop.{Stop}
 use Rattle.sn_read.specs.declared.stop.Stop.TheVariants as stops
 use Rattle.sn_read.specs.Reading.{Halts, Reads, Peeked}

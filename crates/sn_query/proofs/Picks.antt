@@ -1,11 +1,9 @@
 -- A choice by the next token, as the code makes it.
-use Rattle.std.proofs.Common.{◌≡◌, ℕ, Bool, true, false, cond, List, [], ◌∷◌, Option, Some, None, Result, Ok, Err, refl, sym, ap, ◌∙◌, inl, inr, ◌⊎◌}
+use Rattle.std.proofs.Common.{◌≡◌, ℕ, Bool, true, false, List, [], ◌∷◌, Option, Some, None, refl, ap, ◌∙◌, inl, inr, ◌⊎◌}
 use Rattle.std.specs.Prelude.{codes}
-use Rattle.sn_rules.specs.declared.Flaw.{Flaw}
 use Rattle.sn_rules.specs.Tokens.{Lexeme, Tok, Read, got, fails, short, bind}
 use Rattle.sn_rules.specs.Rules.{kept, Rule, either, either_at, maybe, maybe_at, pair}
-use Rattle.sn_rules.specs.Words.{is_word, is_symbol, is_number, keyword, sign, number_in, ◌▸◌}
-use Rattle.sn_text.specs.Lexing.{left}
+use Rattle.sn_rules.specs.Words.{is_word, is_symbol, is_number, keyword, number_in, ◌▸◌}
 use Rattle.sn_read.specs.declared.stop.Stop.{Stop}
 use Rattle.sn_read.specs.declared.stop.Stop.TheVariants as stops
 use Rattle.sn_read.specs.Reading.{Halts, Peeked}

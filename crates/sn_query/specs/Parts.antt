@@ -1,10 +1,9 @@
 -- Parts of productions that the code reads by themselves.
 use Rattle.std.specs.Prelude.{ℕ, List, [], Option, codes}
-use Rattle.std.proofs.Common.{◌⊎◌}
 use Rattle.sn_rules.specs.declared.Flaw.TheVariants.{TooMany}
 use Rattle.sn_rules.specs.Tokens.{Tok, Read, got, bind}
 use Rattle.sn_rules.specs.Rules.{Rule, kept, pair, maybe, many, chain}
-use Rattle.sn_rules.specs.Words.{is_word, is_symbol, keyword, sign, number_in, full, ◌▸◌, ◌◂◌}
+use Rattle.sn_rules.specs.Words.{is_word, is_symbol, sign, number_in, full, ◌▸◌, ◌◂◌}
 use Rattle.sn_grammar.specs.declared.ast.Query.{Query}
 use Rattle.sn_grammar.specs.declared.ast.Refine.{Refine}
 use Rattle.sn_grammar.specs.declared.ast.Branch.{Branch}

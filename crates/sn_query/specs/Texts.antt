@@ -9,7 +9,7 @@ use Rattle.sn_grammar.specs.Grammar.{file_rule}
 use Rattle.sn_query.specs.declared.fault.ParseFault.{ParseFault}
 use Rattle.sn_query.specs.declared.fault.ParseFault.TheVariants as faults
 
--- the fault under its name
+-- the fault under its name; the last two are none of a query text
 abbrev pub shown : Flaw → ℕ → ℕ → ParseFault
 shown flaws.Lex line column = faults.Lex line column
 shown flaws.Expected line column = faults.Expected line column
@@ -19,15 +19,12 @@ shown flaws.Range line column = faults.Expected line column
 shown flaws.Missing line column = faults.Expected line column
 
 -- the first fault of these tokens, unless memory ran out
-abbrev pub IsFirst : List Tok → ParseFault → Type 0
-IsFirst ts e = (flaw : Flaw) × (line : ℕ) × (column : ℕ) × (e ≡ shown flaw line column) × FirstFault file_rule ts flaw line column
-
 abbrev pub IsFault : List Tok → ParseFault → Type 0
 IsFault ts faults.Memory = Unit {0}
-IsFault ts (faults.Lex line column) = IsFirst ts (faults.Lex line column)
-IsFault ts (faults.Expected line column) = IsFirst ts (faults.Expected line column)
-IsFault ts (faults.TooMany line column) = IsFirst ts (faults.TooMany line column)
-IsFault ts (faults.Twice line column) = IsFirst ts (faults.Twice line column)
+IsFault ts (faults.Lex line column) = FirstFault file_rule ts flaws.Lex line column
+IsFault ts (faults.Expected line column) = FirstFault file_rule ts flaws.Expected line column
+IsFault ts (faults.TooMany line column) = FirstFault file_rule ts flaws.TooMany line column
+IsFault ts (faults.Twice line column) = FirstFault file_rule ts flaws.Twice line column
 
 -- this file, unless memory ran out
 abbrev pub IsFile : QueryFile → Result QueryFile ParseFault → Type 0

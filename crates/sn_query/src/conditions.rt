@@ -58,7 +58,11 @@ impl Commas for RelaxItems {
         past_number_of(piece, 0, 64)
     }
 
-    fn item<'a>(_alloc: Global, _taken: &[Relax], at: Lexer<'a>) -> Result<(Relax, Lexer<'a>), Stop<'a>> {
+    fn item<'a>(
+        _alloc: Global,
+        _taken: &[Relax],
+        at: Lexer<'a>,
+    ) -> Result<(Relax, Lexer<'a>), Stop<'a>> {
         relax(at)
     }
 }
@@ -135,7 +139,11 @@ impl Commas for CondItems {
         past_name_of(piece)
     }
 
-    fn item<'a>(alloc: Global, _taken: &[Cond], at: Lexer<'a>) -> Result<(Cond, Lexer<'a>), Stop<'a>> {
+    fn item<'a>(
+        alloc: Global,
+        _taken: &[Cond],
+        at: Lexer<'a>,
+    ) -> Result<(Cond, Lexer<'a>), Stop<'a>> {
         cond(alloc, at)
     }
 }

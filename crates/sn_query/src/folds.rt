@@ -42,7 +42,11 @@ impl Commas for KeyItems {
         past_name_of(piece)
     }
 
-    fn item<'a>(_alloc: Global, taken: &[Name], at: Lexer<'a>) -> Result<(Name, Lexer<'a>), Stop<'a>> {
+    fn item<'a>(
+        _alloc: Global,
+        taken: &[Name],
+        at: Lexer<'a>,
+    ) -> Result<(Name, Lexer<'a>), Stop<'a>> {
         new_name(at, taken)
     }
 }

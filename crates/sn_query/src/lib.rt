@@ -2,6 +2,7 @@
 #![tactic(auto)]
 
 pub use sn_grammar::ast;
+pub use sn_print::print;
 
 mod conditions;
 pub mod fault;
@@ -10,4 +11,6 @@ mod maps;
 mod ops;
 pub mod parse;
 mod queries;
+#[cfg(test)]
+mod tests;
 mod words;

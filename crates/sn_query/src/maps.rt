@@ -175,7 +175,11 @@ impl Commas for ColItems {
         past_col_of(piece)
     }
 
-    fn item<'a>(_alloc: Global, taken: &[MapCol], at: Lexer<'a>) -> Result<(MapCol, Lexer<'a>), Stop<'a>> {
+    fn item<'a>(
+        _alloc: Global,
+        taken: &[MapCol],
+        at: Lexer<'a>,
+    ) -> Result<(MapCol, Lexer<'a>), Stop<'a>> {
         col(taken, at)
     }
 }
@@ -202,7 +206,11 @@ impl Commas for PostColItems {
         past_col_of(piece)
     }
 
-    fn item<'a>(_alloc: Global, taken: &[MapCol], at: Lexer<'a>) -> Result<(MapCol, Lexer<'a>), Stop<'a>> {
+    fn item<'a>(
+        _alloc: Global,
+        taken: &[MapCol],
+        at: Lexer<'a>,
+    ) -> Result<(MapCol, Lexer<'a>), Stop<'a>> {
         post_col(taken, at)
     }
 }
@@ -219,7 +227,10 @@ pub(crate) fn map<'a>(alloc: Global, at: Lexer<'a>) -> Result<(Seq<MapCol>, Lexe
 
 /// A map behind a join, and the place behind it.
 #[tactic(auto, unfolding(sn_grammar::specs::Grammar::post_map_rule))]
-pub(crate) fn post_map<'a>(alloc: Global, at: Lexer<'a>) -> Result<(Seq<MapCol>, Lexer<'a>), Stop<'a>>
+pub(crate) fn post_map<'a>(
+    alloc: Global,
+    at: Lexer<'a>,
+) -> Result<(Seq<MapCol>, Lexer<'a>), Stop<'a>>
     ensures { Reads result (post_map_rule.read kept (left at.entry)) }
 {
     let rest = word(at, b"map")?;

@@ -56,7 +56,11 @@ impl Commas for LevelItems {
         past_number_of(piece, 0, 64)
     }
 
-    fn item<'a>(_alloc: Global, _taken: &[u32], at: Lexer<'a>) -> Result<(u32, Lexer<'a>), Stop<'a>> {
+    fn item<'a>(
+        _alloc: Global,
+        _taken: &[u32],
+        at: Lexer<'a>,
+    ) -> Result<(u32, Lexer<'a>), Stop<'a>> {
         level(at)
     }
 }
@@ -150,7 +154,10 @@ fn joined<'a>(alloc: Global, at: Lexer<'a>) -> Result<((Branch, Join), Lexer<'a>
 }
 
 #[tactic(auto, using(crate::proofs::BodyParts::second, crate::proofs::BodyParts::second_halts, crate::proofs::BodyParts::no_second))]
-fn maybe_joined<'a>(alloc: Global, at: Lexer<'a>) -> Result<(Option<(Branch, Join)>, Lexer<'a>), Stop<'a>>
+fn maybe_joined<'a>(
+    alloc: Global,
+    at: Lexer<'a>,
+) -> Result<(Option<(Branch, Join)>, Lexer<'a>), Stop<'a>>
     ensures { Reads result (second_rule.read kept (left at.entry)) }
 {
     if !next_is_word(at, b"packets") {
@@ -249,7 +256,11 @@ impl Items for QueryItems {
         }
     }
 
-    fn item<'a>(alloc: Global, taken: &[Query], at: Lexer<'a>) -> Result<(Query, Lexer<'a>), Stop<'a>> {
+    fn item<'a>(
+        alloc: Global,
+        taken: &[Query],
+        at: Lexer<'a>,
+    ) -> Result<(Query, Lexer<'a>), Stop<'a>> {
         query(alloc, taken, at)
     }
 }

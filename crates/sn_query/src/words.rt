@@ -86,7 +86,9 @@ pub fn name<'a>(at: Lexer<'a>) -> Result<(Name, Lexer<'a>), Stop<'a>>
 fn is_among(name: &Name, taken: &[Name]) -> bool
     ensures { result ≡ list_any (same name.now) taken.now }
 {
-    taken.iter().any(|other| is_same(name.as_bytes(), other.as_bytes()))
+    taken
+        .iter()
+        .any(|other| is_same(name.as_bytes(), other.as_bytes()))
 }
 
 /// A name that is none of those taken, and the place behind it.
@@ -107,7 +109,9 @@ pub fn new_name<'a>(at: Lexer<'a>, taken: &[Name]) -> Result<(Name, Lexer<'a>), 
 fn is_column(name: &Name, taken: &[MapCol]) -> bool
     ensures { result ≡ list_any (λ col. same name.now col.name) taken.now }
 {
-    taken.iter().any(|col| is_same(name.as_bytes(), col.name.as_bytes()))
+    taken
+        .iter()
+        .any(|col| is_same(name.as_bytes(), col.name.as_bytes()))
 }
 
 /// The name of a column that is none of those taken, and the place behind it.
@@ -128,7 +132,9 @@ pub fn new_col_name<'a>(at: Lexer<'a>, taken: &[MapCol]) -> Result<(Name, Lexer<
 fn is_query(name: &Name, taken: &[Query]) -> bool
     ensures { result ≡ list_any (λ query. same name.now query.name) taken.now }
 {
-    taken.iter().any(|query| is_same(name.as_bytes(), query.name.as_bytes()))
+    taken
+        .iter()
+        .any(|query| is_same(name.as_bytes(), query.name.as_bytes()))
 }
 
 /// The name of a query that is none of those taken, and the place behind it.

@@ -1,14 +1,13 @@
 -- One turn of a loop over the items of a list with commas.
-use Rattle.std.proofs.Common.{◌≡◌, ℕ, ◌≤◌, suc, Bool, true, false, cond, List, [], ◌∷◌, ◌++◌, length, refl, sym, ap, ◌∙◌, subst}
+use Rattle.std.proofs.Common.{◌≡◌, ℕ, ◌≤◌, suc, true, false, List, [], ◌∷◌, ◌++◌, length, refl, sym, ap, ◌∙◌, subst}
 use Rattle.std.specs.Prelude.{nat_le}
 use Rattle.sn_rules.specs.declared.Flaw.{Flaw}
-use Rattle.sn_rules.specs.Tokens.{Lexeme, symbol, Tok, Read, got, fails}
+use Rattle.sn_rules.specs.Tokens.{Lexeme, Tok, Read, got, fails}
 use Rattle.sn_rules.specs.Rules.{Rule, kept, links, past_at}
 use Rattle.sn_rules.specs.Words.{is_symbol, sign, ◌▸◌, never, next_item, behind_comma}
 use Rattle.sn_rules.proofs.Words.{Listed, comma_alike}
 use Rattle.sn_rules.proofs.Chains.{links_fail}
 use Rattle.sn_text.specs.Lexing.{left}
-use Rattle.sn_text.specs.Cutting.{is_last}
 use Rattle.sn_read.specs.declared.stop.Stop.{Stop}
 use Rattle.sn_read.specs.declared.stop.Stop.TheVariants as stops
 use Rattle.sn_read.specs.Reading.{Halts, Peeked}

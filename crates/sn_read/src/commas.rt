@@ -41,13 +41,21 @@ pub trait Commas {
         ensures { result ≡ begun (seen piece.entry) };
 
     /// An item, and the place behind it.
-    fn item<'a>(alloc: Global, taken: &[Self::Item], at: Lexer<'a>) -> Result<(Self::Item, Lexer<'a>), Stop<'a>>
+    fn item<'a>(
+        alloc: Global,
+        taken: &[Self::Item],
+        at: Lexer<'a>,
+    ) -> Result<(Self::Item, Lexer<'a>), Stop<'a>>
         ensures { Reads result ((rule taken.now).read kept (left at.entry)) };
 
     ghost laws: { Listed begun rule };
 }
 
-fn more<'a, L: Commas>(alloc: Global, first: Seq<L::Item>, at: Lexer<'a>) -> Result<(Seq<L::Item>, Lexer<'a>), Stop<'a>>
+fn more<'a, L: Commas>(
+    alloc: Global,
+    first: Seq<L::Item>,
+    at: Lexer<'a>,
+) -> Result<(Seq<L::Item>, Lexer<'a>), Stop<'a>>
     ensures { Reads result (links (is_symbol 3) never (behind_comma L.limit L.begun L.rule) kept first (left at.entry)) }
 {
     let mut items = first;
@@ -68,7 +76,10 @@ fn more<'a, L: Commas>(alloc: Global, first: Seq<L::Item>, at: Lexer<'a>) -> Res
 }
 
 /// A list with commas, and the place behind it.
-pub fn list<'a, L: Commas>(alloc: Global, at: Lexer<'a>) -> Result<(Seq<L::Item>, Lexer<'a>), Stop<'a>>
+pub fn list<'a, L: Commas>(
+    alloc: Global,
+    at: Lexer<'a>,
+) -> Result<(Seq<L::Item>, Lexer<'a>), Stop<'a>>
     ensures { Reads result ((commas L.limit L.begun L.rule).read kept (left at.entry)) }
 {
     let mut items = Seq::new(alloc);

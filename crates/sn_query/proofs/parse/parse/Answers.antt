@@ -7,6 +7,7 @@ use Rattle.sn_text.specs.Cutting.{tokens_of}
 use Rattle.sn_grammar.specs.Grammar.{file_rule}
 use Rattle.sn_grammar.proofs.Queries.{file_good, file_ends}
 use Rattle.sn_query.proofs.Files.{fault_is}
+use Rattle.sn_query.proofs.OnlyOurs.{file_only}
 use Rattle.sn_query.proofs.parse.parse.Goals as goal
 
 pub returns-in-Ok-clause-found : goal.returns-in-Ok-clause-found
@@ -23,5 +24,5 @@ returns-in-Err-Fault-clause-only c = λ file h.
 pub returns-in-Err-Fault-clause-fault : goal.returns-in-Err-Fault-clause-fault
 returns-in-Err-Fault-clause-fault c =
     let e : file_rule.read kept (left c.new.result) ≡ fails c.in-Err-Fault.flaw (left c.in-Err-Fault.at) = rw c.in-Err-Fault.field-0-is at c.in-Err-Fault.ensures in
-    fault_is (tokens_of c.args.text.now) c.fault_of.result c.in-Err-Fault.flaw c.scan.result.0.line c.scan.result.0.column c.fault_of.ensures
+    fault_is (tokens_of c.args.text.now) c.fault_of.result c.in-Err-Fault.flaw c.scan.result.0.line c.scan.result.0.column c.fault_of.ensures (file_only.only (tokens_of c.args.text.now) (left c.in-Err-Fault.at) c.in-Err-Fault.flaw (ap (file_rule.read kept) (sym c.new.ensures) ∙ e))
     (fault_of file_rule file_good file_ends (tokens_of c.args.text.now) (left c.in-Err-Fault.at) _ (token_of c.scan.result.0) c.in-Err-Fault.flaw (ap (file_rule.read kept) (sym c.new.ensures) ∙ e) c.scan.ensures)

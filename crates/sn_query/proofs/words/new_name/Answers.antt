@@ -1,5 +1,4 @@
 use Rattle.sn_text.specs.Lexing.{left}
-use Rattle.sn_grammar.specs.Grammar.{col_names, query_names}
 use Rattle.sn_query.proofs.Leaves.{fresh_halts}
 use Rattle.sn_query.proofs.words.new_name.Goals as goal
 

@@ -1,4 +1,4 @@
-use Rattle.std.proofs.Common.{◌≡◌, true, false, [], ◌∷◌, ◌++◌, sym, ap, subst, ◌∙◌, arith, length}
+use Rattle.std.proofs.Common.{◌≡◌, true, false, [], sym, ap, subst, ◌∙◌, arith, length}
 use Rattle.std.specs.Prelude.{nat_le}
 use Rattle.std.proofs.lemmas.Result.{err_from_is_err_and}
 use Rattle.sn_rules.specs.Rules.{kept, links}
@@ -33,7 +33,7 @@ returns-in_err-item g c =
     let f : nat_le L.limit (length c.items.items) ≡ false = ap (λ xs. nat_le L.limit (length xs)) (sym c.as_slice.ensures) ∙ sym c.is_full.ensures ∙ c.if-is_full.false in
     rw (r.1, r.2) (halts_as c.in_err-item.field-0.0 (links (is_symbol 3) never (behind_comma L.limit L.begun L.rule) kept c.items.items (left c.items.place)) (links (is_symbol 3) never (behind_comma L.limit L.begun L.rule) kept c.args.first (left c.args.at)) (sym c.items.invariant)
     (comma_stops L.limit L.begun L.rule g.met.L.Commas.laws c.items.items (left c.items.place) (left c.scan.result.1) (token_of c.scan.result.0) c.in_err-item.field-0.0 c.scan.ensures d f
-        (subst (λ x. Halts c.in_err-item.field-0.0 ((L.rule x).read kept (left c.scan.result.1))) c.as_slice-in-items.ensures c.in_err-item.ensures)))
+    (subst (λ x. Halts c.in_err-item.field-0.0 ((L.rule x).read kept (left c.scan.result.1))) c.as_slice-in-items.ensures c.in_err-item.ensures)))
 
 pub items-smaller : goal.items-smaller
 items-smaller g c =
@@ -41,7 +41,7 @@ items-smaller g c =
     let d : is_symbol 3 (seen c.scan.result.0.piece) ≡ true = cc in
     let f : nat_le L.limit (length c.items.items) ≡ false = ap (λ xs. nat_le L.limit (length xs)) (sym c.as_slice.ensures) ∙ sym c.is_full.ensures ∙ c.if-is_full.false in
     let less = comma_shorter L.limit L.begun L.rule g.met.L.Commas.laws c.items.items (left c.items.place) (left c.scan.result.1) (left c.in_ok-item.rest) (token_of c.scan.result.0) c.in_ok-item.item c.scan.ensures d f
-        (ap (λ x. (L.rule x).read kept (left c.scan.result.1)) (sym c.as_slice-in-items.ensures) ∙ c.in_ok-item.ensures) in
+    (ap (λ x. (L.rule x).read kept (left c.scan.result.1)) (sym c.as_slice-in-items.ensures) ∙ c.in_ok-item.ensures) in
     omega (arith, less)
 
 pub items-preserved : goal.items-preserved
@@ -50,4 +50,4 @@ items-preserved g c =
     let d : is_symbol 3 (seen c.scan.result.0.piece) ≡ true = cc in
     let f : nat_le L.limit (length c.items.items) ≡ false = ap (λ xs. nat_le L.limit (length xs)) (sym c.as_slice.ensures) ∙ sym c.is_full.ensures ∙ c.if-is_full.false in
     rw c.in_ok-push.ensures.ok (sym (comma_turns L.limit L.begun L.rule g.met.L.Commas.laws c.items.items (left c.items.place) (left c.scan.result.1) (left c.in_ok-item.rest) (token_of c.scan.result.0) c.in_ok-item.item c.scan.ensures d f
-        (ap (λ x. (L.rule x).read kept (left c.scan.result.1)) (sym c.as_slice-in-items.ensures) ∙ c.in_ok-item.ensures)) ∙ c.items.invariant)
+    (ap (λ x. (L.rule x).read kept (left c.scan.result.1)) (sym c.as_slice-in-items.ensures) ∙ c.in_ok-item.ensures)) ∙ c.items.invariant)
