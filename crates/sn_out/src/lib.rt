@@ -5,3 +5,5 @@ pub mod block;
 pub mod lines;
 mod pieces;
 mod rows;
+#[cfg(test)]
+mod tests;
