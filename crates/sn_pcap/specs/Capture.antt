@@ -1,9 +1,9 @@
 -- The file format of classic pcap, version 2.4: a header of 24 bytes, and after it records, each of a header of
 -- 16 bytes and the captured bytes of a packet.
-use Rattle.std.specs.Prelude.{◌≡◌, ℕ, ◌≤◌, ◌<◌, ◌+◌, ◌*◌, ◌%◌, Bool, true, false, ◌&&◌, ◌==◌, nat_lt, if◌then◌else◌, List, [], ◌∷◌, length, take, drop, Option, None, Some, Result, Ok, Err}
+use Rattle.std.specs.Prelude.{◌≡◌, ℕ, ◌≤◌, ◌<◌, ◌+◌, ◌*◌, ◌%◌, Bool, true, false, ◌&&◌, ◌==◌, nat_lt, find, if◌then◌else◌, List, [], ◌∷◌, length, take, drop, Option, None, Some, Result, Ok, Err}
 use Rattle.byteorder.specs.Endian.{big_number, little_number}
 use Rattle.sn_base.specs.declared.link.Link.{Link}
-use Rattle.sn_base.specs.declared.link.Link.TheVariants.{Ethernet}
+use Rattle.sn_base.specs.declared.link.Link.TheVariants.{Ethernet, RawIp, Cooked, Cooked2}
 use Rattle.sn_pcap.specs.declared.header.Header.{Header}
 use Rattle.sn_pcap.specs.declared.header.HeadFault.{HeadFault}
 use Rattle.sn_pcap.specs.declared.header.HeadFault.TheVariants as faults
@@ -17,9 +17,10 @@ number_at big count file place = if big then big_number count (drop place file) 
 
 -- The header: magic number 4 bytes, version 2 and 2, time zone 4, accuracy 4, snapshot length 4, link type 4.
 
--- the magic number of captures with fractions in microseconds
-abbrev pub micros_magic : ℕ
-micros_magic = 0xa1b2c3d4
+-- the magic numbers: of captures with fractions in nanoseconds, and in microseconds
+abbrev pub magic_of : Bool → ℕ
+magic_of true = 0xa1b23c4d
+magic_of false = 0xa1b2c3d4
 
 -- the version is 2.4
 abbrev pub has_version : Bool → List ℕ → Bool
@@ -29,13 +30,24 @@ has_version big file = (number_at big 2 file 4 == 2) && (number_at big 2 file 6 
 abbrev pub link_type : Bool → List ℕ → ℕ
 link_type big file = number_at big 4 file 20 % 65536
 
--- the byte order (high byte first) and the time unit (nanoseconds) that the magic number tells; those that are read
-abbrev pub form_of : List ℕ → Option (Bool × Bool)
-form_of file = if number_at false 4 file 0 == micros_magic then Some (false, false) else None
+-- the link types: Ethernet, raw IP, Linux cooked, and its version 2
+abbrev pub link_number : Link → ℕ
+link_number Ethernet = 1
+link_number RawIp = 101
+link_number Cooked = 113
+link_number Cooked2 = 276
 
--- the link of a link type; those that are read
+-- the byte order (high byte first) and the time unit (nanoseconds) in which the first four bytes are a magic number
+abbrev pub form_of : List ℕ → Option (Bool × Bool)
+form_of file =
+    if number_at false 4 file 0 == magic_of false then Some (false, false)
+    else (if number_at false 4 file 0 == magic_of true then Some (false, true)
+    else (if number_at true 4 file 0 == magic_of false then Some (true, false)
+    else (if number_at true 4 file 0 == magic_of true then Some (true, true) else None)))
+
+-- the link of a link type
 abbrev pub link_of : ℕ → Option Link
-link_of number = if number == 1 then Some Ethernet else None
+link_of number = find (λ link. link_number link == number) (Ethernet ∷ RawIp ∷ Cooked ∷ Cooked2 ∷ [])
 
 abbrev pub with_link : Bool × Bool → Option Link → Result Header HeadFault
 with_link form None = Err faults.Link
@@ -49,13 +61,13 @@ with_form file (Some form) = if has_version form.0 file then with_link form (lin
 abbrev pub head_of : List ℕ → Result Header HeadFault
 head_of file = if nat_lt (length file) 24 then Err faults.Short else with_form file (form_of file)
 
--- the header is the file's: 24 bytes stand, the first four tell its byte order and time unit, the version is 2.4,
--- and the link type is its link's
+-- the header is the file's: 24 bytes stand, the first four are, in its byte order, the magic number of its time unit,
+-- the version is 2.4, and the link type is its link's
 pub record Accepts (file : List ℕ) (header : Header) : Type 0 where
   pub long : 24 ≤ length file
-  pub form : form_of file ≡ Some (header.big, header.nanos)
+  pub magic : number_at header.big 4 file 0 ≡ magic_of header.nanos
   pub version : has_version header.big file ≡ true
-  pub link_is : link_of (link_type header.big file) ≡ Some header.link
+  pub link_is : link_type header.big file ≡ link_number header.link
 
 -- A record at an offset n: seconds 4 bytes, fraction 4, captured length 4, wire length 4, and the captured bytes.
 

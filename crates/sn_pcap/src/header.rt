@@ -1,13 +1,20 @@
 //! The header of a capture.
-ghost use Rattle.std.specs.Prelude.{◌≡◌, ◌≤◌, ◌%◌, ◌^◌, length, Ok, IfOk};
+ghost use Rattle.std.specs.Prelude.{Bool, IfSome, ◌≡◌, ◌≤◌, ◌%◌, ◌^◌, length, Ok, IfOk};
+ghost use Rattle.sn_base.specs.declared.link.Link.{Link};
 ghost use Rattle.sn_pcap.specs.declared.header.Header.{Header};
-ghost use Rattle.sn_pcap.specs.Capture.{form_of, link_of, head_of, Accepts};
+ghost use Rattle.sn_pcap.specs.Capture.{number_at, magic_of, form_of, link_number, link_of, head_of, Accepts};
 
 use crate::numbers::{u16_at, u32_at};
 use sn_base::link::Link;
 
 /// The bytes of a capture's header, before its first record.
 pub const HEADER_BYTES: usize = 24;
+
+/// The magic number of captures with fractions in microseconds.
+const MICROS_MAGIC: u32 = 0xa1b2_c3d4;
+
+/// The magic number of captures with fractions in nanoseconds.
+const NANOS_MAGIC: u32 = 0xa1b2_3c4d;
 
 /// What the header of a capture tells of its records.
 #[derive(Clone, Copy, Debug, PartialEq, Eq)]
@@ -33,25 +40,34 @@ pub enum HeadFault {
     Link,
 }
 
-/// The byte order (whether the highest byte is first) and the time unit (whether nanoseconds) that the
-/// magic number tells.
+/// The byte order (whether the highest byte is first) and the time unit (whether nanoseconds) in which the
+/// first four bytes are a magic number.
 fn form(file: &[u8]) -> Option<(bool, bool)>
     requires { 4 ≤ length file.now }
-    ensures { result ≡ form_of file.now }
+    ensures form { result ≡ form_of file.now }
+    ensures magic { IfSome result (λ form. number_at form.0 4 file.now 0 ≡ magic_of form.1) }
+    ensures all { (big nanos : Bool) → number_at big 4 file.now 0 ≡ magic_of nanos → result ≡ Some (big, nanos) }
 {
-    if u32_at(false, file, 0) == 0xa1b2_c3d4 {
-        Some((false, false))
-    } else {
-        None
+    match (u32_at(false, file, 0), u32_at(true, file, 0)) {
+        (MICROS_MAGIC, _) => Some((false, false)),
+        (NANOS_MAGIC, _) => Some((false, true)),
+        (_, MICROS_MAGIC) => Some((true, false)),
+        (_, NANOS_MAGIC) => Some((true, true)),
+        _ => None,
     }
 }
 
 /// The link of a link type.
 fn link(number: u32) -> Option<Link>
-    ensures { result ≡ link_of number }
+    ensures link { result ≡ link_of number }
+    ensures number { IfSome result (λ link. number ≡ link_number link) }
+    ensures all { (link : Link) → number ≡ link_number link → result ≡ Some link }
 {
     match number {
         1 => Some(Link::Ethernet),
+        101 => Some(Link::RawIp),
+        113 => Some(Link::Cooked),
+        276 => Some(Link::Cooked2),
         _ => None,
     }
 }

@@ -1,3 +1,5 @@
+ghost use Rattle.std.specs.Prelude.{◌≤◌, ◌+◌};
+
 use crate::header::{HeadFault, Header, head};
 use crate::packet::{Ending, Packet, packets};
 use sn_base::link::Link;
@@ -99,4 +101,123 @@ fn reads_a_record(rt: HostRuntime) {
         }
         Err(_) => assert!(rt; false),
     }
+}
+
+/// Writes a number in either order.
+fn put(file: &mut [u8; 94], big: bool, place: usize, number: u32)
+    requires { place + 4 ≤ 94 }
+{
+    let [a, b, c, d] = if big {
+        number.to_be_bytes()
+    } else {
+        number.to_le_bytes()
+    };
+    file[place] = a;
+    file[place + 1] = b;
+    file[place + 2] = c;
+    file[place + 3] = d;
+}
+
+/// One packet at one second and a quarter, in a capture of either byte order and time unit.
+fn one_packet(big: bool, nanos: bool) -> [u8; 94] {
+    let mut file = [0; 94];
+    file[40..].copy_from_slice(&RECORD[16..]);
+    put(
+        &mut file,
+        big,
+        0,
+        if nanos { 0xa1b2_3c4d } else { 0xa1b2_c3d4 },
+    );
+    put(
+        &mut file,
+        big,
+        4,
+        if big { 0x0002_0004 } else { 0x0004_0002 },
+    );
+    put(&mut file, big, 20, 1);
+    put(&mut file, big, 24, 1);
+    put(
+        &mut file,
+        big,
+        28,
+        if nanos { 250_000_000 } else { 250_000 },
+    );
+    put(&mut file, big, 32, 54);
+    put(&mut file, big, 36, 54);
+    file
+}
+
+/// The file has this header and this one packet.
+fn expect_packet(rt: &impl Abort, alloc: Global, file: &[u8], header: Header, packet: Packet) {
+    assert_eq!(rt; head(file), Ok(header));
+    match packets(alloc, &header, file) {
+        Ok((found, end)) => {
+            assert_eq!(rt; found.as_slice(), [packet].as_slice());
+            assert_eq!(rt; end, Ending::Clean);
+        }
+        Err(_) => assert!(rt; false),
+    }
+}
+
+#[test]
+fn reads_each_order_and_unit(rt: HostRuntime) {
+    for (big, nanos) in [(false, false), (false, true), (true, false), (true, true)] {
+        let header = Header {
+            big,
+            nanos,
+            link: Link::Ethernet,
+        };
+        let packet = Packet {
+            time: 1_250_000_000,
+            wire: 54,
+            at: 40,
+            cap: 54,
+        };
+        expect_packet(&rt, rt.alloc(), &one_packet(big, nanos), header, packet);
+    }
+}
+
+/// A capture that Scapy wrote: high byte first, nanoseconds, raw IP, one packet of 90 bytes captured to 28.
+const SCAPY: [u8; 68] = [
+    0xa1, 0xb2, 0x3c, 0x4d, 0, 2, 0, 4, 0, 0, 0, 0, 0, 0, 0, 0, 0, 0, 0xff, 0xff, 0, 0, 0, 0x65, //
+    0x65, 0x53, 0xf1, 0, 7, 0x5b, 0xcd, 0x15, 0, 0, 0, 0x1c, 0, 0, 0, 0x5a, //
+    0x45, 0, 0, 0x1c, 0, 1, 0, 0, 0x39, 0x11, 0x7a, 0xc6, 0xc0, 0xa8, 0x0a, 0x14, 0xcb, 0, 0x71,
+    0x4d, 0x14, 0xe9, 0, 0x35, 0, 8, 0xe3, 0xb5,
+];
+
+/// The time is the one that Wireshark's tshark prints for it: 1700000000.123456789.
+#[test]
+fn reads_a_capture_of_scapy(rt: HostRuntime) {
+    let header = Header {
+        big: true,
+        nanos: true,
+        link: Link::RawIp,
+    };
+    let packet = Packet {
+        time: 1_700_000_000_123_456_789,
+        wire: 90,
+        at: 40,
+        cap: 28,
+    };
+    expect_packet(&rt, rt.alloc(), &SCAPY, header, packet);
+}
+
+/// The header with another link type.
+fn with_link(low: u8, high: u8) -> [u8; 24] {
+    let mut header = HEADER;
+    header[20] = low;
+    header[21] = high;
+    header
+}
+
+#[test]
+fn reads_link_types(rt: HostRuntime) {
+    for (low, high, link) in [
+        (101, 0, Link::RawIp),
+        (113, 0, Link::Cooked),
+        (20, 1, Link::Cooked2),
+    ] {
+        assert_eq!(rt; head(&with_link(low, high)), Ok(Header { link, ..LITTLE }));
+    }
+    assert_eq!(rt; head(&with_link(1, 1)), Err(HeadFault::Link));
 }

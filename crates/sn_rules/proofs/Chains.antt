@@ -24,16 +24,16 @@ pub some_or_none : (o : Option Flaw) → (o ≡ None) ⊎ ((x : Flaw) × (o ≡ 
 some_or_none None = inl refl
 some_or_none (Some x) = inr (x, refl)
 
-open_aside : (l : Limits) (o : Option Flaw) → closed l o ≡ None → closed aside o ≡ None
+pub open_aside : (l : Limits) (o : Option Flaw) → closed l o ≡ None → closed aside o ≡ None
 open_aside kept None e = refl
 open_aside kept (Some x) e = absurd cc
 open_aside aside o e = e
 
-shut_aside : (o : Option Flaw) (x : Flaw) → o ≡ Some x → is_limit x ≡ false → closed aside o ≡ Some x
+pub shut_aside : (o : Option Flaw) (x : Flaw) → o ≡ Some x → is_limit x ≡ false → closed aside o ≡ Some x
 shut_aside None x e n = absurd cc
 shut_aside (Some y) x e n = let h : y ≡ x = cc in rw (h, n) refl
 
-limit_aside : (o : Option Flaw) (x : Flaw) → o ≡ Some x → is_limit x ≡ true → closed aside o ≡ None
+pub limit_aside : (o : Option Flaw) (x : Flaw) → o ≡ Some x → is_limit x ≡ true → closed aside o ≡ None
 limit_aside None x e n = refl
 limit_aside (Some y) x e n = let h : y ≡ x = cc in rw (h, n) refl
 

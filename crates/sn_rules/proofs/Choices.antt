@@ -9,23 +9,23 @@ use Rattle.sn_rules.proofs.Laws.{Takes, Stands, Reaches, Relined, Good, within, 
 
 -- ---- the same text under another value
 
--- to is one to one, and from undoes it
-pub record Undoes {A B : Type 0} (to : A → B) (from : B → Option A) : Type 0 where
-  pub back : (a : A) → from (to a) ≡ Some a
+-- to is one to one on the values of p, and from undoes it
+pub record Undoes {A B : Type 0} (to : A → B) (from : B → Option A) (p : Rule A) : Type 0 where
+  pub back : (a : A) → p.fits aside a → from (to a) ≡ Some a
   pub forth : (b : B) (a : A) → from b ≡ Some a → to a ≡ b
 
-module _ {A B : Type 0} (to : A → B) (from : B → Option A) (p : Rule A) (u : Undoes to from) (gp : Good p) where
+module _ {A B : Type 0} (to : A → B) (from : B → Option A) (p : Rule A) (u : Undoes to from p) (gp : Good p) where
   abbrev E : Rule B
   E = embedded to from p
 
   abbrev under : A → List Tok → Read B
   under a us = got (to a) us
 
-  spelled_back : (ts : List Tok) (a : A) → Spelled ts (p.spell a) → Spelled ts (E.spell (to a))
-  spelled_back ts a h = subst (λ o. Spelled ts (spelled_as p.spell o)) (sym (u.back a)) h
+  spelled_back : (ts : List Tok) (a : A) → p.fits aside a → Spelled ts (p.spell a) → Spelled ts (E.spell (to a))
+  spelled_back ts a f h = subst (λ o. Spelled ts (spelled_as p.spell o)) (sym (u.back a f)) h
 
   fits_back : (l : Limits) (a : A) → p.fits l a → E.fits l (to a)
-  fits_back l a h = subst (λ o. holds_of (p.fits l) o) (sym (u.back a)) h
+  fits_back l a h = subst (λ o. holds_of (p.fits l) o) (sym (u.back a (loosened p gp l a h))) h
 
   again_in : (l : Limits) (front us : List Tok) (b : B) (o : Option A) → from b ≡ o → holds_of (p.fits l) o → Spelled front (spelled_as p.spell o) → p.follow us ≡ true → bind (p.read l (front ++ us)) under ≡ got b us
   again_in l front us b None e f s h = absurd f
@@ -41,9 +41,9 @@ module _ {A B : Type 0} (to : A → B) (from : B → Option A) (p : Rule A) (u :
       let k = gp.relines a ts f s in
       record {
         value = to k.value;
-        spelled = spelled_back ts k.value k.spelled;
+        spelled = spelled_back ts k.value (gp.looser k.value k.fits) k.spelled;
         fits = fits_back kept k.value k.fits;
-        same = ap (bared_as to p.bare (to k.value)) (u.back k.value) ∙ ap to k.same ∙ sym (ap (bared_as to p.bare b) e);
+        same = ap (bared_as to p.bare (to k.value)) (u.back k.value (gp.looser k.value k.fits)) ∙ ap to k.same ∙ sym (ap (bared_as to p.bare b) e);
       }
 
   pub embedded_good : Good (embedded to from p)
@@ -62,7 +62,7 @@ module _ {A B : Type 0} (to : A → B) (from : B → Option A) (p : Rule A) (u :
     takes = λ l ts us x e.
         let b = bind_got (p.read l ts) under x us e in
         let h = gp.takes l ts b.1 b.0 b.2 in
-        let whole : Takes E.spell ts (to b.0) b.1 = record { front = h.front; parts = h.parts; spelled = spelled_back h.front b.0 h.spelled } in
+        let whole : Takes E.spell ts (to b.0) b.1 = record { front = h.front; parts = h.parts; spelled = spelled_back h.front b.0 (loosened p gp l b.0 (gp.fitting l ts b.1 b.0 b.2)) h.spelled } in
         takes_as E.spell ts (to b.0) x b.1 us (same_value (to b.0) x b.1 us b.3) (same_rest (to b.0) x b.1 us b.3) whole;
     fitting = λ l ts us x e.
         let b = bind_got (p.read l ts) under x us e in
@@ -73,7 +73,7 @@ module _ {A B : Type 0} (to : A → B) (from : B → Option A) (p : Rule A) (u :
     ];
     again = λ l front us b f s h. again_in l front us b (from b) refl f s h;
     begins = λ l ts e. elim (bind_short (p.read l ts) under e) [
-      | inl h ↦ (let k = gp.begins l ts h in record { value = to k.value; more = k.more; fits = fits_back aside k.value k.fits; spelled = spelled_back (ts ++ k.more) k.value k.spelled })
+      | inl h ↦ (let k = gp.begins l ts h in record { value = to k.value; more = k.more; fits = fits_back aside k.value k.fits; spelled = spelled_back (ts ++ k.more) k.value k.fits k.spelled })
       | inr b ↦ absurd cc
     ];
     some = (to gp.some.0, fits_back aside gp.some.0 gp.some.1);
@@ -87,14 +87,14 @@ module _ {A B : Type 0} (to : A → B) (from : B → Option A) (p : Rule A) (u :
     ];
     tells = λ ts us x n e. elim (bind_fails (p.read kept ts) under x us e) [
       | inl h ↦ (let k = gp.tells ts us x n h in
-          record { upto = k.upto; at = k.at; rest = k.rest; head = k.head; parts = k.parts; value = to k.value; more = k.more; fits = fits_back aside k.value k.fits; spelled = spelled_back (k.upto ++ k.more) k.value k.spelled })
+          record { upto = k.upto; at = k.at; rest = k.rest; head = k.head; parts = k.parts; value = to k.value; more = k.more; fits = fits_back aside k.value k.fits; spelled = spelled_back (k.upto ++ k.more) k.value k.fits k.spelled })
       | inr b ↦ absurd cc
     ];
     relines = λ b ts f s. relines_in b ts (from b) refl f s;
   }
 
 pub renamed_good : {A B : Type 0} (to : A → B) (from : B → A) (p : Rule A) → ((a : A) → from (to a) ≡ a) → ((b : B) → to (from b) ≡ b) → Good p → Good (renamed to from p)
-renamed_good {A} to from p back forth gp = embedded_good to (λ b. Some (from b)) p (record { back = λ a. ap (λ (x : A). Some x) (back a); forth = λ b a e. let h : from b ≡ a = cc in ap to (sym h) ∙ forth b }) gp
+renamed_good {A} to from p back forth gp = embedded_good to (λ b. Some (from b)) p (record { back = λ a _. ap (λ (x : A). Some x) (back a); forth = λ b a e. let h : from b ≡ a = cc in ap to (sym h) ∙ forth b }) gp
 
 -- ---- a part that is there where its first token is
 

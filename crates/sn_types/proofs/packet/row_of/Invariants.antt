@@ -1,0 +1,6 @@
+use Rattle.std.proofs.Common.{◌≡◌, take, map}
+use Rattle.sn_types.specs.Typed.{read_at}
+use Rattle.sn_types.proofs.packet.row_of.Given as goal
+
+abbrev pub invariant-loop-field : goal.invariant-loop-field
+invariant-loop-field l = l.row ≡ map (read_at l.refined l.level l.tuple) (take l.field-index l.fields)

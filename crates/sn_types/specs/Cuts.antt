@@ -1,0 +1,29 @@
+-- How many operators of a branch can stand in a switch.
+use Rattle.std.specs.Prelude.{ℕ, suc, List, [], ◌∷◌}
+use Rattle.sn_types.specs.declared.typed_op.TOp.{TOp}
+use Rattle.sn_types.specs.declared.typed_op.TOp.TheVariants.{Filter, Map, Distinct, Reduce as Reduced}
+
+-- how many operators at the front are filters
+abbrev pub filters_ahead : List TOp → ℕ
+filters_ahead [] = 0
+filters_ahead (Filter conds ∷ ops) = suc (filters_ahead ops)
+filters_ahead (Map exprs ∷ ops) = 0
+filters_ahead (Distinct ∷ ops) = 0
+filters_ahead (Reduced r ∷ ops) = 0
+
+-- the greatest cut of what stands behind a distinct
+abbrev pub cut_behind_distinct : List TOp → ℕ
+cut_behind_distinct [] = 0
+cut_behind_distinct (Filter conds ∷ ops) = suc (cut_behind_distinct ops)
+cut_behind_distinct (Map exprs ∷ ops) = suc (cut_behind_distinct ops)
+cut_behind_distinct (Distinct ∷ ops) = 0
+cut_behind_distinct (Reduced r ∷ ops) = suc (filters_ahead ops)
+
+-- the greatest number of operators at the front whose stateful ones are none, distinct, reduce, or distinct and then
+-- reduce, with only filters after the reduce
+abbrev pub greatest_cut : List TOp → ℕ
+greatest_cut [] = 0
+greatest_cut (Filter conds ∷ ops) = suc (greatest_cut ops)
+greatest_cut (Map exprs ∷ ops) = suc (greatest_cut ops)
+greatest_cut (Distinct ∷ ops) = suc (cut_behind_distinct ops)
+greatest_cut (Reduced r ∷ ops) = suc (filters_ahead ops)

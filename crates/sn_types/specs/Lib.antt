@@ -1,0 +1,4 @@
+pub mod Cuts
+pub mod Typed
+pub mod Typing
+pub mod Values

@@ -1,0 +1,75 @@
+//! The values of conditions and expressions at a row.
+ghost use Rattle.std.specs.Prelude.{◌≡◌, ◌==◌, ◌<◌, length};
+ghost use Rattle.std.specs.List.{find};
+ghost use Rattle.sn_types.specs.Values.{compared, constant_at, holds, ratio, value_of, ReadsWithin};
+
+use crate::typed_op::{TCond, TExpr};
+use sn_base::row::Row;
+use sn_grammar::ast::{Cmp, Relax};
+
+fn compares(cmp: Cmp, left: u64, right: u64) -> bool
+    ensures { result ≡ compared cmp left right }
+{
+    match cmp {
+        Cmp::Eq => left == right,
+        Cmp::Ne => left != right,
+        Cmp::Lt => left < right,
+        Cmp::Le => left <= right,
+        Cmp::Gt => left > right,
+        Cmp::Ge => left >= right,
+    }
+}
+
+fn relaxed_at(level: u32, relaxed: &[Relax]) -> Option<Relax>
+    ensures { result ≡ find (λ r. r.level == level) relaxed.now }
+{
+    relaxed.iter().copied().find(|relax| relax.level == level)
+}
+
+fn constant_at(level: u32, relaxed: &[Relax], own: u64) -> u64
+    ensures { result ≡ constant_at level relaxed.now own }
+{
+    match relaxed_at(level, relaxed) {
+        Some(relax) => relax.value,
+        None => own,
+    }
+}
+
+/// Whether a condition holds at a row. Its constant is the one for this level, or else its own.
+pub fn cond(c: &TCond, level: u32, row: &Row) -> bool
+    requires { c.now.col < length row.now }
+    ensures { result ≡ holds level c.now row.now }
+{
+    let column = row.as_slice()[c.col as usize];
+    compares(
+        c.cmp,
+        column & c.and,
+        constant_at(level, c.relaxed.as_slice(), c.own),
+    )
+}
+
+fn ratio(a: u64, times: u64, b: u64) -> u64
+    ensures { result ≡ ratio a times b }
+{
+    if b == 0 {
+        return 0;
+    }
+    let whole = u128::from(a) * u128::from(times) / u128::from(b);
+    u64::try_from(whole).unwrap_or(u64::MAX)
+}
+
+/// The value of an expression at a row.
+pub fn expr(e: &TExpr, row: &Row) -> u64
+    requires { ReadsWithin (length row.now) e.now }
+    ensures { result ≡ value_of e.now row.now }
+{
+    let columns = row.as_slice();
+    match *e {
+        TExpr::Const(number) => number,
+        TExpr::Copy(a) => columns[a as usize],
+        TExpr::Mask(a, bits) => columns[a as usize] & bits,
+        TExpr::Shift(a, places) => columns[a as usize] >> places,
+        TExpr::Sum(a, b) => columns[a as usize].saturating_add(columns[b as usize]),
+        TExpr::Ratio(a, times, b) => ratio(columns[a as usize], times, columns[b as usize]),
+    }
+}

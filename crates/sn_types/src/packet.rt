@@ -1,0 +1,46 @@
+//! The packet row of a tuple.
+ghost use Rattle.std.specs.Prelude.{◌≡◌, ◌≤◌, length, IfSome};
+ghost use Rattle.sn_fields.specs.Fields.{width_of};
+ghost use Rattle.sn_types.specs.Typed.{is_field, read_at, packet_row};
+
+use sn_base::mask::mask;
+use sn_base::row::Row;
+use sn_fields::field::Field;
+use sn_fields::tuple::Tuple;
+
+fn is_field(refined: Option<Field>, field: Field) -> bool
+    ensures { result ≡ is_field refined field }
+{
+    match refined {
+        Some(other) => other.number() == field.number(),
+        None => false,
+    }
+}
+
+fn read_at(refined: Option<Field>, level: u32, tuple: &Tuple, field: Field) -> u64
+    requires { IfSome refined (λ other. level ≤ width_of other) }
+    ensures { result ≡ read_at refined level tuple.now field }
+{
+    let value = tuple.get(field);
+    if level != 0 && is_field(refined, field) {
+        mask(value, field.width(), level)
+    } else {
+        value
+    }
+}
+
+/// The packet row of a tuple at a level: the numbers of these fields.
+pub fn row_of(refined: Option<Field>, level: u32, fields: &[Field], tuple: &Tuple) -> Row
+    requires few { length fields.now ≤ 8 }
+    requires level { IfSome refined (λ other. level ≤ width_of other) }
+    ensures { result ≡ packet_row refined level fields.now tuple.now }
+{
+    let mut row = Row::empty();
+    for field in fields {
+        let Some(longer) = row.with(read_at(refined, level, tuple, *field)) else {
+            unreachable!();
+        };
+        row = longer;
+    }
+    row
+}
