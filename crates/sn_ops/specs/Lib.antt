@@ -1,1 +1,3 @@
+pub mod Flow
 pub mod Joins
+pub mod Packets

@@ -2,9 +2,11 @@
 #![tactic(auto)]
 
 mod columns;
+pub mod flow;
 pub mod group;
 pub mod join;
 pub mod laws;
+pub mod packets;
 pub mod select;
 #[cfg(test)]
 mod tests;
