@@ -3,10 +3,12 @@
 
 mod columns;
 pub mod flow;
+mod front;
 pub mod group;
 pub mod join;
 pub mod laws;
 pub mod packets;
+pub mod plain;
 pub mod select;
 #[cfg(test)]
 mod tests;

@@ -57,7 +57,8 @@ pub fn packet_rows(
     Ok(rows)
 }
 
-fn is_kept(t: &Typed, q: u32, kept: Option<Kept>, tuple: &Tuple) -> bool
+/// Whether a tuple is kept.
+pub fn is_kept(t: &Typed, q: u32, kept: Option<Kept>, tuple: &Tuple) -> bool
     requires query { q < length t.now.queries }
     requires kept { OfALevel (query_at t.now.queries q) kept }
     ensures { result ≡ is_kept (query_at t.now.queries q).field kept.entry tuple.now }
