@@ -5,11 +5,10 @@ use Rattle.std.proofs.lemmas.List.{map-append}
 use Rattle.std.proofs.Math.Seq.{drop-cons}
 use Rattle.std.proofs.lemmas.List.Elements.{filter-append, recursion_from_All, All-from_recursion}
 use Rattle.sn_base.specs.Groups.{Row}
-use Rattle.sn_base.specs.Operators.{apply, through}
+use Rattle.sn_base.specs.Operators.{through}
 use Rattle.sn_base.proofs.Lists.{by_test}
 use Rattle.sn_types.specs.declared.typed_op.TOp.{TOp}
 use Rattle.sn_types.specs.declared.typed_op.TOp.TheVariants.{Filter, Map, Distinct, Reduce}
-use Rattle.sn_types.specs.declared.typed_op.TCond.{TCond}
 use Rattle.sn_types.specs.Values.{holds, op_at}
 use Rattle.sn_ops.specs.Flow.{AllFit}
 use Rattle.sn_ops.specs.Plain.{passes_front, behind_front, FrontFits, is_filter}

@@ -1,5 +1,5 @@
 -- A whole query on tuples, with no switch.
-use Rattle.std.specs.Prelude.{◌≡◌, ℕ, ◌<◌, List, [], ◌∷◌, map, filter, Bool, true, false, ◌&&◌, ◌==◌, ◌≤◌, All, length, Option, if◌then◌else◌}
+use Rattle.std.specs.Prelude.{◌≡◌, ℕ, ◌<◌, List, [], ◌∷◌, map, Bool, true, false, ◌&&◌, ◌==◌, ◌≤◌, All, length, Option, if◌then◌else◌}
 use Rattle.std.specs.List.{list_all}
 use Rattle.sn_base.specs.Groups.{Row}
 use Rattle.sn_base.specs.Operators.{through}

@@ -1,6 +1,7 @@
 //! Tests of the operators on small lists of rows.
 ghost use Rattle.std.specs.Prelude.{◌≡◌, ◌≤◌, length};
 
+use crate::flow::run;
 use crate::group::{distinct, reduce};
 use crate::join::join;
 use crate::select::{filter, map};
@@ -9,7 +10,7 @@ use sn_base::fold::Min;
 use sn_base::row::Row;
 use sn_base::seq::Seq;
 use sn_grammar::ast::Cmp;
-use sn_types::typed_op::{JoinKey, TCond, TExpr, TReduce};
+use sn_types::typed_op::{JoinKey, TCond, TExpr, TOp, TReduce};
 use std::alloc::Global;
 use std::test::Fail;
 
@@ -71,5 +72,16 @@ fn filters_and_maps(rt: HostRuntime) -> Result<(), Fail> {
     let cols = [TExpr::Copy(0), TExpr::Const(7)];
     let made = map(rt.alloc(), &[row(&[1])], &cols)?;
     assert_eq!(rt; made.as_slice(), [row(&[1, 7])].as_slice());
+    Ok(())
+}
+
+#[test]
+fn runs_operators_one_after_another(rt: HostRuntime) -> Result<(), Fail> {
+    let mut rows = Seq::new(rt.alloc());
+    rows.push(row(&[5]))?;
+    rows.push(row(&[5]))?;
+    rows.push(row(&[4]))?;
+    let out = run(rt.alloc(), &[TOp::Distinct], 0, rows)?;
+    assert_eq!(rt; out.as_slice(), [row(&[5]), row(&[4])].as_slice());
     Ok(())
 }

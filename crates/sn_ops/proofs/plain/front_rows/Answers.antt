@@ -1,4 +1,4 @@
-use Rattle.std.proofs.Common.{◌≡◌, ◌<◌, ℕ, Bool, true, List, All, Option, length, ◌∙◌, arith}
+use Rattle.std.proofs.Common.{◌≡◌, ◌<◌, ℕ, Bool, true, List, length, ◌∙◌, arith}
 use Rattle.sn_base.specs.Groups.{Row}
 use Rattle.sn_types.specs.Typed.{branch_of, packet_row, query_at}
 use Rattle.sn_ops.specs.Packets.{is_kept}

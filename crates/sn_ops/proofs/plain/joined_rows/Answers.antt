@@ -1,4 +1,4 @@
-use Rattle.std.proofs.Common.{◌≡◌, ℕ, ◌<◌, ◌≤◌, All, List, length, ap, sym, ◌∙◌, subst}
+use Rattle.std.proofs.Common.{◌<◌, ◌≤◌, All, List, length, ap, sym, ◌∙◌, subst}
 use Rattle.sn_base.specs.Groups.{Row}
 use Rattle.sn_types.specs.declared.typed_op.JoinKey.{JoinKey}
 use Rattle.sn_types.specs.Typed.{query_at}
