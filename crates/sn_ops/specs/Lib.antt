@@ -1,0 +1,4 @@
+pub mod Flow
+pub mod Joins
+pub mod Packets
+pub mod Plain

@@ -1,0 +1,101 @@
+//! Operators that group rows.
+ghost use Rattle.std.specs.Prelude.{◌≡◌, ◌<◌, ◌++◌, ◌∷◌, [], All, length, map, not, slice_index, unwrap_or, IfOk, OnOk};
+ghost use Rattle.std.specs.List.{list_any};
+ghost use Rattle.std.specs.Map.{lookup};
+ghost use Rattle.sn_base.specs.AnyFold.{any_has, any_unit, any_step};
+ghost use Rattle.indexmap.specs.IndexMap.{insert_entry};
+ghost use Rattle.indexmap.specs.IndexSet.{insert_key};
+ghost use Rattle.sn_base.specs.Groups.{same_row};
+ghost use Rattle.sn_base.specs.Operators.{apply};
+ghost use Rattle.sn_types.specs.Values.{op_at};
+
+use crate::columns::columns_of;
+use indexmap::{IndexMap, IndexSet};
+use sn_base::any_fold::AnyFold;
+use sn_base::fold::Fold;
+use sn_base::memory::Memory;
+use sn_base::row::Row;
+use sn_base::seq::Seq;
+use sn_types::typed_op::{TOp, TReduce};
+use std::alloc::Global;
+
+/// Adds a row. Whether it is new.
+fn is_new(seen: &mut IndexSet<Row>, row: Row) -> Result<bool, Memory>
+    ensures new { IfOk result (λ new. new ≡ not (list_any (same_row row) seen.old.keys)) }
+    ensures keys { OnOk result (seen.new.keys ≡ insert_key same_row seen.old.keys row) }
+{
+    match seen.insert(row) {
+        Ok(new) => Ok(new),
+        Err(_) => Err(Memory),
+    }
+}
+
+/// Each row that occurs once, in the order of first places.
+pub fn distinct(alloc: Global, rows: &[Row]) -> Result<Seq<Row>, Memory>
+    ensures { IfOk result (λ out. out ≡ apply (op_at 0 TOp.Distinct) rows.now) }
+{
+    let mut seen = IndexSet::new(alloc);
+    let mut out = Seq::new(alloc);
+    for row in rows {
+        if is_new(&mut seen, *row)? {
+            out.push(*row)?;
+        }
+    }
+    Ok(out)
+}
+
+/// Puts a value to its key's fold.
+fn add_to(
+    fold: AnyFold,
+    groups: &mut IndexMap<Row, u64>,
+    key: Row,
+    value: u64,
+) -> Result<(), Memory>
+    requires so_far { any_has fold (unwrap_or (lookup (same_row key) groups.old.entries) (any_unit fold)) }
+    requires value { any_has fold value }
+    ensures ok { OnOk result (groups.new.entries ≡ insert_entry same_row groups.old.entries key (any_step fold (unwrap_or (lookup (same_row key) groups.old.entries) (any_unit fold)) value)) }
+{
+    let so_far = match groups.get(&key) {
+        Some(total) => *total,
+        None => fold.unit(),
+    };
+    match groups.insert(key, fold.step(so_far, value)) {
+        Ok(_) => Ok(()),
+        Err(_) => Err(Memory),
+    }
+}
+
+/// A row for each group: its key, then its fold.
+fn rows_of(alloc: Global, groups: &IndexMap<Row, u64>) -> Result<Seq<Row>, Memory>
+    requires { All (λ g. length g.0 < 8) groups.now.entries }
+    ensures { IfOk result (λ out. out ≡ map (λ g. g.0 ++ g.1 ∷ []) groups.now.entries) }
+{
+    let mut out = Seq::new(alloc);
+    for place in 0..groups.len() {
+        let Some((key, total)) = groups.get_index(place) else {
+            unreachable!();
+        };
+        let Some(row) = key.with(*total) else {
+            unreachable!();
+        };
+        out.push(row)?;
+    }
+    Ok(out)
+}
+
+/// One row for each key that occurs, in the order of first places: the key columns, then the fold of that key's
+/// values from the unit.
+pub fn reduce(alloc: Global, rows: &[Row], r: &TReduce) -> Result<Seq<Row>, Memory>
+    requires few { length r.now.keys < 8 }
+    requires places { All (λ row. All (λ place. place < length row) r.now.keys) rows.now }
+    requires value { All (λ row. r.now.value < length row) rows.now }
+    requires had { All (λ row. any_has r.now.fold (slice_index row r.now.value)) rows.now }
+    ensures { IfOk result (λ out. out ≡ apply (op_at 0 (TOp.Reduce r.now)) rows.now) }
+{
+    let mut groups = IndexMap::new(alloc);
+    for row in rows {
+        let key = columns_of(row, r.keys.as_slice());
+        add_to(r.fold, &mut groups, key, row.as_slice()[r.value as usize])?;
+    }
+    rows_of(alloc, &groups)
+}

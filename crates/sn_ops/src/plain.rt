@@ -1,0 +1,169 @@
+//! Whole queries on tuples, with no switch.
+ghost use Rattle.std.specs.Prelude.{◌≡◌, ◌<◌, ◌&&◌, length, filter, nat_eq, true, Option, Some, None, IfOk, if◌then◌else◌};
+ghost use Rattle.std.specs.List.{list_any};
+ghost use Rattle.sn_ops.specs.Packets.{is_kept, OfALevel, packet_rows};
+ghost use Rattle.sn_ops.specs.Plain.{passes_front, branch_rows, joined_rows, query_rows, FrontFits, BranchFits, JoinFits};
+ghost use Rattle.sn_types.specs.Typed.{branch_of, packet_row, query_at};
+
+use crate::flow::run;
+use crate::front::{behind_front, passes_front};
+use crate::join::join;
+use crate::packets::{Kept, is_kept};
+use sn_base::memory::Memory;
+use sn_base::row::Row;
+use sn_base::seq::Seq;
+use sn_fields::tuple::Tuple;
+use sn_types::typed::Typed;
+use sn_types::typed_op::TOp;
+use sn_types::typed_query::TypedQuery;
+use std::alloc::Global;
+
+fn query_of(t: &Typed, q: u32) -> &TypedQuery
+    requires { q < length t.now.queries }
+    ensures { result.now ≡ query_at t.now.queries q }
+{
+    match t.queries.as_slice().get(q as usize) {
+        Some(query) => query,
+        None => unreachable!(),
+    }
+}
+
+fn ops_of(query: &TypedQuery, b: u32) -> &[TOp]
+    requires { b < length query.now.branches }
+    ensures { result.now ≡ (branch_of query.now b).ops }
+{
+    match query.branches.as_slice().get(b as usize) {
+        Some(branch) => branch.ops.as_slice(),
+        None => unreachable!(),
+    }
+}
+
+fn operators(t: &Typed, q: u32, b: u32) -> &[TOp]
+    requires query { q < length t.now.queries }
+    requires branch { b < length (query_at t.now.queries q).branches }
+    ensures { result.now ≡ (branch_of (query_at t.now.queries q) b).ops }
+{
+    ops_of(query_of(t, q), b)
+}
+
+/// The packet row of a tuple that is kept, where it passes the filters that stand first.
+fn front_row(
+    t: &Typed,
+    q: u32,
+    b: u32,
+    level: u32,
+    kept: Option<Kept>,
+    tuple: &Tuple,
+) -> Option<Row>
+    requires query { q < length t.now.queries }
+    requires branch { b < length (query_at t.now.queries q).branches }
+    requires level { list_any (nat_eq level) (query_at t.now.queries q).levels ≡ true }
+    requires kept { OfALevel (query_at t.now.queries q) kept }
+    requires fits { is_kept (query_at t.now.queries q).field kept tuple.now ≡ true → FrontFits level (branch_of (query_at t.now.queries q) b).ops (packet_row (query_at t.now.queries q).field level (branch_of (query_at t.now.queries q) b).fields tuple.now) }
+    ensures { let query = query_at t.now.queries q in let row = packet_row query.field level (branch_of query b).fields tuple.now in result ≡ (if is_kept query.field kept.entry tuple.now && passes_front level (branch_of query b).ops row then Some row else None) }
+{
+    if !is_kept(t, q, kept, tuple) {
+        return None;
+    }
+    let row = t.packet_row(q, b, level, tuple);
+    if passes_front(operators(t, q, b), level, &row) {
+        Some(row)
+    } else {
+        None
+    }
+}
+
+/// The packet rows that pass the filters that stand first in the branch. No other row is kept at any time.
+fn front_rows(
+    alloc: Global,
+    t: &Typed,
+    q: u32,
+    b: u32,
+    level: u32,
+    kept: Option<Kept>,
+    tuples: &[Tuple],
+) -> Result<Seq<Row>, Memory>
+    requires query { q < length t.now.queries }
+    requires branch { b < length (query_at t.now.queries q).branches }
+    requires level { list_any (nat_eq level) (query_at t.now.queries q).levels ≡ true }
+    requires kept { OfALevel (query_at t.now.queries q) kept }
+    requires fits { BranchFits (query_at t.now.queries q) b level kept tuples.now }
+    ensures { let query = query_at t.now.queries q in IfOk result (λ rows. rows ≡ filter (passes_front level (branch_of query b).ops) (packet_rows query b level kept.entry tuples.now)) }
+{
+    let mut rows = Seq::new(alloc);
+    for tuple in tuples {
+        if let Some(row) = front_row(t, q, b, level, kept, tuple) {
+            rows.push(row)?;
+        }
+    }
+    Ok(rows)
+}
+
+/// A branch on these tuples, where its operators fit the rows that come to them: the packet rows of the tuples that
+/// are kept, through the operators in the order of the text.
+pub fn branch_rows(
+    alloc: Global,
+    t: &Typed,
+    q: u32,
+    b: u32,
+    level: u32,
+    kept: Option<Kept>,
+    tuples: &[Tuple],
+) -> Result<Seq<Row>, Memory>
+    requires query { q < length t.now.queries }
+    requires branch { b < length (query_at t.now.queries q).branches }
+    requires level { list_any (nat_eq level) (query_at t.now.queries q).levels ≡ true }
+    requires kept { OfALevel (query_at t.now.queries q) kept }
+    requires fits { BranchFits (query_at t.now.queries q) b level kept tuples.now }
+    ensures { IfOk result (λ rows. rows ≡ branch_rows (query_at t.now.queries q) b level kept.entry tuples.now) }
+{
+    let rows = front_rows(alloc, t, q, b, level, kept, tuples)?;
+    run(alloc, behind_front(operators(t, q, b)), level, rows)
+}
+
+/// The two branches of a query on these tuples, joined.
+fn joined_rows(
+    alloc: Global,
+    t: &Typed,
+    q: u32,
+    level: u32,
+    kept: Option<Kept>,
+    tuples: &[Tuple],
+) -> Result<Seq<Row>, Memory>
+    requires query { q < length t.now.queries }
+    requires branches { length (query_at t.now.queries q).branches ≡ 2 }
+    requires level { list_any (nat_eq level) (query_at t.now.queries q).levels ≡ true }
+    requires kept { OfALevel (query_at t.now.queries q) kept }
+    requires left { BranchFits (query_at t.now.queries q) 0 level kept tuples.now }
+    requires join { JoinFits (query_at t.now.queries q) level kept tuples.now }
+    ensures { IfOk result (λ rows. rows ≡ joined_rows (query_at t.now.queries q) level kept.entry tuples.now) }
+{
+    let left = branch_rows(alloc, t, q, 0, level, kept, tuples)?;
+    let right = branch_rows(alloc, t, q, 1, level, kept, tuples)?;
+    join(alloc, left.as_slice(), right.as_slice(), t.join_keys(q))
+}
+
+/// A whole query on these tuples, where its operators fit the rows that come to them: its branch, or its two branches
+/// joined and taken through the operators after the join.
+pub fn query_rows(
+    alloc: Global,
+    t: &Typed,
+    q: u32,
+    level: u32,
+    kept: Option<Kept>,
+    tuples: &[Tuple],
+) -> Result<Seq<Row>, Memory>
+    requires query { q < length t.now.queries }
+    requires level { list_any (nat_eq level) (query_at t.now.queries q).levels ≡ true }
+    requires kept { OfALevel (query_at t.now.queries q) kept }
+    requires fits { BranchFits (query_at t.now.queries q) 0 level kept tuples.now }
+    requires join { length (query_at t.now.queries q).branches ≡ 2 → JoinFits (query_at t.now.queries q) level kept tuples.now }
+    ensures { IfOk result (λ rows. rows ≡ query_rows (query_at t.now.queries q) level kept.entry tuples.now) }
+{
+    if t.branches(q) == 2 {
+        let rows = joined_rows(alloc, t, q, level, kept, tuples)?;
+        run(alloc, query_of(t, q).posts.as_slice(), level, rows)
+    } else {
+        branch_rows(alloc, t, q, 0, level, kept, tuples)
+    }
+}

@@ -1,0 +1,87 @@
+//! Tests of the operators on small lists of rows.
+ghost use Rattle.std.specs.Prelude.{◌≡◌, ◌≤◌, length};
+
+use crate::flow::run;
+use crate::group::{distinct, reduce};
+use crate::join::join;
+use crate::select::{filter, map};
+use sn_base::any_fold::AnyFold;
+use sn_base::fold::Min;
+use sn_base::row::Row;
+use sn_base::seq::Seq;
+use sn_grammar::ast::Cmp;
+use sn_types::typed_op::{JoinKey, TCond, TExpr, TOp, TReduce};
+use std::alloc::Global;
+use std::test::Fail;
+
+fn row(columns: &[u64]) -> Row
+    requires { length columns.now ≤ 8 }
+    ensures { result ≡ columns.now }
+{
+    match Row::new(columns) {
+        Some(row) => row,
+        None => unreachable!(),
+    }
+}
+
+#[test]
+fn groups_of_no_rows_are_none(rt: HostRuntime) -> Result<(), Fail> {
+    let once = distinct(rt.alloc(), &[])?;
+    assert_eq!(rt; once.as_slice().len(), 0);
+    let r = TReduce {
+        keys: Seq::new(rt.alloc()),
+        value: 0,
+        fold: AnyFold::Min(Min { v: 3 }),
+    };
+    let reduced = reduce(rt.alloc(), &[], &r)?;
+    assert_eq!(rt; reduced.as_slice().len(), 0);
+    Ok(())
+}
+
+#[test]
+fn joins_on_the_first_column(rt: HostRuntime) -> Result<(), Fail> {
+    let left = [row(&[1, 10]), row(&[1, 11]), row(&[2, 12])];
+    let right = [row(&[1, 20]), row(&[3, 21])];
+    let keys = [JoinKey { left: 0, right: 0 }];
+    let pairs = join(rt.alloc(), &left, &right, &keys)?;
+    assert_eq!(rt;
+        pairs.as_slice(),
+        [row(&[1, 10, 20]), row(&[1, 11, 20])].as_slice()
+    );
+    Ok(())
+}
+
+fn above_one(alloc: Global) -> TCond
+    ensures { result.col ≡ 0 }
+{
+    TCond {
+        col: 0,
+        and: u64::MAX,
+        cmp: Cmp::Gt,
+        own: 1,
+        relaxed: Seq::new(alloc),
+    }
+}
+
+#[test]
+fn filters_and_maps(rt: HostRuntime) -> Result<(), Fail> {
+    let rows = [row(&[1]), row(&[2])];
+    let conds = [above_one(rt.alloc())];
+    let kept = filter(rt.alloc(), &rows, &conds, 0)?;
+    assert_eq!(rt; kept.as_slice(), [row(&[2])].as_slice());
+    let cols = [TExpr::Copy(0), TExpr::Const(7)];
+    let made = map(rt.alloc(), &[row(&[1])], &cols)?;
+    assert_eq!(rt; made.as_slice(), [row(&[1, 7])].as_slice());
+    Ok(())
+}
+
+#[test]
+fn runs_operators_one_after_another(rt: HostRuntime) -> Result<(), Fail> {
+    let mut rows = Seq::new(rt.alloc());
+    rows.push(row(&[5]))?;
+    rows.push(row(&[5]))?;
+    rows.push(row(&[4]))?;
+    let out = run(rt.alloc(), &[TOp::Distinct], 0, rows)?;
+    assert_eq!(rt; out.as_slice(), [row(&[5]), row(&[4])].as_slice());
+    Ok(())
+}
