@@ -1,5 +1,5 @@
 -- Single tokens of the plan text as the code reads them.
-use Rattle.std.proofs.Common.{◌≡◌, ℕ, List, Result, Ok, Err, refl}
+use Rattle.std.proofs.Common.{◌≡◌, ℕ, List, Ok, Err, refl}
 use Rattle.sn_rules.specs.declared.Flaw.{Flaw}
 use Rattle.sn_rules.specs.Tokens.{Tok, got, fails}
 use Rattle.sn_rules.specs.Rules.{kept, token_at}

@@ -1,10 +1,10 @@
 -- The plan of a whole text.
-use Rattle.std.proofs.Common.{◌≡◌, ℕ, Bool, true, false, cond, List, [], ◌∷◌, ◌++◌, Result, Ok, Err, refl, sym, ap, subst, ◌∙◌, append_assoc}
-use Rattle.std.proofs.lemmas.List.{append-nil, append_cancel_right}
+use Rattle.std.proofs.Common.{◌≡◌, ℕ, Bool, true, cond, List, [], ◌∷◌, ◌++◌, Result, Ok, Err, refl, sym, ap, subst, ◌∙◌, append_assoc}
+use Rattle.std.proofs.lemmas.List.{append_cancel_right}
 use Rattle.sn_rules.specs.declared.Flaw.{Flaw}
 use Rattle.sn_rules.specs.declared.Flaw.TheVariants as flaws
-use Rattle.sn_rules.specs.Tokens.{Lexeme, word, number, symbol, finish, bad, Tok, Spelled, Read, got, fails, bind}
-use Rattle.sn_rules.specs.Rules.{kept, token_at, FirstFault, Accepts}
+use Rattle.sn_rules.specs.Tokens.{Tok, Spelled, Read, got, fails}
+use Rattle.sn_rules.specs.Rules.{kept}
 use Rattle.sn_rules.specs.Words.{judged_by}
 use Rattle.sn_rules.proofs.Common.{same_value, same_rest, respelled, spelled_append}
 use Rattle.sn_rules.proofs.Faults.{fault_of as first_fault}
@@ -15,13 +15,13 @@ use Rattle.sn_read.specs.declared.stop.Stop.TheVariants as stops
 use Rattle.sn_read.specs.Reading.{Halts}
 use Rattle.sn_read.proofs.Tokens.{Next, halts}
 use Rattle.sn_plan_rules.specs.declared.plan.Plan.{Plan}
-use Rattle.sn_plan_rules.specs.Grammar.{end_face, cost_in, end_in, any_end, end_rule, plan_rule, file_rule}
+use Rattle.sn_plan_rules.specs.Grammar.{end_in, any_end, end_rule, plan_rule, file_rule}
 use Rattle.sn_plan_rules.proofs.Goods.{plan_good, end_good, file_good, ends}
 use Rattle.sn_plan_rules.proofs.Flaws.{file_says}
 use Rattle.sn_plan.specs.declared.fault.PlanFault.{PlanFault}
 use Rattle.sn_plan.specs.declared.fault.PlanFault.TheVariants as faults
-use Rattle.sn_plan.specs.Reading.{BeginsAt, Ends, ReadsPlan}
-use Rattle.sn_plan.specs.Texts.{StandsFor, FaultAt, IsFault, fault_of, line_of, Answers}
+use Rattle.sn_plan.specs.Reading.{BeginsAt}
+use Rattle.sn_plan.specs.Texts.{StandsFor, IsFault, fault_of, line_of, Answers}
 
 -- ---- the end of a plan
 

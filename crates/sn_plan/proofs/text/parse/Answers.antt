@@ -1,4 +1,3 @@
-use Rattle.std.proofs.Common.{◌≡◌}
 use Rattle.sn_plan.proofs.Plans.{found_so, only_so, none_so, fault_so}
 use Rattle.sn_plan.proofs.text.parse.Goals as goal
 
