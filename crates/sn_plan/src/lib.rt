@@ -6,6 +6,7 @@ pub use sn_plan_rules::{plan, short};
 mod canonical;
 mod entries;
 pub mod fault;
+pub mod laws;
 mod lists;
 mod pieces;
 #[cfg(test)]
