@@ -1,5 +1,5 @@
 -- What the productions of operators say of their values.
-use Rattle.std.proofs.Common.{◌≡◌, ℕ, zero, suc, ◌<◌, ◌≤◌, false, List, [], ◌∷◌, length, map, refl, sym, ap, subst, arith, inl, inr}
+use Rattle.std.proofs.Common.{◌≡◌, ℕ, zero, suc, ◌<◌, ◌≤◌, ◌^◌, false, List, [], ◌∷◌, length, map, refl, sym, ap, subst, arith, inl, inr}
 use Rattle.std.specs.List.{AllByRecursion, list_any}
 use Rattle.sn_base.specs.Groups.{Apart, same_row}
 use Rattle.sn_rules.specs.Rules.{kept}
@@ -49,9 +49,12 @@ filter_keeps conds h =
 shift_small : (k : ℕ) → (number_in 0 63).fits kept k → k < 64
 shift_small k h = let most : k ≤ 63 = (number_within 0 63 k h).to_most in omega (arith, most)
 
+constant_small : (n : ℕ) → (number_in 0 18446744073709551615).fits kept n → n < 2 ^ 64
+constant_small n h = let most : n ≤ 18446744073709551615 = (number_within 0 18446744073709551615 n h).to_most in omega (arith, most)
+
 expr_keeps : (e : Expr) → expr_rule.fits kept e → IsBranchExpr e
 unfolding expr_rule
-expr_keeps (Const n) h = tt
+expr_keeps (Const n) h = constant_small n h
 expr_keeps (Copy a) h = tt
 expr_keeps (Mask a bits) h = tt
 expr_keeps (Shift a k) h = shift_small k h.1.1
@@ -60,7 +63,7 @@ expr_keeps (Ratio a k b) h = h
 
 post_expr_keeps : (e : Expr) → post_expr_rule.fits kept e → IsPostExpr e
 unfolding post_expr_rule
-post_expr_keeps (Const n) h = tt
+post_expr_keeps (Const n) h = constant_small n h
 post_expr_keeps (Copy a) h = tt
 post_expr_keeps (Mask a bits) h = tt
 post_expr_keeps (Shift a k) h = shift_small k h.1.1
