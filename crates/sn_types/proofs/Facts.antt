@@ -4,7 +4,7 @@ use Rattle.std.proofs.lemmas.List.{length-map}
 use Rattle.std.proofs.lemmas.Bool.{ltb-false}
 use Rattle.std.proofs.Math.Bridge.{le_prop}
 use Rattle.std.proofs.Math.Logic.{∥∥₁_elim}
-use Rattle.std.specs.List.{flat_map, list_any}
+use Rattle.std.specs.List.{AllByRecursion, flat_map, list_any}
 use Rattle.std.specs.Option.{option_map_or}
 use Rattle.sn_base.proofs.Lists.{by_test, nat_same}
 use Rattle.sn_base.specs.declared.column.Column.{Column}
@@ -21,7 +21,7 @@ use Rattle.sn_walk.specs.Names.{fields_among, packet_fields, names_read, names_t
 use Rattle.sn_walk.specs.declared.fault.TypeFault.TheVariants.{UnknownField, UnknownColumn, TooWide, NoMap, RefineLost, RefineFilter, Levels}
 use Rattle.sn_walk.specs.Columns.{columns_after, packet_columns}
 use Rattle.sn_walk.specs.Faults.{unknown_field, unknown_column, too_wide, no_map, refine_lost, refine_filter, wrong_levels, narrow_sum, are_rising, wrong_refine, wrong_field_levels, out_of_range, refine_fault}
-use Rattle.sn_walk.specs.Limits.{BranchLimits, AreJoined, Within}
+use Rattle.sn_walk.specs.Limits.{BranchLimits, BranchOp, AreJoined, Within}
 use Rattle.sn_walk.specs.Walk.Place.{Operator}
 use Rattle.sn_walk.specs.Walk.{Place, is_end, first_fault, fault_at, refine_places, branch_places, join_places, query_places, operator_places, scope_after, scope_before, refine_levels}
 use Rattle.sn_types.specs.declared.typed_query.TypedBranch.{TypedBranch}
@@ -125,6 +125,7 @@ pub record BranchSource (queries : List TypedQuery) (q b : ℕ) : Type 0 where
   pub ops : List Op
   pub refine : Option Refine
   pub count : Within 1 12 (length ops)
+  pub each : AllByRecursion (λ op. BranchOp op.what) ops
   pub no_fault : first_fault (branch_places refine ops) ≡ None
   pub is : branch_at queries q b ≡ typed_branch ops
 
@@ -141,6 +142,7 @@ branch_source_of window queries q b t lt within =
       ops = got.0.ops;
       refine = s.query.refine;
       count = got.1.0.count;
+      each = got.1.0.each;
       no_fault = got.1.1;
       is = ap (λ (bs : List TypedBranch). unwrap_or (slice_get bs b) blank_branch) branches ∙ got.2;
     }

@@ -56,7 +56,7 @@ pub all_back : {X : Type 0} (P : X → Type 0) (xs ys : List X) → AllByRecursi
 all_back P [] ys h = h
 all_back P (x ∷ xs) ys h = all_back P xs ys h.1
 
-all_parts : {X Y : Type 0} (P : Y → Type 0) (f : X → List Y) (xs : List X) → AllByRecursion P (flat_map f xs) → AllByRecursion (λ x. AllByRecursion P (f x)) xs
+pub all_parts : {X Y : Type 0} (P : Y → Type 0) (f : X → List Y) (xs : List X) → AllByRecursion P (flat_map f xs) → AllByRecursion (λ x. AllByRecursion P (f x)) xs
 all_parts P f [] h = tt
 all_parts P f (x ∷ xs) h = (all_front P (f x) (flat_map f xs) h, all_parts P f xs (all_back P (f x) (flat_map f xs) h))
 
@@ -93,26 +93,6 @@ ShiftsLawfully (what.Filter conds) = Unit {0}
 ShiftsLawfully (what.Map cols) = AllByRecursion (λ c. IsPostExpr c.expr) cols
 ShiftsLawfully what.Distinct = Unit {0}
 ShiftsLawfully (what.Reduce r) = Unit {0}
-
-branch_expr : (e : Expr) → IsBranchExpr e → IsPostExpr e
-branch_expr (Const n) h = h
-branch_expr (Copy a) h = tt
-branch_expr (Mask a bits) h = tt
-branch_expr (Shift a k) h = h
-branch_expr (Sum a b) h = tt
-branch_expr (Ratio a k b) h = tt
-
-pub branch_shifts : (w : What) → BranchOp w → ShiftsLawfully w
-branch_shifts (what.Filter conds) h = tt
-branch_shifts (what.Map cols) h = all_weaker (λ c. IsBranchExpr c.expr) (λ c. IsPostExpr c.expr) (λ c. branch_expr c.expr) cols h.2
-branch_shifts what.Distinct h = tt
-branch_shifts (what.Reduce r) h = tt
-
-pub post_shifts : (w : What) → PostOp w → ShiftsLawfully w
-post_shifts (what.Filter conds) h = tt
-post_shifts (what.Map cols) h = h.2
-post_shifts what.Distinct h = tt
-post_shifts (what.Reduce r) h = tt
 
 reads_within : (columns : List Column) (e : Expr) → IsPostExpr e → AllByRecursion (IsKnown columns) (names_in e) → ReadsWithin (length columns) (typed_expr columns e)
 reads_within columns (Const n) s h = tt
@@ -166,7 +146,7 @@ has_field names n (f ∷ table) found among =
     (λ dropped. ap (λ b. has_column (map field_column (cond b (f ∷ rest) rest)) n) dropped ∙ later))
 
 -- at most eight columns are a schema
-whole_schema : (columns : List Column) → length columns ≤ 8 → as_schema columns ≡ columns
+pub whole_schema : (columns : List Column) → length columns ≤ 8 → as_schema columns ≡ columns
 whole_schema columns few = ap (λ b. cond b columns []) (le-leb (length columns) 8 few)
 
 field_known : (ops : List Op) (n : Name) → length (packet_fields ops) ≤ 8 → is_none (with_name n) ≡ false → is_in n (names_to_map ops) ≡ true → IsKnown (packet_columns ops) n

@@ -3,5 +3,9 @@ pub mod Items
 pub mod Known
 pub mod RefinedLemmas
 pub mod RowLemmas
+pub mod RowsAfter
+pub mod Schemas
+pub mod Sound
 pub mod Sources
+pub mod TypedRows
 pub mod WellFormedLemmas

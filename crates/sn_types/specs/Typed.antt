@@ -1,5 +1,5 @@
 -- What a typed file tells of its queries.
-use Rattle.std.specs.Prelude.{◌≡◌, ℕ, List, [], map, length, Bool, false, not, ◌&&◌, ◌==◌, Option, None, Some, slice_get, slice_index, unwrap_or, if◌then◌else◌}
+use Rattle.std.specs.Prelude.{◌≡◌, ℕ, ◌<◌, ◌^◌, List, [], map, length, Bool, false, not, ◌&&◌, ◌==◌, Option, None, Some, slice_get, slice_index, unwrap_or, if◌then◌else◌}
 use Rattle.sn_base.specs.declared.column.Column.{Column}
 use Rattle.sn_base.specs.Groups.{Row}
 use Rattle.sn_base.specs.Mask.{masked}
@@ -48,11 +48,22 @@ operator_at ops i = unwrap_or (slice_get ops i) Distinct
 abbrev pub schema_at : List (List Column) → ℕ → List Column
 schema_at schemas i = unwrap_or (slice_get schemas i) []
 
+-- the columns of a branch's packet rows, and those of its rows behind its operators
+abbrev pub first_columns : TypedBranch → List Column
+first_columns branch = schema_at branch.schemas 0
+
+abbrev pub end_columns : TypedBranch → List Column
+end_columns branch = schema_at branch.schemas (length branch.ops)
+
 -- the columns of a query's answers
 abbrev pub final_columns : TypedQuery → List Column
 final_columns query = schema_at query.schemas (length query.posts)
 
 -- ---- packet rows
+
+-- each number of a tuple has the width of its field
+abbrev pub HasWidths : List ℕ → Type 0
+HasWidths tuple = (f : Field) → slice_index tuple (number_of f) < 2 ^ width_of f
 
 abbrev pub is_field : Option Field → Field → Bool
 is_field None f = false

@@ -1,7 +1,8 @@
 //! A typed file of queries.
 ghost use Rattle.std.specs.Prelude.{◌≡◌, ◌<◌, ◌≤◌, ◌*◌, IfOk, length, nat_eq, true};
 ghost use Rattle.std.specs.List.{list_any};
-ghost use Rattle.sn_types.specs.Typed.{IsTyped, query_at, branch_at, operator_at, schema_at, final_columns, packet_row};
+ghost use Rattle.sn_base.specs.Columns.{IsOf};
+ghost use Rattle.sn_types.specs.Typed.{IsTyped, query_at, branch_at, operator_at, schema_at, first_columns, final_columns, packet_row};
 
 use crate::copies::copy_queries;
 use crate::packet::row_of;
@@ -206,7 +207,8 @@ impl Typed {
         requires query { q < length self.now.queries }
         requires branch { b < length (query_at self.now.queries q).branches }
         requires level { list_any (nat_eq level) (query_at self.now.queries q).levels ≡ true }
-        ensures { result ≡ packet_row (query_at self.now.queries q).field level (branch_at self.now.queries q b).fields tuple.now }
+        ensures row { result ≡ packet_row (query_at self.now.queries q).field level (branch_at self.now.queries q b).fields tuple.now }
+        ensures columns { IsOf (first_columns (branch_at self.now.queries q b)) result }
     {
         row_of(self.refine_field(q), level, self.packet_fields(q, b), tuple)
     }

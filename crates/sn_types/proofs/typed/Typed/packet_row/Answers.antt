@@ -2,7 +2,13 @@ use Rattle.sn_types.proofs.Facts.{level_of_field}
 use Rattle.std.proofs.Common.{◌≤◌, sym, IfSome, subst, Option}
 use Rattle.sn_fields.specs.declared.field.Field.{Field}
 use Rattle.sn_fields.specs.Fields.{width_of}
+use Rattle.sn_types.specs.Typed.{branch_at}
+use Rattle.sn_types.proofs.TypedRows.{of_fields}
 use Rattle.sn_types.proofs.typed.Typed.packet_row.Goals as goal
 
 pub row_of-requires-clause-level : goal.row_of-requires-clause-level
 row_of-requires-clause-level c = subst (λ (o : Option Field). IfSome o (λ other. c.args.level ≤ width_of other)) (sym c.refine_field.ensures) (level_of_field c.args.self.now.window_us c.args.self.now.queries c.args.q c.args.level c.args.self.now.typed c.requires.query c.requires.level)
+
+pub returns-clause-columns : goal.returns-clause-columns
+returns-clause-columns c =
+    of_fields c.args.self.now.window_us c.args.self.now.queries c.args.q c.args.b c.packet_fields.result.now c.row_of.result c.args.self.now.typed c.requires.query c.requires.branch c.packet_fields.ensures.fields c.row_of.ensures.columns

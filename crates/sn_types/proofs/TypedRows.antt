@@ -1,0 +1,41 @@
+-- The schemas of a typed branch are the columns along its operators.
+use Rattle.std.proofs.Common.{◌≡◌, ℕ, ◌<◌, List, [], ◌∷◌, map, length, refl, ap, sym, ◌∙◌, subst}
+use Rattle.std.proofs.Math.Logic.{∥∥₁_elim}
+use Rattle.sn_base.specs.Columns.{IsOf}
+use Rattle.sn_base.specs.Groups.{Row}
+use Rattle.sn_base.specs.declared.column.Column.{Column}
+use Rattle.sn_fields.specs.declared.field.Field.{Field}
+use Rattle.sn_grammar.specs.declared.ast.Op.{Op}
+use Rattle.sn_walk.specs.Columns.{columns_after, field_column, packet_columns}
+use Rattle.sn_walk.specs.Names.{packet_fields}
+use Rattle.sn_walk.specs.Walk.{scope_after, scope_end}
+use Rattle.sn_walk.specs.declared.scope.Scope.{Scope}
+use Rattle.sn_types.specs.declared.typed_query.TypedBranch.{TypedBranch}
+use Rattle.sn_types.specs.declared.typed_query.TypedQuery.{TypedQuery}
+use Rattle.sn_types.specs.Typed.{IsTyped, query_at, branch_at, schema_at, first_columns}
+use Rattle.sn_types.specs.Typing.{typed_branch, typed_ops, schemas_along}
+use Rattle.sn_types.proofs.Facts.{branch_source_of, few_packet_fields}
+use Rattle.sn_types.proofs.RowsAfter.{of_prop}
+use Rattle.sn_types.proofs.Schemas.{columns_along, packet_whole}
+
+pub first_along : (columns : List Column) (ops : List Op) → schema_at (schemas_along columns ops) 0 ≡ columns
+first_along columns [] = refl
+first_along columns (op ∷ ops) = refl
+
+pub end_along : (columns : List Column) (ops : List Op) → schema_at (schemas_along columns ops) (length (typed_ops columns ops)) ≡ columns_along columns ops
+end_along columns [] = refl
+end_along columns (op ∷ ops) = end_along (columns_after columns op.what) ops
+
+pub scope_along : (scope : Scope) (ops : List Op) → (scope_end scope ops).columns ≡ columns_along scope.columns ops
+scope_along scope [] = refl
+scope_along scope (op ∷ ops) = scope_along (scope_after scope op.what) ops
+
+-- a row of a branch's fields is one of its first columns
+pub of_fields : (window : ℕ) (queries : List TypedQuery) (q b : ℕ) (fields : List Field) (row : Row) → ∥ IsTyped window queries ∥₁ → q < length queries → b < length (query_at queries q).branches
+    → fields ≡ (branch_at queries q b).fields → IsOf (map field_column fields) row → IsOf (first_columns (branch_at queries q b)) row
+of_fields window queries q b fields row t lt within same of =
+    ∥∥₁_elim t (of_prop (first_columns (branch_at queries q b)) row) (λ t.
+    let s = branch_source_of window queries q b t lt within in
+    let columns = ap (map field_column) (same ∙ ap (λ (x : TypedBranch). x.fields) s.is)
+    ∙ sym (packet_whole s.ops (few_packet_fields s.refine s.ops s.no_fault)) ∙ sym (first_along (packet_columns s.ops) s.ops) ∙ ap (λ (x : TypedBranch). first_columns x) (sym s.is) in
+    subst (λ (cs : List Column). IsOf cs row) columns of)
