@@ -71,7 +71,7 @@ all_tt : {X : Type 0} (xs : List X) → AllByRecursion (λ x. Unit {0}) xs
 all_tt [] = tt
 all_tt (x ∷ xs) = (tt, all_tt xs)
 
-rows_fit : (level : ℕ) (ops : List TOp) (rows : List Row) → AllFit level ops rows → AllByRecursion (FrontFits level ops) rows
+pub rows_fit : (level : ℕ) (ops : List TOp) (rows : List Row) → AllFit level ops rows → AllByRecursion (FrontFits level ops) rows
 rows_fit level [] rows h = all_tt rows
 rows_fit level (Filter conds ∷ ops) rows h =
     let t : Row → Bool = λ row. list_all (λ c. holds level c row) conds in

@@ -1,9 +1,10 @@
 //! Whole queries on tuples, with no switch.
 ghost use Rattle.std.specs.Prelude.{◌≡◌, ◌<◌, ◌&&◌, length, filter, nat_eq, true, Option, Some, None, IfOk, if◌then◌else◌};
-ghost use Rattle.std.specs.List.{list_any};
+ghost use Rattle.std.specs.List.{list_any, AllByRecursion};
+ghost use Rattle.sn_base.specs.Columns.{IsOf};
 ghost use Rattle.sn_ops.specs.Packets.{is_kept, OfALevel, packet_rows};
 ghost use Rattle.sn_ops.specs.Plain.{passes_front, branch_rows, joined_rows, query_rows, FrontFits, BranchFits, JoinFits};
-ghost use Rattle.sn_types.specs.Typed.{branch_of, packet_row, query_at};
+ghost use Rattle.sn_types.specs.Typed.{branch_of, branch_at, packet_row, query_at, first_columns, end_columns, final_columns, schema_at};
 
 use crate::flow::run;
 use crate::front::{behind_front, passes_front};
@@ -59,8 +60,8 @@ fn front_row(
     requires branch { b < length (query_at t.now.queries q).branches }
     requires level { list_any (nat_eq level) (query_at t.now.queries q).levels ≡ true }
     requires kept { OfALevel (query_at t.now.queries q) kept }
-    requires fits { is_kept (query_at t.now.queries q).field kept tuple.now ≡ true → FrontFits level (branch_of (query_at t.now.queries q) b).ops (packet_row (query_at t.now.queries q).field level (branch_of (query_at t.now.queries q) b).fields tuple.now) }
-    ensures { let query = query_at t.now.queries q in let row = packet_row query.field level (branch_of query b).fields tuple.now in result ≡ (if is_kept query.field kept.entry tuple.now && passes_front level (branch_of query b).ops row then Some row else None) }
+    ensures row { let query = query_at t.now.queries q in let row = packet_row query.field level (branch_of query b).fields tuple.now in result ≡ (if is_kept query.field kept.entry tuple.now && passes_front level (branch_of query b).ops row then Some row else None) }
+    ensures columns { is_kept (query_at t.now.queries q).field kept.entry tuple.now ≡ true → IsOf (first_columns (branch_at t.now.queries q b)) (packet_row (query_at t.now.queries q).field level (branch_at t.now.queries q b).fields tuple.now) }
 {
     if !is_kept(t, q, kept, tuple) {
         return None;
@@ -87,8 +88,8 @@ fn front_rows(
     requires branch { b < length (query_at t.now.queries q).branches }
     requires level { list_any (nat_eq level) (query_at t.now.queries q).levels ≡ true }
     requires kept { OfALevel (query_at t.now.queries q) kept }
-    requires fits { BranchFits (query_at t.now.queries q) b level kept tuples.now }
-    ensures { let query = query_at t.now.queries q in IfOk result (λ rows. rows ≡ filter (passes_front level (branch_of query b).ops) (packet_rows query b level kept.entry tuples.now)) }
+    ensures rows { let query = query_at t.now.queries q in IfOk result (λ rows. rows ≡ filter (passes_front level (branch_of query b).ops) (packet_rows query b level kept.entry tuples.now)) }
+    ensures columns { IfOk result (λ _. AllByRecursion (IsOf (first_columns (branch_at t.now.queries q b))) (packet_rows (query_at t.now.queries q) b level kept.entry tuples.now)) }
 {
     let mut rows = Seq::new(alloc);
     for tuple in tuples {
@@ -99,8 +100,8 @@ fn front_rows(
     Ok(rows)
 }
 
-/// A branch on these tuples, where its operators fit the rows that come to them: the packet rows of the tuples that
-/// are kept, through the operators in the order of the text.
+/// A branch on these tuples: the packet rows of the tuples that are kept, through the operators in the order of the
+/// text.
 pub fn branch_rows(
     alloc: Global,
     t: &Typed,
@@ -114,8 +115,8 @@ pub fn branch_rows(
     requires branch { b < length (query_at t.now.queries q).branches }
     requires level { list_any (nat_eq level) (query_at t.now.queries q).levels ≡ true }
     requires kept { OfALevel (query_at t.now.queries q) kept }
-    requires fits { BranchFits (query_at t.now.queries q) b level kept tuples.now }
-    ensures { IfOk result (λ rows. rows ≡ branch_rows (query_at t.now.queries q) b level kept.entry tuples.now) }
+    ensures rows { IfOk result (λ rows. rows ≡ branch_rows (query_at t.now.queries q) b level kept.entry tuples.now) }
+    ensures columns { IfOk result (λ rows. AllByRecursion (IsOf (end_columns (branch_at t.now.queries q b))) rows) }
 {
     let rows = front_rows(alloc, t, q, b, level, kept, tuples)?;
     run(alloc, behind_front(operators(t, q, b)), level, rows)
@@ -143,8 +144,8 @@ fn joined_rows(
     join(alloc, left.as_slice(), right.as_slice(), t.join_keys(q))
 }
 
-/// A whole query on these tuples, where its operators fit the rows that come to them: its branch, or its two branches
-/// joined and taken through the operators after the join.
+/// A whole query on these tuples: its branch, or its two branches joined and taken through the operators after the
+/// join.
 pub fn query_rows(
     alloc: Global,
     t: &Typed,

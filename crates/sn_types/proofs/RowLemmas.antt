@@ -30,7 +30,7 @@ prefix_within p (x ∷ xs) any =
     (λ is. subst P (sym is) (omega arith))
     (λ isnt. let later = prefix_within p xs (sym (ap (λ b. b || list_any p xs) isnt) ∙ any) in subst P (sym isnt) (omega (arith, later)))
 
-place_is : {X : Type 0} (p : X → Bool) (xs : List X) → list_any p xs ≡ true → unwrap_or (position p xs) 0 ≡ position_or_len p xs
+pub place_is : {X : Type 0} (p : X → Bool) (xs : List X) → list_any p xs ≡ true → unwrap_or (position p xs) 0 ≡ position_or_len p xs
 place_is p xs any = ap (λ b. unwrap_or (cond b (Some (position_or_len p xs)) None) 0) (lt-ltb (position_or_len p xs) (length xs) (prefix_within p xs any))
 
 at_width : (p : Column → Bool) (d : Column) (columns : List Column) (row : List ℕ) → IsOf columns row → list_any p columns ≡ true

@@ -22,7 +22,7 @@ use Rattle.sn_types.proofs.Facts.{few_packet_fields}
 use Rattle.sn_types.proofs.Known.{ShiftsLawfully, stays_within}
 use Rattle.sn_types.proofs.Sound.{OpLimits, AreSound, sound_branch, sound_posts}
 
-op_shifts : (w : What) → OpLimits w → ShiftsLawfully w
+pub op_shifts : (w : What) → OpLimits w → ShiftsLawfully w
 op_shifts (what.Filter conds) h = tt
 op_shifts (what.Map cols) h = h.2
 op_shifts what.Distinct h = tt
