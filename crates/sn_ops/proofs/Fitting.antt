@@ -38,7 +38,7 @@ use Rattle.sn_ops.specs.Flow.{Fits, AllFit, CondsFit, ExprsFit, ReduceFits}
 -- ---- one operator
 
 -- what holds of each item for a count of columns holds at each row of as many
-at_each : {X : Type 0} (P : ℕ → X → Type 0) (columns : List Column) (xs : List X) (rows : List Row) → AllByRecursion (P (length columns)) xs → AreOf columns rows → All (λ row. All (P (length row)) xs) rows
+pub at_each : {X : Type 0} (P : ℕ → X → Type 0) (columns : List Column) (xs : List X) (rows : List Row) → AllByRecursion (P (length columns)) xs → AreOf columns rows → All (λ row. All (P (length row)) xs) rows
 at_each P columns xs rows h of =
     All-from_recursion (λ row. All (P (length row)) xs) rows
     (all_weaker (IsOf columns) (λ row. All (P (length row)) xs) (λ row is. All-from_recursion (P (length row)) xs (subst (λ (n : ℕ). AllByRecursion (P n) xs) (sym (as_long columns row is)) h)) rows of)

@@ -135,9 +135,8 @@ fn joined_rows(
     requires branches { length (query_at t.now.queries q).branches ≡ 2 }
     requires level { list_any (nat_eq level) (query_at t.now.queries q).levels ≡ true }
     requires kept { OfALevel (query_at t.now.queries q) kept }
-    requires left { BranchFits (query_at t.now.queries q) 0 level kept tuples.now }
-    requires join { JoinFits (query_at t.now.queries q) level kept tuples.now }
-    ensures { IfOk result (λ rows. rows ≡ joined_rows (query_at t.now.queries q) level kept.entry tuples.now) }
+    ensures rows { IfOk result (λ rows. rows ≡ joined_rows (query_at t.now.queries q) level kept.entry tuples.now) }
+    ensures columns { IfOk result (λ rows. AllByRecursion (IsOf (schema_at (query_at t.now.queries q).schemas 0)) rows) }
 {
     let left = branch_rows(alloc, t, q, 0, level, kept, tuples)?;
     let right = branch_rows(alloc, t, q, 1, level, kept, tuples)?;
@@ -157,9 +156,8 @@ pub fn query_rows(
     requires query { q < length t.now.queries }
     requires level { list_any (nat_eq level) (query_at t.now.queries q).levels ≡ true }
     requires kept { OfALevel (query_at t.now.queries q) kept }
-    requires fits { BranchFits (query_at t.now.queries q) 0 level kept tuples.now }
-    requires join { length (query_at t.now.queries q).branches ≡ 2 → JoinFits (query_at t.now.queries q) level kept tuples.now }
-    ensures { IfOk result (λ rows. rows ≡ query_rows (query_at t.now.queries q) level kept.entry tuples.now) }
+    ensures rows { IfOk result (λ rows. rows ≡ query_rows (query_at t.now.queries q) level kept.entry tuples.now) }
+    ensures columns { IfOk result (λ rows. AllByRecursion (IsOf (final_columns (query_at t.now.queries q))) rows) }
 {
     if t.branches(q) == 2 {
         let rows = joined_rows(alloc, t, q, level, kept, tuples)?;

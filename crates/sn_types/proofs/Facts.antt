@@ -116,7 +116,7 @@ level_fits (Some r) level none among =
 
 -- ---- where a branch comes from
 
-parts_of : (q : Query) → first_fault (query_places q) ≡ None → (first_fault (refine_places q.refine) ≡ None) × (first_fault (flat_map (λ (x : Branch). branch_places q.refine x.ops) q.branches) ≡ None)
+pub parts_of : (q : Query) → first_fault (query_places q) ≡ None → (first_fault (refine_places q.refine) ≡ None) × (first_fault (flat_map (λ (x : Branch). branch_places q.refine x.ops) q.branches) ≡ None)
 parts_of q none =
     let branches : List Place = flat_map (λ (x : Branch). branch_places q.refine x.ops) q.branches in
     none_in_both (refine_places q.refine) branches (none_in_both (refine_places q.refine ++ branches) (join_places q.refine q.branches q.join) none).0

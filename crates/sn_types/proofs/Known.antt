@@ -82,7 +82,7 @@ place_within p xs any =
 abbrev pub IsKnown : List Column → Name → Type 0
 IsKnown columns n = has_column columns n ≡ true
 
-known_place : (columns : List Column) (n : Name) → IsKnown columns n → place_of columns n < length columns
+pub known_place : (columns : List Column) (n : Name) → IsKnown columns n → place_of columns n < length columns
 known_place columns n h = place_within (λ c. same_name c.name n) columns h
 
 -- ---- operators

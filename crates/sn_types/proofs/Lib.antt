@@ -1,5 +1,6 @@
 pub mod Facts
 pub mod Items
+pub mod Joining
 pub mod Known
 pub mod RefinedLemmas
 pub mod RowLemmas
