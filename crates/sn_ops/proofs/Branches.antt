@@ -1,9 +1,9 @@
 -- What the branches of typed queries give.
-use Rattle.std.proofs.Common.{◌≡◌, ℕ, ◌+◌, ◌<◌, List, [], ◌∷◌, ◌++◌, map, filter, take, length, get_or, Bool, true, false, cond, ap, sym, ◌∙◌, subst}
+use Rattle.std.proofs.Common.{◌≡◌, ℕ, ◌+◌, ◌<◌, List, [], ◌∷◌, ◌++◌, map, filter, take, length, get_or, Bool, true, false, cond, Option, refl, ap, sym, ◌∙◌, subst}
 use Rattle.std.proofs.Math.Logic.{∥∥₁_elim}
 use Rattle.std.proofs.lemmas.List.{map-append}
 use Rattle.std.specs.List.{AllByRecursion, AllByRecursion-prop}
-use Rattle.sn_base.proofs.Lists.{by_test, all_append}
+use Rattle.sn_base.proofs.Lists.{by_test, all_append, all_filter, all_map, all_weaker}
 use Rattle.sn_base.specs.Columns.{IsOf}
 use Rattle.sn_base.specs.Groups.{Row}
 use Rattle.sn_base.specs.Operators.{through}
@@ -12,16 +12,19 @@ use Rattle.sn_walk.specs.Columns.{packet_columns}
 use Rattle.sn_types.specs.declared.typed_op.TOp.{TOp}
 use Rattle.sn_types.specs.declared.typed_query.TypedBranch.{TypedBranch}
 use Rattle.sn_types.specs.declared.typed_query.TypedQuery.{TypedQuery}
-use Rattle.sn_types.specs.Typed.{IsTyped, query_at, branch_at, first_columns, end_columns}
+use Rattle.sn_types.specs.Typed.{IsTyped, HasWidths, packet_row, query_at, branch_at, first_columns, end_columns}
 use Rattle.sn_types.specs.Typing.{typed_ops}
 use Rattle.sn_types.specs.Values.{op_at}
 use Rattle.sn_types.proofs.Facts.{branch_source_of, few_packet_fields}
-use Rattle.sn_types.proofs.RowsAfter.{AreOf, of_prop}
+use Rattle.sn_types.proofs.RowsAfter.{AreOf, of_prop, packet_of}
 use Rattle.sn_types.proofs.Schemas.{columns_along, packet_schema}
 use Rattle.sn_types.proofs.Sound.{sound_branch}
-use Rattle.sn_types.proofs.TypedRows.{first_along, end_along}
+use Rattle.sn_types.proofs.TypedRows.{first_along, end_along, of_fields}
 use Rattle.sn_ops.specs.Flow.{AllFit}
+use Rattle.sn_ops.specs.Packets.{is_kept, packet_rows}
 use Rattle.sn_ops.specs.Plain.{FrontFits}
+use Rattle.sn_ops.specs.declared.packets.Kept.{Kept}
+use Rattle.sn_fields.specs.declared.field.Field.{Field}
 use Rattle.sn_ops.proofs.Fitting.{fit_along, rows_along, all_fit_prop}
 use Rattle.sn_ops.proofs.FrontSteps.{rows_fit}
 use Rattle.sn_ops.proofs.Steps.{filter_more}
@@ -57,6 +60,19 @@ pub front_fits : (window : ℕ) (queries : List TypedQuery) (q b level : ℕ) (r
     → IsOf (first_columns (branch_at queries q b)) row → FrontFits level (branch_at queries q b).ops row
 front_fits window queries q b level row t lt within of =
     (rows_fit level (branch_at queries q b).ops (row ∷ []) (branch_fit window queries q b level (row ∷ []) t lt within (of, tt))).0
+
+-- the packet rows of tuples are of the first columns
+pub packets_of : (window : ℕ) (queries : List TypedQuery) (q b level : ℕ) (kept : Option Kept) (tuples : List (List ℕ)) → ∥ IsTyped window queries ∥₁ → q < length queries → b < length (query_at queries q).branches
+    → AllByRecursion HasWidths tuples → AreOf (first_columns (branch_at queries q b)) (packet_rows (query_at queries q) b level kept tuples)
+packets_of window queries q b level kept tuples t lt within h =
+    let query : TypedQuery = query_at queries q in
+    let fields : List Field = (branch_at queries q b).fields in
+    let columns : List Column = first_columns (branch_at queries q b) in
+    let row : List ℕ → Row = packet_row query.field level fields in
+    let passes : List ℕ → Bool = is_kept query.field kept in
+    all_map (IsOf columns) row (filter passes tuples)
+    (all_weaker HasWidths (λ tuple. IsOf columns (row tuple)) (λ tuple widths. of_fields window queries q b fields (row tuple) t lt within refl (packet_of query.field level fields tuple widths)) (filter passes tuples)
+    (all_filter HasWidths passes tuples h))
 
 -- one tuple more
 pub packets_more : (columns : List Column) (f : List ℕ → Row) (t : List ℕ → Bool) (xs : List (List ℕ)) (i : ℕ) (x : List ℕ) → i < length xs → x ≡ get_or xs i x → (t x ≡ true → IsOf columns (f x))

@@ -166,3 +166,22 @@ pub fn query_rows(
         branch_rows(alloc, t, q, 0, level, kept, tuples)
     }
 }
+
+/// The whole unsplit query on the tuples of a window. Without `kept` it sees all of them; with it, those alone whose
+/// refinement field, masked to `kept.bits`, is a member.
+pub fn plain(
+    alloc: Global,
+    t: &Typed,
+    q: u32,
+    level: u32,
+    kept: Option<Kept>,
+    tuples: &[Tuple],
+) -> Result<Seq<Row>, Memory>
+    requires query { q < length t.now.queries }
+    requires level { list_any (nat_eq level) (query_at t.now.queries q).levels ≡ true }
+    requires kept { OfALevel (query_at t.now.queries q) kept }
+    ensures rows { IfOk result (λ rows. rows ≡ query_rows (query_at t.now.queries q) level kept.entry tuples.now) }
+    ensures columns { IfOk result (λ rows. AllByRecursion (IsOf (final_columns (query_at t.now.queries q))) rows) }
+{
+    query_rows(alloc, t, q, level, kept, tuples)
+}
