@@ -1,5 +1,5 @@
 -- The columns of a join: names are apart along a branch, and a join line without a fault has its keys in both branches.
-use Rattle.std.proofs.Common.{◌≡◌, ℕ, ◌≤◌, List, [], ◌∷◌, ◌++◌, map, filter, length, Bool, true, false, not, ◌||◌, ◌&&◌, ◌==◌, cond, nat_lt, Option, None, Some, unwrap_or, refl, ap, sym, ◌∙◌, subst}
+use Rattle.std.proofs.Common.{◌≡◌, ◌≤◌, List, [], ◌∷◌, ◌++◌, map, filter, length, Bool, true, false, not, ◌||◌, ◌&&◌, ◌==◌, cond, nat_lt, Option, None, Some, unwrap_or, refl, ap, sym, ◌∙◌, subst}
 use Rattle.std.proofs.lemmas.Bool.{ltb-false}
 use Rattle.std.proofs.lemmas.List.{map-append}
 use Rattle.std.specs.List.{AllByRecursion, list_any, list_all, find}
@@ -9,7 +9,6 @@ use Rattle.sn_base.proofs.Lists.{by_test, not_false, map_both, all_append, all_f
 use Rattle.sn_base.proofs.FoldedLemmas.{same_row_exact}
 use Rattle.sn_base.specs.declared.column.Column.{Column}
 use Rattle.sn_base.specs.Groups.{Apart, same_row}
-use Rattle.sn_fields.specs.declared.field.Field.{Field}
 use Rattle.sn_fields.specs.Fields.{fields, name_of}
 use Rattle.sn_grammar.specs.declared.ast.Join.{Join}
 use Rattle.sn_grammar.specs.declared.ast.Op.{Op}

@@ -1,5 +1,5 @@
 -- A query has a refinement field and a refinement column exactly where it has a refine line.
-use Rattle.std.proofs.Common.{◌≡◌, ℕ, List, [], ◌∷◌, ◌++◌, Bool, true, false, not, ◌||◌, cond, is_none, is_some, Option, None, Some, refl, ap, sym, ◌∙◌}
+use Rattle.std.proofs.Common.{◌≡◌, ℕ, List, [], ◌∷◌, ◌++◌, Bool, true, false, ◌||◌, cond, is_none, is_some, Option, None, Some, refl, ap, sym, ◌∙◌}
 use Rattle.std.specs.List.{AllByRecursion, flat_map, list_any}
 use Rattle.std.specs.Option.{option_map, option_map_or}
 use Rattle.sn_base.proofs.Lists.{by_test, not_false}
@@ -20,7 +20,7 @@ use Rattle.sn_walk.specs.Columns.{is_copy, copy_name, carried_after, place_of}
 use Rattle.sn_walk.specs.Faults.{unknown_field, unknown_column, too_wide, no_map, loses, ends_unmapped, refine_lost, refine_filter, wrong_levels, wrong_refine, refine_fault}
 use Rattle.sn_walk.specs.Walk.Place.{Operator, JoinLine}
 use Rattle.sn_walk.specs.Walk.{Place, is_end, ops_at, carried_along, first_fault, fault_at, refine_places, branch_places, branch_end, join_places, query_places, operator_places, scope_after, scope_before, scope_joined, scope_end, refine_levels}
-use Rattle.sn_types.specs.Typing.{behind_branches, typed_query, posts_of, field_of, carried_place}
+use Rattle.sn_types.specs.Typing.{behind_branches, typed_query, posts_of, field_of}
 use Rattle.sn_types.proofs.Sources.{none_in_both, none_in_each, later_none}
 use Rattle.sn_types.proofs.Facts.{if_none}
 

@@ -1,10 +1,9 @@
 -- Schemas along operators: at most eight columns, of 1 to 64 bits, with names apart.
-use Rattle.std.proofs.Common.{◌≡◌, ℕ, suc, ◌-◌, ◌≤◌, ◌<◌, List, [], ◌∷◌, ◌++◌, map, filter, length, Bool, true, false, not, ◌||◌, ◌&&◌, cond, nat_lt, max, Option, None, Some, unwrap_or, refl, ap, sym, ◌∙◌, subst, arith, lit≤, length-append}
+use Rattle.std.proofs.Common.{◌≡◌, ℕ, suc, ◌-◌, ◌≤◌, ◌<◌, List, [], ◌∷◌, ◌++◌, map, filter, length, Bool, true, false, not, ◌||◌, ◌&&◌, cond, nat_lt, max, Some, unwrap_or, refl, ap, sym, ◌∙◌, subst, arith, lit≤, length-append}
 use Rattle.std.proofs.lemmas.Bool.{ltb-false}
 use Rattle.std.proofs.lemmas.List.{length-map}
-use Rattle.std.specs.List.{AllByRecursion, list_any, find}
-use Rattle.std.specs.Cmp.Lexicographic.{nat_list_eq_equiv}
-use Rattle.sn_base.proofs.Lists.{by_test, all_map, all_weaker, all_append}
+use Rattle.std.specs.List.{AllByRecursion, find}
+use Rattle.sn_base.proofs.Lists.{by_test, all_weaker, all_append}
 use Rattle.sn_base.proofs.FoldedLemmas.{same_row_exact}
 use Rattle.sn_base.specs.declared.column.Column.{Column}
 use Rattle.sn_base.specs.Groups.{Apart, same_row}

@@ -7,13 +7,12 @@ use Rattle.sn_base.specs.declared.column.Column.{Column}
 use Rattle.sn_fields.specs.declared.field.Field.{Field}
 use Rattle.sn_grammar.specs.declared.ast.Op.{Op}
 use Rattle.sn_walk.specs.Columns.{columns_after, field_column, packet_columns}
-use Rattle.sn_walk.specs.Names.{packet_fields}
 use Rattle.sn_walk.specs.Walk.{scope_after, scope_end}
 use Rattle.sn_walk.specs.declared.scope.Scope.{Scope}
 use Rattle.sn_types.specs.declared.typed_query.TypedBranch.{TypedBranch}
 use Rattle.sn_types.specs.declared.typed_query.TypedQuery.{TypedQuery}
 use Rattle.sn_types.specs.Typed.{IsTyped, query_at, branch_at, schema_at, first_columns}
-use Rattle.sn_types.specs.Typing.{typed_branch, typed_ops, schemas_along}
+use Rattle.sn_types.specs.Typing.{typed_ops, schemas_along}
 use Rattle.sn_types.proofs.Facts.{branch_source_of, few_packet_fields}
 use Rattle.sn_types.proofs.RowsAfter.{of_prop}
 use Rattle.sn_types.proofs.Schemas.{columns_along, packet_whole}

@@ -1,6 +1,5 @@
-use Rattle.std.proofs.Common.{◌≡◌, ℕ, ◌<◌, length, map, ◌+◌, List, [], ◌∷◌, ◌++◌, take, get_or, arith, ap, sym, ◌∙◌}
+use Rattle.std.proofs.Common.{ℕ, ◌<◌, length, map, List, [], ◌∷◌, ◌++◌, take, get_or, arith, ap, sym, ◌∙◌}
 use Rattle.std.proofs.lemmas.List.{take_more, map-append}
-use Rattle.sn_fields.specs.declared.field.Field.{Field}
 use Rattle.sn_fields.specs.declared.field.Field.TheVariants.{PacketLength}
 use Rattle.sn_types.specs.Typed.{read_at}
 use Rattle.sn_types.proofs.RowsAfter.{field_more}

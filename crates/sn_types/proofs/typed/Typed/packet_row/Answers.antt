@@ -2,7 +2,6 @@ use Rattle.sn_types.proofs.Facts.{level_of_field}
 use Rattle.std.proofs.Common.{◌≤◌, sym, IfSome, subst, Option}
 use Rattle.sn_fields.specs.declared.field.Field.{Field}
 use Rattle.sn_fields.specs.Fields.{width_of}
-use Rattle.sn_types.specs.Typed.{branch_at}
 use Rattle.sn_types.proofs.TypedRows.{of_fields}
 use Rattle.sn_types.proofs.typed.Typed.packet_row.Goals as goal
 
