@@ -1,5 +1,5 @@
 -- What the branches of typed queries give.
-use Rattle.std.proofs.Common.{◌≡◌, ℕ, ◌+◌, ◌<◌, List, [], ◌∷◌, ◌++◌, map, filter, take, length, get_or, Bool, true, false, cond, Option, refl, ap, sym, ◌∙◌, subst}
+use Rattle.std.proofs.Common.{◌≡◌, ℕ, ◌+◌, ◌<◌, List, [], ◌∷◌, map, filter, take, length, get_or, Bool, true, cond, Option, refl, ap, sym, ◌∙◌, subst}
 use Rattle.std.proofs.Math.Logic.{∥∥₁_elim}
 use Rattle.std.proofs.lemmas.List.{map-append}
 use Rattle.std.specs.List.{AllByRecursion, AllByRecursion-prop}
@@ -9,7 +9,6 @@ use Rattle.sn_base.specs.Groups.{Row}
 use Rattle.sn_base.specs.Operators.{through}
 use Rattle.sn_base.specs.declared.column.Column.{Column}
 use Rattle.sn_walk.specs.Columns.{packet_columns}
-use Rattle.sn_types.specs.declared.typed_op.TOp.{TOp}
 use Rattle.sn_types.specs.declared.typed_query.TypedBranch.{TypedBranch}
 use Rattle.sn_types.specs.declared.typed_query.TypedQuery.{TypedQuery}
 use Rattle.sn_types.specs.Typed.{IsTyped, HasWidths, packet_row, query_at, branch_at, first_columns, end_columns}
@@ -17,7 +16,7 @@ use Rattle.sn_types.specs.Typing.{typed_ops}
 use Rattle.sn_types.specs.Values.{op_at}
 use Rattle.sn_types.proofs.Facts.{branch_source_of, few_packet_fields}
 use Rattle.sn_types.proofs.RowsAfter.{AreOf, of_prop, packet_of}
-use Rattle.sn_types.proofs.Schemas.{columns_along, packet_schema}
+use Rattle.sn_types.proofs.Schemas.{packet_schema}
 use Rattle.sn_types.proofs.Sound.{sound_branch}
 use Rattle.sn_types.proofs.TypedRows.{first_along, end_along, of_fields}
 use Rattle.sn_ops.specs.Flow.{AllFit}

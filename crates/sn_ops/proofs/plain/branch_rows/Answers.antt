@@ -1,4 +1,4 @@
-use Rattle.std.proofs.Common.{◌≡◌, List, map, filter, ap, sym, ◌∙◌, subst}
+use Rattle.std.proofs.Common.{◌≡◌, List, map, ap, sym, ◌∙◌, subst}
 use Rattle.sn_base.specs.Groups.{Row}
 use Rattle.sn_base.specs.Operators.{through}
 use Rattle.sn_types.specs.declared.typed_op.TOp.{TOp}

@@ -1,8 +1,6 @@
-use Rattle.std.proofs.Common.{◌≡◌, List, ◌∙◌, sym, subst, ap}
+use Rattle.std.proofs.Common.{List, sym, subst}
 use Rattle.sn_base.specs.Groups.{Row}
-use Rattle.sn_base.specs.Columns.{IsOf}
 use Rattle.sn_types.specs.declared.typed_op.TOp.{TOp}
-use Rattle.sn_types.specs.Typed.{branch_at, first_columns}
 use Rattle.sn_ops.specs.Plain.{FrontFits}
 use Rattle.sn_ops.proofs.Branches.{front_fits}
 use Rattle.sn_ops.proofs.plain.front_row.Goals as goal

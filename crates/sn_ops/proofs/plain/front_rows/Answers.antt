@@ -1,4 +1,4 @@
-use Rattle.std.proofs.Common.{◌≡◌, ◌<◌, ◌∙◌, ℕ, Bool, List, length, arith}
+use Rattle.std.proofs.Common.{◌<◌, ◌∙◌, ℕ, Bool, List, length, arith}
 use Rattle.sn_base.specs.Groups.{Row}
 use Rattle.sn_types.specs.Typed.{branch_of, branch_at, packet_row, query_at, first_columns}
 use Rattle.sn_ops.specs.Packets.{is_kept}

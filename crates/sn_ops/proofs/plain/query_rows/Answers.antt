@@ -7,7 +7,6 @@ use Rattle.sn_types.specs.Typed.{branch_at, query_at, end_columns, final_columns
 use Rattle.sn_types.specs.Values.{op_at}
 use Rattle.sn_types.proofs.RowsAfter.{AreOf}
 use Rattle.sn_ops.specs.Flow.{AllFit}
-use Rattle.sn_ops.specs.Plain.{branch_rows}
 use Rattle.sn_ops.proofs.PacketSteps.{some_branch}
 use Rattle.sn_ops.proofs.Queries.{query_one, query_posts, query_posts_final}
 use Rattle.sn_ops.proofs.Steps.{ok_weaker}
