@@ -143,9 +143,10 @@ fn joined_rows(
     join(alloc, left.as_slice(), right.as_slice(), t.join_keys(q))
 }
 
-/// A whole query on these tuples: its branch, or its two branches joined and taken through the operators after the
-/// join.
-pub fn query_rows(
+/// The whole unsplit query on the tuples of a window: its branch, or its two branches joined and taken through the
+/// operators after the join. Without `kept` it sees all tuples; with it, those alone whose refinement field, masked to
+/// `kept.bits`, is a member.
+pub fn plain(
     alloc: Global,
     t: &Typed,
     q: u32,
@@ -165,23 +166,4 @@ pub fn query_rows(
     } else {
         branch_rows(alloc, t, q, 0, level, kept, tuples)
     }
-}
-
-/// The whole unsplit query on the tuples of a window. Without `kept` it sees all of them; with it, those alone whose
-/// refinement field, masked to `kept.bits`, is a member.
-pub fn plain(
-    alloc: Global,
-    t: &Typed,
-    q: u32,
-    level: u32,
-    kept: Option<Kept>,
-    tuples: &[Tuple],
-) -> Result<Seq<Row>, Memory>
-    requires query { q < length t.now.queries }
-    requires level { list_any (nat_eq level) (query_at t.now.queries q).levels ≡ true }
-    requires kept { OfALevel (query_at t.now.queries q) kept }
-    ensures rows { IfOk result (λ rows. rows ≡ query_rows (query_at t.now.queries q) level kept.entry tuples.now) }
-    ensures columns { IfOk result (λ rows. AllByRecursion (IsOf (final_columns (query_at t.now.queries q))) rows) }
-{
-    query_rows(alloc, t, q, level, kept, tuples)
 }
