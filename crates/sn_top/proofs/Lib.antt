@@ -1,10 +1,11 @@
 pub mod RunLemmas
 pub mod NumberLemmas
 pub mod RunSteps
-pub mod RowLemmas
-pub mod ReadLemmas
+pub mod TypedLemmas
+pub mod PartLemmas
 pub mod PlainLemmas
 pub mod FileLemmas
 pub mod StageLemmas
+pub mod ToldLemmas
 pub mod TopLemmas
 pub mod OutcomeLemmas

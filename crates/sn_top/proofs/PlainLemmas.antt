@@ -8,17 +8,15 @@ use Rattle.std.proofs.lemmas.Bool.{lt-leb, le-leb, eqb-false, false≢true}
 use Rattle.std.proofs.lemmas.List.{length-map, length-take-le, take_all, take-append-le}
 use Rattle.sn_pcap.specs.declared.packet.Packet.{Packet}
 use Rattle.sn_top.specs.declared.refusal.Refusal.{Refusal}
-use Rattle.sn_top.specs.declared.refusal.Refusal.TheVariants.{Memory, Usage, Queries, Head, Damaged, Missing, ReadFault, WriteFault, TooLarge}
+use Rattle.sn_top.specs.declared.refusal.Refusal.TheVariants.{Memory, Usage, Queries, Head, Cut, Bad, Missing, ReadFault, WriteFault, TooLarge}
 use Rattle.sn_top.specs.Windows.{record_at, windows_of, run_of, first_run, first_number}
 use Rattle.sn_top.specs.Blocks.{most_records, is_few, all_few, blocks}
 use Rattle.sn_top.specs.Outcome.{Outcome, is_chance, WentOutFront, Keeps}
-use Rattle.sn_top.specs.Text.{total_line}
-use Rattle.sn_top.specs.Plain.{with_total}
 use Rattle.sn_top.proofs.RunLemmas.{Rises, windows_step, few_here, few_step, blocks_step}
 
 -- ---- what goes out
 
-told_twice : (told : Option (List ℕ)) (xs ys : List ℕ) → append_known (append_known told xs) ys ≡ append_known told (xs ++ ys)
+pub told_twice : (told : Option (List ℕ)) (xs ys : List ℕ) → append_known (append_known told xs) ys ≡ append_known told (xs ++ ys)
 told_twice None xs ys = refl
 told_twice (Some out) xs ys = ap (λ zs. Some zs) (append_assoc out xs ys)
 
@@ -41,9 +39,10 @@ take_front xs ys k le = take-append-le k xs ys le
 pub chance_any : (A B : Type 0) (r : Refusal) → is_chance {A = A} (Err r) ≡ is_chance {A = B} (Err r)
 chance_any A B Memory = refl
 chance_any A B Usage = refl
-chance_any A B Queries = refl
+chance_any A B (Queries f) = refl
 chance_any A B (Head f) = refl
-chance_any A B Damaged = refl
+chance_any A B (Cut n) = refl
+chance_any A B (Bad n) = refl
 chance_any A B Missing = refl
 chance_any A B ReadFault = refl
 chance_any A B WriteFault = refl
@@ -201,37 +200,43 @@ first_stops o more end r before now chance k = record { front = front k.front; e
     front : WentOutFront o.text before now → WentOutFront (o.text ++ more) before now
     front (n, within, e) = (n, rw length-append (omega arith), e ∙ ap (append_known before) (sym (take-append-le n o.text more within)))
 
--- ---- the total
+-- a text that went out, behind which the command ends so
+pub ended : (text : List ℕ) (end : Result (Unit {0}) Refusal) (before now : Option (List ℕ)) → Keeps (one_block text) (Ok tt) before now → Keeps (record { text = text; end = end }) end before now
+ended text end before now k = record { front = k.front; ends = λ _. refl; whole = λ _. k.whole refl }
 
-abbrev pub whole_of : (ℕ → List Packet → List ℕ) → List (ℕ × Packet) → Outcome (Unit {0})
-whole_of block xs = record { text = blocks block xs ++ with_total (all_few xs) (length (windows_of xs)); end = cond (all_few xs) (Ok tt) (Err TooLarge) }
+-- ---- the last lines
 
-few_whole : (block : ℕ → List Packet → List ℕ) (xs : List (ℕ × Packet)) (few : Bool) → few ≡ all_few xs → (answer : Result (Unit {0}) Refusal) (before now : Option (List ℕ))
-    → Keeps (record { text = blocks block xs ++ with_total few (length (windows_of xs)); end = cond few (Ok tt) (Err TooLarge) }) answer before now → Keeps (whole_of block xs) answer before now
-few_whole block xs few e answer before now k = subst (λ (b : Bool). Keeps (record { text = blocks block xs ++ with_total b (length (windows_of xs)); end = cond b (Ok tt) (Err TooLarge) }) answer before now) e k
+-- the blocks, and the text behind them where no window has too many records
+abbrev pub whole_of : (ℕ → List Packet → List ℕ) → (ℕ → List ℕ) → Result (Unit {0}) Refusal → List (ℕ × Packet) → Outcome (Unit {0})
+whole_of block behind end xs = record { text = blocks block xs ++ cond (all_few xs) (behind (length (windows_of xs))) []; end = cond (all_few xs) end (Err TooLarge) }
 
-ok_few : (few : Bool) (n closed : ℕ) → ◌≡◌ {A = Result ℕ Refusal} (Ok closed) (cond few (Ok n) (Err TooLarge)) → (few ≡ true) × (closed ≡ n)
-ok_few true n closed e = (refl, cc)
-ok_few false n closed e = err_ok (sym e)
+module _ (block : ℕ → List Packet → List ℕ) (behind : ℕ → List ℕ) (end : Result (Unit {0}) Refusal) (xs : List (ℕ × Packet)) where
+  few_whole : (few : Bool) → few ≡ all_few xs → (answer : Result (Unit {0}) Refusal) (before now : Option (List ℕ))
+      → Keeps (record { text = blocks block xs ++ cond few (behind (length (windows_of xs))) []; end = cond few end (Err TooLarge) }) answer before now → Keeps (whole_of block behind end xs) answer before now
+  few_whole few e answer before now k = subst (λ (b : Bool). Keeps (record { text = blocks block xs ++ cond b (behind (length (windows_of xs))) []; end = cond b end (Err TooLarge) }) answer before now) e k
 
-err_few : (few : Bool) (n : ℕ) (r : Refusal) → ◌≡◌ {A = Result ℕ Refusal} (Err r) (cond few (Ok n) (Err TooLarge)) → (few ≡ false) × (r ≡ TooLarge)
-err_few true n r e = err_ok e
-err_few false n r e = (refl, cc)
+  ok_few : (few : Bool) (n closed : ℕ) → ◌≡◌ {A = Result ℕ Refusal} (Ok closed) (cond few (Ok n) (Err TooLarge)) → (few ≡ true) × (closed ≡ n)
+  ok_few true n closed e = (refl, cc)
+  ok_few false n closed e = err_ok (sym e)
 
--- the blocks didn't all go out, or a window has too many records
-pub no_total : (block : ℕ → List Packet → List ℕ) (xs : List (ℕ × Packet)) (r : Refusal) (before now : Option (List ℕ)) → Keeps (outcome_of block xs) (Err r) before now → Keeps (whole_of block xs) (Err r) before now
-no_total block xs r before now k =
-    by_test (is_chance {A = Unit {0}} (Err r))
-    (λ chance. first_stops (outcome_of block xs) (with_total (all_few xs) (length (windows_of xs))) (cond (all_few xs) (Ok tt) (Err TooLarge)) r before now chance k)
-    (λ not-chance.
-    let c : is_chance {A = ℕ} (Err r) ≡ false = chance_any ℕ (Unit {0}) r ∙ not-chance in
-    let few = err_few (all_few xs) (length (windows_of xs)) r (k.ends c) in
-    let text : now ≡ append_known before (blocks block xs ++ []) = k.whole c ∙ ap (append_known before) (sym (append-nil (blocks block xs))) in
-    few_whole block xs false (sym few.0) (Err r) before now (record { front = all_front (blocks block xs ++ []) before now text; ends = λ _. ap Err few.1; whole = λ _. text }))
+  err_few : (few : Bool) (n : ℕ) (r : Refusal) → ◌≡◌ {A = Result ℕ Refusal} (Err r) (cond few (Ok n) (Err TooLarge)) → (few ≡ false) × (r ≡ TooLarge)
+  err_few true n r e = err_ok e
+  err_few false n r e = (refl, cc)
 
--- the blocks went out, and then the total or a front of it
-pub then_total : (block : ℕ → List Packet → List ℕ) (xs : List (ℕ × Packet)) (closed : ℕ) (answer : Result (Unit {0}) Refusal) (before now later : Option (List ℕ)) → Keeps (outcome_of block xs) (Ok closed) before now → Keeps (one_block (total_line closed)) answer now later → Keeps (whole_of block xs) answer before later
-then_total block xs closed answer before now later k t =
-    let few = ok_few (all_few xs) (length (windows_of xs)) closed (k.ends refl) in
-    few_whole block xs true (sym few.0) answer before later
-    (behind_text (blocks block xs) (one_block (total_line (length (windows_of xs)))) answer before now later (k.whole refl) (subst (λ (n : ℕ). Keeps (one_block (total_line n)) answer now later) few.1 t))
+  -- the blocks didn't all go out, or a window has too many records
+  pub no_lines : (r : Refusal) (before now : Option (List ℕ)) → Keeps (outcome_of block xs) (Err r) before now → Keeps (whole_of block behind end xs) (Err r) before now
+  no_lines r before now k =
+      by_test (is_chance {A = Unit {0}} (Err r))
+      (λ chance. first_stops (outcome_of block xs) (cond (all_few xs) (behind (length (windows_of xs))) []) (cond (all_few xs) end (Err TooLarge)) r before now chance k)
+      (λ not-chance.
+      let c : is_chance {A = ℕ} (Err r) ≡ false = chance_any ℕ (Unit {0}) r ∙ not-chance in
+      let few = err_few (all_few xs) (length (windows_of xs)) r (k.ends c) in
+      let text : now ≡ append_known before (blocks block xs ++ []) = k.whole c ∙ ap (append_known before) (sym (append-nil (blocks block xs))) in
+      few_whole false (sym few.0) (Err r) before now (record { front = all_front (blocks block xs ++ []) before now text; ends = λ _. ap Err few.1; whole = λ _. text }))
+
+  -- the blocks went out, and then the last lines or a front of them
+  pub then_lines : (closed : ℕ) (answer : Result (Unit {0}) Refusal) (before now later : Option (List ℕ)) → Keeps (outcome_of block xs) (Ok closed) before now → Keeps (record { text = behind closed; end = end }) answer now later → Keeps (whole_of block behind end xs) answer before later
+  then_lines closed answer before now later k t =
+      let few = ok_few (all_few xs) (length (windows_of xs)) closed (k.ends refl) in
+      few_whole true (sym few.0) answer before later
+      (behind_text (blocks block xs) (record { text = behind (length (windows_of xs)); end = end }) answer before now later (k.whole refl) (subst (λ (n : ℕ). Keeps (record { text = behind n; end = end }) answer now later) few.1 t))

@@ -4,7 +4,7 @@ use Rattle.std.proofs.lemmas.Bool.{false≢true}
 use Rattle.sn_base.proofs.Lists.{by_test}
 use Rattle.sn_pcap.specs.declared.header.HeadFault.TheVariants as heads
 use Rattle.sn_top.specs.declared.refusal.Refusal.{Refusal}
-use Rattle.sn_top.specs.declared.refusal.Refusal.TheVariants.{Memory, Usage, Queries, Head, Damaged, Missing, ReadFault, WriteFault, TooLarge}
+use Rattle.sn_top.specs.declared.refusal.Refusal.TheVariants.{Memory, Usage, Queries, Head, Cut, Bad, Missing, ReadFault, WriteFault, TooLarge}
 use Rattle.sn_top.specs.Outcome.{Outcome, is_chance, Keeps}
 use Rattle.sn_top.specs.Top.{end_status, end_line, Excused, Comes, IsRun, IsLineOf}
 
@@ -14,9 +14,10 @@ module _ (R W : Type 0) where
   excused (Ok u) r w e = absurd (false≢true e)
   excused (Err Memory) r w e = inl refl
   excused (Err Usage) r w e = absurd (false≢true e)
-  excused (Err Queries) r w e = absurd (false≢true e)
+  excused (Err (Queries f)) r w e = absurd (false≢true e)
   excused (Err (Head f)) r w e = absurd (false≢true e)
-  excused (Err Damaged) r w e = absurd (false≢true e)
+  excused (Err (Cut n)) r w e = absurd (false≢true e)
+  excused (Err (Bad n)) r w e = absurd (false≢true e)
   excused (Err Missing) r w e = absurd (false≢true e)
   excused (Err ReadFault) r w e = inr (inl (refl, r refl))
   excused (Err WriteFault) r w e = inr (inr (refl, w refl))
@@ -27,9 +28,10 @@ module _ (R W : Type 0) where
   chance_status (Ok u) e = absurd (false≢true e)
   chance_status (Err Memory) e = inl refl
   chance_status (Err Usage) e = absurd (false≢true e)
-  chance_status (Err Queries) e = absurd (false≢true e)
+  chance_status (Err (Queries f)) e = absurd (false≢true e)
   chance_status (Err (Head f)) e = absurd (false≢true e)
-  chance_status (Err Damaged) e = absurd (false≢true e)
+  chance_status (Err (Cut n)) e = absurd (false≢true e)
+  chance_status (Err (Bad n)) e = absurd (false≢true e)
   chance_status (Err Missing) e = absurd (false≢true e)
   chance_status (Err ReadFault) e = inr (inl refl)
   chance_status (Err WriteFault) e = inr (inr refl)
@@ -40,9 +42,10 @@ pub ten_is : (answer : Result (Unit {0}) Refusal) → end_status answer ≡ 10 �
 ten_is (Ok u) e = absurd (omega arith)
 ten_is (Err Memory) e = absurd (omega arith)
 ten_is (Err Usage) e = absurd (omega arith)
-ten_is (Err Queries) e = absurd (omega arith)
+ten_is (Err (Queries f)) e = absurd (omega arith)
 ten_is (Err (Head f)) e = absurd (omega arith)
-ten_is (Err Damaged) e = absurd (omega arith)
+ten_is (Err (Cut n)) e = absurd (omega arith)
+ten_is (Err (Bad n)) e = absurd (omega arith)
 ten_is (Err Missing) e = absurd (omega arith)
 ten_is (Err ReadFault) e = absurd (omega arith)
 ten_is (Err WriteFault) e = refl
@@ -53,9 +56,10 @@ pub nine_is : (answer : Result (Unit {0}) Refusal) → end_status answer ≡ 9 �
 nine_is (Ok u) e = absurd (omega arith)
 nine_is (Err Memory) e = absurd (omega arith)
 nine_is (Err Usage) e = absurd (omega arith)
-nine_is (Err Queries) e = absurd (omega arith)
+nine_is (Err (Queries f)) e = absurd (omega arith)
 nine_is (Err (Head f)) e = absurd (omega arith)
-nine_is (Err Damaged) e = absurd (omega arith)
+nine_is (Err (Cut n)) e = absurd (omega arith)
+nine_is (Err (Bad n)) e = absurd (omega arith)
 nine_is (Err Missing) e = inr refl
 nine_is (Err ReadFault) e = inl refl
 nine_is (Err WriteFault) e = absurd (omega arith)
@@ -66,9 +70,10 @@ pub two_is : (answer : Result (Unit {0}) Refusal) → end_status answer ≡ 2 �
 two_is (Ok u) e = absurd (omega arith)
 two_is (Err Memory) e = absurd (omega arith)
 two_is (Err Usage) e = refl
-two_is (Err Queries) e = absurd (omega arith)
+two_is (Err (Queries f)) e = absurd (omega arith)
 two_is (Err (Head f)) e = absurd (omega arith)
-two_is (Err Damaged) e = absurd (omega arith)
+two_is (Err (Cut n)) e = absurd (omega arith)
+two_is (Err (Bad n)) e = absurd (omega arith)
 two_is (Err Missing) e = absurd (omega arith)
 two_is (Err ReadFault) e = absurd (omega arith)
 two_is (Err WriteFault) e = absurd (omega arith)
@@ -138,32 +143,52 @@ module _ (R W : Type 0) (outcome : Outcome (Unit {0})) (answer : Result (Unit {0
 
 -- the line of each end is one of its status
 pub line_is : (answer : Result (Unit {0}) Refusal) → IsLineOf (end_status answer) (end_line answer)
-line_is (Ok u) = inl (refl, refl)
-line_is (Err Memory) = inr (inl (refl, refl))
-line_is (Err Usage) = inr (inr (inl (refl, refl)))
-line_is (Err Queries) = inr (inr (inr (inl (refl, refl))))
-line_is (Err (Head heads.Short)) = inr (inr (inr (inr (inl (refl, inl refl)))))
-line_is (Err (Head heads.Magic)) = inr (inr (inr (inr (inl (refl, inr (inl refl))))))
-line_is (Err (Head heads.Version)) = inr (inr (inr (inr (inl (refl, inr (inr (inl refl)))))))
-line_is (Err (Head heads.Link)) = inr (inr (inr (inr (inl (refl, inr (inr (inr (inl refl))))))))
-line_is (Err Damaged) = inr (inr (inr (inr (inl (refl, inr (inr (inr (inr refl))))))))
-line_is (Err Missing) = inr (inr (inr (inr (inr (inl (refl, refl))))))
-line_is (Err ReadFault) = inr (inr (inr (inr (inr (inl (refl, refl))))))
-line_is (Err WriteFault) = inr (inr (inr (inr (inr (inr (inl (refl, refl)))))))
-line_is (Err TooLarge) = inr (inr (inr (inr (inr (inr (inr (refl, refl)))))))
+line_is answer = (answer, refl, refl)
 
--- where the run ended as was due, its line is the one that is due
-pub line_due : (outcome : Outcome (Unit {0})) (answer : Result (Unit {0}) Refusal) (before now : Option (List ℕ)) → Keeps outcome answer before now → end_status answer ≡ 5 → answer ≡ outcome.end
-line_due outcome answer before now k s = k.ends (five_due answer s)
-  where
-    five_due : (a : Result (Unit {0}) Refusal) → end_status a ≡ 5 → is_chance a ≡ false
-    five_due (Ok u) e = absurd (omega arith)
-    five_due (Err Memory) e = absurd (omega arith)
-    five_due (Err Usage) e = refl
-    five_due (Err Queries) e = refl
-    five_due (Err (Head f)) e = refl
-    five_due (Err Damaged) e = refl
-    five_due (Err Missing) e = refl
-    five_due (Err ReadFault) e = absurd (omega arith)
-    five_due (Err WriteFault) e = absurd (omega arith)
-    five_due (Err TooLarge) e = refl
+-- a chance's line is that of its status
+chance_line : (answer due : Result (Unit {0}) Refusal) → is_chance answer ≡ true → end_status answer ≡ end_status due → end_line answer ≡ end_line due
+chance_line (Ok u) due chance e = absurd (false≢true chance)
+chance_line (Err Memory) (Ok u) chance e = absurd (omega arith)
+chance_line (Err Memory) (Err Memory) chance e = refl
+chance_line (Err Memory) (Err Usage) chance e = absurd (omega arith)
+chance_line (Err Memory) (Err (Queries f)) chance e = absurd (omega arith)
+chance_line (Err Memory) (Err (Head f)) chance e = absurd (omega arith)
+chance_line (Err Memory) (Err (Cut n)) chance e = absurd (omega arith)
+chance_line (Err Memory) (Err (Bad n)) chance e = absurd (omega arith)
+chance_line (Err Memory) (Err Missing) chance e = absurd (omega arith)
+chance_line (Err Memory) (Err ReadFault) chance e = absurd (omega arith)
+chance_line (Err Memory) (Err WriteFault) chance e = absurd (omega arith)
+chance_line (Err Memory) (Err TooLarge) chance e = absurd (omega arith)
+chance_line (Err Usage) due chance e = absurd (false≢true chance)
+chance_line (Err (Queries f)) due chance e = absurd (false≢true chance)
+chance_line (Err (Head f)) due chance e = absurd (false≢true chance)
+chance_line (Err (Cut n)) due chance e = absurd (false≢true chance)
+chance_line (Err (Bad n)) due chance e = absurd (false≢true chance)
+chance_line (Err Missing) due chance e = absurd (false≢true chance)
+chance_line (Err ReadFault) (Ok u) chance e = absurd (omega arith)
+chance_line (Err ReadFault) (Err Memory) chance e = absurd (omega arith)
+chance_line (Err ReadFault) (Err Usage) chance e = absurd (omega arith)
+chance_line (Err ReadFault) (Err (Queries f)) chance e = absurd (omega arith)
+chance_line (Err ReadFault) (Err (Head f)) chance e = absurd (omega arith)
+chance_line (Err ReadFault) (Err (Cut n)) chance e = absurd (omega arith)
+chance_line (Err ReadFault) (Err (Bad n)) chance e = absurd (omega arith)
+chance_line (Err ReadFault) (Err Missing) chance e = refl
+chance_line (Err ReadFault) (Err ReadFault) chance e = refl
+chance_line (Err ReadFault) (Err WriteFault) chance e = absurd (omega arith)
+chance_line (Err ReadFault) (Err TooLarge) chance e = absurd (omega arith)
+chance_line (Err WriteFault) (Ok u) chance e = absurd (omega arith)
+chance_line (Err WriteFault) (Err Memory) chance e = absurd (omega arith)
+chance_line (Err WriteFault) (Err Usage) chance e = absurd (omega arith)
+chance_line (Err WriteFault) (Err (Queries f)) chance e = absurd (omega arith)
+chance_line (Err WriteFault) (Err (Head f)) chance e = absurd (omega arith)
+chance_line (Err WriteFault) (Err (Cut n)) chance e = absurd (omega arith)
+chance_line (Err WriteFault) (Err (Bad n)) chance e = absurd (omega arith)
+chance_line (Err WriteFault) (Err Missing) chance e = absurd (omega arith)
+chance_line (Err WriteFault) (Err ReadFault) chance e = absurd (omega arith)
+chance_line (Err WriteFault) (Err WriteFault) chance e = refl
+chance_line (Err WriteFault) (Err TooLarge) chance e = absurd (omega arith)
+chance_line (Err TooLarge) due chance e = absurd (false≢true chance)
+
+-- where the status is the one that is due, the line is too
+pub line_due : (outcome : Outcome (Unit {0})) (answer : Result (Unit {0}) Refusal) (before now : Option (List ℕ)) → Keeps outcome answer before now → end_status answer ≡ end_status outcome.end → end_line answer ≡ end_line outcome.end
+line_due outcome answer before now k e = by_test (is_chance answer) (λ chance. chance_line answer outcome.end chance e) (λ not-chance. ap end_line (k.ends not-chance))

@@ -2,13 +2,11 @@ pub mod Windows
 pub mod Numbering
 pub mod NumberingOf
 pub mod Blocks
-pub mod Text
 pub mod Words
 pub mod Refusals
 pub mod Outcome
-pub mod Captures
-pub mod Rows
-pub mod Reading
-pub mod Read
+pub mod Answers
 pub mod Plain
+pub mod Read
+pub mod Told
 pub mod Top

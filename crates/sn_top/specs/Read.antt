@@ -1,15 +1,13 @@
--- What a reader answers where it doesn't read.
-use Rattle.std.specs.Prelude.{◌≡◌, List, ◌++◌, Option, None, Some}
-use Rattle.sn_top.specs.declared.query.Filter.{Filter}
-use Rattle.sn_top.specs.declared.reader.ParseFault.{ParseFault}
-use Rattle.sn_top.specs.declared.reader.ParseFault.TheVariants.{Unbuilt, Memory}
+-- What a typed file is read as.
+use Rattle.std.specs.Prelude.{Result, Ok, Err}
+use Rattle.sn_queries.specs.Texts.{Queries}
+use Rattle.sn_types.specs.declared.typed.Typed.{Typed}
+use Rattle.sn_top.specs.declared.refusal.Refusal.{Refusal}
 
--- the text isn't read so far, or memory ran out
-abbrev pub IsRefused : {A : Type 0} → Option A → ParseFault → Type 0
-IsRefused read Unbuilt = read ≡ None
-IsRefused read Memory = Unit {0}
+-- the window and the queries of a typed file
+abbrev pub queries_of : Typed → Queries
+queries_of t = record { window_us = t.window_us; queries = t.queries }
 
--- what is read behind filters that were read before
-abbrev pub behind : List Filter → Option (List Filter) → Option (List Filter)
-behind before None = None
-behind before (Some more) = Some (before ++ more)
+abbrev pub read_of : Result Typed Refusal → Result Queries Refusal
+read_of (Ok t) = Ok (queries_of t)
+read_of (Err refusal) = Err refusal

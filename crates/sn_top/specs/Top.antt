@@ -1,5 +1,5 @@
 -- What the top call answers, and why.
-use Rattle.std.specs.Prelude.{◌≡◌, ℕ, ◌⊎◌, List, [], Option, None, Result, Ok, Err, codes}
+use Rattle.std.specs.Prelude.{◌≡◌, ℕ, ◌⊎◌, List, [], Option, None, Result, Ok, Err}
 use Rattle.std.specs.Io.KnownBytes.{append_known}
 use Rattle.std.specs.FinMap.{get}
 use Rattle.sn_io.specs.Counts.{ByName, Rose, RoseAt}
@@ -31,7 +31,7 @@ pub record Comes (n due status : ℕ) (excused : Type 0) : Type 0 where
 pub record IsRun (outcome : Outcome (Unit {0})) (read_rose write_rose : Type 0) (status : ℕ) (before now : Option (List ℕ)) : Type 0 where
   -- 0: all was read to its end and written.
   pub done : Comes 0 (end_status outcome.end) status (Excused read_rose write_rose status)
-  -- 3: the query text isn't one that is answered.
+  -- 3: the query file is refused.
   pub queries : Comes 3 (end_status outcome.end) status (Excused read_rose write_rose status)
   -- 5: the header of the capture is refused, or its records end in a damaged one.
   pub capture : Comes 5 (end_status outcome.end) status (Excused read_rose write_rose status)
@@ -53,17 +53,9 @@ pub record IsTold (line : List ℕ) (faults_before faults_now takes_before takes
   pub front : WentOutFront line before now
   pub whole : (Rose faults_before faults_now → ⊥) → (Rose takes_before takes_now → ⊥) → now ≡ append_known before line
 
--- the lines on the captures that are refused
-abbrev pub IsCaptureLine : List ℕ → Type 0
-IsCaptureLine line =
-    (line ≡ codes "sonata: capture Short byte 0\n") ⊎ ((line ≡ codes "sonata: capture Magic byte 0\n") ⊎ ((line ≡ codes "sonata: capture Version byte 4\n")
-    ⊎ ((line ≡ codes "sonata: capture Link byte 20\n") ⊎ (line ≡ codes "sonata: capture damaged\n"))))
-
--- the line of a status; that of 5 says what is wrong with the capture
+-- a line of this status, by the table of statuses and lines
 abbrev pub IsLineOf : ℕ → List ℕ → Type 0
-IsLineOf status line =
-    ((status ≡ 0) × (line ≡ [])) ⊎ (((status ≡ 1) × (line ≡ codes "sonata: memory\n")) ⊎ (((status ≡ 2) × (line ≡ codes "sonata: usage\n")) ⊎ (((status ≡ 3) × (line ≡ codes "sonata: queries unbuilt\n"))
-    ⊎ (((status ≡ 5) × IsCaptureLine line) ⊎ (((status ≡ 9) × (line ≡ codes "sonata: read fault\n")) ⊎ (((status ≡ 10) × (line ≡ codes "sonata: write fault\n")) ⊎ ((status ≡ 12) × (line ≡ codes "sonata: too large\n"))))))))
+IsLineOf status line = (end : Result (Unit {0}) Refusal) × (status ≡ end_status end) × (line ≡ end_line end)
 
 -- a line of this status is told
 abbrev pub IsStatusTold : ℕ → ℕ → ℕ → ℕ → ℕ → Option (List ℕ) → Option (List ℕ) → Type 0

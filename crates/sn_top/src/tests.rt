@@ -9,9 +9,8 @@ const HEADER: [u8; 24] = [
     0xd4, 0xc3, 0xb2, 0xa1, 2, 0, 4, 0, 0, 0, 0, 0, 0, 0, 0, 0, 0, 0, 4, 0, 1, 0, 0, 0,
 ];
 
-/// A record of one TCP SYN to port 80, at one second.
-const RECORD: [u8; 70] = [
-    1, 0, 0, 0, 0, 0, 0, 0, 0x36, 0, 0, 0, 0x36, 0, 0, 0, //
+/// A TCP SYN to port 80, from 10.0.0.1 to 10.0.0.9.
+const FRAME: [u8; 54] = [
     2, 0, 0, 0, 0, 2, 2, 0, 0, 0, 0, 1, 8, 0, //
     0x45, 0, 0, 0x28, 0, 0, 0, 0, 0x40, 6, 0, 0, 10, 0, 0, 1, 10, 0, 0, 9, //
     4, 0, 0, 0x50, 0, 0, 0, 0, 0, 0, 0, 0, 0x50, 2, 0, 0, 0, 0, 0, 0,
@@ -60,23 +59,40 @@ fn plain(alloc: Global, queries: &[u8], capture: &[u8]) -> Result<Ran, Fail> {
     run(alloc, &["plain", "q", "c"], queries, capture, None)
 }
 
-fn one_packet() -> [u8; 94] {
-    let mut file = [0; 94];
-    file[..24].copy_from_slice(&HEADER);
-    file[24..].copy_from_slice(&RECORD);
-    file
+/// The header of a record at one second and this fraction: its lowest byte first, of 54 bytes.
+fn record(fraction: [u8; 4]) -> [u8; 16] {
+    let [a, b, c, d] = fraction;
+    [1, 0, 0, 0, a, b, c, d, 0x36, 0, 0, 0, 0x36, 0, 0, 0]
 }
 
-/// Three packets, at 0, 1500000 and 200000 microseconds after one second.
-fn three_packets() -> [u8; 234] {
-    let mut file = [0; 234];
-    file[..24].copy_from_slice(&HEADER);
-    file[24..94].copy_from_slice(&RECORD);
-    file[94..164].copy_from_slice(&RECORD);
-    file[164..].copy_from_slice(&RECORD);
-    file[98..102].copy_from_slice(&[0x60, 0xe3, 0x16, 0]);
-    file[168..172].copy_from_slice(&[0x40, 0x0d, 3, 0]);
-    file
+/// The same, its highest byte first.
+fn turned_record(fraction: [u8; 4]) -> [u8; 16] {
+    let [a, b, c, d] = fraction;
+    [0, 0, 0, 1, a, b, c, d, 0, 0, 0, 0x36, 0, 0, 0, 0x36]
+}
+
+/// A capture of a header and of this frame behind each header of a record.
+fn capture_of(alloc: Global, header: &[u8], records: &[[u8; 16]]) -> Result<Vec<u8>, Fail> {
+    let mut file = Vec::from_slice(alloc, header)?;
+    for record in records {
+        file.extend_from_slice(record)?;
+        file.extend_from_slice(&FRAME)?;
+    }
+    Ok(file)
+}
+
+fn one_packet(alloc: Global) -> Result<Vec<u8>, Fail> {
+    capture_of(alloc, &HEADER, &[record([0, 0, 0, 0])])
+}
+
+/// Three packets, at 0, 1 and 2 microseconds after one second.
+fn three_packets(alloc: Global) -> Result<Vec<u8>, Fail> {
+    let records = [
+        record([0, 0, 0, 0]),
+        record([1, 0, 0, 0]),
+        record([2, 0, 0, 0]),
+    ];
+    capture_of(alloc, &HEADER, &records)
 }
 
 #[test]
@@ -87,7 +103,7 @@ fn answers_a_capture(rt: HostRuntime) -> Result<(), Fail> {
     assert_eq!(rt; none.out.bytes(), b"total windows 0\n".as_slice());
     assert_eq!(rt; none.err.bytes(), b"".as_slice());
 
-    let one = plain(alloc, SYN, &one_packet())?;
+    let one = plain(alloc, SYN, one_packet(alloc)?.as_slice())?;
     assert_eq!(rt; one.status, 0);
     assert_eq!(rt;
         one.out.bytes(),
@@ -99,7 +115,8 @@ fn answers_a_capture(rt: HostRuntime) -> Result<(), Fail> {
 #[test]
 fn answers_two_filters(rt: HostRuntime) -> Result<(), Fail> {
     let two = b"window 1000000 query q { packets | filter tcp.flags == 2 | filter ip.proto == 6; }";
-    let ran = plain(rt.alloc(), two, &one_packet())?;
+    let alloc = rt.alloc();
+    let ran = plain(alloc, two, one_packet(alloc)?.as_slice())?;
     assert_eq!(rt; ran.status, 0);
     assert_eq!(rt;
         ran.out.bytes(),
@@ -110,11 +127,25 @@ fn answers_two_filters(rt: HostRuntime) -> Result<(), Fail> {
 
 #[test]
 fn numbers_windows(rt: HostRuntime) -> Result<(), Fail> {
-    let ran = plain(rt.alloc(), SYN, &three_packets())?;
+    let alloc = rt.alloc();
+    // 0, 1500000 and 200000 microseconds: a late packet counts in the window that stands
+    let late = [
+        record([0, 0, 0, 0]),
+        record([0x60, 0xe3, 0x16, 0]),
+        record([0x40, 0x0d, 3, 0]),
+    ];
+    let ran = plain(alloc, SYN, capture_of(alloc, &HEADER, &late)?.as_slice())?;
     assert_eq!(rt; ran.status, 0);
     assert_eq!(rt;
         ran.out.bytes(),
         b"window 0\nquery q level 0 rows 1\n2\nwindow 1\nquery q level 0 rows 2\n2\n2\ntotal windows 2\n".as_slice()
+    );
+    // 1000000 microseconds exactly
+    let next = [record([0, 0, 0, 0]), record([0x40, 0x42, 0x0f, 0])];
+    let ran = plain(alloc, SYN, capture_of(alloc, &HEADER, &next)?.as_slice())?;
+    assert_eq!(rt;
+        ran.out.bytes(),
+        b"window 0\nquery q level 0 rows 1\n2\nwindow 1\nquery q level 0 rows 1\n2\ntotal windows 2\n".as_slice()
     );
     Ok(())
 }
@@ -142,14 +173,179 @@ fn refuses_captures(rt: HostRuntime) -> Result<(), Fail> {
         link.err.bytes(),
         b"sonata: capture Link byte 20\n".as_slice()
     );
-    let mut cut = one_packet();
-    cut[32] = 0x37;
-    let damaged = plain(alloc, SYN, &cut)?;
-    assert_eq!(rt; damaged.status, 5);
-    assert_eq!(rt; damaged.out.bytes(), b"".as_slice());
+    let magic = plain(alloc, SYN, &[0x0a; 24])?;
+    assert_eq!(rt; magic.status, 5);
+    assert_eq!(rt; magic.out.bytes(), b"".as_slice());
     assert_eq!(rt;
-        damaged.err.bytes(),
-        b"sonata: capture damaged\n".as_slice()
+        magic.err.bytes(),
+        b"sonata: capture Magic byte 0\n".as_slice()
+    );
+    Ok(())
+}
+
+#[test]
+fn answers_the_whole_records_of_damaged_captures(rt: HostRuntime) -> Result<(), Fail> {
+    let alloc = rt.alloc();
+    let mut file = three_packets(alloc)?;
+    file.truncate(233);
+    let cut = plain(alloc, SYN, file.as_slice())?;
+    assert_eq!(rt; cut.status, 5);
+    assert_eq!(rt;
+        cut.out.bytes(),
+        b"window 0\nquery q level 0 rows 2\n2\n2\ncapture cut at byte 164\ntotal windows 1\n".as_slice()
+    );
+    assert_eq!(rt;
+        cut.err.bytes(),
+        b"sonata: capture Cut byte 164\n".as_slice()
+    );
+    let long = [1, 0, 0, 0, 2, 0, 0, 0, 1, 0, 4, 0, 0x36, 0, 0, 0];
+    let records = [record([0, 0, 0, 0]), record([1, 0, 0, 0]), long];
+    let bad = plain(alloc, SYN, capture_of(alloc, &HEADER, &records)?.as_slice())?;
+    assert_eq!(rt; bad.status, 5);
+    assert_eq!(rt;
+        bad.out.bytes(),
+        b"window 0\nquery q level 0 rows 2\n2\n2\ncapture bad at byte 164\ntotal windows 1\n".as_slice()
+    );
+    assert_eq!(rt;
+        bad.err.bytes(),
+        b"sonata: capture Bad byte 164\n".as_slice()
+    );
+    Ok(())
+}
+
+/// Headers of captures with the highest byte first, and with nanoseconds.
+const TURNED: [u8; 24] = [
+    0xa1, 0xb2, 0xc3, 0xd4, 0, 2, 0, 4, 0, 0, 0, 0, 0, 0, 0, 0, 0, 4, 0, 0, 0, 0, 0, 1,
+];
+
+const NANOS: [u8; 24] = [
+    0x4d, 0x3c, 0xb2, 0xa1, 2, 0, 4, 0, 0, 0, 0, 0, 0, 0, 0, 0, 0, 0, 4, 0, 1, 0, 0, 0,
+];
+
+const TURNED_NANOS: [u8; 24] = [
+    0xa1, 0xb2, 0x3c, 0x4d, 0, 2, 0, 4, 0, 0, 0, 0, 0, 0, 0, 0, 0, 4, 0, 0, 0, 0, 0, 1,
+];
+
+/// Whether all three packets are answered in one window.
+fn answers_three(alloc: Global, header: &[u8], records: &[[u8; 16]]) -> Result<bool, Fail> {
+    let ran = plain(alloc, SYN, capture_of(alloc, header, records)?.as_slice())?;
+    Ok(
+        ran.status == 0
+            && ran.out.bytes()
+                == b"window 0\nquery q level 0 rows 3\n2\n2\n2\ntotal windows 1\n".as_slice(),
+    )
+}
+
+#[test]
+fn answers_both_byte_orders_and_time_units_alike(rt: HostRuntime) -> Result<(), Fail> {
+    let alloc = rt.alloc();
+    let (first, second, third) = ([0, 0, 0, 0], [1, 0, 0, 0], [2, 0, 0, 0]);
+    let little = [record(first), record(second), record(third)];
+    assert!(rt; answers_three(alloc, &HEADER, &little)?);
+    let big = [
+        turned_record(first),
+        turned_record([0, 0, 0, 1]),
+        turned_record([0, 0, 0, 2]),
+    ];
+    assert!(rt; answers_three(alloc, &TURNED, &big)?);
+    let finer = [
+        record(first),
+        record([0xe8, 3, 0, 0]),
+        record([0xd0, 7, 0, 0]),
+    ];
+    assert!(rt; answers_three(alloc, &NANOS, &finer)?);
+    let finer_big = [
+        turned_record(first),
+        turned_record([0, 0, 3, 0xe8]),
+        turned_record([0, 0, 7, 0xd0]),
+    ];
+    assert!(rt; answers_three(alloc, &TURNED_NANOS, &finer_big)?);
+    Ok(())
+}
+
+/// Packets to 10.0.0.1, 10.0.0.2, 10.0.0.1, 10.0.0.2 and 10.0.0.3 in one window.
+fn five_packets(alloc: Global) -> Result<Vec<u8>, Fail> {
+    let mut file = Vec::from_slice(alloc, &HEADER)?;
+    for destination in [1, 2, 1, 2, 3] {
+        let mut frame = FRAME;
+        frame[33] = destination;
+        file.extend_from_slice(&record([0, 0, 0, 0]))?;
+        file.extend_from_slice(&frame)?;
+    }
+    Ok(file)
+}
+
+#[test]
+fn answers_a_count_for_each_destination(rt: HostRuntime) -> Result<(), Fail> {
+    let query =
+        b"window 1000000 query q { packets | map ip.dst as d, 1 as n | reduce d: sum(n) width 16; }";
+    let alloc = rt.alloc();
+    let ran = plain(alloc, query, five_packets(alloc)?.as_slice())?;
+    assert_eq!(rt; ran.status, 0);
+    assert_eq!(rt;
+        ran.out.bytes(),
+        b"window 0\nquery q level 0 rows 3\n10.0.0.1 2\n10.0.0.2 2\n10.0.0.3 1\ntotal windows 1\n".as_slice()
+    );
+    Ok(())
+}
+
+#[test]
+fn answers_a_refined_query_at_its_finest_level(rt: HostRuntime) -> Result<(), Fail> {
+    let query =
+        b"window 1000000 query q { refine ip.dst: 8, 32; packets | map ip.dst as d | distinct; }";
+    let alloc = rt.alloc();
+    let ran = plain(alloc, query, five_packets(alloc)?.as_slice())?;
+    assert_eq!(rt; ran.status, 0);
+    assert_eq!(rt;
+        ran.out.bytes(),
+        b"window 0\nquery q level 32 rows 3\n10.0.0.1\n10.0.0.2\n10.0.0.3\ntotal windows 1\n".as_slice()
+    );
+    Ok(())
+}
+
+/// A query file that is refused, and its line.
+fn refused(alloc: Global, queries: &[u8], line: &[u8]) -> Result<bool, Fail> {
+    let ran = plain(alloc, queries, &HEADER)?;
+    Ok(ran.status == 3 && ran.out.bytes() == b"".as_slice() && ran.err.bytes() == line)
+}
+
+#[test]
+fn refuses_query_files(rt: HostRuntime) -> Result<(), Fail> {
+    let alloc = rt.alloc();
+    assert!(rt;
+        refused(
+            alloc,
+            b"window 1000000\nquery q { packets | filter tcp.flag == 2; }",
+            b"sonata: queries UnknownField line 2\n",
+        )?
+    );
+    assert!(rt;
+        refused(
+            alloc,
+            b"window 1000000\nquery q { packets | distinct; }",
+            b"sonata: queries NoMap line 2\n",
+        )?
+    );
+    assert!(rt;
+        refused(
+            alloc,
+            b"window 1000000\nquery q { refine ip.dst: 32, 8; packets | map ip.dst as d; }",
+            b"sonata: queries Levels line 2\n",
+        )?
+    );
+    assert!(rt;
+        refused(
+            alloc,
+            b"window 1000000\nquery q { packets | map ip.dst as d, 1 as n | reduce d: sum(n) width 65; }",
+            b"sonata: queries Expected line 2\n",
+        )?
+    );
+    assert!(rt;
+        refused(
+            alloc,
+            b"window 1 query q $",
+            b"sonata: queries Lex line 1\n"
+        )?
     );
     Ok(())
 }
@@ -163,14 +359,9 @@ fn refuses_words_and_faults(rt: HostRuntime) -> Result<(), Fail> {
     let unknown = run(alloc, &["plain", "q", "d"], SYN, &HEADER, None)?;
     assert_eq!(rt; unknown.status, 9);
     assert_eq!(rt; unknown.err.bytes(), b"sonata: read fault\n".as_slice());
-    let failed = run(alloc, &["plain", "q", "c"], SYN, &one_packet(), Some(0))?;
+    let file = one_packet(alloc)?;
+    let failed = run(alloc, &["plain", "q", "c"], SYN, file.as_slice(), Some(0))?;
     assert_eq!(rt; failed.status, 10);
     assert_eq!(rt; failed.out.bytes(), b"".as_slice());
-    let unbuilt = plain(alloc, b"window 1 query q { packets | distinct; }", &HEADER)?;
-    assert_eq!(rt; unbuilt.status, 3);
-    assert_eq!(rt;
-        unbuilt.err.bytes(),
-        b"sonata: queries unbuilt\n".as_slice()
-    );
     Ok(())
 }

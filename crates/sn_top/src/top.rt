@@ -9,19 +9,11 @@ ghost use Rattle.sn_top.specs.Top.{end_status, end_line, IsRun, IsTold, IsStatus
 
 use crate::plain::plain;
 use crate::refusal::Refusal;
+use crate::told::tell;
 use crate::words::{Command, words};
 use sn_io::inputs::Inputs;
-use sn_io::sink::{Sink, write_all_to};
+use sn_io::sink::Sink;
 use std::alloc::Global;
-
-fn line_of(answer: Result<(), Refusal>) -> &'static [u8]
-    ensures { result.now ≡ end_line answer }
-{
-    match answer {
-        Ok(()) => b"",
-        Err(refusal) => refusal.line(),
-    }
-}
 
 fn status_of(answer: Result<(), Refusal>) -> u8
     ensures { result ≡ end_status answer }
@@ -52,13 +44,6 @@ fn run<I: Inputs, O: Sink>(
     }
 }
 
-/// Tells the line on an answer.
-fn tell<E: Sink>(answer: Result<(), Refusal>, err: &mut E)
-    ensures { IsTold (end_line answer) (E.faults err.old) (E.faults err.new) (E.empty_takes err.old) (E.empty_takes err.new) (E.written err.old) (E.written err.new) }
-{
-    let _ = write_all_to(err, line_of(answer));
-}
-
 /// Runs a command: its text goes to `out`, a line on its status to `err`, and the status is the answer.
 ///
 /// The words are those after the program's name. `plain QUERIES CAPTURE` is the one command so far. A fault in
@@ -85,10 +70,10 @@ pub fn top<I: Inputs, O: Sink, E: Sink>(
     // 10 over any sink: only where a write failed in this call, or took nothing of a rest that has bytes.
     ensures write_fault { result ≡ 10 → OutRose (O.faults out.old) (O.faults out.new) (O.empty_takes out.old) (O.empty_takes out.new) }
 
-    // The line of the status is told; that of 5 says what is wrong with the capture.
+    // The line of the status is told. Where the status is the one that is due, the line is that of the outcome.
     ensures line { IsStatusTold result (E.faults err.old) (E.faults err.new) (E.empty_takes err.old) (E.empty_takes err.new) (E.written err.old) (E.written err.new) }
-    ensures capture_line { is_plain (texts words.now) ≡ true → (held : ByName (List ℕ)) → I.told files.old ≡ Some held → (outcome : Outcome (Unit {0})) →
-        IsPlain held (word_at (texts words.now) 1) (word_at (texts words.now) 2) outcome → result ≡ 5 →
+    ensures due_line { is_plain (texts words.now) ≡ true → (held : ByName (List ℕ)) → I.told files.old ≡ Some held → (outcome : Outcome (Unit {0})) →
+        IsPlain held (word_at (texts words.now) 1) (word_at (texts words.now) 2) outcome → result ≡ end_status outcome.end →
         IsTold (end_line outcome.end) (E.faults err.old) (E.faults err.new) (E.empty_takes err.old) (E.empty_takes err.new) (E.written err.old) (E.written err.new) }
 {
     let answer = run(alloc, words, files, out);

@@ -30,7 +30,7 @@ returns-clause-write_fault g c = λ ten. c.run-answer.ensures.write_fault (ten_i
 pub returns-clause-line : goal.returns-clause-line
 returns-clause-line g c = rw c.status_of.ensures (end_line c.run-answer.result, line_is c.run-answer.result, c.tell.ensures)
 
-pub returns-clause-capture_line : goal.returns-clause-capture_line
-returns-clause-capture_line g c = λ plain held same outcome is five.
-    let e = line_due outcome c.run-answer.result (g.O.Sink.written c.args.out.now) (g.O.Sink.written c.run-answer.new.out) (c.run-answer.ensures.keeps plain held same outcome is) (sym c.status_of.ensures ∙ five) in
+pub returns-clause-due_line : goal.returns-clause-due_line
+returns-clause-due_line g c = λ plain held same outcome is due.
+    let e = line_due outcome c.run-answer.result (g.O.Sink.written c.args.out.now) (g.O.Sink.written c.run-answer.new.out) (c.run-answer.ensures.keeps plain held same outcome is) (sym c.status_of.ensures ∙ due) in
     rw (← e) c.tell.ensures
