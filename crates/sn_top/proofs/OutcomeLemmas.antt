@@ -5,8 +5,7 @@ use Rattle.sn_pcap.specs.declared.header.Header.{Header}
 use Rattle.sn_pcap.specs.declared.header.HeadFault.{HeadFault}
 use Rattle.sn_pcap.specs.Capture.{head_of}
 use Rattle.sn_pcap.proofs.OneCapture.{records_some, records_once}
-use Rattle.sn_queries.specs.declared.fault.QueryFault.{QueryFault}
-use Rattle.sn_queries.specs.Texts.{Queries, HasReading, IsRead}
+use Rattle.sn_queries.specs.Texts.{Queries, HasReading}
 use Rattle.sn_queries.proofs.SomeReading.{reading_some}
 use Rattle.sn_queries.proofs.OneReading.{reading_once}
 use Rattle.sn_top.specs.declared.refusal.Refusal.{Refusal}

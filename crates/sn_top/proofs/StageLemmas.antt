@@ -1,5 +1,5 @@
 -- One stage behind another, over plain values.
-use Rattle.std.proofs.Common.{◌≡◌, ℕ, List, [], Option, Result, Ok, Err, refl, ap, sym, ◌∙◌, subst}
+use Rattle.std.proofs.Common.{◌≡◌, ℕ, List, [], Option, Result, Ok, Err, refl, sym, ◌∙◌, subst}
 use Rattle.sn_io.specs.Counts.{ByName}
 use Rattle.sn_pcap.specs.Capture.{head_of}
 use Rattle.sn_queries.specs.Texts.{Queries}

@@ -2,7 +2,6 @@
 use Rattle.std.proofs.Common.{◌≡◌, ◌≢◌, ℕ, ◌⊎◌, List, true, false, Option, Result, Ok, Err, inl, inr, refl, ap, sym, ◌∙◌, arith}
 use Rattle.std.proofs.lemmas.Bool.{false≢true}
 use Rattle.sn_base.proofs.Lists.{by_test}
-use Rattle.sn_pcap.specs.declared.header.HeadFault.TheVariants as heads
 use Rattle.sn_top.specs.declared.refusal.Refusal.{Refusal}
 use Rattle.sn_top.specs.declared.refusal.Refusal.TheVariants.{Memory, Usage, Queries, Head, Cut, Bad, Missing, ReadFault, WriteFault, TooLarge}
 use Rattle.sn_top.specs.Outcome.{Outcome, is_chance, Keeps}

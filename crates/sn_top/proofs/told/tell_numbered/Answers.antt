@@ -1,6 +1,4 @@
-use Rattle.std.proofs.Common.{List, ℕ, true, subst}
 use Rattle.sn_top.specs.Refusals.{number_end}
-use Rattle.sn_top.specs.Told.{Tells}
 use Rattle.sn_top.proofs.ToldLemmas.{tells_then}
 use Rattle.sn_top.proofs.told.tell_numbered.Goals as goal
 

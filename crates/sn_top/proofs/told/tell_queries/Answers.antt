@@ -1,7 +1,5 @@
-use Rattle.std.proofs.Common.{List, ℕ, true, subst}
 use Rattle.std.specs.Prelude.{codes}
 use Rattle.sn_top.specs.Refusals.{fault_end}
-use Rattle.sn_top.specs.Told.{Tells}
 use Rattle.sn_top.proofs.ToldLemmas.{tells_stops, tells_then}
 use Rattle.sn_top.proofs.told.tell_queries.Goals as goal
 
