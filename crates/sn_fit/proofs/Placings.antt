@@ -2,7 +2,7 @@
 use Rattle.std.proofs.Common.{ℕ, suc, ◌≤◌, ◌<◌, List, [], ◌∷◌, refl, subst, arith}
 use Rattle.std.specs.Prelude.{◌↔◌}
 use Rattle.std.specs.List.{AllByRecursion}
-use Rattle.sn_plan.specs.Placing.{Table, stateless, register, MayStand, IsPlacing, HasPlacing, HasGaps}
+use Rattle.sn_fit.specs.Placing.{Table, stateless, register, MayStand, IsPlacing, HasPlacing, HasGaps}
 
 -- the least stage behind tables with wide gaps doesn't pass the number of stages
 room : (stages least : ℕ) (ts : List Table) → HasGaps stages least ts → least ≤ stages

@@ -1,6 +1,6 @@
 //! A law on the places of tables.
 ghost use Rattle.std.specs.Prelude.{◌↔◌, ℕ, List};
-ghost use Rattle.sn_plan.specs.Placing.{Table, HasPlacing, HasGaps};
+ghost use Rattle.sn_fit.specs.Placing.{Table, HasPlacing, HasGaps};
 
 /// A law, with nothing to run: the tables of a piece have a placing in a switch of so many stages exactly where, taken
 /// in order, no register stands below the least stage that is left for it, and none is left over behind the last.

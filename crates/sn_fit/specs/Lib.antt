@@ -1,0 +1,9 @@
+pub mod Capped
+pub mod Checks
+pub mod Fits
+pub mod Gaps
+pub mod Paths
+pub mod Pieces
+pub mod Placing
+pub mod Registers
+pub mod Tables
