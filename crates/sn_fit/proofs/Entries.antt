@@ -1,5 +1,5 @@
 -- Entries are those of the queries exactly where no path is at fault.
-use Rattle.std.proofs.Common.{◌≡◌, ℕ, ◌+◌, ◌≤◌, ◌<◌, List, [], ◌∷◌, map, length, Bool, true, false, ◌&&◌, nat_lt, nat_eq, cond, Option, Some, None, refl, ap, sym, ◌∙◌, subst, arith}
+use Rattle.std.proofs.Common.{◌≡◌, ℕ, ◌+◌, ◌<◌, List, [], ◌∷◌, map, Bool, true, false, ◌&&◌, nat_lt, cond, Option, Some, None, refl, ap, sym, ◌∙◌, arith}
 use Rattle.std.specs.Prelude.{◌↔◌, ◌==◌}
 use Rattle.std.specs.List.{AllByRecursion, list_all}
 use Rattle.sn_base.proofs.FoldedLemmas.{same_row_exact}
@@ -46,23 +46,23 @@ level_is (Some n) (Some m) = (λ e. (m, ap (λ (k : ℕ). Some k) ((is_equal n m
 
 path_is : (levels path : List ℕ) → (is_path levels path ≡ true) ↔ IsPath levels path
 path_is levels path = (
-      λ e. let a = (and_true (rises path && list_all (is_among levels) path) (same_level (last_of path) (last_of levels))).0 e in
+  λ e. let a = (and_true (rises path && list_all (is_among levels) path) (same_level (last_of path) (last_of levels))).0 e in
       let b = (and_true (rises path) (list_all (is_among levels) path)).0 a.0 in
       record { rising = (rising_is path).0 b.0; known = (all_true (is_among levels) path).0 b.1; finest = (level_is (last_of path) (last_of levels)).0 a.1 },
-      λ h. (and_true (rises path && list_all (is_among levels) path) (same_level (last_of path) (last_of levels))).1
+  λ h. (and_true (rises path && list_all (is_among levels) path) (same_level (last_of path) (last_of levels))).1
       ((and_true (rises path) (list_all (is_among levels) path)).1 ((rising_is path).1 h.rising, (all_true (is_among levels) path).1 h.known), (level_is (last_of path) (last_of levels)).1 h.finest),
-    )
+)
 
 -- ---- the pieces
 
 place_is : (x : Place) (p : Piece) → (is_at x p ≡ true) ↔ (place_of p ≡ x)
 place_is x p = (
-      λ e. let parts = (and_true (p.level == x.0) (p.branch == x.1)).0 e in
+  λ e. let parts = (and_true (p.level == x.0) (p.branch == x.1)).0 e in
       let a : p.level ≡ x.0 = (is_equal p.level x.0).0 parts.0 in
       let b : p.branch ≡ x.1 = (is_equal p.branch x.1).0 parts.1 in
       rw (a, b) refl,
-      λ e. (and_true (p.level == x.0) (p.branch == x.1)).1 ((is_equal p.level x.0).1 (ap (λ (y : Place). y.0) e), (is_equal p.branch x.1).1 (ap (λ (y : Place). y.1) e)),
-    )
+  λ e. (and_true (p.level == x.0) (p.branch == x.1)).1 ((is_equal p.level x.0).1 (ap (λ (y : Place). y.0) e), (is_equal p.branch x.1).1 (ap (λ (y : Place). y.1) e)),
+)
 
 cons_same : {X : Type 0} (x y : X) (xs ys : List X) → x ∷ xs ≡ y ∷ ys → (x ≡ y) × (xs ≡ ys)
 cons_same x y xs ys e = (cc, cc)
@@ -72,13 +72,13 @@ pieces_are [] [] = (λ e. refl, λ e. refl)
 pieces_are [] (p ∷ ps) = (λ e. cc, λ e. cc)
 pieces_are (x ∷ xs) [] = (λ e. cc, λ e. cc)
 pieces_are (x ∷ xs) (p ∷ ps) = (
-      λ e. let parts = (and_true (is_at x p) (are_at xs ps)).0 e in
+  λ e. let parts = (and_true (is_at x p) (are_at xs ps)).0 e in
       let a : place_of p ≡ x = (place_is x p).0 parts.0 in
       let b : map place_of ps ≡ xs = (pieces_are xs ps).0 parts.1 in
       rw (a, b) refl,
-      λ e. let parts = cons_same (place_of p) x (map place_of ps) xs e in
+  λ e. let parts = cons_same (place_of p) x (map place_of ps) xs e in
       (and_true (is_at x p) (are_at xs ps)).1 ((place_is x p).1 parts.0, (pieces_are xs ps).1 parts.1),
-    )
+)
 
 -- ---- entries
 
@@ -87,12 +87,12 @@ name_is a b = (λ e. same_row_exact a b e, λ e. ap (same_name a) (sym e) ∙ sa
 
 pub entry_is : (q : TypedQuery) (e : Entry) → (is_entry q e ≡ true) ↔ IsEntryOf q e
 entry_is q e = (
-      λ h. let a = (and_true (same_name e.name q.name && is_path q.levels e.levels) (are_at (places q.branches e.levels) e.pieces)).0 h in
+  λ h. let a = (and_true (same_name e.name q.name && is_path q.levels e.levels) (are_at (places q.branches e.levels) e.pieces)).0 h in
       let b = (and_true (same_name e.name q.name) (is_path q.levels e.levels)).0 a.0 in
       record { name = (name_is e.name q.name).0 b.0; path = (path_is q.levels e.levels).0 b.1; pieces = (pieces_are (places q.branches e.levels) e.pieces).0 a.1 },
-      λ h. (and_true (same_name e.name q.name && is_path q.levels e.levels) (are_at (places q.branches e.levels) e.pieces)).1
+  λ h. (and_true (same_name e.name q.name && is_path q.levels e.levels) (are_at (places q.branches e.levels) e.pieces)).1
       ((and_true (same_name e.name q.name) (is_path q.levels e.levels)).1 ((name_is e.name q.name).1 h.name, (path_is q.levels e.levels).1 h.path), (pieces_are (places q.branches e.levels) e.pieces).1 h.pieces),
-    )
+)
 
 next_entry : (b : Bool) (n : ℕ) (behind : Option Misfit) → (cond b behind (wrong_entry n) ≡ None) ↔ ((b ≡ true) × (behind ≡ None))
 next_entry true n behind = (λ e. (refl, e), λ e. e.1)

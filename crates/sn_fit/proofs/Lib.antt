@@ -1,3 +1,4 @@
+pub mod Bounds
 pub mod Caps
 pub mod Ends
 pub mod Entries
@@ -5,3 +6,4 @@ pub mod FitLaws
 pub mod PiecesFit
 pub mod Placings
 pub mod Tests
+pub mod Widths

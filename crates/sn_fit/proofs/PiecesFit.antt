@@ -1,5 +1,5 @@
 -- Pieces fit exactly where none of their checks fails.
-use Rattle.std.proofs.Common.{◌≡◌, ℕ, zero, suc, ◌+◌, ◌*◌, ◌-◌, ◌≤◌, ◌<◌, List, [], ◌∷◌, ◌++◌, map, length, Bool, true, false, not, nat_lt, Option, Some, None, is_some, refl, ap, sym, ◌∙◌, subst, arith, add-one}
+use Rattle.std.proofs.Common.{◌≡◌, ℕ, suc, ◌+◌, ◌*◌, ◌-◌, ◌≤◌, List, [], ◌∷◌, length, Bool, true, false, not, nat_lt, Option, Some, None, is_some, refl, sym, ◌∙◌, subst, add-one}
 use Rattle.std.specs.Prelude.{◌↔◌, ◌==◌}
 use Rattle.std.specs.List.{AllByRecursion}
 use Rattle.sn_plan_rules.specs.declared.plan.Entry.{Entry}
@@ -9,7 +9,7 @@ use Rattle.sn_types.specs.declared.typed_query.TypedQuery.{TypedQuery}
 use Rattle.sn_types.specs.declared.typed_query.TypedBranch.{TypedBranch}
 use Rattle.sn_fit.specs.declared.misfit.Misfit.{Misfit}
 use Rattle.sn_fit.specs.declared.misfit.MisfitKind.{MisfitKind}
-use Rattle.sn_fit.specs.declared.misfit.MisfitKind.TheVariants.{Cut, Slots, Order, Stage, Actions, Bits, Meta}
+use Rattle.sn_fit.specs.declared.misfit.MisfitKind.TheVariants.{Cut, Slots, Order, Stage}
 use Rattle.sn_fit.specs.Checks.{failing, or_else}
 use Rattle.sn_fit.specs.Placing.{Table, stateless, register, HasPlacing, HasGaps}
 use Rattle.sn_fit.specs.Paths.{is_among}
@@ -34,14 +34,15 @@ gap_parts stages least (register s ∷ ts) = next (s + 1) (add-one s) (gap_parts
   where
     here : (failing (nat_lt s least) Order least s ≡ None) ↔ (least ≤ s)
     here = then (failing_none (nat_lt s least) Order least s) (not_above s least)
+
     next : (n : ℕ) → n ≡ suc s → HasGaps stages n ts ↔ ((order_misfit n ts ≡ None) × (least_behind n ts ≤ stages))
         → ((least ≤ s) × HasGaps stages (suc s) ts) ↔ ((or_else (failing (nat_lt s least) Order least s) (order_misfit n ts) ≡ None) × (least_behind n ts ≤ stages))
     next n e h = (
-          λ k. let rest = h.0 (subst (λ (m : ℕ). HasGaps stages m ts) (sym e) k.1) in
+      λ k. let rest = h.0 (subst (λ (m : ℕ). HasGaps stages m ts) (sym e) k.1) in
           ((or_none (failing (nat_lt s least) Order least s) (order_misfit n ts)).1 (here.1 k.0, rest.0), rest.1),
-          λ k. let parts = (or_none (failing (nat_lt s least) Order least s) (order_misfit n ts)).0 k.0 in
+      λ k. let parts = (or_none (failing (nat_lt s least) Order least s) (order_misfit n ts)).0 k.0 in
           (here.0 parts.0, subst (λ (m : ℕ). HasGaps stages m ts) e (h.1 (parts.1, k.1))),
-        )
+    )
 
 end_none : (stages : ℕ) (registers : Bool) (least : ℕ) → (end_misfit stages registers least ≡ None) ↔ (least ≤ stages)
 end_none stages true least = then (failing_none (nat_lt stages least) Stage (stages - 1) (least - 1)) (not_above stages least)
@@ -76,7 +77,7 @@ count_none kind want got = then (failing_none (not (got == want)) kind want got)
 
 pub piece_none : (s : Switch) (path : List ℕ) (b : TypedBranch) (p : Piece) → 1 ≤ s.stages → (piece_misfit s path b p ≡ None) ↔ PieceFits s path b p
 piece_none s path b p h = (
-      λ e. let a = (or_none (cut_misfit b p) _).0 e in
+  λ e. let a = (or_none (cut_misfit b p) _).0 e in
       let c = (or_none (slots_misfit s.slots b p) _).0 a.1 in
       let d = (or_none (stages_misfit s.chain b p) _).0 c.1 in
       let sizes = (or_none (count_misfit Slots (stateful (prefix_of b p)) (length p.slots)) (strange_size s.slots p.slots)).0 c.0 in
@@ -87,12 +88,16 @@ piece_none s path b p h = (
         stages = (count_none Order (s.chain * stateful (prefix_of b p)) (length p.stages)).0 d.0;
         placing = (tables_none s.stages (tables_of s.chain path b p) h).0 d.1;
       },
-      λ k. let sizes = (or_none (count_misfit Slots (stateful (prefix_of b p)) (length p.slots)) (strange_size s.slots p.slots)).1
+  λ k. let sizes = (or_none (count_misfit Slots (stateful (prefix_of b p)) (length p.slots)) (strange_size s.slots p.slots)).1
       ((count_none Slots (stateful (prefix_of b p)) (length p.slots)).1 k.sizes, (sizes_none s.slots p.slots).1 k.listed) in
-      (or_none (cut_misfit b p) _).1 ((cut_none b p).1 k.cut,
-      (or_none (slots_misfit s.slots b p) _).1 (sizes,
-      (or_none (stages_misfit s.chain b p) _).1 ((count_none Order (s.chain * stateful (prefix_of b p)) (length p.stages)).1 k.stages, (tables_none s.stages (tables_of s.chain path b p) h).1 k.placing))),
-    )
+      (or_none (cut_misfit b p) _).1 (
+        (cut_none b p).1 k.cut,
+        (or_none (slots_misfit s.slots b p) _).1 (
+          sizes,
+          (or_none (stages_misfit s.chain b p) _).1 ((count_none Order (s.chain * stateful (prefix_of b p)) (length p.stages)).1 k.stages, (tables_none s.stages (tables_of s.chain path b p) h).1 k.placing),
+        ),
+      ),
+)
 
 -- ---- all pieces
 

@@ -1,8 +1,7 @@
 -- Tests and what they decide.
-use Rattle.std.proofs.Common.{◌≡◌, ℕ, ◌≤◌, ◌<◌, List, [], ◌∷◌, Bool, true, false, not, ◌&&◌, nat_lt, nat_eq, Option, Some, None, refl, ap, sym, ◌∙◌, arith}
+use Rattle.std.proofs.Common.{◌≡◌, ℕ, ◌≤◌, ◌<◌, List, [], ◌∷◌, Bool, true, false, not, ◌&&◌, nat_lt, Option, Some, None, refl, sym, arith}
 use Rattle.std.specs.Prelude.{◌↔◌, ◌==◌}
 use Rattle.std.specs.List.{AllByRecursion, list_all}
-use Rattle.sn_base.proofs.Lists.{nat_same, nat_self}
 use Rattle.sn_fit.specs.declared.misfit.Misfit.{Misfit}
 use Rattle.sn_fit.specs.declared.misfit.MisfitKind.{MisfitKind}
 use Rattle.sn_fit.specs.Checks.{failing, or_else}

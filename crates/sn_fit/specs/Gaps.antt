@@ -1,5 +1,5 @@
 -- The least stage that the next table may have, as the tables of a piece are gone through.
-use Rattle.std.specs.Prelude.{ℕ, ◌+◌, ◌-◌, List, [], ◌∷◌, Bool, nat_lt, Option, Some, None, Result, Ok, Err, if◌then◌else◌}
+use Rattle.std.specs.Prelude.{ℕ, ◌+◌, ◌-◌, List, [], ◌∷◌, Bool, nat_lt, Option, Some, Result, Ok, Err, if◌then◌else◌}
 use Rattle.sn_fit.specs.declared.misfit.Misfit.{Misfit}
 use Rattle.sn_fit.specs.declared.misfit.MisfitKind.TheVariants.{Stage}
 use Rattle.sn_fit.specs.Checks.{failing}

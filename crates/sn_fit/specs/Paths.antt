@@ -1,6 +1,6 @@
 -- Paths of queries and the pieces along them.
-use Rattle.std.specs.Prelude.{◌≡◌, ℕ, ◌+◌, ◌<◌, List, [], ◌∷◌, map, length, Bool, true, false, ◌&&◌, ◌==◌, nat_lt, nat_eq, Option, Some, None, if◌then◌else◌}
-use Rattle.std.specs.List.{AllByRecursion, list_all, list_any, flat_map}
+use Rattle.std.specs.Prelude.{ℕ, ◌+◌, List, [], ◌∷◌, Bool, true, false, ◌&&◌, ◌==◌, nat_lt, nat_eq, Option, Some, None, if◌then◌else◌}
+use Rattle.std.specs.List.{list_all, list_any, flat_map}
 use Rattle.sn_plan_rules.specs.declared.plan.Entry.{Entry}
 use Rattle.sn_plan_rules.specs.declared.plan.Piece.{Piece}
 use Rattle.sn_types.specs.declared.typed_query.TypedQuery.{TypedQuery}

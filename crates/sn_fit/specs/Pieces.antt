@@ -1,9 +1,7 @@
 -- The checks of a plan, in order.
 use Rattle.std.specs.Prelude.{ℕ, zero, suc, ◌+◌, ◌*◌, List, [], ◌∷◌, ◌++◌, take, length, false, not, ◌==◌, nat_lt, slice_get, Option, Some, None}
-use Rattle.std.specs.List.{flat_map}
 use Rattle.sn_plan_rules.specs.declared.plan.Entry.{Entry}
 use Rattle.sn_plan_rules.specs.declared.plan.Piece.{Piece}
-use Rattle.sn_plan_rules.specs.declared.plan.Plan.{Plan}
 use Rattle.sn_switch.specs.declared.switch.Switch.{Switch}
 use Rattle.sn_types.specs.declared.typed_op.TOp.{TOp}
 use Rattle.sn_types.specs.declared.typed_query.TypedQuery.{TypedQuery}

@@ -1,6 +1,6 @@
 -- The registers of a piece, and the widths of rows.
 use Rattle.std.specs.List.{sum_by}
-use Rattle.std.specs.Prelude.{ℕ, ◌+◌, ◌*◌, List, [], ◌∷◌, ◌++◌, map, filter, take, drop, length, max, Bool, true, false, ◌||◌, ◌==◌, slice_index, slice_get, Option, Some, None, unwrap_or, if◌then◌else◌}
+use Rattle.std.specs.Prelude.{ℕ, ◌+◌, ◌*◌, List, [], ◌∷◌, ◌++◌, map, filter, take, drop, length, max, Bool, true, false, ◌||◌, ◌==◌, slice_index, slice_get, Option, Some, None, if◌then◌else◌}
 use Rattle.sn_base.specs.declared.column.Column.{Column}
 use Rattle.sn_base.specs.declared.any_fold.AnyFold.{AnyFold}
 use Rattle.sn_base.specs.declared.any_fold.AnyFold.TheVariants as folds

@@ -1,5 +1,5 @@
 -- The tables of a piece, and the first that can't be placed.
-use Rattle.std.specs.Prelude.{ℕ, ◌+◌, ◌-◌, List, [], ◌∷◌, ◌++◌, map, filter, take, drop, length, Bool, true, false, ◌==◌, nat_lt, Option, Some, None, unwrap_or, if◌then◌else◌}
+use Rattle.std.specs.Prelude.{ℕ, ◌+◌, ◌-◌, List, [], ◌∷◌, ◌++◌, map, take, drop, length, Bool, true, false, ◌==◌, nat_lt, Option, Some, None, unwrap_or, if◌then◌else◌}
 use Rattle.sn_types.specs.declared.typed_op.TOp.{TOp}
 use Rattle.sn_types.specs.declared.typed_op.TOp.TheVariants.{Filter, Map, Distinct, Reduce}
 use Rattle.sn_fit.specs.declared.misfit.Misfit.{Misfit}

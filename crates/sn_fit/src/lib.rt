@@ -2,10 +2,13 @@
 #![tactic(auto)]
 
 pub mod laws;
-pub mod misfit;
 mod load;
 mod metadata;
+pub mod misfit;
 mod order;
 mod path;
 mod piece;
+mod whole;
 mod width;
+
+pub use whole::{fits, shape};

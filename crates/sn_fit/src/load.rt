@@ -161,7 +161,10 @@ pub(crate) fn plan_load(stage: u32, depth: usize, queries: &[TypedQuery], entrie
         let Some((entry, after)) = rest.split_first() else {
             return load;
         };
-        load = both(load, entry_load(stage, depth, query, entry.pieces.as_slice()));
+        load = both(
+            load,
+            entry_load(stage, depth, query, entry.pieces.as_slice()),
+        );
         rest = after;
     }
     load

@@ -117,7 +117,12 @@ fn tables(switch: &Switch, path: &[u32], branch: &TypedBranch, piece: &Piece) ->
 }
 
 /// Whether a piece fits by itself.
-pub(crate) fn piece(switch: &Switch, path: &[u32], branch: &TypedBranch, piece: &Piece) -> Result<(), Misfit>
+pub(crate) fn piece(
+    switch: &Switch,
+    path: &[u32],
+    branch: &TypedBranch,
+    piece: &Piece,
+) -> Result<(), Misfit>
     requires { IsSwitch switch.now }
     ensures { told result ≡ piece_misfit switch.now path.now branch.now piece.now }
 {

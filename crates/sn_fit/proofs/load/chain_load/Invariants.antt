@@ -1,4 +1,4 @@
-use Rattle.std.proofs.Common.{◌≡◌, ◌≤◌, ◌^◌, ◌-◌, ℕ, ◌+◌, drop, map}
+use Rattle.std.proofs.Common.{◌≡◌, ◌≤◌, ◌^◌, ◌-◌, ◌+◌, drop, map}
 use Rattle.sn_fit.specs.Registers.{in_stage, count_in, bits_in}
 use Rattle.sn_fit.specs.Capped.{capped}
 use Rattle.sn_fit.proofs.load.chain_load.Given as goal

@@ -1,4 +1,4 @@
-use Rattle.std.proofs.Common.{◌≡◌, List, take, sym, ◌∙◌}
+use Rattle.std.proofs.Common.{List, take, sym, ◌∙◌}
 use Rattle.sn_fit.specs.Placing.{Table}
 use Rattle.sn_fit.specs.Tables.{op_tables}
 use Rattle.sn_fit.proofs.Ends.{tables_end}
