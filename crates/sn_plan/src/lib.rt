@@ -1,12 +1,14 @@
 //! Plans: which part of each query runs in the switch, and where.
 #![tactic(auto)]
 
+pub use sn_fit::{fits, laws, misfit, shape};
 pub use sn_plan_rules::{plan, short};
 
 mod canonical;
 mod entries;
 pub mod fault;
-pub mod laws;
+#[cfg(test)]
+mod fit_tests;
 mod lists;
 mod pieces;
 #[cfg(test)]
