@@ -3,9 +3,8 @@ ghost use Rattle.std.specs.Prelude.{IfSome};
 ghost use Rattle.sn_switch.specs.Texts.{IsSwitch};
 
 use crate::text::parse;
-use sn_fit::fits;
 use sn_fit::misfit::{Misfit, MisfitKind};
-use sn_fit::shape;
+use sn_fit::{fits, shape};
 use sn_plan_rules::plan::Plan;
 use sn_queries::read::read;
 use sn_switch::switch::Switch;
@@ -13,16 +12,20 @@ use sn_types::typed::Typed;
 use std::alloc::Global;
 
 /// Sums over destinations.
-const SUM: &[u8] = b"window 1000000 query q { packets | map ip.dst as d, 1 as n | reduce d: sum(n) width 16; }";
+const SUM: &[u8] =
+    b"window 1000000 query q { packets | map ip.dst as d, 1 as n | reduce d: sum(n) width 16; }";
 
 /// The destinations of one query, the sources of another.
-const TWO: &[u8] = b"window 1000000 query a { packets | map ip.dst as d, 1 as n | reduce d: sum(n) width 8; } query b { packets | map ip.src as s, 1 as n | reduce s: sum(n) width 8; }";
+const TWO: &[u8] =
+    b"window 1000000 query a { packets | map ip.dst as d, 1 as n | reduce d: sum(n) width 8; } query b { packets | map ip.src as s, 1 as n | reduce s: sum(n) width 8; }";
 
 /// A refined query of a distinct and a reduce.
-const DEEP: &[u8] = b"window 1000000 query q { refine ip.dst: 8, 32; packets | map ip.dst as d, ip.src as s | distinct | map d as d, 1 as n | reduce d: sum(n) width 16 | filter n > 1; }";
+const DEEP: &[u8] =
+    b"window 1000000 query q { refine ip.dst: 8, 32; packets | map ip.dst as d, ip.src as s | distinct | map d as d, 1 as n | reduce d: sum(n) width 16 | filter n > 1; }";
 
 /// Sums over destinations, joined with sums over the same destinations.
-const JOINED: &[u8] = b"window 1000000 query q { refine ip.dst: 8, 32; packets | map ip.dst as d, 1 as n | reduce d: sum(n) width 16; packets | map ip.dst as d, ip.len as m | reduce d: sum(m) width 32; join d; }";
+const JOINED: &[u8] =
+    b"window 1000000 query q { refine ip.dst: 8, 32; packets | map ip.dst as d, 1 as n | reduce d: sum(n) width 16; packets | map ip.dst as d, ip.len as m | reduce d: sum(m) width 32; join d; }";
 
 const SMALL: &[u8] = b"stages 4; actions 2; bits 1000; meta 1000; chain 1; slots 1;";
 
@@ -70,11 +73,7 @@ fn answer(
     Some(fits(&typed, &switch, &plan))
 }
 
-fn shape_of(
-    rt: &HostRuntime,
-    queries_text: &[u8],
-    plan_text: &[u8],
-) -> Option<Result<(), Misfit>> {
+fn shape_of(rt: &HostRuntime, queries_text: &[u8], plan_text: &[u8]) -> Option<Result<(), Misfit>> {
     let typed = queries(rt.alloc(), queries_text)?;
     let plan = plan(rt.alloc(), plan_text)?;
     Some(shape(&typed, &plan))
@@ -178,8 +177,12 @@ fn adds_up_over_pieces(rt: HostRuntime) {
         assert_eq!(rt; answer(&rt, TWO, switch, plan), want);
     }
     let wide = b"stages 2; actions 2; bits 81; meta 100; chain 1; slots 1;";
-    let both = b"plan query a path 0; piece 0 0 cut 2 slots 1 stages 1; query b path 0; piece 0 0 cut 2 slots 1 stages 1;";
-    assert_eq!(rt; answer(&rt, TWO, wide, both), misfit(MisfitKind::Bits, 81, 82));
+    let both =
+        b"plan query a path 0; piece 0 0 cut 2 slots 1 stages 1; query b path 0; piece 0 0 cut 2 slots 1 stages 1;";
+    assert_eq!(rt;
+        answer(&rt, TWO, wide, both),
+        misfit(MisfitKind::Bits, 81, 82)
+    );
 }
 
 #[test]
