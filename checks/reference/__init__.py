@@ -1,0 +1,1 @@
+"""A slow, independent answer to `sonata plain`, written from the rules of the texts and captures alone."""
