@@ -1,0 +1,123 @@
+#!/usr/bin/env python3
+"""Measures `sonata plain` with the queries of three.query against a program in C over libpcap, and against a bare count by tcpdump.
+
+Builds the C program, generates two captures into a temporary folder, runs all on both, and prints whether the answers are equal, the processor
+time (user and system), packets a second, peak memory, and the ratios. Nothing is left behind but with --keep."""
+
+import argparse
+import os
+import shutil
+import subprocess
+import sys
+import tempfile
+
+HERE = os.path.dirname(os.path.abspath(__file__))
+QUERIES = os.path.join(HERE, 'three.query')
+USUAL = os.path.join(HERE, '..', 'crates', 'sonata', 'out', 'sonata')
+
+
+class Measure:
+    """One program on one capture: its status, the file of its output, and its least times over all runs."""
+
+    def __init__(self, status, seconds, user, system, peak_bytes):
+        self.status, self.seconds, self.user, self.system, self.peak_bytes = status, seconds, user, system, peak_bytes
+
+
+def run_once(words, out_name):
+    """Run a program with its output in a file. The child alone is measured."""
+    with open(out_name, 'wb') as out:
+        child = subprocess.Popen(words, stdout=out, stderr=subprocess.DEVNULL)
+        _, status, used = os.wait4(child.pid, 0)
+        child.returncode = os.waitstatus_to_exitcode(status)
+    return Measure(child.returncode, used.ru_utime + used.ru_stime, used.ru_utime, used.ru_stime, used.ru_maxrss * 1024)
+
+
+def measure(words, out_name, runs):
+    """The run of least processor time, with the greatest peak of all runs."""
+    found = [run_once(words, out_name) for _ in range(runs)]
+    best = min(found, key=lambda m: m.seconds)
+    best.peak_bytes = max(m.peak_bytes for m in found)
+    return best
+
+
+def build(folder):
+    program = os.path.join(folder, 'baseline')
+    subprocess.run([os.environ.get('CC', 'cc'), '-O2', '-o', program, os.path.join(HERE, 'baseline.c'), '-lpcap'], check=True)
+    return program
+
+
+def generate(kind, packets, number, folder):
+    name = os.path.join(folder, kind + '.pcap')
+    subprocess.run([sys.executable, os.path.join(HERE, 'generate.py'), kind, name, '--packets', str(packets), '--number', str(number)], check=True)
+    return name
+
+
+def bytes_of(name):
+    with open(name, 'rb') as file:
+        return file.read()
+
+
+def line(label, one, packets):
+    rate = packets / one.seconds if one.seconds else 0
+    print('  %-9s status %d  user %6.2f s  system %5.2f s  together %6.2f s  %9.0f packets a second  peak %7.1f MB'
+          % (label, one.status, one.user, one.system, one.seconds, rate, one.peak_bytes / 1e6))
+
+
+def capture_figures(kind, given, programs, folder):
+    """Measure all programs on one generated capture. True where the answers are equal."""
+    capture = generate(kind, given.packets, given.number, folder)
+    outs = {label: os.path.join(folder, '%s.%s' % (kind, label)) for label in ('sonata', 'C', 'tcpdump')}
+    words = {'sonata': [programs['sonata'], 'plain', QUERIES, capture], 'C': [programs['C'], capture],
+             'tcpdump': ['tcpdump', '-r', capture, '--count']}
+    if not shutil.which('tcpdump'):
+        del words['tcpdump']
+    bytes_of(capture)
+    found = {label: measure(words[label], outs[label], given.runs) for label in words}
+    equal = bytes_of(outs['sonata']) == bytes_of(outs['C']) and found['sonata'].status == found['C'].status == 0
+    size = os.path.getsize(capture)
+    print('%s: %d packets, %.1f MB, answers %s' % (kind, given.packets, size / 1e6, 'equal' if equal else 'DIFFER'))
+    for label, one in found.items():
+        line(label, one, given.packets)
+    ratios(found, size)
+    if 'tcpdump' in found:
+        print('  tcpdump counts: %s' % bytes_of(outs['tcpdump']).decode().strip())
+    return equal
+
+
+def ratios(found, size):
+    ours = found['sonata']
+    for label in found:
+        if label != 'sonata' and found[label].seconds:
+            print('  processor time over %s: %.2f' % (label, ours.seconds / found[label].seconds))
+    print('  peak memory over the capture\'s bytes: %.2f; over the C program\'s peak: %.2f' % (ours.peak_bytes / size, ours.peak_bytes / found['C'].peak_bytes))
+
+
+def words_given():
+    words = argparse.ArgumentParser(description=__doc__, formatter_class=argparse.RawDescriptionHelpFormatter)
+    words.add_argument('--sonata', default=USUAL, help='the program to measure (default: the one that this clone built)')
+    words.add_argument('--packets', type=int, default=2000000, help='packets of each capture')
+    words.add_argument('--number', type=int, default=7, help='the number from which the captures are drawn')
+    words.add_argument('--runs', type=int, default=3, help='runs of each program; the least processor time counts')
+    words.add_argument('--kinds', nargs='+', default=['few', 'many'], choices=['few', 'many'], help='captures')
+    words.add_argument('--keep', metavar='FOLDER', help='put captures and outputs there, and leave them')
+    return words.parse_args()
+
+
+def main():
+    given = words_given()
+    if not os.access(given.sonata, os.X_OK):
+        print('no program at %s; build it first, or name one with --sonata' % given.sonata, file=sys.stderr)
+        return 2
+    folder = given.keep or tempfile.mkdtemp(prefix='sonata-bench-')
+    os.makedirs(folder, exist_ok=True)
+    try:
+        programs = {'sonata': os.path.abspath(given.sonata), 'C': build(folder)}
+        equal = [capture_figures(kind, given, programs, folder) for kind in given.kinds]
+    finally:
+        if not given.keep:
+            shutil.rmtree(folder)
+    return 0 if all(equal) else 1
+
+
+if __name__ == '__main__':
+    sys.exit(main())
