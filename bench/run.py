@@ -17,32 +17,29 @@ USUAL = os.path.join(HERE, '..', 'crates', 'sonata', 'out', 'sonata')
 
 
 class Measure:
-    """One program on one capture: its status, the file of its output, and its least times over all runs."""
+    """One run of a program on a capture: its status, processor seconds and peak memory."""
 
-    def __init__(self, status, seconds, user, system, peak_bytes):
-        self.status, self.seconds, self.user, self.system, self.peak_bytes = status, seconds, user, system, peak_bytes
-
-
-def run_once(words, out_name):
-    """Run a program with its output in a file. The child alone is measured."""
-    with open(out_name, 'wb') as out:
-        child = subprocess.Popen(words, stdout=out, stderr=subprocess.DEVNULL)
-        _, status, used = os.wait4(child.pid, 0)
-        child.returncode = os.waitstatus_to_exitcode(status)
-    return Measure(child.returncode, used.ru_utime + used.ru_stime, used.ru_utime, used.ru_stime, used.ru_maxrss * 1024)
+    def __init__(self, numbers):
+        self.status, user, system, peak = (int(number) for number in numbers)
+        self.user, self.system, self.peak_bytes = user / 1e6, system / 1e6, peak * 1024
+        self.seconds = self.user + self.system
 
 
-def measure(words, out_name, runs):
-    """The run of least processor time, with the greatest peak of all runs."""
-    found = [run_once(words, out_name) for _ in range(runs)]
+def measure(measurer, words, out_name, runs):
+    """The run of least processor time, with the greatest peak of all runs. The program's output stands in a file."""
+    found = []
+    for _ in range(runs):
+        with open(out_name, 'wb') as out:
+            done = subprocess.run([measurer] + words, stdout=out, stderr=subprocess.PIPE, check=True)
+        found.append(Measure(done.stderr.split()))
     best = min(found, key=lambda m: m.seconds)
     best.peak_bytes = max(m.peak_bytes for m in found)
     return best
 
 
-def build(folder):
-    program = os.path.join(folder, 'baseline')
-    subprocess.run([os.environ.get('CC', 'cc'), '-O2', '-o', program, os.path.join(HERE, 'baseline.c'), '-lpcap'], check=True)
+def build(name, folder, *libraries):
+    program = os.path.join(folder, name)
+    subprocess.run([os.environ.get('CC', 'cc'), '-O2', '-o', program, os.path.join(HERE, name + '.c'), *libraries], check=True)
     return program
 
 
@@ -55,6 +52,13 @@ def generate(kind, packets, number, folder):
 def bytes_of(name):
     with open(name, 'rb') as file:
         return file.read()
+
+
+def read_once(name):
+    """Read a file, so that each program finds it in the system's memory."""
+    with open(name, 'rb') as file:
+        while file.read(1 << 20):
+            pass
 
 
 def line(label, one, packets):
@@ -71,8 +75,8 @@ def capture_figures(kind, given, programs, folder):
              'tcpdump': ['tcpdump', '-r', capture, '--count']}
     if not shutil.which('tcpdump'):
         del words['tcpdump']
-    bytes_of(capture)
-    found = {label: measure(words[label], outs[label], given.runs) for label in words}
+    read_once(capture)
+    found = {label: measure(programs['measure'], words[label], outs[label], given.runs) for label in words}
     equal = bytes_of(outs['sonata']) == bytes_of(outs['C']) and found['sonata'].status == found['C'].status == 0
     size = os.path.getsize(capture)
     print('%s: %d packets, %.1f MB, answers %s' % (kind, given.packets, size / 1e6, 'equal' if equal else 'DIFFER'))
@@ -111,7 +115,7 @@ def main():
     folder = given.keep or tempfile.mkdtemp(prefix='sonata-bench-')
     os.makedirs(folder, exist_ok=True)
     try:
-        programs = {'sonata': os.path.abspath(given.sonata), 'C': build(folder)}
+        programs = {'sonata': os.path.abspath(given.sonata), 'C': build('baseline', folder, '-lpcap'), 'measure': build('measure', folder)}
         equal = [capture_figures(kind, given, programs, folder) for kind in given.kinds]
     finally:
         if not given.keep:
