@@ -1,0 +1,74 @@
+# A lab of two network namespaces, an attacker and a victim, joined by a veth pair. Recipes source this file; it is no command.
+#
+# The attacker is 10.77.0.1. The victim is 10.77.0.2 and answers for each address of 10.88.0.0/16 too. Nothing leaves the two namespaces. Both are
+# removed at the end, and only processes that the recipe began are ended. It needs root, iproute2 and tcpdump.
+
+attacker=sonata_attacker_$$
+victim=sonata_victim_$$
+begun=
+
+on_attacker() { timeout 30 ip netns exec "$attacker" "$@"; }
+
+# Run a program on the victim's side until the recipe ends.
+beside_victim() {
+    ip netns exec "$victim" "$@" > /dev/null 2>&1 &
+    begun="$begun $!"
+}
+
+lab_up() {
+    ip netns add "$attacker"
+    ip netns add "$victim"
+    ip link add a0 netns "$attacker" type veth peer name v0 netns "$victim"
+    ip -n "$attacker" address add 10.77.0.1/24 dev a0
+    ip -n "$victim" address add 10.77.0.2/24 dev v0
+    for side in "$attacker lo" "$attacker a0" "$victim lo" "$victim v0"; do
+        ip -n "${side% *}" link set "${side#* }" up
+    done
+    ip -n "$victim" route add local 10.88.0.0/16 dev lo
+    ip -n "$victim" route add default via 10.77.0.1
+    ip -n "$attacker" route add 10.88.0.0/16 via 10.77.0.2
+}
+
+lab_down() {
+    for process in $begun; do
+        kill "$process" 2> /dev/null || true
+    done
+    ip netns del "$attacker" 2> /dev/null || true
+    ip netns del "$victim" 2> /dev/null || true
+}
+
+# Wait until tcpdump has told that it listens.
+capture_begins() {
+    ip netns exec "$victim" tcpdump -Z root -i v0 -s 128 -U -w "$1" 2> "$1.log" &
+    tcpdump=$!
+    tries=0
+    until grep -q 'listening on' "$1.log"; do
+        tries=$((tries + 1))
+        [ "$tries" -lt 100 ] || return 1
+        sleep 0.1
+    done
+}
+
+capture_ends() {
+    sleep 1
+    kill -INT "$tcpdump"
+    wait "$tcpdump" || true
+    rm -f "$1.log"
+}
+
+# Make the capture of what the function `attack` does, and of what `prepare` begins before it.
+make_capture() {
+    case "${1:---help}" in
+        -*) sed -n '2,$s/^# \{0,1\}//p' "$0"; exit 0 ;;
+    esac
+    set -e
+    trap lab_down EXIT
+    trap 'exit 1' INT TERM
+    lab_up
+    prepare
+    capture_begins "$1"
+    attack > /dev/null 2>&1 || true
+    capture_ends "$1"
+}
+
+prepare() { :; }
