@@ -12,7 +12,8 @@ import time
 
 
 def serve(given):
-    listener = socket.create_server((given.address, given.port), backlog=512)
+    family = socket.AF_INET6 if ':' in given.address else socket.AF_INET
+    listener = socket.create_server((given.address, given.port), family=family, backlog=512)
     listener.setblocking(False)
     waiting = selectors.DefaultSelector()
     waiting.register(listener, selectors.EVENT_READ)

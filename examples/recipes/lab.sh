@@ -39,6 +39,7 @@ lab_down() {
 
 # Wait until tcpdump has told that it listens.
 capture_begins() {
+    : > "$1.log"
     ip netns exec "$victim" tcpdump -Z root -i v0 -s 128 -U -w "$1" 2> "$1.log" &
     tcpdump=$!
     tries=0

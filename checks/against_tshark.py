@@ -1,0 +1,214 @@
+#!/usr/bin/env python3
+"""Compares each packet's 24 fields with the values that tshark prints.
+
+The packets of a capture are put a second apart, so that a window of a second holds one packet, and three queries that each read eight fields print them all.
+tshark reads more than sonata does: tags behind the second, headers inside tunnels and inside ICMP messages, IPv6, headers of which a part was captured. Where
+it does, the value that sonata should give is worked out from tshark's, and the reason is counted and printed. Any other difference is a fault."""
+
+import argparse
+import os
+import shutil
+import subprocess
+import sys
+import tempfile
+from collections import Counter
+
+import program
+import rewrite
+
+COLUMNS = ['frame.len', 'frame.cap_len', 'frame.protocols', 'eth.dst', 'eth.src', 'eth.type', 'eth.len', 'vlan.etype', 'vlan.id', 'ieee8021ad.id', 'sll.etype',
+           'sll.ltype', 'ip.version', 'ip.hdr_len', 'ip.frag_offset', 'ip.len', 'ip.ttl', 'ip.proto', 'ip.src', 'ip.dst', 'tcp.srcport', 'tcp.dstport', 'tcp.seq_raw',
+           'tcp.ack_raw', 'tcp.flags', 'udp.srcport', 'udp.dstport', 'udp.length', 'icmp.type', 'icmp.code']
+# Protocol number, name, bytes of the header, and tshark's column for each field.
+TRANSPORTS = {
+    6: ('tcp', 20, {'tcp.sport': 'tcp.srcport', 'tcp.dport': 'tcp.dstport', 'tcp.seq': 'tcp.seq_raw', 'tcp.ack': 'tcp.ack_raw', 'tcp.flags': 'tcp.flags'}),
+    17: ('udp', 8, {'udp.sport': 'udp.srcport', 'udp.dport': 'udp.dstport', 'udp.len': 'udp.length'}),
+    1: ('icmp', 4, {'icmp.type': 'icmp.type', 'icmp.code': 'icmp.code'})}
+WHOLE = ['-o', 'ip.defragment:FALSE', '-o', 'tcp.desegment_tcp_streams:FALSE', '-o', 'ip.tso_support:FALSE']
+TAGS = (0x8100, 0x88A8)
+UNTOLD = None
+
+
+def number(text):
+    """The number of a value that tshark prints: decimal, hexadecimal, an address, or a time-to-live."""
+    if ':' in text:
+        return int(text.replace(':', ''), 16)
+    if text.count('.') == 3:
+        return int.from_bytes(bytes(int(part) for part in text.split('.')), 'big')
+    return int(text, 0)
+
+
+def tshark_rows(capture):
+    """For each packet, the list of values of each column, in the order in which they stand in the packet."""
+    words = ['tshark', '-n', '-r', capture, *WHOLE, '-T', 'fields', '-E', 'occurrence=a', '-E', 'aggregator=,', '-E', 'separator=|']
+    for column in COLUMNS:
+        words += ['-e', column]
+    done = subprocess.run(words, capture_output=True, text=True, check=True)
+    return [{c: v.split(',') if v else [] for c, v in zip(COLUMNS, line.split('|'))} for line in done.stdout.splitlines()]
+
+
+class Reading:
+    """What sonata should give for a packet, worked out from what tshark gives, with the reasons of what was left out."""
+
+    def __init__(self, row, link):
+        self.row, self.link = row, link
+        self.layers = row['frame.protocols'][0].split(':') if row['frame.protocols'] else []
+        self.captured = int(row['frame.cap_len'][0])
+        self.values = dict.fromkeys(program.FIELDS, 0)
+        self.values['pkt.len'] = int(row['frame.len'][0])
+        self.reasons = set()
+        self.read()
+
+    def first(self, column):
+        return number(self.row[column][0]) if self.row[column] else None
+
+    def read(self):
+        start = {1: self.ethernet, 101: self.raw, 113: self.cooked, 276: self.cooked2}[self.link]()
+        if start is None:
+            self.left_out('a cut link header')
+        elif self.values['eth.type'] == 0x0800 and self.internet(start):
+            self.transport(start + self.first('ip.hdr_len'))
+        self.name_what_is_inside()
+
+    def left_out(self, reason):
+        if self.row['ip.version'] or self.row['eth.type']:
+            self.reasons.add(reason)
+
+    def ethernet(self):
+        if self.captured < 14:
+            return None
+        self.values['eth.dst'], self.values['eth.src'] = self.first('eth.dst'), self.first('eth.src')
+        types = [self.first('eth.len') if self.row['eth.len'] else self.first('eth.type')] + [number(v) for v in self.row['vlan.etype']]
+        numbers = [number(v) for v in self.row['ieee8021ad.id'][:1] + self.row['vlan.id']]
+        if types[0] == 0x88A8 and len(types) == 1:
+            types.append({'ip': 0x0800, 'ipv6': 0x86DD, 'arp': 0x0806, 'vlan': 0x8100}.get((self.layers + [''] * 5)[4]))
+        elif types[0] == 0x88A8:
+            types.insert(1, 0x8100)
+        walked = 0
+        while types[walked] in TAGS and walked < 2 and walked + 1 < len(types) and self.captured >= 18 + 4 * walked:
+            walked += 1
+        if walked:
+            self.values['vlan.id'] = numbers[0]
+        self.values['eth.type'] = types[walked]
+        return 14 + 4 * walked
+
+    def cooked(self):
+        if self.captured < 16:
+            return None
+        self.values['eth.type'] = self.first('sll.ltype') if self.row['sll.ltype'] else self.first('sll.etype')
+        return 16
+
+    def cooked2(self):
+        return None if self.cooked() is None or self.captured < 20 else 20
+
+    def raw(self):
+        first = next((layer for layer in self.layers if layer in ('ip', 'ipv6')), '')
+        self.values['eth.type'] = {'ip': 0x0800, 'ipv6': 0x86DD}.get(first, 0)
+        return 0
+
+    def internet(self, start):
+        length = self.first('ip.hdr_len')
+        if self.captured < start + 20 or length is None or self.captured < start + length:
+            self.left_out('a cut IPv4 header')
+            return False
+        if self.first('ip.version') != 4 or length < 20 or not self.row['ip.src']:
+            self.left_out('an IPv4 header of another version or of a wrong length')
+            return self.wrong_length()
+        self.values['ip.valid'] = 1
+        for field in ('ip.len', 'ip.ttl', 'ip.proto', 'ip.src', 'ip.dst'):
+            self.values[field] = self.first(field)
+        return True
+
+    def wrong_length(self):
+        """tshark stops at a header that is longer than the declared packet. sonata doesn't look at what is declared."""
+        if self.first('ip.version') == 4 and self.first('ip.hdr_len') >= 20:
+            self.reasons.clear()
+            for field in program.FIELDS[5:]:
+                self.values[field] = UNTOLD
+            self.reasons.add('untold: an IPv4 header that is longer than the declared packet')
+        return False
+
+    def transport(self, start):
+        name, length, columns = TRANSPORTS.get(self.values['ip.proto'], (None, 0, {}))
+        if name is None or self.first('ip.frag_offset') != 0:
+            return
+        if self.captured < start + length:
+            self.reasons.add('a cut header of TCP, UDP or ICMP')
+            return
+        self.values[name + '.valid'] = 1
+        declared = self.values['ip.len'] or 65535
+        for field, column in columns.items():
+            told = self.row[column] and declared >= self.first('ip.hdr_len') + 4
+            self.values[field] = self.first(column) & (1 << 32) - 1 if told else UNTOLD
+            if not told:
+                self.reasons.add('untold: a header that reaches behind the declared packet' if declared < self.first('ip.hdr_len') + length
+                                 else 'untold: a header that tshark holds to be short or wrong')
+        if name == 'tcp' and self.values['tcp.flags'] is not UNTOLD:
+            self.values['tcp.flags'] &= 0xFF
+
+    def name_what_is_inside(self):
+        """Reasons for the headers that tshark reads and sonata doesn't."""
+        inner = len(self.row['ip.version']) > self.values['ip.valid'] if self.values['ip.valid'] is not UNTOLD else 0
+        tags = sum(layer in ('vlan', 'ieee8021ad') for layer in self.layers)
+        if 'ipv6' in self.layers:
+            self.reasons.add('IPv6, which is not read yet')
+        if tags > 2 or self.values['eth.type'] in (0x9100,) or tags and self.link != 1:
+            self.reasons.add('a third tag, a tag of another type, or a tag under a cooked link')
+        elif inner and 'icmp' in self.layers:
+            self.reasons.add('a packet that an ICMP message quotes')
+        elif inner:
+            self.reasons.add('a tunnel')
+
+
+def fields_of(executable, capture):
+    """The 24 fields of each packet, by sonata."""
+    groups = [program.FIELDS[i:i + 8] for i in (0, 8, 16)]
+    text = 'window 1000000\n' + ''.join('query f%d { packets | filter %s; }\n' % (i, ', '.join(name + ' >= 0' for name in group)) for i, group in enumerate(groups))
+    with tempfile.NamedTemporaryFile(suffix='.pcap') as file:
+        rewrite.rewrite('apart', capture, file.name)
+        found = program.rows(program.answer(executable, text, file.name))
+    packets = [{} for _ in range(len(found) // 3)]
+    for window, query, row in found:
+        for name, value in zip(groups[int(query[1])], row):
+            packets[window][name] = number(value)
+    return packets
+
+
+def differences(ours, reading):
+    return ['%s: sonata %d, tshark %d' % (name, ours[name], value) for name, value in reading.values.items() if value is not UNTOLD and value != ours[name]]
+
+
+def compare(executable, capture):
+    """The differences of each packet, the packets, and the reasons with their counts."""
+    link, ours, theirs = program.link_of(capture), fields_of(executable, capture), tshark_rows(capture)
+    if len(ours) != len(theirs):
+        return ['sonata has %d packets, tshark %d' % (len(ours), len(theirs))], len(theirs), Counter()
+    found, reasons = [], Counter()
+    for i, (one, row) in enumerate(zip(ours, theirs)):
+        reading = Reading(row, link)
+        reasons.update(reading.reasons)
+        found += ['packet %d, %s (%s)' % (i + 1, difference, row['frame.protocols'][0]) for difference in differences(one, reading)]
+    return found, len(ours), reasons
+
+
+def main():
+    words = argparse.ArgumentParser(description=__doc__, formatter_class=argparse.RawDescriptionHelpFormatter)
+    words.add_argument('captures', nargs='+')
+    words.add_argument('--sonata', default=program.USUAL, help='the program (default: the one that this clone built)')
+    given = words.parse_args()
+    if not shutil.which('tshark'):
+        print('skipped: no tshark')
+        return 0
+    bad = 0
+    for capture in given.captures:
+        found, packets, reasons = compare(given.sonata, capture)
+        print('%s: %d packets, %d fields differ' % (os.path.basename(capture), packets, len(found)))
+        for reason, count in sorted(reasons.items()):
+            print('  %d packets: %s' % (count, reason))
+        print(*('  ' + line for line in found[:20]), sep='\n', end='\n' if found else '')
+        bad += bool(found)
+    return 1 if bad else 0
+
+
+if __name__ == '__main__':
+    sys.exit(main())
