@@ -104,6 +104,9 @@ class Reading:
     def raw(self):
         first = next((layer for layer in self.layers if layer in ('ip', 'ipv6')), '')
         self.values['eth.type'] = {'ip': 0x0800, 'ipv6': 0x86DD}.get(first, 0)
+        if self.layers == ['raw'] and self.captured:
+            self.values['eth.type'] = UNTOLD
+            self.reasons.add('untold: a raw packet that is too short for tshark')
         return 0
 
     def internet(self, start):
