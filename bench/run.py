@@ -25,16 +25,27 @@ class Measure:
         self.seconds = self.user + self.system
 
 
-def measure(measurer, words, out_name, runs):
-    """The run of least processor time, with the greatest peak of all runs. The program's output stands in a file."""
-    found = []
-    for _ in range(runs):
-        with open(out_name, 'wb') as out:
-            done = subprocess.run([measurer] + words, stdout=out, stderr=subprocess.PIPE, check=True)
-        found.append(Measure(done.stderr.split()))
-    best = min(found, key=lambda m: m.seconds)
-    best.peak_bytes = max(m.peak_bytes for m in found)
+def run_once(measurer, words, out_name):
+    """One run of a program, whose output stands in a file."""
+    with open(out_name, 'wb') as out:
+        done = subprocess.run([measurer] + words, stdout=out, stderr=subprocess.PIPE, check=True)
+    return Measure(done.stderr.split())
+
+
+def best_of(runs):
+    """The run of least processor time, with the greatest peak of all runs."""
+    best = min(runs, key=lambda m: m.seconds)
+    best.peak_bytes = max(m.peak_bytes for m in runs)
     return best
+
+
+def measure(measurer, words, outs, runs):
+    """Each program's best run. The programs run in turn, so that a busy while of the machine meets all of them."""
+    found = {label: [] for label in words}
+    for _ in range(runs):
+        for label in words:
+            found[label].append(run_once(measurer, words[label], outs[label]))
+    return {label: best_of(found[label]) for label in words}
 
 
 def build(name, folder, *libraries):
@@ -76,7 +87,7 @@ def capture_figures(kind, given, programs, folder):
     if not shutil.which('tcpdump'):
         del words['tcpdump']
     read_once(capture)
-    found = {label: measure(programs['measure'], words[label], outs[label], given.runs) for label in words}
+    found = measure(programs['measure'], words, outs, given.runs)
     equal = bytes_of(outs['sonata']) == bytes_of(outs['C']) and found['sonata'].status == found['C'].status == 0
     size = os.path.getsize(capture)
     print('%s: %d packets, %.1f MB, answers %s' % (kind, given.packets, size / 1e6, 'equal' if equal else 'DIFFER'))
@@ -101,7 +112,7 @@ def words_given():
     words.add_argument('--sonata', default=USUAL, help='the program to measure (default: the one that this clone built)')
     words.add_argument('--packets', type=int, default=2000000, help='packets of each capture')
     words.add_argument('--number', type=int, default=7, help='the number from which the captures are drawn')
-    words.add_argument('--runs', type=int, default=3, help='runs of each program; the least processor time counts')
+    words.add_argument('--runs', type=int, default=5, help='runs of each program; the least processor time counts')
     words.add_argument('--kinds', nargs='+', default=['few', 'many'], choices=['few', 'many'], help='captures')
     words.add_argument('--keep', metavar='FOLDER', help='put captures and outputs there, and leave them')
     return words.parse_args()
