@@ -4,6 +4,7 @@ use Rattle.sn_rules.specs.declared.Flaw.{Flaw}
 use Rattle.sn_rules.specs.declared.Flaw.TheVariants as flaws
 use Rattle.sn_rules.specs.Tokens.{Tok}
 use Rattle.sn_rules.specs.Rules.{Accepts, FirstFault}
+use Rattle.sn_text.specs.Cutting.{tokens_of}
 use Rattle.sn_text.specs.Lexing.{left}
 use Rattle.sn_read.specs.declared.stop.Stop.{Stop}
 use Rattle.sn_read.specs.declared.stop.Stop.TheVariants as stops
@@ -21,6 +22,14 @@ pub record StandsFor (ts : List Tok) (plan : Plan) (byte : ℕ) : Type 0 where
   pub parts : ts ≡ (front ++ at ∷ []) ++ rest
   pub accepted : Accepts file_rule (front ++ at ∷ []) (plan, cost)
   pub starts : at.start ≡ byte
+
+-- some text stands for the plan
+abbrev pub IsParsed : Plan → Type 0
+IsParsed plan = (text : List ℕ) × (byte : ℕ) × StandsFor (tokens_of text) plan byte
+
+-- the text stands for the plan
+abbrev pub StandsAgain : List ℕ → Plan → Type 0
+StandsAgain text plan = (byte : ℕ) × StandsFor (tokens_of text) plan byte
 
 -- the first fault of the text, on this line
 abbrev pub FaultAt : List Tok → Flaw → ℕ → Type 0

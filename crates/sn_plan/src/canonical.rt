@@ -1,6 +1,7 @@
 //! The canonical text of a plan.
 ghost use Rattle.std.specs.Prelude.{◌≡◌, ℕ, List, ◌∷◌, ◌++◌, codes, IfOk, OnOk};
 ghost use Rattle.std.specs.Fmt.{decimal};
+ghost use Rattle.sn_plan.specs.Texts.{IsParsed, StandsAgain};
 ghost use Rattle.sn_plan.specs.Printing.{texts, next_text, list_text, sizes_text, piece_text, entry_text, plan_text};
 
 use crate::plan::{Entry, Piece, Plan};
@@ -104,8 +105,11 @@ fn put_entries(alloc: Global, out: &mut Vec<u8>, entries: &[Entry]) -> Result<()
 ///
 /// # Errors
 /// `Memory` where memory runs out.
+#[tactic(auto, using(crate::proofs::Rewritten::stands_again))]
 pub fn print(alloc: Global, plan: &Plan) -> Result<Seq<u8>, Memory>
-    ensures { IfOk result (λ text. text ≡ plan_text plan.now) }
+    ensures text { IfOk result (λ text. text ≡ plan_text plan.now) }
+    // Read again, the text of a plan that `parse` can give is the same plan.
+    ensures again { IsParsed plan.now → IfOk result (λ text. StandsAgain text plan.now) }
 {
     let mut out = Vec::new(alloc);
     put(&mut out, b"plan\n")?;
