@@ -135,14 +135,35 @@ list_spaced (n ∷ ns) later h s = further_spaced n ns [] later tt h s
 
 sizes_spaced : (cut : ℕ) (slots stages : List ℕ) (later : List Chunk) → HeadOk (text_of later) → Spaced later → Spaced (sizes_chunks cut slots stages later)
 sizes_spaced cut [] stages later h s = (tt, h, s)
-sizes_spaced cut (n ∷ ns) stages later h s =
-    ((inl refl, tt), (refl, refl, refl), ((inl refl, tt), (refl, refl, refl), further_spaced n ns space (chunk (word (codes "stages")) space ∷ list_chunks stages [] later) (inl refl, tt) (refl, refl, refl)
-    ((inl refl, tt), (refl, refl, refl), list_spaced stages later h s)))
+sizes_spaced cut (n ∷ ns) stages later h s = (
+  (inl refl, tt),
+  (refl, refl, refl),
+  (
+    (inl refl, tt),
+    (refl, refl, refl),
+    further_spaced n ns space (chunk (word (codes "stages")) space ∷ list_chunks stages [] later) (inl refl, tt) (refl, refl, refl)
+        ((inl refl, tt), (refl, refl, refl), list_spaced stages later h s),
+  ),
+)
 
 piece_spaced : (p : Piece) (later : List Chunk) → Spaced later → Spaced (piece_chunks p later)
-piece_spaced p later s =
-    ((inl refl, tt), (refl, refl, refl), ((inl refl, tt), (refl, refl, refl), ((inl refl, tt), (refl, refl, refl), ((inl refl, tt), (refl, refl, refl),
-    sizes_spaced p.cut p.slots p.stages (chunk (symbol 2) line_end ∷ later) (refl, refl, refl) ((inr refl, tt), (refl, refl, refl), s)))))
+piece_spaced p later s = (
+  (inl refl, tt),
+  (refl, refl, refl),
+  (
+    (inl refl, tt),
+    (refl, refl, refl),
+    (
+      (inl refl, tt),
+      (refl, refl, refl),
+      (
+        (inl refl, tt),
+        (refl, refl, refl),
+        sizes_spaced p.cut p.slots p.stages (chunk (symbol 2) line_end ∷ later) (refl, refl, refl) ((inr refl, tt), (refl, refl, refl), s),
+      ),
+    ),
+  ),
+)
 
 pieces_spaced : (ps : List Piece) (later : List Chunk) → Spaced later → Spaced (pieces_chunks ps later)
 pieces_spaced [] later s = s
@@ -150,10 +171,20 @@ pieces_spaced (p ∷ ps) later s = piece_spaced p (pieces_chunks ps later) (piec
 
 entries_spaced : (es : List Entry) → Spaced (entries_chunks es)
 entries_spaced [] = tt
-entries_spaced (e ∷ es) =
-    ((inl refl, tt), (refl, refl, refl), ((inl refl, tt), (refl, refl, refl), ((inl refl, tt), (refl, refl, refl),
-    list_spaced e.levels (chunk (symbol 2) line_end ∷ pieces_chunks e.pieces (entries_chunks es)) (refl, refl, refl)
-    ((inr refl, tt), (refl, refl, refl), pieces_spaced e.pieces (entries_chunks es) (entries_spaced es)))))
+entries_spaced (e ∷ es) = (
+  (inl refl, tt),
+  (refl, refl, refl),
+  (
+    (inl refl, tt),
+    (refl, refl, refl),
+    (
+      (inl refl, tt),
+      (refl, refl, refl),
+      list_spaced e.levels (chunk (symbol 2) line_end ∷ pieces_chunks e.pieces (entries_chunks es)) (refl, refl, refl)
+          ((inr refl, tt), (refl, refl, refl), pieces_spaced e.pieces (entries_chunks es) (entries_spaced es)),
+    ),
+  ),
+)
 
 pub plan_spaced : (p : Plan) → Spaced (plan_chunks p)
 plan_spaced p = ((inr refl, tt), (refl, refl, refl), entries_spaced p.entries)

@@ -89,13 +89,18 @@ stands ts p f e =
     let is = sym (file_bare k.value) ∙ k.same ∙ file_bare (p, false) in
     let d = parted ts (mark_faces (plan_rule.spell p)) finish e in
     let accepts : Accepts file_rule ts k.value = record { spelled = k.spelled; fits = k.fits } in
-    let here : Accepts file_rule ts (p, false) = subst (λ (x : Plan × Bool). Accepts file_rule ts x) is accepts in
-    (d.at.start, record {
-      front = d.front; at = d.at; rest = []; cost = false;
-      parts = d.parts ∙ sym (append-nil (d.front ++ d.at ∷ []));
-      accepted = subst (λ (us : List Tok). Accepts file_rule us (p, false)) d.parts here;
-      starts = refl;
-    })
+    let here : Accepts file_rule ts (p, false) = subst (λ (x : Plan × Bool). Accepts file_rule ts x) is accepts in (
+      d.at.start,
+      record {
+        front = d.front;
+        at = d.at;
+        rest = [];
+        cost = false;
+        parts = d.parts ∙ sym (append-nil (d.front ++ d.at ∷ []));
+        accepted = subst (λ (us : List Tok). Accepts file_rule us (p, false)) d.parts here;
+        starts = refl;
+      },
+    )
 
 pub stands_again : (p : Plan) (text : List ℕ) → text ≡ plan_text p → IsParsed p → StandsAgain text p
 stands_again p text e h =
