@@ -16,9 +16,9 @@ USUAL = os.path.join(HERE, '..', 'crates', 'sonata', 'out', 'sonata')
 # Query file, query, the columns with which the row of the attack begins, and the place, least and greatest value of a further column.
 # The least is what the threshold asks for, and the greatest is what the recipe sends in all.
 ATTACKS = [
-    ('newly_opened', 'newly_opened', ['10.77.0.2'], 1, 401, 3000),
-    ('syn_flood', 'syn_flood', ['10.77.0.2'], 1, 201, 3000),
-    ('super_spreader', 'spreader', ['10.77.0.1'], 1, 301, 3000),
+    ('newly_opened', 'newly_opened', ['10.77.0.2'], 1, 401, 5000),
+    ('syn_flood', 'syn_flood', ['10.77.0.2'], 1, 201, 5000),
+    ('super_spreader', 'spreader', ['10.77.0.1'], 1, 301, 5000),
     ('port_scan', 'port_scan', ['10.77.0.1', '10.77.0.2'], 2, 101, 2000),
     ('host_scan', 'host_scan', ['10.77.0.1', '445'], 2, 51, 256),
     ('ssh_brute_force', 'ssh_brute_force', ['10.77.0.2', '10.77.0.1'], 2, 21, 60),
@@ -27,7 +27,7 @@ ATTACKS = [
     ('icmp_sweep', 'icmp_sweep', ['10.77.0.1'], 1, 31, 256),
     ('top_talkers', 'top_talkers', ['10.77.0.1'], 1, 1000001, 22000000),
     ('ttl_anomalies', 'mixed_ttl', ['10.77.0.50', '64', '113'], 3, 176, 176),
-    ('ttl_anomalies', 'low_ttl', ['10.77.0.1'], 1, 3, 5),
+    ('ttl_anomalies', 'low_ttl', ['10.77.0.1'], 1, 3, 15),
 ]
 
 

@@ -15,6 +15,16 @@ beside_victim() {
     begun="$begun $!"
 }
 
+# Wait until a program listens at this port of the victim.
+await_port() {
+    tries=0
+    until [ -n "$(ip netns exec "$victim" ss -ltnH "sport = :$1")" ]; do
+        tries=$((tries + 1))
+        [ "$tries" -lt 100 ] || return 1
+        sleep 0.1
+    done
+}
+
 lab_up() {
     ip netns add "$attacker"
     ip netns add "$victim"

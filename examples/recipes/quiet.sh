@@ -8,7 +8,7 @@
 here=$(dirname "$0")
 prepare() {
     beside_victim python3 "$here/connections.py" serve 10.77.0.2 80 --line welcome
-    sleep 1
+    await_port 80
 }
 attack() {
     on_attacker ping -c 4 -i 0.3 10.77.0.2

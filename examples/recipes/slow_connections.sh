@@ -8,7 +8,7 @@
 here=$(dirname "$0")
 prepare() {
     beside_victim python3 "$here/connections.py" serve 10.77.0.2 80
-    sleep 1
+    await_port 80
 }
 attack() { on_attacker python3 "$here/connections.py" slow 10.77.0.2 80 --count 200 --seconds 4 --line "X-a: b"; }
 

@@ -8,7 +8,7 @@
 here=$(dirname "$0")
 prepare() {
     beside_victim python3 "$here/connections.py" serve 10.77.0.2 22 --line SSH-2.0-lab
-    sleep 1
+    await_port 22
 }
 attack() { on_attacker python3 "$here/connections.py" guess 10.77.0.2 22 --count 60 --line SSH-2.0-guess; }
 

@@ -8,7 +8,7 @@
 here=$(dirname "$0")
 prepare() {
     beside_victim python3 "$here/connections.py" serve 10.77.0.2 9000
-    sleep 1
+    await_port 9000
 }
 attack() { on_attacker sh -c "head -c 20000000 /dev/zero | ncat --send-only 10.77.0.2 9000"; }
 
