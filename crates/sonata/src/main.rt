@@ -3,11 +3,24 @@
 
 use sn_io::real::{RealInputs, RealSink};
 use sn_top::top::top;
+use std::alloc::Global;
 use std::env;
 use std::process::ExitCode;
 
+/// How large a block is that is taken and given back at the start: just below 32 MiB, in bytes.
+const FIRST_BLOCK: usize = (32 << 20) - (64 << 10);
+
+/// Takes a large block and gives it back.
+///
+/// The C library asks the kernel for each large block by itself and returns it at once, until a block as large was
+/// given back (mallopt(3), `M_MMAP_THRESHOLD`). Behind this the memory of a window serves the next one.
+fn keep_pages(alloc: Global) {
+    let _: Result<Vec<u8>, _> = Vec::with_capacity(alloc, FIRST_BLOCK);
+}
+
 /// Passes the words, the files that they name and the standard streams to the top call, and ends with its status.
 fn main(rt: HostRuntime) -> ExitCode {
+    keep_pages(rt.alloc());
     let Ok(args) = env::args(&rt) else {
         return ExitCode::from(13);
     };
