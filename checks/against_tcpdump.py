@@ -4,8 +4,6 @@
 The expressions of tcpdump say in full what a query means: a header counts where all its bytes were captured, and at most two tags of the types
 0x8100 and 0x88A8 are walked. tcpdump runs with -O, since its optimizer drops the tests of captured bytes."""
 
-import argparse
-import shutil
 import subprocess
 import sys
 
@@ -84,21 +82,12 @@ def compare(executable, capture):
     return differ, len(questions)
 
 
-def main():
-    words = argparse.ArgumentParser(description=__doc__, formatter_class=argparse.RawDescriptionHelpFormatter)
-    words.add_argument('captures', nargs='+')
-    words.add_argument('--sonata', default=program.USUAL, help='the program (default: the one that this clone built)')
-    given = words.parse_args()
-    if not shutil.which('tcpdump'):
-        print('skipped: no tcpdump')
-        return 0
-    bad = 0
-    for capture in given.captures:
-        differ, asked = compare(given.sonata, capture)
-        print('%s: %d questions, %d differ' % (capture, asked, len(differ)), *differ, sep='\n  ')
-        bad += bool(differ)
-    return 1 if bad else 0
+def show(executable, capture):
+    """Print the line of a capture and its differences. Whether there are some."""
+    differ, asked = compare(executable, capture)
+    print('%s: %d questions, %d differ' % (capture, asked, len(differ)), *differ, sep='\n  ')
+    return bool(differ)
 
 
 if __name__ == '__main__':
-    sys.exit(main())
+    sys.exit(program.check_captures(__doc__, 'tcpdump', show))

@@ -5,9 +5,7 @@ The packets of a capture are put a second apart, so that a window of a second ho
 tshark reads more than sonata does: tags behind the second, headers inside tunnels and inside ICMP messages, IPv6, headers of which a part was captured. Where
 it does, the value that sonata should give is worked out from tshark's, and the reason is counted and printed. Any other difference is a fault."""
 
-import argparse
 import os
-import shutil
 import subprocess
 import sys
 import tempfile
@@ -194,24 +192,15 @@ def compare(executable, capture):
     return found, len(ours), reasons
 
 
-def main():
-    words = argparse.ArgumentParser(description=__doc__, formatter_class=argparse.RawDescriptionHelpFormatter)
-    words.add_argument('captures', nargs='+')
-    words.add_argument('--sonata', default=program.USUAL, help='the program (default: the one that this clone built)')
-    given = words.parse_args()
-    if not shutil.which('tshark'):
-        print('skipped: no tshark')
-        return 0
-    bad = 0
-    for capture in given.captures:
-        found, packets, reasons = compare(given.sonata, capture)
-        print('%s: %d packets, %d fields differ' % (os.path.basename(capture), packets, len(found)))
-        for reason, count in sorted(reasons.items()):
-            print('  %d packets: %s' % (count, reason))
-        print(*('  ' + line for line in found[:20]), sep='\n', end='\n' if found else '')
-        bad += bool(found)
-    return 1 if bad else 0
+def show(executable, capture):
+    """Print the lines of a capture, its first differences with them. Whether there are some."""
+    found, packets, reasons = compare(executable, capture)
+    print('%s: %d packets, %d fields differ' % (os.path.basename(capture), packets, len(found)))
+    for reason, count in sorted(reasons.items()):
+        print('  %d packets: %s' % (count, reason))
+    print(*('  ' + line for line in found[:20]), sep='\n', end='\n' if found else '')
+    return bool(found)
 
 
 if __name__ == '__main__':
-    sys.exit(main())
+    sys.exit(program.check_captures(__doc__, 'tshark', show))

@@ -9,28 +9,11 @@
 here=$(cd "$(dirname "$0")" && pwd)
 . "$here/../examples/recipes/lab.sh"
 
-dumps=
-
-# Capture on an interface of the victim with further words of tcpdump.
+# Capture to a file of the folder.
 dump() {
-    file=$1
+    name=$1
     shift
-    : > "$folder/$file.log"
-    ip netns exec "$victim" tcpdump -Z root -U -w "$folder/$file.pcap" "$@" 2> "$folder/$file.log" &
-    dumps="$dumps $!"
-    tries=0
-    until grep -q 'listening on' "$folder/$file.log"; do
-        tries=$((tries + 1))
-        [ "$tries" -lt 100 ] || return 1
-        sleep 0.1
-    done
-    rm -f "$folder/$file.log"
-}
-
-dumps_end() {
-    sleep 1
-    kill -INT $dumps
-    wait $dumps || true
+    capture_begins "$folder/$name.pcap" "$@"
 }
 
 devices() {
@@ -142,7 +125,7 @@ main() {
     devices
     captures_begin
     (set +e; traffic) > "$folder/traffic.log" 2>&1 || true
-    dumps_end
+    captures_end
     convert
     ls "$folder"
 }

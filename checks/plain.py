@@ -17,24 +17,29 @@ def read(name):
         return None
 
 
+def told(line):
+    """A line as it stands on standard error."""
+    return 'sonata: %s\n' % line
+
+
 def plain(queries_name, capture_name):
-    """The status, the text, and the line for standard error."""
+    """The status, the text, and what is told on standard error."""
     text = read(queries_name)
     if text is None:
-        return 9, '', 'read fault'
+        return 9, '', told('read fault')
     try:
         window, queries = grammar.parse(text)
         typing_rules.check(queries)
     except tokens.Fault as fault:
-        return 3, '', 'queries %s line %d' % (fault.kind, fault.line)
+        return 3, '', told('queries %s line %d' % (fault.kind, fault.line))
     file = read(capture_name)
     if file is None:
-        return 9, '', 'read fault'
+        return 9, '', told('read fault')
     try:
         answer, ending = answers.answers(window, queries, file)
     except fields.BadHeader as fault:
-        return 5, '', 'capture %s byte %d' % fault.args
-    return (5, answer, 'capture %s byte %d' % ending) if ending else (0, answer, '')
+        return 5, '', told('capture %s byte %d' % fault.args)
+    return (5, answer, told('capture %s byte %d' % ending)) if ending else (0, answer, '')
 
 
 def main():
@@ -44,8 +49,7 @@ def main():
     given = words.parse_args()
     status, text, line = plain(given.queries, given.capture)
     sys.stdout.write(text)
-    if line:
-        sys.stderr.write('sonata: %s\n' % line)
+    sys.stderr.write(line)
     return status
 
 

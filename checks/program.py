@@ -1,6 +1,8 @@
-"""Runs `sonata plain` on a query text and reads its answer."""
+"""Runs `sonata plain` on a query text and reads its answer, and the command line that the checks share."""
 
+import argparse
 import os
+import shutil
 import subprocess
 import tempfile
 
@@ -14,15 +16,26 @@ class Unanswered(Exception):
     """The program ended with another status than 0."""
 
 
-def answer(program, text, capture):
-    """The printed answer of a query text over a capture."""
+def run(executable, queries, capture):
+    """Status, standard output and standard error over a query file and a capture."""
+    done = subprocess.run([executable, 'plain', queries, capture], capture_output=True, text=True)
+    return done.returncode, done.stdout, done.stderr
+
+
+def run_text(executable, text, capture):
+    """The same for a query text."""
     with tempfile.NamedTemporaryFile('w', suffix='.query') as file:
         file.write(text)
         file.flush()
-        done = subprocess.run([program, 'plain', file.name, capture], capture_output=True, text=True)
-    if done.returncode:
-        raise Unanswered('status %d: %s' % (done.returncode, done.stderr.strip()))
-    return done.stdout
+        return run(executable, file.name, capture)
+
+
+def answer(executable, text, capture):
+    """The printed answer of a query text over a capture."""
+    status, found, line = run_text(executable, text, capture)
+    if status:
+        raise Unanswered('status %d: %s' % (status, line.strip()))
+    return found
 
 
 def rows(text):
@@ -44,3 +57,23 @@ def link_of(capture):
         head = file.read(24)
     order = 'little' if head[0] in (0xD4, 0x4D) else 'big'
     return int.from_bytes(head[20:24], order) & 0xFFFF
+
+
+def command_line(description):
+    """The parser of a check's command line, with the program that is checked."""
+    words = argparse.ArgumentParser(description=description, formatter_class=argparse.RawDescriptionHelpFormatter)
+    words.add_argument('--sonata', default=USUAL, help='the program (default: the one that this clone built)')
+    return words
+
+
+def check_captures(description, tool, show):
+    """Compare on each capture of the command line with a tool. `show` prints what differs on one capture, and says whether something does.
+
+    The status is 0 where nothing differs, and where the tool isn't there."""
+    words = command_line(description)
+    words.add_argument('captures', nargs='+')
+    given = words.parse_args()
+    if not shutil.which(tool):
+        print('skipped: no ' + tool)
+        return 0
+    return 1 if sum(show(given.sonata, capture) for capture in given.captures) else 0

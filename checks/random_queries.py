@@ -3,11 +3,9 @@
 
 Prints each case on which they differ, with the seed that makes it again. The status is 0 where none does."""
 
-import argparse
 import os
 import random
 import struct
-import subprocess
 import sys
 import tempfile
 
@@ -139,17 +137,14 @@ def case(executable, seed, folder):
     for name, held in zip(names, (queries(draw).encode(), capture(draw))):
         with open(name, 'wb') as file:
             file.write(held)
-    done = subprocess.run([executable, 'plain', *names], capture_output=True, text=True)
-    status, text, line = plain.plain(*names)
-    alike = (done.returncode, done.stdout, done.stderr.strip()) == (status, text, 'sonata: ' + line if line else '')
-    return status if alike else None
+    wanted = plain.plain(*names)
+    return wanted[0] if program.run(executable, *names) == wanted else None
 
 
 def main():
-    words = argparse.ArgumentParser(description=__doc__, formatter_class=argparse.RawDescriptionHelpFormatter)
+    words = program.command_line(__doc__)
     words.add_argument('--cases', type=int, default=1000)
     words.add_argument('--first', type=int, default=0, help='the first seed')
-    words.add_argument('--sonata', default=program.USUAL, help='the program (default: the one that this clone built)')
     given = words.parse_args()
     with tempfile.TemporaryDirectory() as folder:
         found = [case(given.sonata, seed, folder) for seed in range(given.first, given.first + given.cases)]

@@ -3,7 +3,6 @@
 
 Each capture gets one line. A part whose tool isn't there is skipped and said so. The status is 0 where nothing differs."""
 
-import argparse
 import glob
 import os
 import shutil
@@ -34,9 +33,7 @@ def by_reference(executable, capture):
     """Status, text and line of each query file of the library, byte for byte."""
     differ = []
     for queries in QUERIES:
-        done = subprocess.run([executable, 'plain', queries, capture], capture_output=True, text=True)
-        status, text, line = plain.plain(queries, capture)
-        if (done.returncode, done.stdout, done.stderr.strip()) != (status, text, 'sonata: ' + line if line else ''):
+        if program.run(executable, queries, capture) != plain.plain(queries, capture):
             differ.append('%s: the reference answers otherwise' % os.path.basename(queries))
     return differ, '%d query files' % len(QUERIES), Counter()
 
@@ -63,9 +60,8 @@ def check(executable, capture, reasons):
 
 
 def main():
-    words = argparse.ArgumentParser(description=__doc__, formatter_class=argparse.RawDescriptionHelpFormatter)
+    words = program.command_line(__doc__)
     words.add_argument('captures', nargs='+', help='captures, or folders of them')
-    words.add_argument('--sonata', default=program.USUAL, help='the program (default: the one that this clone built)')
     given = words.parse_args()
     captures = [name for one in given.captures for name in (sorted(glob.glob(os.path.join(one, '*.pcap'))) if os.path.isdir(one) else [one])]
     reasons = Counter()

@@ -6,6 +6,7 @@
 attacker=sonata_attacker_$$
 victim=sonata_victim_$$
 begun=
+captures=
 
 on_attacker() { timeout 30 ip netns exec "$attacker" "$@"; }
 
@@ -15,15 +16,20 @@ beside_victim() {
     begun="$begun $!"
 }
 
-# Wait until a program listens at this port of the victim.
-await_port() {
+# Try a command each tenth of a second until it succeeds, for ten seconds.
+await() {
     tries=0
-    until [ -n "$(ip netns exec "$victim" ss -ltnH "sport = :$1")" ]; do
+    until "$@"; do
         tries=$((tries + 1))
         [ "$tries" -lt 100 ] || return 1
         sleep 0.1
     done
 }
+
+# Whether a program listens at this port of the victim.
+is_open() { [ -n "$(ip netns exec "$victim" ss -ltnH "sport = :$1")" ]; }
+
+await_port() { await is_open "$1"; }
 
 lab_up() {
     ip netns add "$attacker"
@@ -47,24 +53,22 @@ lab_down() {
     ip netns del "$victim" 2> /dev/null || true
 }
 
-# Wait until tcpdump has told that it listens.
+# Capture to a file on the victim's side, with further words of tcpdump, and wait until it has told that it listens.
 capture_begins() {
-    : > "$1.log"
-    ip netns exec "$victim" tcpdump -Z root -i v0 -s 128 -U -w "$1" 2> "$1.log" &
-    tcpdump=$!
-    tries=0
-    until grep -q 'listening on' "$1.log"; do
-        tries=$((tries + 1))
-        [ "$tries" -lt 100 ] || return 1
-        sleep 0.1
-    done
+    file=$1
+    shift
+    : > "$file.log"
+    ip netns exec "$victim" tcpdump -Z root -U -w "$file" "$@" 2> "$file.log" &
+    captures="$captures $!"
+    await grep -q 'listening on' "$file.log"
+    rm -f "$file.log"
 }
 
-capture_ends() {
+# End all captures.
+captures_end() {
     sleep 1
-    kill -INT "$tcpdump"
-    wait "$tcpdump" || true
-    rm -f "$1.log"
+    kill -INT $captures
+    wait $captures || true
 }
 
 # Make the capture of what the function `attack` does, and of what `prepare` begins before it.
@@ -77,9 +81,9 @@ make_capture() {
     trap 'exit 1' INT TERM
     lab_up
     prepare
-    capture_begins "$1"
+    capture_begins "$1" -i v0 -s 128
     attack > /dev/null 2>&1 || true
-    capture_ends "$1"
+    captures_end
 }
 
 prepare() { :; }
