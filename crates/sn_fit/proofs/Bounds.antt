@@ -8,10 +8,10 @@ use Rattle.std.proofs.Math.Bridge.{le_prop}
 use Rattle.std.proofs.Math.Logic.{∥∥₁_elim}
 use Rattle.sn_base.specs.declared.column.Column.{Column}
 use Rattle.sn_base.proofs.Lists.{by_test, nat_same, all_append, all_map, all_weaker}
-use Rattle.sn_grammar.specs.declared.ast.Query.{Query}
-use Rattle.sn_grammar.specs.declared.ast.Branch.{Branch}
-use Rattle.sn_grammar.specs.declared.ast.Refine.{Refine}
-use Rattle.sn_grammar.specs.declared.ast.Join.{Join}
+use Rattle.sn_query_rules.specs.declared.ast.Query.{Query}
+use Rattle.sn_query_rules.specs.declared.ast.Branch.{Branch}
+use Rattle.sn_query_rules.specs.declared.ast.Refine.{Refine}
+use Rattle.sn_query_rules.specs.declared.ast.Join.{Join}
 use Rattle.sn_walk.specs.Limits.{QueryLimits, RefineLimits, BranchLimits, AreJoined}
 use Rattle.sn_walk.specs.Columns.{packet_columns}
 use Rattle.sn_plan_rules.specs.declared.plan.Entry.{Entry}

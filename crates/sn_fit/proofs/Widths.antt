@@ -10,14 +10,14 @@ use Rattle.sn_base.proofs.Lists.{all_append}
 use Rattle.sn_fields.specs.declared.field.Field.{Field}
 use Rattle.sn_fields.specs.declared.field.Field.TheVariants as field
 use Rattle.sn_fields.specs.Fields.{width_of}
-use Rattle.sn_grammar.specs.declared.ast.Expr.{Expr}
-use Rattle.sn_grammar.specs.declared.ast.Expr.TheVariants as expr
-use Rattle.sn_grammar.specs.declared.ast.MapCol.{MapCol}
-use Rattle.sn_grammar.specs.declared.ast.FoldWord.{FoldWord}
-use Rattle.sn_grammar.specs.declared.ast.FoldWord.TheVariants as word
-use Rattle.sn_grammar.specs.declared.ast.Op.{Op}
-use Rattle.sn_grammar.specs.declared.ast.What.{What}
-use Rattle.sn_grammar.specs.declared.ast.What.TheVariants as what
+use Rattle.sn_query_rules.specs.declared.ast.Expr.{Expr}
+use Rattle.sn_query_rules.specs.declared.ast.Expr.TheVariants as expr
+use Rattle.sn_query_rules.specs.declared.ast.MapCol.{MapCol}
+use Rattle.sn_query_rules.specs.declared.ast.FoldWord.{FoldWord}
+use Rattle.sn_query_rules.specs.declared.ast.FoldWord.TheVariants as word
+use Rattle.sn_query_rules.specs.declared.ast.Op.{Op}
+use Rattle.sn_query_rules.specs.declared.ast.What.{What}
+use Rattle.sn_query_rules.specs.declared.ast.What.TheVariants as what
 use Rattle.sn_walk.specs.Names.{Name, same_name, packet_fields}
 use Rattle.sn_walk.specs.Widths.{folded_width}
 use Rattle.sn_walk.specs.Columns.{place_of, column_named, expr_width, mapped_column, folded_column, as_schema, columns_after, field_column, packet_columns}

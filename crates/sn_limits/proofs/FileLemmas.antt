@@ -7,13 +7,13 @@ use Rattle.sn_rules.specs.declared.Flaw.TheVariants.{TooMany}
 use Rattle.sn_rules.specs.Tokens.{Tok}
 use Rattle.sn_rules.specs.Rules.{kept, Accepts, maybe_holds}
 use Rattle.sn_rules.specs.Words.{number_in}
-use Rattle.sn_grammar.specs.declared.ast.QueryFile.{QueryFile}
-use Rattle.sn_grammar.specs.declared.ast.Query.{Query}
-use Rattle.sn_grammar.specs.declared.ast.Refine.{Refine}
-use Rattle.sn_grammar.specs.declared.ast.Branch.{Branch}
-use Rattle.sn_grammar.specs.declared.ast.Join.{Join}
-use Rattle.sn_grammar.specs.Names.{past_number}
-use Rattle.sn_grammar.specs.Grammar.{Name, op_rule, post_op_rule, levels_rule, refine_rule, branch_rule, join_rule, body_rule, query_rule, query_names, file_rule}
+use Rattle.sn_query_rules.specs.declared.ast.QueryFile.{QueryFile}
+use Rattle.sn_query_rules.specs.declared.ast.Query.{Query}
+use Rattle.sn_query_rules.specs.declared.ast.Refine.{Refine}
+use Rattle.sn_query_rules.specs.declared.ast.Branch.{Branch}
+use Rattle.sn_query_rules.specs.declared.ast.Join.{Join}
+use Rattle.sn_query_rules.specs.Names.{past_number}
+use Rattle.sn_query_rules.specs.Grammar.{Name, op_rule, post_op_rule, levels_rule, refine_rule, branch_rule, join_rule, body_rule, query_rule, query_names, file_rule}
 use Rattle.sn_walk.specs.Limits.{Within, BranchOp, PostOp, RefineLimits, BranchLimits, JoinLimits, QueryLimits, KeepsLimits}
 use Rattle.sn_limits.proofs.Items.{IsListOf, from_full, commas_list, chain_list, many_count, items_are, items_apart}
 use Rattle.sn_limits.proofs.Leaves.{number_within, name_unseen}

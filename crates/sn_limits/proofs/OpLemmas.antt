@@ -4,19 +4,19 @@ use Rattle.std.specs.List.{AllByRecursion, list_any}
 use Rattle.sn_base.specs.Groups.{Apart, same_row}
 use Rattle.sn_rules.specs.Rules.{kept}
 use Rattle.sn_rules.specs.Words.{number_in}
-use Rattle.sn_grammar.specs.declared.ast.Op.{Op}
-use Rattle.sn_grammar.specs.declared.ast.What.{What}
-use Rattle.sn_grammar.specs.declared.ast.What.TheVariants as what
-use Rattle.sn_grammar.specs.declared.ast.Reduce.{Reduce}
-use Rattle.sn_grammar.specs.declared.ast.FoldWord.{FoldWord}
-use Rattle.sn_grammar.specs.declared.ast.FoldWord.TheVariants as fold
-use Rattle.sn_grammar.specs.declared.ast.Cond.{Cond}
-use Rattle.sn_grammar.specs.declared.ast.Relax.{Relax}
-use Rattle.sn_grammar.specs.declared.ast.MapCol.{MapCol}
-use Rattle.sn_grammar.specs.declared.ast.Expr.{Expr}
-use Rattle.sn_grammar.specs.declared.ast.Expr.TheVariants.{Const, Copy, Mask, Shift, Sum, Ratio}
-use Rattle.sn_grammar.specs.Names.{past_name, past_number, name_not}
-use Rattle.sn_grammar.specs.Grammar.{Name, relax_rule, relaxes_rule, cond_rule, filter_rule, expr_rule, past_col, col_names, col_rule, map_rule, post_expr_rule, post_col_rule, post_map_rule, keys_rule, fold_rule, reduce_rule, what_rule, op_rule, post_what_rule, post_op_rule}
+use Rattle.sn_query_rules.specs.declared.ast.Op.{Op}
+use Rattle.sn_query_rules.specs.declared.ast.What.{What}
+use Rattle.sn_query_rules.specs.declared.ast.What.TheVariants as what
+use Rattle.sn_query_rules.specs.declared.ast.Reduce.{Reduce}
+use Rattle.sn_query_rules.specs.declared.ast.FoldWord.{FoldWord}
+use Rattle.sn_query_rules.specs.declared.ast.FoldWord.TheVariants as fold
+use Rattle.sn_query_rules.specs.declared.ast.Cond.{Cond}
+use Rattle.sn_query_rules.specs.declared.ast.Relax.{Relax}
+use Rattle.sn_query_rules.specs.declared.ast.MapCol.{MapCol}
+use Rattle.sn_query_rules.specs.declared.ast.Expr.{Expr}
+use Rattle.sn_query_rules.specs.declared.ast.Expr.TheVariants.{Const, Copy, Mask, Shift, Sum, Ratio}
+use Rattle.sn_query_rules.specs.Names.{past_name, past_number, name_not}
+use Rattle.sn_query_rules.specs.Grammar.{Name, relax_rule, relaxes_rule, cond_rule, filter_rule, expr_rule, past_col, col_names, col_rule, map_rule, post_expr_rule, post_col_rule, post_map_rule, keys_rule, fold_rule, reduce_rule, what_rule, op_rule, post_what_rule, post_op_rule}
 use Rattle.sn_walk.specs.Limits.{Within, CondLimits, IsBranchExpr, IsPostExpr, FoldWidth, ReduceLimits, BranchOp, PostOp}
 use Rattle.sn_limits.proofs.Items.{IsListOf, commas_list, items_are, items_apart}
 use Rattle.sn_limits.proofs.Leaves.{number_within, name_unseen}

@@ -2,8 +2,8 @@
 #![tactic(auto)]
 
 ghost use Rattle.std.specs.Prelude.{List};
-ghost use Rattle.sn_grammar.specs.declared.ast.QueryFile.{QueryFile};
-ghost use Rattle.sn_grammar.specs.Grammar.{file_rule};
+ghost use Rattle.sn_query_rules.specs.declared.ast.QueryFile.{QueryFile};
+ghost use Rattle.sn_query_rules.specs.Grammar.{file_rule};
 ghost use Rattle.sn_rules.specs.Rules.{Accepts};
 ghost use Rattle.sn_rules.specs.Tokens.{Tok};
 ghost use Rattle.sn_walk.specs.Limits.{KeepsLimits};

@@ -6,7 +6,7 @@ use crate::text::parse;
 use sn_fit::misfit::{Misfit, MisfitKind};
 use sn_fit::{fits, shape};
 use sn_plan_rules::plan::Plan;
-use sn_queries::read::read;
+use sn_read_queries::read::read;
 use sn_switch::switch::Switch;
 use sn_types::typed::Typed;
 use std::alloc::Global;

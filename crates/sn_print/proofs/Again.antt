@@ -3,9 +3,9 @@ use Rattle.std.proofs.Common.{◌≡◌, ℕ, List, [], ◌∷◌, ◌++◌, ref
 use Rattle.std.specs.Prelude.{codes}
 use Rattle.sn_rules.specs.Tokens.{Mark, word, number, finish, plain, faces, mark_faces}
 use Rattle.sn_text.specs.Cutting.{tokens_of}
-use Rattle.sn_grammar.specs.declared.ast.QueryFile.{QueryFile}
-use Rattle.sn_grammar.specs.Grammar.{file_rule}
-use Rattle.sn_grammar.proofs.Queries.{file_good}
+use Rattle.sn_query_rules.specs.declared.ast.QueryFile.{QueryFile}
+use Rattle.sn_query_rules.specs.Grammar.{file_rule}
+use Rattle.sn_query_rules.proofs.Queries.{file_good}
 use Rattle.sn_print.specs.Layout.{layout}
 use Rattle.sn_print.specs.Printing.{queries_spelled}
 use Rattle.sn_print.specs.Again.{IsParsed, StandsFor}

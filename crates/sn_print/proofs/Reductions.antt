@@ -2,10 +2,10 @@
 use Rattle.std.proofs.Common.{◌≡◌, ℕ, zero, suc, List, ◌∷◌, refl}
 use Rattle.std.specs.Prelude.{codes}
 use Rattle.sn_rules.specs.Tokens.{plain, word}
-use Rattle.sn_grammar.specs.declared.ast.Reduce.{Reduce}
-use Rattle.sn_grammar.specs.declared.ast.FoldWord.{FoldWord}
-use Rattle.sn_grammar.specs.declared.ast.FoldWord.TheVariants as folds
-use Rattle.sn_grammar.specs.Grammar.{fold_rule, reduce_rule}
+use Rattle.sn_query_rules.specs.declared.ast.Reduce.{Reduce}
+use Rattle.sn_query_rules.specs.declared.ast.FoldWord.{FoldWord}
+use Rattle.sn_query_rules.specs.declared.ast.FoldWord.TheVariants as folds
+use Rattle.sn_query_rules.specs.Grammar.{fold_rule, reduce_rule}
 use Rattle.sn_print.specs.Printing.{reduction_spelled}
 
 abbrev made : FoldWord → List (List ℕ) → List ℕ → ℕ → Reduce

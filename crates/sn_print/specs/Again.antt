@@ -2,8 +2,8 @@
 use Rattle.std.specs.Prelude.{◌≡◌, ℕ, List}
 use Rattle.sn_rules.specs.Rules.{Accepts}
 use Rattle.sn_text.specs.Cutting.{tokens_of}
-use Rattle.sn_grammar.specs.declared.ast.QueryFile.{QueryFile}
-use Rattle.sn_grammar.specs.Grammar.{file_rule}
+use Rattle.sn_query_rules.specs.declared.ast.QueryFile.{QueryFile}
+use Rattle.sn_query_rules.specs.Grammar.{file_rule}
 
 -- some text stands for the file
 abbrev pub IsParsed : QueryFile → Type 0

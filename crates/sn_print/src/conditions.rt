@@ -1,13 +1,13 @@
 //! Filters and their conditions.
 ghost use Rattle.std.specs.Prelude.{◌≡◌, OnOk};
-ghost use Rattle.sn_grammar.specs.Names.{cmp_sign, name};
-ghost use Rattle.sn_grammar.specs.Grammar.{relax_rule, relaxes_rule, cond_rule, filter_rule};
+ghost use Rattle.sn_query_rules.specs.Names.{cmp_sign, name};
+ghost use Rattle.sn_query_rules.specs.Grammar.{relax_rule, relaxes_rule, cond_rule, filter_rule};
 ghost use Rattle.sn_print.specs.Printing.{state, puts, and_spelled};
 
 use crate::lists::{Shown, put_list};
 use crate::printer::Printer;
 use sn_base::memory::Memory;
-use sn_grammar::ast::{Cmp, Cond, Relax};
+use sn_query_rules::ast::{Cmp, Cond, Relax};
 use std::alloc::Global;
 
 /// A constant for a coarser level.
@@ -18,7 +18,7 @@ impl Shown for RelaxText {
 
     ghost spell = { relax_rule.spell };
 
-    #[tactic(auto, unfolding(sn_grammar::specs::Grammar::relax_rule))]
+    #[tactic(auto, unfolding(sn_query_rules::specs::Grammar::relax_rule))]
     fn put(alloc: Global, item: &Relax, out: &mut Printer) -> Result<(), Memory> {
         out.number(alloc, u64::from(item.level))?;
         out.symbol(7)?;
@@ -27,7 +27,7 @@ impl Shown for RelaxText {
     }
 }
 
-#[tactic(auto, unfolding(sn_grammar::specs::Grammar::relaxes_rule))]
+#[tactic(auto, unfolding(sn_query_rules::specs::Grammar::relaxes_rule))]
 fn put_relaxes(alloc: Global, relaxed: &[Relax], out: &mut Printer) -> Result<(), Memory>
     ensures { OnOk result (state out.new ≡ puts (state out.old) (relaxes_rule.spell relaxed.now)) }
 {
@@ -74,7 +74,7 @@ impl Shown for CondText {
 
     ghost spell = { cond_rule.spell };
 
-    #[tactic(auto, unfolding(sn_grammar::specs::Grammar::cond_rule))]
+    #[tactic(auto, unfolding(sn_query_rules::specs::Grammar::cond_rule))]
     fn put(alloc: Global, item: &Cond, out: &mut Printer) -> Result<(), Memory> {
         out.word(item.name.as_bytes())?;
         put_and(alloc, item.and, out)?;
@@ -86,7 +86,7 @@ impl Shown for CondText {
 }
 
 /// Writes a filter.
-#[tactic(auto, unfolding(sn_grammar::specs::Grammar::filter_rule))]
+#[tactic(auto, unfolding(sn_query_rules::specs::Grammar::filter_rule))]
 pub(crate) fn put_filter(alloc: Global, conds: &[Cond], out: &mut Printer) -> Result<(), Memory>
     ensures { OnOk result (state out.new ≡ puts (state out.old) (filter_rule.spell conds.now)) }
 {

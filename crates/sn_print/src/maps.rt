@@ -1,18 +1,18 @@
 //! Maps and folds.
 ghost use Rattle.std.specs.Prelude.{◌≡◌, [], OnOk, codes};
-ghost use Rattle.sn_grammar.specs.Names.{name};
-ghost use Rattle.sn_grammar.specs.Grammar.{expr_rule, post_expr_rule, col_rule, post_col_rule, map_rule, post_map_rule, keys_rule, reduce_rule};
+ghost use Rattle.sn_query_rules.specs.Names.{name};
+ghost use Rattle.sn_query_rules.specs.Grammar.{expr_rule, post_expr_rule, col_rule, post_col_rule, map_rule, post_map_rule, keys_rule, reduce_rule};
 ghost use Rattle.sn_print.specs.Printing.{state, puts, folded_spelled, plain_spelled, sum_spelled, summed_spelled, reduction_spelled};
 
 use crate::lists::{Shown, put_list};
 use crate::printer::Printer;
 use sn_base::memory::Memory;
 use sn_base::name::Name;
-use sn_grammar::ast::{Expr, FoldWord, MapCol, Reduce};
+use sn_query_rules::ast::{Expr, FoldWord, MapCol, Reduce};
 use std::alloc::Global;
 
 /// Writes what a column holds before a join.
-#[tactic(auto, unfolding(sn_grammar::specs::Grammar::expr_rule))]
+#[tactic(auto, unfolding(sn_query_rules::specs::Grammar::expr_rule))]
 fn put_expr(alloc: Global, expr: &Expr, out: &mut Printer) -> Result<(), Memory>
     ensures { OnOk result (state out.new ≡ puts (state out.old) (expr_rule.spell expr.now)) }
 {
@@ -35,7 +35,7 @@ fn put_expr(alloc: Global, expr: &Expr, out: &mut Printer) -> Result<(), Memory>
 }
 
 /// Writes what a column holds behind a join.
-#[tactic(auto, unfolding(sn_grammar::specs::Grammar::post_expr_rule))]
+#[tactic(auto, unfolding(sn_query_rules::specs::Grammar::post_expr_rule))]
 fn put_post_expr(alloc: Global, expr: &Expr, out: &mut Printer) -> Result<(), Memory>
     ensures { OnOk result (state out.new ≡ puts (state out.old) (post_expr_rule.spell expr.now)) }
 {
@@ -75,7 +75,7 @@ impl Shown for ColText {
 
     ghost spell = { (col_rule []).spell };
 
-    #[tactic(auto, unfolding(sn_grammar::specs::Grammar::col_rule))]
+    #[tactic(auto, unfolding(sn_query_rules::specs::Grammar::col_rule))]
     fn put(alloc: Global, item: &MapCol, out: &mut Printer) -> Result<(), Memory> {
         put_expr(alloc, &item.expr, out)?;
         out.word(b"as")?;
@@ -92,7 +92,7 @@ impl Shown for PostColText {
 
     ghost spell = { (post_col_rule []).spell };
 
-    #[tactic(auto, unfolding(sn_grammar::specs::Grammar::post_col_rule))]
+    #[tactic(auto, unfolding(sn_query_rules::specs::Grammar::post_col_rule))]
     fn put(alloc: Global, item: &MapCol, out: &mut Printer) -> Result<(), Memory> {
         put_post_expr(alloc, &item.expr, out)?;
         out.word(b"as")?;
@@ -102,7 +102,7 @@ impl Shown for PostColText {
 }
 
 /// Writes a map before a join.
-#[tactic(auto, unfolding(sn_grammar::specs::Grammar::map_rule))]
+#[tactic(auto, unfolding(sn_query_rules::specs::Grammar::map_rule))]
 pub(crate) fn put_map(alloc: Global, cols: &[MapCol], out: &mut Printer) -> Result<(), Memory>
     ensures { OnOk result (state out.new ≡ puts (state out.old) (map_rule.spell cols.now)) }
 {
@@ -112,7 +112,7 @@ pub(crate) fn put_map(alloc: Global, cols: &[MapCol], out: &mut Printer) -> Resu
 }
 
 /// Writes a map behind a join.
-#[tactic(auto, unfolding(sn_grammar::specs::Grammar::post_map_rule))]
+#[tactic(auto, unfolding(sn_query_rules::specs::Grammar::post_map_rule))]
 pub(crate) fn put_post_map(alloc: Global, cols: &[MapCol], out: &mut Printer) -> Result<(), Memory>
     ensures { OnOk result (state out.new ≡ puts (state out.old) (post_map_rule.spell cols.now)) }
 {
@@ -135,7 +135,7 @@ impl Shown for KeyText {
 }
 
 /// Writes keys.
-#[tactic(auto, unfolding(sn_grammar::specs::Grammar::keys_rule))]
+#[tactic(auto, unfolding(sn_query_rules::specs::Grammar::keys_rule))]
 pub(crate) fn put_keys(alloc: Global, keys: &[Name], out: &mut Printer) -> Result<(), Memory>
     ensures { OnOk result (state out.new ≡ puts (state out.old) (keys_rule.spell keys.now)) }
 {
@@ -154,7 +154,7 @@ fn put_folded(word: &[u8], value: &Name, out: &mut Printer) -> Result<(), Memory
 }
 
 /// Writes a fold that has no width.
-#[tactic(auto, unfolding(sn_grammar::specs::Grammar::fold_rule))]
+#[tactic(auto, unfolding(sn_query_rules::specs::Grammar::fold_rule))]
 fn put_plain(alloc: Global, reduce: &Reduce, word: &[u8], out: &mut Printer) -> Result<(), Memory>
     ensures { OnOk result (state out.new ≡ puts (state out.old) (plain_spelled reduce.now.keys word.now reduce.now.value reduce.now.width)) }
 {

@@ -1,6 +1,6 @@
 //! Operators.
 ghost use Rattle.std.specs.Prelude.{◌≡◌, OnOk};
-ghost use Rattle.sn_grammar.specs.Grammar.{what_rule, op_rule, post_what_rule, post_op_rule};
+ghost use Rattle.sn_query_rules.specs.Grammar.{what_rule, op_rule, post_what_rule, post_op_rule};
 ghost use Rattle.sn_print.specs.Printing.{state, puts, ops_spelled};
 
 use crate::conditions::put_filter;
@@ -8,10 +8,10 @@ use crate::lists::{Shown, put_each};
 use crate::maps::{put_map, put_post_map, put_reduce};
 use crate::printer::Printer;
 use sn_base::memory::Memory;
-use sn_grammar::ast::{Op, What};
+use sn_query_rules::ast::{Op, What};
 use std::alloc::Global;
 
-#[tactic(auto, unfolding(sn_grammar::specs::Grammar::what_rule))]
+#[tactic(auto, unfolding(sn_query_rules::specs::Grammar::what_rule))]
 fn put_what(alloc: Global, what: &What, out: &mut Printer) -> Result<(), Memory>
     ensures { OnOk result (state out.new ≡ puts (state out.old) (what_rule.spell what.now)) }
 {
@@ -31,7 +31,7 @@ impl Shown for OpText {
 
     ghost spell = { op_rule.spell };
 
-    #[tactic(auto, unfolding(sn_grammar::specs::Grammar::op_rule))]
+    #[tactic(auto, unfolding(sn_query_rules::specs::Grammar::op_rule))]
     fn put(alloc: Global, item: &Op, out: &mut Printer) -> Result<(), Memory> {
         out.symbol(4)?;
         put_what(alloc, &item.what, out)?;
@@ -53,7 +53,7 @@ pub(crate) fn put_ops(alloc: Global, ops: &[Op], out: &mut Printer) -> Result<()
     }
 }
 
-#[tactic(auto, unfolding(sn_grammar::specs::Grammar::post_what_rule))]
+#[tactic(auto, unfolding(sn_query_rules::specs::Grammar::post_what_rule))]
 fn put_post_what(alloc: Global, what: &What, out: &mut Printer) -> Result<(), Memory>
     ensures { OnOk result (state out.new ≡ puts (state out.old) (post_what_rule.spell what.now)) }
 {
@@ -73,7 +73,7 @@ impl Shown for PostOpText {
 
     ghost spell = { post_op_rule.spell };
 
-    #[tactic(auto, unfolding(sn_grammar::specs::Grammar::post_op_rule))]
+    #[tactic(auto, unfolding(sn_query_rules::specs::Grammar::post_op_rule))]
     fn put(alloc: Global, item: &Op, out: &mut Printer) -> Result<(), Memory> {
         out.symbol(4)?;
         put_post_what(alloc, &item.what, out)?;

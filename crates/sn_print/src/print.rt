@@ -1,6 +1,6 @@
 //! The whole text.
 ghost use Rattle.std.specs.Prelude.{◌≡◌, OnOk, IfOk};
-ghost use Rattle.sn_grammar.specs.Grammar.{file_rule};
+ghost use Rattle.sn_query_rules.specs.Grammar.{file_rule};
 ghost use Rattle.sn_print.specs.Again.{IsParsed, StandsFor};
 ghost use Rattle.sn_print.specs.Layout.{layout};
 ghost use Rattle.sn_print.specs.Printing.{state, puts};
@@ -9,10 +9,10 @@ use crate::printer::Printer;
 use crate::queries::put_queries;
 use sn_base::memory::Memory;
 use sn_base::seq::Seq;
-use sn_grammar::ast::QueryFile;
+use sn_query_rules::ast::QueryFile;
 use std::alloc::Global;
 
-#[tactic(auto, unfolding(sn_grammar::specs::Grammar::file_rule))]
+#[tactic(auto, unfolding(sn_query_rules::specs::Grammar::file_rule))]
 fn put_file(alloc: Global, file: &QueryFile, out: &mut Printer) -> Result<(), Memory>
     ensures { OnOk result (state out.new ≡ puts (state out.old) (file_rule.spell file.now)) }
 {

@@ -1,7 +1,7 @@
 //! Queries and their parts.
 ghost use Rattle.std.specs.Prelude.{◌≡◌, [], OnOk};
 ghost use Rattle.sn_rules.specs.Words.{number_in};
-ghost use Rattle.sn_grammar.specs.Grammar.{levels_rule, refine_rule, branch_rule, join_rule, query_rule};
+ghost use Rattle.sn_query_rules.specs.Grammar.{levels_rule, refine_rule, branch_rule, join_rule, query_rule};
 ghost use Rattle.sn_print.specs.Printing.{state, puts, refined_spelled, head_spelled, queries_spelled};
 
 use crate::lists::{Shown, put_each, put_list};
@@ -10,7 +10,7 @@ use crate::ops::{PostOpText, put_ops};
 use crate::printer::Printer;
 use sn_base::memory::Memory;
 use sn_base::name::Name;
-use sn_grammar::ast::{Branch, Join, Query, Refine};
+use sn_query_rules::ast::{Branch, Join, Query, Refine};
 use std::alloc::Global;
 
 /// A level.
@@ -26,14 +26,14 @@ impl Shown for LevelText {
     }
 }
 
-#[tactic(auto, unfolding(sn_grammar::specs::Grammar::levels_rule))]
+#[tactic(auto, unfolding(sn_query_rules::specs::Grammar::levels_rule))]
 fn put_levels(alloc: Global, levels: &[u32], out: &mut Printer) -> Result<(), Memory>
     ensures { OnOk result (state out.new ≡ puts (state out.old) (levels_rule.spell levels.now)) }
 {
     put_list::<LevelText>(alloc, levels, out)
 }
 
-#[tactic(auto, unfolding(sn_grammar::specs::Grammar::refine_rule))]
+#[tactic(auto, unfolding(sn_query_rules::specs::Grammar::refine_rule))]
 fn put_refine(alloc: Global, refine: &Refine, out: &mut Printer) -> Result<(), Memory>
     ensures { OnOk result (state out.new ≡ puts (state out.old) (refine_rule.spell refine.now)) }
 {
@@ -54,7 +54,7 @@ fn put_refined(alloc: Global, refine: &Option<Refine>, out: &mut Printer) -> Res
     }
 }
 
-#[tactic(auto, unfolding(sn_grammar::specs::Grammar::branch_rule))]
+#[tactic(auto, unfolding(sn_query_rules::specs::Grammar::branch_rule))]
 fn put_branch(alloc: Global, branch: &Branch, out: &mut Printer) -> Result<(), Memory>
     ensures { OnOk result (state out.new ≡ puts (state out.old) (branch_rule.spell branch.now)) }
 {
@@ -64,7 +64,7 @@ fn put_branch(alloc: Global, branch: &Branch, out: &mut Printer) -> Result<(), M
     Ok(())
 }
 
-#[tactic(auto, unfolding(sn_grammar::specs::Grammar::join_rule))]
+#[tactic(auto, unfolding(sn_query_rules::specs::Grammar::join_rule))]
 fn put_join(alloc: Global, join: &Join, out: &mut Printer) -> Result<(), Memory>
     ensures { OnOk result (state out.new ≡ puts (state out.old) (join_rule.spell join.now)) }
 {
@@ -101,7 +101,7 @@ impl Shown for QueryText {
 
     ghost spell = { (query_rule []).spell };
 
-    #[tactic(auto, unfolding(sn_grammar::specs::Grammar::query_rule, sn_grammar::specs::Grammar::body_rule))]
+    #[tactic(auto, unfolding(sn_query_rules::specs::Grammar::query_rule, sn_query_rules::specs::Grammar::body_rule))]
     fn put(alloc: Global, item: &Query, out: &mut Printer) -> Result<(), Memory> {
         match (item.branches.as_slice(), &item.join) {
             ([first], None) => {

@@ -8,10 +8,10 @@ use Rattle.sn_read.specs.declared.stop.Stop.{Stop}
 use Rattle.sn_read.specs.declared.stop.Stop.TheVariants as stops
 use Rattle.sn_read.specs.Reading.{Halts, Peeked}
 use Rattle.sn_read.proofs.Tokens.{there, not_there}
-use Rattle.sn_grammar.specs.declared.ast.Refine.{Refine}
-use Rattle.sn_grammar.specs.declared.ast.Branch.{Branch}
-use Rattle.sn_grammar.specs.declared.ast.Join.{Join}
-use Rattle.sn_grammar.specs.Grammar.{refine_rule}
+use Rattle.sn_query_rules.specs.declared.ast.Refine.{Refine}
+use Rattle.sn_query_rules.specs.declared.ast.Branch.{Branch}
+use Rattle.sn_query_rules.specs.declared.ast.Join.{Join}
+use Rattle.sn_query_rules.specs.Grammar.{refine_rule}
 use Rattle.sn_query.specs.Parts.{refined_rule, joined_rule, second_rule}
 
 pub refined : (ts us : List Tok) (a : Refine) → Peeked true (is_word (codes "refine")) ts → refine_rule.read kept ts ≡ got a us → refined_rule.read kept ts ≡ got (Some a) us

@@ -4,7 +4,7 @@ use Rattle.sn_rules.specs.declared.Flaw.{Flaw}
 use Rattle.sn_rules.specs.declared.Flaw.TheVariants.{Lex, Expected, TooMany, Range, Twice, Missing}
 use Rattle.sn_rules.specs.Tokens.{Tok}
 use Rattle.sn_rules.specs.Rules.{FirstFault}
-use Rattle.sn_grammar.specs.Grammar.{file_rule}
+use Rattle.sn_query_rules.specs.Grammar.{file_rule}
 use Rattle.sn_query.specs.declared.fault.ParseFault.{ParseFault}
 use Rattle.sn_query.specs.Texts.{shown, IsFault}
 use Rattle.sn_query.proofs.OnlyLaws.{Ours}

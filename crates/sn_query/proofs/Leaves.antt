@@ -8,17 +8,17 @@ use Rattle.sn_text.specs.Lexing.{left}
 use Rattle.sn_read.specs.declared.stop.Stop.{Stop}
 use Rattle.sn_read.specs.declared.stop.Stop.TheVariants as stops
 use Rattle.sn_read.specs.Reading.{Halts}
-use Rattle.sn_grammar.specs.declared.ast.MapCol.{MapCol}
-use Rattle.sn_grammar.specs.declared.ast.Query.{Query}
-use Rattle.sn_grammar.specs.Grammar.{col_names, query_names}
+use Rattle.sn_query_rules.specs.declared.ast.MapCol.{MapCol}
+use Rattle.sn_query_rules.specs.declared.ast.Query.{Query}
+use Rattle.sn_query_rules.specs.Grammar.{col_names, query_names}
 use Rattle.sn_rules.specs.declared.Flaw.{Flaw}
 use Rattle.sn_rules.specs.Tokens.{Lexeme, word, number, symbol, finish, bad, Tok, Read, got, fails}
 use Rattle.sn_rules.specs.Rules.{kept, judged, token_at}
 use Rattle.sn_rules.specs.Words.{same, judged_as, judged_by, word_in}
 use Rattle.sn_read.proofs.Tokens.{Next, leaf_gives, leaf_halts}
-use Rattle.sn_grammar.specs.declared.ast.Cmp.{Cmp}
-use Rattle.sn_grammar.specs.declared.ast.FoldWord.{FoldWord}
-use Rattle.sn_grammar.specs.Names.{is_keyword, name_not, name_test, cmp_in, any_cmp, fold_in, no_sum}
+use Rattle.sn_query_rules.specs.declared.ast.Cmp.{Cmp}
+use Rattle.sn_query_rules.specs.declared.ast.FoldWord.{FoldWord}
+use Rattle.sn_query_rules.specs.Names.{is_keyword, name_not, name_test, cmp_in, any_cmp, fold_in, no_sum}
 
 pub word_gives : (ts us : List Tok) (t : Tok) (w : List ℕ) → Next ts t us → Ok w ≡ judged_by (name_test []) kept t.face (word_in t.face) → token_at (λ t. judged_by (name_test []) kept t.face (word_in t.face)) ts ≡ got w us
 word_gives = leaf_gives word_in refl refl (name_test [])

@@ -7,13 +7,13 @@ use Rattle.sn_rules.specs.declared.Flaw.TheVariants.{Expected, TooMany, Twice}
 use Rattle.sn_rules.specs.Tokens.{Lexeme, word, number, symbol, finish, bad}
 use Rattle.sn_rules.specs.Rules.{Rule, anything, pair, pair_on, embedded, maybe, either, many, chain}
 use Rattle.sn_rules.specs.Words.{same, is_word, is_symbol, is_number, is_finish, keyword, sign, the_end, line_of_word, line_of_sign, number_at, word_in, in_range, number_in, ◌▸◌, ◌◂◌, full, commas}
-use Rattle.sn_grammar.specs.declared.ast.Query.{Query}
-use Rattle.sn_grammar.specs.declared.ast.Expr.{Expr}
-use Rattle.sn_grammar.specs.declared.ast.Op.{Op}
-use Rattle.sn_grammar.specs.declared.ast.FoldWord.{FoldWord}
-use Rattle.sn_grammar.specs.declared.ast.FoldWord.TheVariants as folds
-use Rattle.sn_grammar.specs.Names.{is_keyword, name_test, name_not, name, any_number, past_name, past_number, cmp_face, cmp_in, any_cmp, comparison, fold_face, fold_in, no_sum, plain_fold}
-use Rattle.sn_grammar.specs.Grammar.{Name, to_relax, from_relax, relax_rule, to_relaxes, from_relaxes, relaxes_rule, to_cond, from_cond, cond_rule, filter_rule, to_expr, from_expr, goes_tail, expr_rule, past_col, to_col, from_col, col_names, col_rule, map_rule, to_post_expr, from_post_expr, goes_post_tail, post_expr_rule, post_col_rule, post_map_rule, keys_rule, fold_rule, to_reduce, from_reduce, reduce_rule, to_what, from_what, what_rule, to_op, from_op, op_rule, to_post_what, from_post_what, post_what_rule, post_op_rule, to_refine, from_refine, levels_rule, refine_rule, to_branch, from_branch, branch_rule, to_join, from_join, join_rule, body_rule, to_query, from_query, query_rule, query_names, to_file, from_file, file_rule}
+use Rattle.sn_query_rules.specs.declared.ast.Query.{Query}
+use Rattle.sn_query_rules.specs.declared.ast.Expr.{Expr}
+use Rattle.sn_query_rules.specs.declared.ast.Op.{Op}
+use Rattle.sn_query_rules.specs.declared.ast.FoldWord.{FoldWord}
+use Rattle.sn_query_rules.specs.declared.ast.FoldWord.TheVariants as folds
+use Rattle.sn_query_rules.specs.Names.{is_keyword, name_test, name_not, name, any_number, past_name, past_number, cmp_face, cmp_in, any_cmp, comparison, fold_face, fold_in, no_sum, plain_fold}
+use Rattle.sn_query_rules.specs.Grammar.{Name, to_relax, from_relax, relax_rule, to_relaxes, from_relaxes, relaxes_rule, to_cond, from_cond, cond_rule, filter_rule, to_expr, from_expr, goes_tail, expr_rule, past_col, to_col, from_col, col_names, col_rule, map_rule, to_post_expr, from_post_expr, goes_post_tail, post_expr_rule, post_col_rule, post_map_rule, keys_rule, fold_rule, to_reduce, from_reduce, reduce_rule, to_what, from_what, what_rule, to_op, from_op, op_rule, to_post_what, from_post_what, post_what_rule, post_op_rule, to_refine, from_refine, levels_rule, refine_rule, to_branch, from_branch, branch_rule, to_join, from_join, join_rule, body_rule, to_query, from_query, query_rule, query_names, to_file, from_file, file_rule}
 use Rattle.sn_query.proofs.OnlyLaws.{Ours, Only, ours_as, the_only, line_only, leaf_only, pair_on_only, pair_only, embedded_only, renamed_only, behind_only, before_only, maybe_only, either_only, many_only, chain_only, commas_only, full_ours}
 
 keyword_only : (text : List ℕ) → Only (keyword text)

@@ -4,8 +4,8 @@ use Rattle.sn_rules.specs.declared.Flaw.{Flaw}
 use Rattle.sn_rules.specs.declared.Flaw.TheVariants as flaws
 use Rattle.sn_rules.specs.Tokens.{Tok}
 use Rattle.sn_rules.specs.Rules.{FirstFault}
-use Rattle.sn_grammar.specs.declared.ast.QueryFile.{QueryFile}
-use Rattle.sn_grammar.specs.Grammar.{file_rule}
+use Rattle.sn_query_rules.specs.declared.ast.QueryFile.{QueryFile}
+use Rattle.sn_query_rules.specs.Grammar.{file_rule}
 use Rattle.sn_query.specs.declared.fault.ParseFault.{ParseFault}
 use Rattle.sn_query.specs.declared.fault.ParseFault.TheVariants as faults
 

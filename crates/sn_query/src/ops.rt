@@ -6,8 +6,8 @@ ghost use Rattle.sn_rules.specs.Rules.{kept};
 ghost use Rattle.sn_rules.specs.Words.{is_symbol, full};
 ghost use Rattle.sn_text.specs.Lexing.{left};
 ghost use Rattle.sn_read.specs.Reading.{Reads, Peeked};
-ghost use Rattle.sn_grammar.specs.Grammar.{what_rule, op_rule, post_what_rule, post_op_rule};
-ghost use Rattle.sn_grammar.proofs.Queries.{ops_alike, post_ops_alike};
+ghost use Rattle.sn_query_rules.specs.Grammar.{what_rule, op_rule, post_what_rule, post_op_rule};
+ghost use Rattle.sn_query_rules.proofs.Queries.{ops_alike, post_ops_alike};
 ghost use Rattle.sn_query.specs.Parts.{ops_rule, post_rule};
 
 use crate::conditions::filter;
@@ -15,7 +15,7 @@ use crate::folds::reduce;
 use crate::maps::{map, post_map};
 use crate::words::is_full_at;
 use sn_base::seq::Seq;
-use sn_grammar::ast::{Op, What};
+use sn_query_rules::ast::{Op, What};
 use sn_read::list::{Items, further};
 use sn_read::stop::Stop;
 use sn_read::words::{next_is_symbol, next_is_word, symbol_line, word};
@@ -46,7 +46,7 @@ fn what<'a>(alloc: Global, at: Lexer<'a>) -> Result<(What, Lexer<'a>), Stop<'a>>
     Ok((What::Reduce(reduce), rest))
 }
 
-#[tactic(auto, unfolding(sn_grammar::specs::Grammar::op_rule))]
+#[tactic(auto, unfolding(sn_query_rules::specs::Grammar::op_rule))]
 fn op<'a>(alloc: Global, at: Lexer<'a>) -> Result<(Op, Lexer<'a>), Stop<'a>>
     ensures { Reads result (op_rule.read kept (left at.entry)) }
 {
@@ -114,7 +114,7 @@ fn post_what<'a>(alloc: Global, at: Lexer<'a>) -> Result<(What, Lexer<'a>), Stop
     Ok((What::Map(cols), rest))
 }
 
-#[tactic(auto, unfolding(sn_grammar::specs::Grammar::post_op_rule))]
+#[tactic(auto, unfolding(sn_query_rules::specs::Grammar::post_op_rule))]
 fn post_op<'a>(alloc: Global, at: Lexer<'a>) -> Result<(Op, Lexer<'a>), Stop<'a>>
     ensures { Reads result (post_op_rule.read kept (left at.entry)) }
 {

@@ -4,13 +4,13 @@ ghost use Rattle.sn_rules.specs.Rules.{kept, Accepts};
 ghost use Rattle.sn_text.specs.Cutting.{tokens_of};
 ghost use Rattle.sn_text.specs.Lexing.{left};
 ghost use Rattle.sn_read.specs.Reading.{ReadsAll};
-ghost use Rattle.sn_grammar.specs.declared.ast.QueryFile.{QueryFile};
-ghost use Rattle.sn_grammar.specs.Grammar.{file_rule};
+ghost use Rattle.sn_query_rules.specs.declared.ast.QueryFile.{QueryFile};
+ghost use Rattle.sn_query_rules.specs.Grammar.{file_rule};
 ghost use Rattle.sn_query.specs.Texts.{shown, IsFault, IsFile};
 
 use crate::fault::ParseFault;
 use crate::queries::queries;
-use sn_grammar::ast::QueryFile;
+use sn_query_rules::ast::QueryFile;
 use sn_read::stop::Stop;
 use sn_read::words::{end, number, word};
 use sn_rules::Flaw;
@@ -18,7 +18,7 @@ use sn_text::place::Lexer;
 use sn_text::scan::scan;
 use std::alloc::Global;
 
-#[tactic(auto, unfolding(sn_grammar::specs::Grammar::file_rule))]
+#[tactic(auto, unfolding(sn_query_rules::specs::Grammar::file_rule))]
 fn file<'a>(alloc: Global, at: Lexer<'a>) -> Result<QueryFile, Stop<'a>>
     ensures { ReadsAll result (file_rule.read kept (left at.entry)) }
 {

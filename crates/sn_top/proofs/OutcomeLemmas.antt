@@ -5,9 +5,9 @@ use Rattle.sn_pcap.specs.declared.header.Header.{Header}
 use Rattle.sn_pcap.specs.declared.header.HeadFault.{HeadFault}
 use Rattle.sn_pcap.specs.Capture.{head_of}
 use Rattle.sn_pcap.proofs.OneCapture.{records_some, records_once}
-use Rattle.sn_queries.specs.Texts.{Queries, HasReading}
-use Rattle.sn_queries.proofs.SomeReading.{reading_some}
-use Rattle.sn_queries.proofs.OneReading.{reading_once}
+use Rattle.sn_read_queries.specs.Texts.{Queries, HasReading}
+use Rattle.sn_read_queries.proofs.SomeReading.{reading_some}
+use Rattle.sn_read_queries.proofs.OneReading.{reading_once}
 use Rattle.sn_top.specs.declared.refusal.Refusal.{Refusal}
 use Rattle.sn_top.specs.declared.refusal.Refusal.TheVariants.{Head}
 use Rattle.sn_top.specs.Outcome.{Outcome, refused}

@@ -2,7 +2,7 @@
 use Rattle.std.proofs.Common.{◌≡◌, ℕ, List, [], Option, Result, Ok, Err, refl, sym, ◌∙◌, subst}
 use Rattle.sn_io.specs.Counts.{ByName}
 use Rattle.sn_pcap.specs.Capture.{head_of}
-use Rattle.sn_queries.specs.Texts.{Queries}
+use Rattle.sn_read_queries.specs.Texts.{Queries}
 use Rattle.sn_top.specs.declared.refusal.Refusal.{Refusal}
 use Rattle.sn_top.specs.Outcome.{Outcome, refused, is_chance, Keeps, IsDue}
 use Rattle.sn_top.specs.Plain.{AfterHead, AfterCapture, AfterQueries, QueryStage, file_of}

@@ -9,8 +9,8 @@ use Rattle.sn_pcap.specs.declared.header.HeadFault.{HeadFault}
 use Rattle.sn_pcap.specs.declared.packet.Packet.{Packet}
 use Rattle.sn_pcap.specs.declared.packet.Ending.{Ending}
 use Rattle.sn_pcap.specs.declared.packet.Ending.TheVariants as endings
-use Rattle.sn_queries.specs.declared.fault.QueryFault.{QueryFault}
-use Rattle.sn_queries.specs.Texts.{Queries, IsRead}
+use Rattle.sn_read_queries.specs.declared.fault.QueryFault.{QueryFault}
+use Rattle.sn_read_queries.specs.Texts.{Queries, IsRead}
 use Rattle.sn_out.specs.Text.{damage_line, total_line}
 use Rattle.sn_top.specs.declared.refusal.Refusal.{Refusal}
 use Rattle.sn_top.specs.declared.refusal.Refusal.TheVariants as refusals

@@ -1,6 +1,6 @@
 -- What a typed file is read as.
 use Rattle.std.specs.Prelude.{Result, Ok, Err}
-use Rattle.sn_queries.specs.Texts.{Queries}
+use Rattle.sn_read_queries.specs.Texts.{Queries}
 use Rattle.sn_types.specs.declared.typed.Typed.{Typed}
 use Rattle.sn_top.specs.declared.refusal.Refusal.{Refusal}
 

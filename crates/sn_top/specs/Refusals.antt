@@ -3,9 +3,9 @@ use Rattle.std.specs.Prelude.{ℕ, List, [], ◌∷◌, ◌++◌, codes}
 use Rattle.std.specs.Fmt.{decimal}
 use Rattle.sn_pcap.specs.declared.header.HeadFault.{HeadFault}
 use Rattle.sn_pcap.specs.declared.header.HeadFault.TheVariants as heads
-use Rattle.sn_queries.specs.declared.fault.Kind.{Kind}
-use Rattle.sn_queries.specs.declared.fault.Kind.TheVariants as kinds
-use Rattle.sn_queries.specs.declared.fault.QueryFault.{QueryFault}
+use Rattle.sn_read_queries.specs.declared.fault.Kind.{Kind}
+use Rattle.sn_read_queries.specs.declared.fault.Kind.TheVariants as kinds
+use Rattle.sn_read_queries.specs.declared.fault.QueryFault.{QueryFault}
 use Rattle.sn_top.specs.declared.refusal.Refusal.{Refusal}
 use Rattle.sn_top.specs.declared.refusal.Refusal.TheVariants.{Memory, Usage, Queries, Head, Cut, Bad, Missing, ReadFault, WriteFault, TooLarge}
 

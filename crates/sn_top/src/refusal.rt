@@ -4,7 +4,7 @@ ghost use Rattle.std.specs.Prelude.{◌≡◌};
 use crate::windows::TooMany;
 use sn_base::memory::Memory;
 use sn_pcap::header::HeadFault;
-use sn_queries::fault::QueryFault;
+use sn_read_queries::fault::QueryFault;
 
 /// Why a command ends otherwise than with its whole text.
 #[derive(Clone, Copy, Debug, PartialEq, Eq)]

@@ -8,7 +8,7 @@ use crate::refusal::Refusal;
 use itoa::Buffer;
 use sn_io::sink::{Sink, write_all_to};
 use sn_pcap::header::HeadFault;
-use sn_queries::fault::{Kind, QueryFault};
+use sn_read_queries::fault::{Kind, QueryFault};
 
 /// The name of what is wrong with a query file.
 fn kind_name(kind: Kind) -> &'static [u8]

@@ -10,11 +10,11 @@ use Rattle.sn_base.proofs.Lists.{by_test, nat_same}
 use Rattle.sn_base.specs.declared.column.Column.{Column}
 use Rattle.sn_fields.specs.declared.field.Field.{Field}
 use Rattle.sn_fields.specs.Fields.{with_name, width_of, is_address}
-use Rattle.sn_grammar.specs.declared.ast.Query.{Query}
-use Rattle.sn_grammar.specs.declared.ast.Branch.{Branch}
-use Rattle.sn_grammar.specs.declared.ast.Refine.{Refine}
-use Rattle.sn_grammar.specs.declared.ast.Join.{Join}
-use Rattle.sn_grammar.specs.declared.ast.Op.{Op}
+use Rattle.sn_query_rules.specs.declared.ast.Query.{Query}
+use Rattle.sn_query_rules.specs.declared.ast.Branch.{Branch}
+use Rattle.sn_query_rules.specs.declared.ast.Refine.{Refine}
+use Rattle.sn_query_rules.specs.declared.ast.Join.{Join}
+use Rattle.sn_query_rules.specs.declared.ast.Op.{Op}
 use Rattle.sn_walk.specs.declared.fault.TypeFault.{TypeFault}
 use Rattle.sn_walk.specs.declared.scope.Scope.{Scope}
 use Rattle.sn_walk.specs.Names.{fields_among, packet_fields, names_read, names_to_map, is_map, needs_map}

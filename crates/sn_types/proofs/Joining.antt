@@ -10,11 +10,11 @@ use Rattle.sn_base.proofs.FoldedLemmas.{same_row_exact}
 use Rattle.sn_base.specs.declared.column.Column.{Column}
 use Rattle.sn_base.specs.Groups.{Apart, same_row}
 use Rattle.sn_fields.specs.Fields.{fields, name_of}
-use Rattle.sn_grammar.specs.declared.ast.Join.{Join}
-use Rattle.sn_grammar.specs.declared.ast.Op.{Op}
-use Rattle.sn_grammar.specs.declared.ast.Reduce.{Reduce}
-use Rattle.sn_grammar.specs.declared.ast.What.{What}
-use Rattle.sn_grammar.specs.declared.ast.What.TheVariants as what
+use Rattle.sn_query_rules.specs.declared.ast.Join.{Join}
+use Rattle.sn_query_rules.specs.declared.ast.Op.{Op}
+use Rattle.sn_query_rules.specs.declared.ast.Reduce.{Reduce}
+use Rattle.sn_query_rules.specs.declared.ast.What.{What}
+use Rattle.sn_query_rules.specs.declared.ast.What.TheVariants as what
 use Rattle.sn_walk.specs.declared.fault.TypeFault.{TypeFault}
 use Rattle.sn_walk.specs.declared.fault.TypeFault.TheVariants.{TooWide, RefineLost, JoinKeys}
 use Rattle.sn_walk.specs.declared.scope.Scope.{Scope}

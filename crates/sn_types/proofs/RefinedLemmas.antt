@@ -4,14 +4,14 @@ use Rattle.std.specs.List.{AllByRecursion, flat_map, list_any}
 use Rattle.std.specs.Option.{option_map, option_map_or}
 use Rattle.sn_base.proofs.Lists.{by_test, not_false}
 use Rattle.sn_fields.specs.Fields.{with_name}
-use Rattle.sn_grammar.specs.declared.ast.Query.{Query}
-use Rattle.sn_grammar.specs.declared.ast.Branch.{Branch}
-use Rattle.sn_grammar.specs.declared.ast.Refine.{Refine}
-use Rattle.sn_grammar.specs.declared.ast.Join.{Join}
-use Rattle.sn_grammar.specs.declared.ast.MapCol.{MapCol}
-use Rattle.sn_grammar.specs.declared.ast.Op.{Op}
-use Rattle.sn_grammar.specs.declared.ast.What.{What}
-use Rattle.sn_grammar.specs.declared.ast.What.TheVariants as what
+use Rattle.sn_query_rules.specs.declared.ast.Query.{Query}
+use Rattle.sn_query_rules.specs.declared.ast.Branch.{Branch}
+use Rattle.sn_query_rules.specs.declared.ast.Refine.{Refine}
+use Rattle.sn_query_rules.specs.declared.ast.Join.{Join}
+use Rattle.sn_query_rules.specs.declared.ast.MapCol.{MapCol}
+use Rattle.sn_query_rules.specs.declared.ast.Op.{Op}
+use Rattle.sn_query_rules.specs.declared.ast.What.{What}
+use Rattle.sn_query_rules.specs.declared.ast.What.TheVariants as what
 use Rattle.sn_walk.specs.declared.fault.TypeFault.{TypeFault}
 use Rattle.sn_walk.specs.declared.fault.TypeFault.TheVariants.{UnknownField, UnknownColumn, TooWide, NoMap, RefineLost, RefineFilter, Levels}
 use Rattle.sn_walk.specs.declared.scope.Scope.{Scope}

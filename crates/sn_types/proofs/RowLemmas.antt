@@ -9,9 +9,9 @@ use Rattle.std.specs.List.{AllByRecursion, list_any, find, position, position_or
 use Rattle.sn_base.proofs.Lists.{by_test}
 use Rattle.sn_base.specs.declared.column.Column.{Column}
 use Rattle.sn_base.specs.Columns.{IsOf}
-use Rattle.sn_grammar.specs.declared.ast.Expr.{Expr}
-use Rattle.sn_grammar.specs.declared.ast.Expr.TheVariants.{Const, Copy, Mask, Shift, Sum, Ratio}
-use Rattle.sn_grammar.specs.declared.ast.MapCol.{MapCol}
+use Rattle.sn_query_rules.specs.declared.ast.Expr.{Expr}
+use Rattle.sn_query_rules.specs.declared.ast.Expr.TheVariants.{Const, Copy, Mask, Shift, Sum, Ratio}
+use Rattle.sn_query_rules.specs.declared.ast.MapCol.{MapCol}
 use Rattle.sn_walk.specs.Names.{Name, same_name, names_in}
 use Rattle.sn_walk.specs.Widths.{constant_width}
 use Rattle.sn_walk.specs.Columns.{place_of, column_named, expr_width, mapped_column}

@@ -2,7 +2,7 @@
 -- and has no fault.
 use Rattle.std.proofs.Common.{◌≡◌, ℕ, zero, suc, ◌<◌, List, [], ◌∷◌, ◌++◌, map, length, Option, None, Some, slice_get, unwrap_or, refl, sym, ◌∙◌, subst, arith}
 use Rattle.std.specs.List.{AllByRecursion, flat_map}
-use Rattle.sn_grammar.specs.declared.ast.Query.{Query}
+use Rattle.sn_query_rules.specs.declared.ast.Query.{Query}
 use Rattle.sn_walk.specs.declared.fault.TypeFault.{TypeFault}
 use Rattle.sn_walk.specs.Limits.{QueryLimits}
 use Rattle.sn_walk.specs.Walk.{Place, first_fault, or_later, query_places}

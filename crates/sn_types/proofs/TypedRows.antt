@@ -5,7 +5,7 @@ use Rattle.sn_base.specs.Columns.{IsOf}
 use Rattle.sn_base.specs.Groups.{Row}
 use Rattle.sn_base.specs.declared.column.Column.{Column}
 use Rattle.sn_fields.specs.declared.field.Field.{Field}
-use Rattle.sn_grammar.specs.declared.ast.Op.{Op}
+use Rattle.sn_query_rules.specs.declared.ast.Op.{Op}
 use Rattle.sn_walk.specs.Columns.{columns_after, field_column, packet_columns}
 use Rattle.sn_walk.specs.Walk.{scope_after, scope_end}
 use Rattle.sn_walk.specs.declared.scope.Scope.{Scope}

@@ -4,17 +4,17 @@ use Rattle.std.specs.Option.{option_map}
 use Rattle.sn_base.specs.declared.column.Column.{Column}
 use Rattle.sn_fields.specs.declared.field.Field.{Field}
 use Rattle.sn_fields.specs.Fields.{with_name}
-use Rattle.sn_grammar.specs.declared.ast.Query.{Query}
-use Rattle.sn_grammar.specs.declared.ast.Branch.{Branch}
-use Rattle.sn_grammar.specs.declared.ast.Refine.{Refine}
-use Rattle.sn_grammar.specs.declared.ast.Join.{Join}
-use Rattle.sn_grammar.specs.declared.ast.Op.{Op}
-use Rattle.sn_grammar.specs.declared.ast.Cond.{Cond}
-use Rattle.sn_grammar.specs.declared.ast.Reduce.{Reduce}
-use Rattle.sn_grammar.specs.declared.ast.What.{What}
-use Rattle.sn_grammar.specs.declared.ast.What.TheVariants as what
-use Rattle.sn_grammar.specs.declared.ast.Expr.{Expr}
-use Rattle.sn_grammar.specs.declared.ast.Expr.TheVariants as expr
+use Rattle.sn_query_rules.specs.declared.ast.Query.{Query}
+use Rattle.sn_query_rules.specs.declared.ast.Branch.{Branch}
+use Rattle.sn_query_rules.specs.declared.ast.Refine.{Refine}
+use Rattle.sn_query_rules.specs.declared.ast.Join.{Join}
+use Rattle.sn_query_rules.specs.declared.ast.Op.{Op}
+use Rattle.sn_query_rules.specs.declared.ast.Cond.{Cond}
+use Rattle.sn_query_rules.specs.declared.ast.Reduce.{Reduce}
+use Rattle.sn_query_rules.specs.declared.ast.What.{What}
+use Rattle.sn_query_rules.specs.declared.ast.What.TheVariants as what
+use Rattle.sn_query_rules.specs.declared.ast.Expr.{Expr}
+use Rattle.sn_query_rules.specs.declared.ast.Expr.TheVariants as expr
 use Rattle.sn_walk.specs.declared.scope.Scope.{Scope}
 use Rattle.sn_types.specs.declared.typed_op.TOp.{TOp}
 use Rattle.sn_types.specs.declared.typed_op.TOp.TheVariants.{Filter, Map, Distinct, Reduce as Reduced}

@@ -6,7 +6,7 @@ ghost use Rattle.sn_types.specs.Typed.{IsTypingOf};
 
 use crate::typed::Typed;
 use crate::typing::typed_queries;
-use sn_grammar::ast::QueryFile;
+use sn_query_rules::ast::QueryFile;
 use sn_walk::fault::TypeFault;
 use sn_walk::walk::file_fault;
 use std::alloc::Global;

@@ -9,7 +9,7 @@ use sn_base::memory::Memory;
 use sn_base::name::Name;
 use sn_base::schema::Schema;
 use sn_base::seq::Seq;
-use sn_grammar::ast::{Cond, Expr, MapCol, Reduce, What};
+use sn_query_rules::ast::{Cond, Expr, MapCol, Reduce, What};
 use sn_walk::columns::{column_named, place_of};
 use sn_walk::widths::{fold_of, folded_width};
 use std::alloc::Global;

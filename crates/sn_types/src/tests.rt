@@ -10,7 +10,7 @@ use sn_base::memory::Memory;
 use sn_base::name::Name;
 use sn_base::row::Row;
 use sn_base::seq::Seq;
-use sn_grammar::ast::{
+use sn_query_rules::ast::{
     Branch, Cmp, Cond, Expr, FoldWord, Join, MapCol, Op, Query, QueryFile, Reduce, Refine, What,
 };
 use sn_walk::fault::TypeFault;

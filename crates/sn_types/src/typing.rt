@@ -14,7 +14,7 @@ use sn_base::memory::Memory;
 use sn_base::schema::Schema;
 use sn_base::seq::Seq;
 use sn_fields::field::{Field, field_named};
-use sn_grammar::ast::{Branch, Join, Op, Query, Refine};
+use sn_query_rules::ast::{Branch, Join, Op, Query, Refine};
 use sn_walk::columns::{columns_after, packet_columns, place_of};
 use sn_walk::names::packet_fields;
 use sn_walk::scope::Scope;

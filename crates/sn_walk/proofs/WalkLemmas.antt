@@ -1,7 +1,7 @@
 -- The first fault of places one after another.
 use Rattle.std.proofs.Common.{◌≡◌, ℕ, suc, ◌<◌, ◌+◌, List, [], ◌∷◌, ◌++◌, length, drop, get_or, Option, None, Some, refl, ap, sym, ◌∙◌, add-one, drop-cons}
 use Rattle.std.specs.List.{flat_map}
-use Rattle.sn_grammar.specs.declared.ast.Query.{Query}
+use Rattle.sn_query_rules.specs.declared.ast.Query.{Query}
 use Rattle.sn_walk.specs.declared.fault.TypeFault.{TypeFault}
 use Rattle.sn_walk.specs.Walk.{Place, fault_at, or_later, first_fault, refine_places, branch_places, join_places, query_places}
 

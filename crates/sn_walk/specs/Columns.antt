@@ -4,13 +4,13 @@ use Rattle.std.specs.List.{list_any, find, position}
 use Rattle.sn_base.specs.declared.column.Column.{Column}
 use Rattle.sn_fields.specs.declared.field.Field.{Field}
 use Rattle.sn_fields.specs.Fields.{name_of, width_of, is_address}
-use Rattle.sn_grammar.specs.declared.ast.Expr.{Expr}
-use Rattle.sn_grammar.specs.declared.ast.Expr.TheVariants as expr
-use Rattle.sn_grammar.specs.declared.ast.MapCol.{MapCol}
-use Rattle.sn_grammar.specs.declared.ast.Reduce.{Reduce}
-use Rattle.sn_grammar.specs.declared.ast.What.{What}
-use Rattle.sn_grammar.specs.declared.ast.What.TheVariants as what
-use Rattle.sn_grammar.specs.declared.ast.Op.{Op}
+use Rattle.sn_query_rules.specs.declared.ast.Expr.{Expr}
+use Rattle.sn_query_rules.specs.declared.ast.Expr.TheVariants as expr
+use Rattle.sn_query_rules.specs.declared.ast.MapCol.{MapCol}
+use Rattle.sn_query_rules.specs.declared.ast.Reduce.{Reduce}
+use Rattle.sn_query_rules.specs.declared.ast.What.{What}
+use Rattle.sn_query_rules.specs.declared.ast.What.TheVariants as what
+use Rattle.sn_query_rules.specs.declared.ast.Op.{Op}
 use Rattle.sn_walk.specs.Names.{Name, same_name, is_in, packet_fields}
 use Rattle.sn_walk.specs.Widths.{constant_width, folded_width}
 

@@ -5,15 +5,15 @@ use Rattle.std.specs.Option.{option_map_or}
 use Rattle.sn_base.specs.declared.column.Column.{Column}
 use Rattle.sn_fields.specs.declared.field.Field.{Field}
 use Rattle.sn_fields.specs.Fields.{with_name, width_of, is_address}
-use Rattle.sn_grammar.specs.declared.ast.Refine.{Refine}
-use Rattle.sn_grammar.specs.declared.ast.Relax.{Relax}
-use Rattle.sn_grammar.specs.declared.ast.MapCol.{MapCol}
-use Rattle.sn_grammar.specs.declared.ast.Join.{Join}
-use Rattle.sn_grammar.specs.declared.ast.Op.{Op}
-use Rattle.sn_grammar.specs.declared.ast.What.{What}
-use Rattle.sn_grammar.specs.declared.ast.What.TheVariants.{Filter, Map, Distinct, Reduce}
-use Rattle.sn_grammar.specs.declared.ast.FoldWord.TheVariants as fold
-use Rattle.sn_grammar.specs.declared.ast.FoldWord.{FoldWord}
+use Rattle.sn_query_rules.specs.declared.ast.Refine.{Refine}
+use Rattle.sn_query_rules.specs.declared.ast.Relax.{Relax}
+use Rattle.sn_query_rules.specs.declared.ast.MapCol.{MapCol}
+use Rattle.sn_query_rules.specs.declared.ast.Join.{Join}
+use Rattle.sn_query_rules.specs.declared.ast.Op.{Op}
+use Rattle.sn_query_rules.specs.declared.ast.What.{What}
+use Rattle.sn_query_rules.specs.declared.ast.What.TheVariants.{Filter, Map, Distinct, Reduce}
+use Rattle.sn_query_rules.specs.declared.ast.FoldWord.TheVariants as fold
+use Rattle.sn_query_rules.specs.declared.ast.FoldWord.{FoldWord}
 use Rattle.sn_walk.specs.declared.fault.TypeFault.{TypeFault}
 use Rattle.sn_walk.specs.declared.fault.TypeFault.TheVariants.{UnknownField, UnknownColumn, TooWide, NoMap, RefineLost, RefineFilter, Levels, JoinKeys}
 use Rattle.sn_walk.specs.declared.scope.Scope.{Scope}

@@ -4,11 +4,11 @@ use Rattle.std.specs.List.{list_any, flat_map}
 use Rattle.std.specs.Cmp.Lexicographic.{pointwise}
 use Rattle.sn_fields.specs.declared.field.Field.{Field}
 use Rattle.sn_fields.specs.Fields.{fields, name_of}
-use Rattle.sn_grammar.specs.declared.ast.Expr.{Expr}
-use Rattle.sn_grammar.specs.declared.ast.Expr.TheVariants.{Const, Copy, Mask, Shift, Sum, Ratio}
-use Rattle.sn_grammar.specs.declared.ast.What.{What}
-use Rattle.sn_grammar.specs.declared.ast.What.TheVariants.{Filter, Map, Distinct, Reduce}
-use Rattle.sn_grammar.specs.declared.ast.Op.{Op}
+use Rattle.sn_query_rules.specs.declared.ast.Expr.{Expr}
+use Rattle.sn_query_rules.specs.declared.ast.Expr.TheVariants.{Const, Copy, Mask, Shift, Sum, Ratio}
+use Rattle.sn_query_rules.specs.declared.ast.What.{What}
+use Rattle.sn_query_rules.specs.declared.ast.What.TheVariants.{Filter, Map, Distinct, Reduce}
+use Rattle.sn_query_rules.specs.declared.ast.Op.{Op}
 
 -- a name, as contracts see it: its bytes
 abbrev pub Name : Type 0

@@ -4,8 +4,8 @@ use Rattle.std.proofs.Common.{arith}
 use Rattle.std.specs.Int.{w64, leading_zeros}
 use Rattle.sn_base.specs.declared.any_fold.AnyFold.{AnyFold}
 use Rattle.sn_base.specs.declared.any_fold.AnyFold.TheVariants as folds
-use Rattle.sn_grammar.specs.declared.ast.FoldWord.{FoldWord}
-use Rattle.sn_grammar.specs.declared.ast.FoldWord.TheVariants.{Sum, Max, Min, Or}
+use Rattle.sn_query_rules.specs.declared.ast.FoldWord.{FoldWord}
+use Rattle.sn_query_rules.specs.declared.ast.FoldWord.TheVariants.{Sum, Max, Min, Or}
 
 -- a width that a column can have, which is 1 to 64
 abbrev pub lawful : ℕ → ℕ

@@ -7,7 +7,7 @@ ghost use Rattle.sn_walk.specs.Faults.{loses, reads_otherwise, filters};
 
 use crate::names::is_in;
 use sn_base::name::Name;
-use sn_grammar::ast::{Cond, Expr, MapCol, What};
+use sn_query_rules::ast::{Cond, Expr, MapCol, What};
 
 /// Whether an expression is a copy of the column or field of this name.
 fn is_copy(name: &Name, expr: &Expr) -> bool

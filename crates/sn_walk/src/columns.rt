@@ -13,7 +13,7 @@ use sn_base::name::Name;
 use sn_base::schema::Schema;
 use sn_base::seq::Seq;
 use sn_fields::field::Field;
-use sn_grammar::ast::{Expr, MapCol, Op, Reduce, What};
+use sn_query_rules::ast::{Expr, MapCol, Op, Reduce, What};
 use std::alloc::Global;
 
 /// Whether a column has this name.

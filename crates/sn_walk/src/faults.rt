@@ -15,7 +15,7 @@ use sn_base::column::Column;
 use sn_base::memory::Memory;
 use sn_base::name::Name;
 use sn_fields::field::{Field, field_named};
-use sn_grammar::ast::{Cond, FoldWord, Join, Op, Refine, Relax, What};
+use sn_query_rules::ast::{Cond, FoldWord, Join, Op, Refine, Relax, What};
 use std::alloc::Global;
 
 fn any_no_field(names: &[Name]) -> bool

@@ -8,7 +8,7 @@ use sn_base::memory::Memory;
 use sn_base::name::Name;
 use sn_base::seq::Seq;
 use sn_fields::field::{FIELDS, Field};
-use sn_grammar::ast::{Cond, Expr, MapCol, Op, Reduce, What};
+use sn_query_rules::ast::{Cond, Expr, MapCol, Op, Reduce, What};
 use std::alloc::Global;
 
 /// Whether a name is among these.

@@ -13,7 +13,7 @@ use crate::scope::Scope;
 use sn_base::memory::Memory;
 use sn_base::name::Name;
 use sn_base::seq::Seq;
-use sn_grammar::ast::{Branch, Join, Op, Query, QueryFile, Refine, What};
+use sn_query_rules::ast::{Branch, Join, Op, Query, QueryFile, Refine, What};
 use std::alloc::Global;
 
 fn refine_name(refine: &Option<Refine>) -> Option<Name>

@@ -4,7 +4,7 @@ ghost use Rattle.sn_walk.specs.Widths.{constant_width, folded_width, fold_of};
 
 use sn_base::any_fold::AnyFold;
 use sn_base::fold::{Max, Min, Or, SatSum};
-use sn_grammar::ast::FoldWord;
+use sn_query_rules::ast::FoldWord;
 
 /// The least width of at least 1 that holds a number.
 pub fn constant_width(number: u64) -> u32

@@ -1,5 +1,5 @@
 use Rattle.std.proofs.Common.{ap, ◌∙◌}
-use Rattle.sn_grammar.specs.Grammar.{file_rule}
+use Rattle.sn_query_rules.specs.Grammar.{file_rule}
 use Rattle.sn_print.specs.Printing.{puts}
 use Rattle.sn_print.proofs.Again.{stands_again}
 use Rattle.sn_print.proofs.print.print.Goals as goal

@@ -4,8 +4,8 @@ use Rattle.sn_rules.specs.Rules.{kept}
 use Rattle.sn_rules.proofs.Faults.{found_of, only_of, none_of, fault_of}
 use Rattle.sn_text.specs.Lexing.{left, token_of}
 use Rattle.sn_text.specs.Cutting.{tokens_of}
-use Rattle.sn_grammar.specs.Grammar.{file_rule}
-use Rattle.sn_grammar.proofs.Queries.{file_good, file_ends}
+use Rattle.sn_query_rules.specs.Grammar.{file_rule}
+use Rattle.sn_query_rules.proofs.Queries.{file_good, file_ends}
 use Rattle.sn_query.proofs.Files.{fault_is}
 use Rattle.sn_query.proofs.OnlyOurs.{file_only}
 use Rattle.sn_query.proofs.parse.parse.Goals as goal

@@ -1,6 +1,6 @@
 use Rattle.std.proofs.Common.{Ok, Err, refl, subst}
-use Rattle.sn_queries.specs.declared.fault.Refused.{Refused}
-use Rattle.sn_queries.specs.Texts.{IsRead, IsRefusedFor}
+use Rattle.sn_read_queries.specs.declared.fault.Refused.{Refused}
+use Rattle.sn_read_queries.specs.Texts.{IsRead, IsRefusedFor}
 use Rattle.sn_top.proofs.OutcomeLemmas.{stage_once}
 use Rattle.sn_top.specs.Read.{queries_of}
 use Rattle.sn_top.specs.declared.refusal.Refusal.TheVariants.{Queries}

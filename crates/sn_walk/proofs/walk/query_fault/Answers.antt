@@ -2,7 +2,7 @@ use Rattle.std.proofs.Common.{List, sym, ap, ◌∙◌}
 use Rattle.std.specs.List.{flat_map}
 use Rattle.sn_walk.specs.Walk.{branch_places, join_places, first_fault}
 use Rattle.sn_walk.proofs.WalkLemmas.{refine_stops, branches_stop, join_decides}
-use Rattle.sn_grammar.specs.declared.ast.Branch.{Branch}
+use Rattle.sn_query_rules.specs.declared.ast.Branch.{Branch}
 use Rattle.sn_walk.proofs.walk.query_fault.Goals as goal
 
 pub returns-in-Some : goal.returns-in-Some

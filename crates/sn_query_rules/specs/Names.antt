@@ -6,10 +6,10 @@ use Rattle.sn_rules.specs.declared.Flaw.TheVariants.{Expected, TooMany, Twice}
 use Rattle.sn_rules.specs.Tokens.{Lexeme, word, number, symbol}
 use Rattle.sn_rules.specs.Rules.{Rule}
 use Rattle.sn_rules.specs.Words.{same, wrong, word_by, number_in, leaf}
-use Rattle.sn_grammar.specs.declared.ast.Cmp.{Cmp}
-use Rattle.sn_grammar.specs.declared.ast.Cmp.TheVariants as cmps
-use Rattle.sn_grammar.specs.declared.ast.FoldWord.{FoldWord}
-use Rattle.sn_grammar.specs.declared.ast.FoldWord.TheVariants as folds
+use Rattle.sn_query_rules.specs.declared.ast.Cmp.{Cmp}
+use Rattle.sn_query_rules.specs.declared.ast.Cmp.TheVariants as cmps
+use Rattle.sn_query_rules.specs.declared.ast.FoldWord.{FoldWord}
+use Rattle.sn_query_rules.specs.declared.ast.FoldWord.TheVariants as folds
 
 -- the sixteen words that are no names
 abbrev pub keywords : List (List ℕ)

@@ -5,20 +5,20 @@ use Rattle.sn_rules.specs.declared.Flaw.TheVariants.{TooMany}
 use Rattle.sn_rules.specs.Tokens.{Lexeme, word, number, symbol, finish, bad}
 use Rattle.sn_rules.specs.Rules.{Rule, anything, pair, pair_on, embedded, maybe, either, many, chain}
 use Rattle.sn_rules.specs.Words.{is_word, is_symbol, is_number, keyword, sign, the_end, line_of_word, line_of_sign, number_in, ◌▸◌, ◌◂◌, full, commas}
-use Rattle.sn_grammar.specs.declared.ast.Query.{Query}
-use Rattle.sn_grammar.specs.declared.ast.Refine.{Refine}
-use Rattle.sn_grammar.specs.declared.ast.Op.{Op}
-use Rattle.sn_grammar.specs.declared.ast.Cond.{Cond}
-use Rattle.sn_grammar.specs.declared.ast.Relax.{Relax}
-use Rattle.sn_grammar.specs.Names.{name_test, name_not, name, any_number, past_name, past_number, cmp_face, cmp_in, any_cmp, comparison, fold_face, fold_in, no_sum, plain_fold}
-use Rattle.sn_grammar.specs.Grammar.{Name, Body, to_relax, from_relax, relax_rule, to_relaxes, from_relaxes, relaxes_rule, to_cond, from_cond, cond_rule, filter_rule, to_expr, from_expr, goes_tail, expr_rule, past_col, to_col, from_col, col_names, col_rule, map_rule, to_post_expr, from_post_expr, goes_post_tail, post_expr_rule, post_col_rule, post_map_rule, keys_rule, fold_rule, to_reduce, from_reduce, reduce_rule, to_what, from_what, what_rule, to_op, from_op, op_rule, to_post_what, from_post_what, post_what_rule, post_op_rule, to_refine, from_refine, levels_rule, refine_rule, to_branch, from_branch, branch_rule, to_join, from_join, join_rule, body_rule, to_query, from_query, query_rule, query_names, to_file, from_file, file_rule}
-use Rattle.sn_grammar.proofs.Goods.{relax_listed, cond_listed, col_listed, post_col_listed}
-use Rattle.sn_grammar.proofs.Queries.{keys_listed, levels_listed, ops_alike, post_ops_alike, queries_alike}
+use Rattle.sn_query_rules.specs.declared.ast.Query.{Query}
+use Rattle.sn_query_rules.specs.declared.ast.Refine.{Refine}
+use Rattle.sn_query_rules.specs.declared.ast.Op.{Op}
+use Rattle.sn_query_rules.specs.declared.ast.Cond.{Cond}
+use Rattle.sn_query_rules.specs.declared.ast.Relax.{Relax}
+use Rattle.sn_query_rules.specs.Names.{name_test, name_not, name, any_number, past_name, past_number, cmp_face, cmp_in, any_cmp, comparison, fold_face, fold_in, no_sum, plain_fold}
+use Rattle.sn_query_rules.specs.Grammar.{Name, Body, to_relax, from_relax, relax_rule, to_relaxes, from_relaxes, relaxes_rule, to_cond, from_cond, cond_rule, filter_rule, to_expr, from_expr, goes_tail, expr_rule, past_col, to_col, from_col, col_names, col_rule, map_rule, to_post_expr, from_post_expr, goes_post_tail, post_expr_rule, post_col_rule, post_map_rule, keys_rule, fold_rule, to_reduce, from_reduce, reduce_rule, to_what, from_what, what_rule, to_op, from_op, op_rule, to_post_what, from_post_what, post_what_rule, post_op_rule, to_refine, from_refine, levels_rule, refine_rule, to_branch, from_branch, branch_rule, to_join, from_join, join_rule, body_rule, to_query, from_query, query_rule, query_names, to_file, from_file, file_rule}
+use Rattle.sn_query_rules.proofs.Goods.{relax_listed, cond_listed, col_listed, post_col_listed}
+use Rattle.sn_query_rules.proofs.Queries.{keys_listed, levels_listed, ops_alike, post_ops_alike, queries_alike}
 use Rattle.sn_text.specs.Cutting.{is_last}
 use Rattle.sn_ends.specs.Ended.{Halting, Finishing}
 use Rattle.sn_ends.proofs.Halts.{keyword_halts, sign_halts, line_of_word_halts, line_of_sign_halts, leaf_halts, word_by_halts, number_in_halts, pair_on_halts, pair_halts, embedded_halts, renamed_halts, behind_halts, before_halts, maybe_halts, either_halts, many_halts, chain_halts, commas_halts}
 use Rattle.sn_ends.proofs.Finishes.{pair_finishes, renamed_finishes, behind_finishes}
-use Rattle.sn_queries.proofs.Ending.{before_end}
+use Rattle.sn_read_queries.proofs.Ending.{before_end}
 
 -- ---- single tokens
 

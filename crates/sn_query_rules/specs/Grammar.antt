@@ -6,24 +6,24 @@ use Rattle.sn_rules.specs.declared.Flaw.TheVariants.{TooMany}
 use Rattle.sn_rules.specs.Tokens.{Lexeme, number}
 use Rattle.sn_rules.specs.Rules.{Rule, anything, pair, pair_on, embedded, renamed, maybe, either, many, chain}
 use Rattle.sn_rules.specs.Words.{is_word, is_symbol, is_number, keyword, sign, the_end, line_of_word, line_of_sign, number_in, ◌▸◌, ◌◂◌, full, commas}
-use Rattle.sn_grammar.specs.Names.{name, name_not, any_number, past_name, past_number, comparison, plain_fold}
-use Rattle.sn_grammar.specs.declared.ast.QueryFile.{QueryFile}
-use Rattle.sn_grammar.specs.declared.ast.Query.{Query}
-use Rattle.sn_grammar.specs.declared.ast.Refine.{Refine}
-use Rattle.sn_grammar.specs.declared.ast.Branch.{Branch}
-use Rattle.sn_grammar.specs.declared.ast.Join.{Join}
-use Rattle.sn_grammar.specs.declared.ast.Op.{Op}
-use Rattle.sn_grammar.specs.declared.ast.What.{What}
-use Rattle.sn_grammar.specs.declared.ast.What.TheVariants as whats
-use Rattle.sn_grammar.specs.declared.ast.Reduce.{Reduce}
-use Rattle.sn_grammar.specs.declared.ast.FoldWord.{FoldWord}
-use Rattle.sn_grammar.specs.declared.ast.FoldWord.TheVariants as folds
-use Rattle.sn_grammar.specs.declared.ast.Cond.{Cond}
-use Rattle.sn_grammar.specs.declared.ast.Relax.{Relax}
-use Rattle.sn_grammar.specs.declared.ast.Cmp.{Cmp}
-use Rattle.sn_grammar.specs.declared.ast.MapCol.{MapCol}
-use Rattle.sn_grammar.specs.declared.ast.Expr.{Expr}
-use Rattle.sn_grammar.specs.declared.ast.Expr.TheVariants as exprs
+use Rattle.sn_query_rules.specs.Names.{name, name_not, any_number, past_name, past_number, comparison, plain_fold}
+use Rattle.sn_query_rules.specs.declared.ast.QueryFile.{QueryFile}
+use Rattle.sn_query_rules.specs.declared.ast.Query.{Query}
+use Rattle.sn_query_rules.specs.declared.ast.Refine.{Refine}
+use Rattle.sn_query_rules.specs.declared.ast.Branch.{Branch}
+use Rattle.sn_query_rules.specs.declared.ast.Join.{Join}
+use Rattle.sn_query_rules.specs.declared.ast.Op.{Op}
+use Rattle.sn_query_rules.specs.declared.ast.What.{What}
+use Rattle.sn_query_rules.specs.declared.ast.What.TheVariants as whats
+use Rattle.sn_query_rules.specs.declared.ast.Reduce.{Reduce}
+use Rattle.sn_query_rules.specs.declared.ast.FoldWord.{FoldWord}
+use Rattle.sn_query_rules.specs.declared.ast.FoldWord.TheVariants as folds
+use Rattle.sn_query_rules.specs.declared.ast.Cond.{Cond}
+use Rattle.sn_query_rules.specs.declared.ast.Relax.{Relax}
+use Rattle.sn_query_rules.specs.declared.ast.Cmp.{Cmp}
+use Rattle.sn_query_rules.specs.declared.ast.MapCol.{MapCol}
+use Rattle.sn_query_rules.specs.declared.ast.Expr.{Expr}
+use Rattle.sn_query_rules.specs.declared.ast.Expr.TheVariants as exprs
 
 abbrev pub Name : Type 0
 Name = List ℕ

@@ -10,15 +10,15 @@ use Rattle.sn_rules.proofs.Laws.{Good, Follows, pair_good, freely}
 use Rattle.sn_rules.proofs.Choices.{Undoes, embedded_good, renamed_good, maybe_good, either_good, Past}
 use Rattle.sn_rules.proofs.Words.{number_in_good, word_mark, before_sign, after_word, after_sign, word_starts, sign_starts, Listed, always_listed, commas_good}
 use Rattle.sn_rules.proofs.Lists.{pair_past, embedded_past, keyed, commas_sign}
-use Rattle.sn_grammar.specs.declared.ast.Cond.{Cond}
-use Rattle.sn_grammar.specs.declared.ast.Relax.{Relax}
-use Rattle.sn_grammar.specs.declared.ast.Cmp.{Cmp}
-use Rattle.sn_grammar.specs.declared.ast.Cmp.TheVariants as cmps
-use Rattle.sn_grammar.specs.declared.ast.Expr.{Expr}
-use Rattle.sn_grammar.specs.declared.ast.Expr.TheVariants as exprs
-use Rattle.sn_grammar.specs.Names.{name, name_not, any_number, past_name, past_number, cmp_sign, comparison}
-use Rattle.sn_grammar.specs.Grammar.{Name, to_relax, from_relax, relax_rule, to_relaxes, from_relaxes, relaxes_rule, to_cond, from_cond, cond_rule, filter_rule, Tail, to_expr, from_expr, goes_tail, expr_rule, past_col, to_col, from_col, col_name, col_names, col_rule, map_rule, PostTail, to_post_expr, from_post_expr, goes_post_tail, post_expr_rule, post_col_rule, post_map_rule}
-use Rattle.sn_grammar.proofs.Names.{name_good, name_past, any_good, number_past, comparison_good}
+use Rattle.sn_query_rules.specs.declared.ast.Cond.{Cond}
+use Rattle.sn_query_rules.specs.declared.ast.Relax.{Relax}
+use Rattle.sn_query_rules.specs.declared.ast.Cmp.{Cmp}
+use Rattle.sn_query_rules.specs.declared.ast.Cmp.TheVariants as cmps
+use Rattle.sn_query_rules.specs.declared.ast.Expr.{Expr}
+use Rattle.sn_query_rules.specs.declared.ast.Expr.TheVariants as exprs
+use Rattle.sn_query_rules.specs.Names.{name, name_not, any_number, past_name, past_number, cmp_sign, comparison}
+use Rattle.sn_query_rules.specs.Grammar.{Name, to_relax, from_relax, relax_rule, to_relaxes, from_relaxes, relaxes_rule, to_cond, from_cond, cond_rule, filter_rule, Tail, to_expr, from_expr, goes_tail, expr_rule, past_col, to_col, from_col, col_name, col_names, col_rule, map_rule, PostTail, to_post_expr, from_post_expr, goes_post_tail, post_expr_rule, post_col_rule, post_map_rule}
+use Rattle.sn_query_rules.proofs.Names.{name_good, name_past, any_good, number_past, comparison_good}
 
 -- anything may stand behind the first of two
 pub free_pair : {A B : Type 0} (p : Rule A) (q : Rule B) → Good p → Good q → ((us : List Tok) → p.follow us ≡ true) → Good (pair p q)

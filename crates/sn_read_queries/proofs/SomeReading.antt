@@ -9,9 +9,9 @@ use Rattle.sn_rules.proofs.Faults.{found_of, fault_of}
 use Rattle.sn_text.specs.Cutting.{tokens_of}
 use Rattle.sn_ends.specs.Ended.{Whole}
 use Rattle.sn_ends.proofs.Texts.{tokens_ended}
-use Rattle.sn_grammar.specs.declared.ast.QueryFile.{QueryFile}
-use Rattle.sn_grammar.specs.Grammar.{file_rule}
-use Rattle.sn_grammar.proofs.Queries.{file_good, file_ends}
+use Rattle.sn_query_rules.specs.declared.ast.QueryFile.{QueryFile}
+use Rattle.sn_query_rules.specs.Grammar.{file_rule}
+use Rattle.sn_query_rules.proofs.Queries.{file_good, file_ends}
 use Rattle.sn_query.specs.Texts.{shown}
 use Rattle.sn_query.proofs.OnlyLaws.{Ours}
 use Rattle.sn_query.proofs.OnlyOurs.{file_only}
@@ -21,12 +21,12 @@ use Rattle.sn_walk.specs.declared.fault.TypeFault.{TypeFault}
 use Rattle.sn_walk.specs.declared.fault.TypeFault.TheVariants as types
 use Rattle.sn_walk.specs.Walk.{walk, first_fault}
 use Rattle.sn_types.specs.Typing.{typed_query}
-use Rattle.sn_queries.specs.declared.fault.Kind.TheVariants as kinds
-use Rattle.sn_queries.specs.declared.fault.QueryFault.{QueryFault}
-use Rattle.sn_queries.specs.declared.fault.Refused.TheVariants as refused
-use Rattle.sn_queries.specs.Texts.{text_fault, type_fault, HasReading}
-use Rattle.sn_queries.proofs.Halting.{file_finishes}
-use Rattle.sn_queries.proofs.RealFaults.{never_memory}
+use Rattle.sn_read_queries.specs.declared.fault.Kind.TheVariants as kinds
+use Rattle.sn_read_queries.specs.declared.fault.QueryFault.{QueryFault}
+use Rattle.sn_read_queries.specs.declared.fault.Refused.TheVariants as refused
+use Rattle.sn_read_queries.specs.Texts.{text_fault, type_fault, HasReading}
+use Rattle.sn_read_queries.proofs.Halting.{file_finishes}
+use Rattle.sn_read_queries.proofs.RealFaults.{never_memory}
 
 shown_as : (x : Flaw) (line column : ℕ) → Ours x → (q : QueryFault) × (text_fault (shown x line column) ≡ refused.Fault q)
 shown_as flaws.Lex line column o = (record { kind = kinds.Lex; line = line }, refl)

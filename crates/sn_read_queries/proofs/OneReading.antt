@@ -6,19 +6,19 @@ use Rattle.sn_rules.specs.Tokens.{Tok, Read, fails}
 use Rattle.sn_rules.specs.Rules.{FirstFault, Accepts}
 use Rattle.sn_rules.proofs.Faults.{again_of, only_of, regroup}
 use Rattle.sn_text.specs.Cutting.{tokens_of}
-use Rattle.sn_grammar.specs.declared.ast.QueryFile.{QueryFile}
-use Rattle.sn_grammar.specs.Grammar.{file_rule}
-use Rattle.sn_grammar.proofs.Queries.{file_good, file_ends}
+use Rattle.sn_query_rules.specs.declared.ast.QueryFile.{QueryFile}
+use Rattle.sn_query_rules.specs.Grammar.{file_rule}
+use Rattle.sn_query_rules.proofs.Queries.{file_good, file_ends}
 use Rattle.sn_query.specs.declared.fault.ParseFault.{ParseFault}
 use Rattle.sn_query.specs.declared.fault.ParseFault.TheVariants as texts
 use Rattle.sn_query.specs.Texts.{shown, IsFault}
 use Rattle.sn_walk.specs.declared.fault.TypeFault.{TypeFault}
 use Rattle.sn_walk.specs.Walk.{walk, first_fault}
 use Rattle.sn_types.specs.declared.typed_query.TypedQuery.{TypedQuery}
-use Rattle.sn_queries.specs.declared.fault.QueryFault.{QueryFault}
-use Rattle.sn_queries.specs.declared.fault.Refused.{Refused}
-use Rattle.sn_queries.specs.declared.fault.Refused.TheVariants as refused
-use Rattle.sn_queries.specs.Texts.{text_fault, type_fault, StandsFor, IsTextFault, IsFileFault, Queries, IsRead}
+use Rattle.sn_read_queries.specs.declared.fault.QueryFault.{QueryFault}
+use Rattle.sn_read_queries.specs.declared.fault.Refused.{Refused}
+use Rattle.sn_read_queries.specs.declared.fault.Refused.TheVariants as refused
+use Rattle.sn_read_queries.specs.Texts.{text_fault, type_fault, StandsFor, IsTextFault, IsFileFault, Queries, IsRead}
 
 abbrev Accepted : List ℕ → QueryFile → Type 0
 Accepted text file = Accepts file_rule (tokens_of text) file

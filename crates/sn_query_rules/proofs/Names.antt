@@ -12,11 +12,11 @@ use Rattle.sn_rules.specs.Words.{same, judged_as, judged_by, word_in, number_at,
 use Rattle.sn_rules.proofs.Laws.{Good}
 use Rattle.sn_rules.proofs.Choices.{Past}
 use Rattle.sn_rules.proofs.Words.{leaf_good, word_by_good, number_in_good}
-use Rattle.sn_grammar.specs.declared.ast.Cmp.{Cmp}
-use Rattle.sn_grammar.specs.declared.ast.Cmp.TheVariants as cmps
-use Rattle.sn_grammar.specs.declared.ast.FoldWord.{FoldWord}
-use Rattle.sn_grammar.specs.declared.ast.FoldWord.TheVariants as folds
-use Rattle.sn_grammar.specs.Names.{is_keyword, name_test, name_not, any_number, past_name, past_number, cmp_sign, cmp_face, cmp_in, any_cmp, comparison, fold_text, fold_face, fold_in, no_sum, plain_fold}
+use Rattle.sn_query_rules.specs.declared.ast.Cmp.{Cmp}
+use Rattle.sn_query_rules.specs.declared.ast.Cmp.TheVariants as cmps
+use Rattle.sn_query_rules.specs.declared.ast.FoldWord.{FoldWord}
+use Rattle.sn_query_rules.specs.declared.ast.FoldWord.TheVariants as folds
+use Rattle.sn_query_rules.specs.Names.{is_keyword, name_test, name_not, any_number, past_name, past_number, cmp_sign, cmp_face, cmp_in, any_cmp, comparison, fold_text, fold_face, fold_in, no_sum, plain_fold}
 
 -- ---- names
 

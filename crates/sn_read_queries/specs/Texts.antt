@@ -2,8 +2,8 @@
 use Rattle.std.specs.Prelude.{◌≡◌, ◌⊎◌, ℕ, List, Result, Ok, Err, Some}
 use Rattle.sn_rules.specs.Rules.{Accepts}
 use Rattle.sn_text.specs.Cutting.{tokens_of}
-use Rattle.sn_grammar.specs.declared.ast.QueryFile.{QueryFile}
-use Rattle.sn_grammar.specs.Grammar.{file_rule}
+use Rattle.sn_query_rules.specs.declared.ast.QueryFile.{QueryFile}
+use Rattle.sn_query_rules.specs.Grammar.{file_rule}
 use Rattle.sn_query.specs.declared.fault.ParseFault.{ParseFault}
 use Rattle.sn_query.specs.declared.fault.ParseFault.TheVariants as texts
 use Rattle.sn_query.specs.Texts.{IsFault}
@@ -12,11 +12,11 @@ use Rattle.sn_walk.specs.declared.fault.TypeFault.TheVariants as types
 use Rattle.sn_walk.specs.Walk.{walk, first_fault}
 use Rattle.sn_types.specs.declared.typed_query.TypedQuery.{TypedQuery}
 use Rattle.sn_types.specs.Typed.{IsTypingOf}
-use Rattle.sn_queries.specs.declared.fault.Kind.{Kind}
-use Rattle.sn_queries.specs.declared.fault.Kind.TheVariants as kinds
-use Rattle.sn_queries.specs.declared.fault.QueryFault.{QueryFault}
-use Rattle.sn_queries.specs.declared.fault.Refused.{Refused}
-use Rattle.sn_queries.specs.declared.fault.Refused.TheVariants as refused
+use Rattle.sn_read_queries.specs.declared.fault.Kind.{Kind}
+use Rattle.sn_read_queries.specs.declared.fault.Kind.TheVariants as kinds
+use Rattle.sn_read_queries.specs.declared.fault.QueryFault.{QueryFault}
+use Rattle.sn_read_queries.specs.declared.fault.Refused.{Refused}
+use Rattle.sn_read_queries.specs.declared.fault.Refused.TheVariants as refused
 
 abbrev pub fault_at_line : Kind → ℕ → Refused
 fault_at_line kind line = refused.Fault (record { kind = kind; line = line })

@@ -1,6 +1,6 @@
 //! A query file read.
 ghost use Rattle.std.specs.Prelude.{◌≡◌, ◌≤◌, ◌^◌, length, IfOk, IfErr};
-ghost use Rattle.sn_queries.specs.Texts.{text_fault, type_fault, StandsFor, IsRefusedFor};
+ghost use Rattle.sn_read_queries.specs.Texts.{text_fault, type_fault, StandsFor, IsRefusedFor};
 
 use crate::fault::{Kind, QueryFault, Refused};
 use sn_query::fault::ParseFault;

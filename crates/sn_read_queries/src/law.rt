@@ -1,7 +1,7 @@
 //! A law on query texts.
 ghost use Rattle.std.specs.Prelude.{◌≡◌, ℕ, List, Result};
-ghost use Rattle.sn_queries.specs.declared.fault.QueryFault.{QueryFault};
-ghost use Rattle.sn_queries.specs.Texts.{Queries, IsRead, HasReading};
+ghost use Rattle.sn_read_queries.specs.declared.fault.QueryFault.{QueryFault};
+ghost use Rattle.sn_read_queries.specs.Texts.{Queries, IsRead, HasReading};
 
 /// A law, with nothing to run: each text is read as exactly one thing, queries or a fault.
 #[tactic(auto, using(crate::proofs::SomeReading::reading_some, crate::proofs::OneReading::reading_once))]

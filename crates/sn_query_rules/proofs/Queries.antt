@@ -12,22 +12,22 @@ use Rattle.sn_rules.proofs.Choices.{Undoes, embedded_good, renamed_good, Starts,
 use Rattle.sn_rules.proofs.Chains.{Alike, many_good, chain_good}
 use Rattle.sn_rules.proofs.Words.{keyword_good, end_good, line_of_word_good, line_of_sign_good, number_in_good, word_mark, symbol_mark, before_good, before_sign, after_word, after_sign, word_starts, Listed, always_listed, commas_good}
 use Rattle.sn_rules.proofs.Lists.{keyed, unmapped, full_steady, always_alike, commas_sign}
-use Rattle.sn_grammar.specs.declared.ast.Query.{Query}
-use Rattle.sn_grammar.specs.declared.ast.Refine.{Refine}
-use Rattle.sn_grammar.specs.declared.ast.Branch.{Branch}
-use Rattle.sn_grammar.specs.declared.ast.Join.{Join}
-use Rattle.sn_grammar.specs.declared.ast.Op.{Op}
-use Rattle.sn_grammar.specs.declared.ast.What.{What}
-use Rattle.sn_grammar.specs.declared.ast.What.TheVariants as whats
-use Rattle.sn_grammar.specs.declared.ast.Reduce.{Reduce}
-use Rattle.sn_grammar.specs.declared.ast.FoldWord.{FoldWord}
-use Rattle.sn_grammar.specs.declared.ast.FoldWord.TheVariants as folds
-use Rattle.sn_grammar.specs.declared.ast.Cond.{Cond}
-use Rattle.sn_grammar.specs.declared.ast.MapCol.{MapCol}
-use Rattle.sn_grammar.specs.Names.{name, name_not, past_name, past_number, fold_text, plain_fold}
-use Rattle.sn_grammar.specs.Grammar.{Name, filter_rule, map_rule, post_map_rule, keys_rule, fold_rule, fold_to, to_reduce, fold_from, from_reduce, reduce_rule, to_what, from_what, what_rule, to_op, from_op, op_rule, to_post_what, from_post_what, post_what_rule, post_op_rule, to_refine, from_refine, levels_rule, refine_rule, to_branch, from_branch, branch_rule, to_join, from_join, join_rule, Body, body_rule, with_body, to_query, body_of, with_name, from_query, query_rule, query_name, query_names, to_file, from_file, file_rule}
-use Rattle.sn_grammar.proofs.Names.{name_good, name_past, number_past, plain_fold_good}
-use Rattle.sn_grammar.proofs.Goods.{free_pair, headed_follows, filter_good, filter_end, map_good, map_end, post_map_good, post_map_end}
+use Rattle.sn_query_rules.specs.declared.ast.Query.{Query}
+use Rattle.sn_query_rules.specs.declared.ast.Refine.{Refine}
+use Rattle.sn_query_rules.specs.declared.ast.Branch.{Branch}
+use Rattle.sn_query_rules.specs.declared.ast.Join.{Join}
+use Rattle.sn_query_rules.specs.declared.ast.Op.{Op}
+use Rattle.sn_query_rules.specs.declared.ast.What.{What}
+use Rattle.sn_query_rules.specs.declared.ast.What.TheVariants as whats
+use Rattle.sn_query_rules.specs.declared.ast.Reduce.{Reduce}
+use Rattle.sn_query_rules.specs.declared.ast.FoldWord.{FoldWord}
+use Rattle.sn_query_rules.specs.declared.ast.FoldWord.TheVariants as folds
+use Rattle.sn_query_rules.specs.declared.ast.Cond.{Cond}
+use Rattle.sn_query_rules.specs.declared.ast.MapCol.{MapCol}
+use Rattle.sn_query_rules.specs.Names.{name, name_not, past_name, past_number, fold_text, plain_fold}
+use Rattle.sn_query_rules.specs.Grammar.{Name, filter_rule, map_rule, post_map_rule, keys_rule, fold_rule, fold_to, to_reduce, fold_from, from_reduce, reduce_rule, to_what, from_what, what_rule, to_op, from_op, op_rule, to_post_what, from_post_what, post_what_rule, post_op_rule, to_refine, from_refine, levels_rule, refine_rule, to_branch, from_branch, branch_rule, to_join, from_join, join_rule, Body, body_rule, with_body, to_query, body_of, with_name, from_query, query_rule, query_name, query_names, to_file, from_file, file_rule}
+use Rattle.sn_query_rules.proofs.Names.{name_good, name_past, number_past, plain_fold_good}
+use Rattle.sn_query_rules.proofs.Goods.{free_pair, headed_follows, filter_good, filter_end, map_good, map_end, post_map_good, post_map_end}
 
 -- ---- keys and folds
 
