@@ -1,5 +1,5 @@
 //! A chain of registers.
-ghost use Rattle.std.specs.Prelude.{◌≡◌, ◌≤◌, map, IfOk, IfSome};
+ghost use Rattle.std.specs.Prelude.{◌≡◌, ◌≤◌, length, map, IfOk, IfSome};
 ghost use Rattle.sn_chain.specs.Cells.{forgotten};
 ghost use Rattle.std.specs.Option.{ForSome};
 ghost use Rattle.sn_chain.specs.Chain.{AreSlots, empty_chain, after_offer, answer_at, holder, vacancy};
@@ -121,6 +121,13 @@ impl<F: Fold> Chain<F> {
             Some(cell) => cell.shown(self.round),
             None => None,
         }
+    }
+
+    /// How many places there are: `slots` for each register. Takes no memory.
+    pub fn places(&self) -> u32
+        ensures { result ≡ length self.now.cells }
+    {
+        self.depth * self.slots
     }
 
     /// Empties the chain. This begins a new round, and writes to no cell, so that a chain of any size is
