@@ -90,15 +90,24 @@ def join(left, right, keys):
     return [{**one, **other} for one in left for other in by_key.get(tuple(one[key] for key in keys), [])]
 
 
-def query_rows(query, tuples):
-    """The sorted rows of a query at its finest level."""
-    level = query.levels[-1] if query.levels else 0
+def sorted_rows(query, rows):
+    return sorted(tuple(row[name] for name, _, _ in query.columns) for row in rows)
+
+
+def rows_at(query, level, tuples):
+    """The sorted rows of a query at a level."""
     rows = branch_rows(query, 0, tuples, level)
     if query.join_keys:
         rows = join(rows, branch_rows(query, 1, tuples, level), query.join_keys)
         for operator in query.after:
             rows = apply(rows, operator, level)
-    return level, sorted(tuple(row[name] for name, _, _ in query.columns) for row in rows)
+    return sorted_rows(query, rows)
+
+
+def query_rows(query, tuples):
+    """The finest level of a query, and its sorted rows there."""
+    level = query.levels[-1] if query.levels else 0
+    return level, rows_at(query, level, tuples)
 
 
 def shown(number, address):

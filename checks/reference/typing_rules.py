@@ -180,10 +180,10 @@ def check_query(query):
         at = joined(query, *ends)
         for operator in query.after:
             walk(operator, at)
-    query.columns = at.end_columns()
+    query.columns, query.carried = at.end_columns(), at.carried
 
 
 def check(queries):
-    """Check the queries of a file. Adds to each the fields that its branches read, and its columns."""
+    """Check the queries of a file. Adds to each the fields that its branches read, its columns, and the name of its refinement column."""
     for query in queries:
         check_query(query)

@@ -1,0 +1,192 @@
+#!/usr/bin/env python3
+"""Compares `sonata run`, `emit` and `finish` with the slow reference of planned.py on random query files, switches, plans, captures and reports,
+good and spoilt. Prints each case on which they differ, with the seed that makes it again. The status is 0 where none does.
+
+With --alone the reference is compared with itself: what `finish` makes of the frames of `emit` with the text of `run`. It needs no program."""
+
+import os
+import random
+import subprocess
+import sys
+import tempfile
+
+import planned
+import program
+import random_queries
+from reference import grammar, pipes, plans, split, switches, tokens, typing_rules
+
+FILES = ('switch', 'queries', 'plan', 'capture', 'reports')
+
+
+def typed(draw):
+    """A query text that is well typed, and its queries."""
+    while True:
+        text = 'window %d\n' % draw.choice([250000, 1000000, 2000000]) + ''.join(random_queries.query(draw, n) for n in range(draw.choice([1, 1, 2])))
+        try:
+            window, queries = grammar.parse(text.encode())
+            typing_rules.check(queries)
+        except tokens.Fault:
+            continue
+        return text, window, queries
+
+
+def switch_text(draw):
+    sizes = sorted(draw.sample([1, 2, 3, 8, 64], draw.randrange(1, 5)))
+    items = ['stages %d;' % draw.choice([4, 8, 16, 16, 32]), 'actions %d;' % draw.choice([1, 4, 8, 64]), 'bits %d;' % draw.choice([400, 20000, 4294967296]),
+             'meta %d;' % draw.choice([100, 1000, 65535]), 'chain %d;' % draw.choice([1, 1, 2, 3, 4]), 'slots %s;' % ', '.join(map(str, sizes))]
+    draw.shuffle(items)
+    return ' '.join(items) + '\n'
+
+
+def placed(draw, switch, query, entry, piece):
+    """Stages for the registers of a piece, mostly such that all its tables find a place."""
+    tables, registers = plans.tables(switch, query, entry, piece)
+    free = max(0, switch.stages - len(tables))
+    least, stages = 0, []
+    for table in tables:
+        if table is None:
+            least += 1
+            continue
+        ahead = draw.randrange(free + 1) if draw.random() < 0.5 else 0
+        free -= ahead
+        stages.append(min(31, least + ahead))
+        least = stages[-1] + 1
+    return stages[:8]
+
+
+def piece_of(draw, switch, query, entry, level, branch):
+    most = pipes.max_cut(query.branches[branch])
+    piece = plans.Piece(level, branch, draw.choice([most, most, draw.randrange(most + 1), 0]))
+    count = sum(op.kind in ('distinct', 'reduce') for op in query.branches[branch][:piece.cut])
+    piece.sizes = [draw.choice(switch.slots) for _ in range(count)]
+    piece.stages = placed(draw, switch, query, entry, piece)
+    return piece
+
+
+def plan_text(draw, switch, queries):
+    lines = ['plan']
+    for query in queries:
+        levels = plans.levels_of(query)
+        entry = plans.Entry(query.name, [level for level in levels[:-1] if draw.random() < 0.7] + levels[-1:])
+        lines.append('query %s path %s;' % (entry.name, ', '.join(map(str, entry.path))))
+        for level in entry.path:
+            for branch in range(len(query.branches)):
+                piece = piece_of(draw, switch, query, entry, level, branch)
+                registers = ' slots %s stages %s' % (', '.join(map(str, piece.sizes)), ', '.join(map(str, piece.stages))) if piece.sizes else ''
+                lines.append('piece %d %d cut %d%s;' % (level, branch, piece.cut, registers))
+    return '\n'.join(lines) + '\n'
+
+
+def spoilt_reports(draw, reports):
+    """Reports with a byte changed, cut, or with a part of them given again."""
+    form = draw.randrange(4)
+    if not reports or form == 0:
+        return reports[:draw.randrange(len(reports) + 1)]
+    place = draw.randrange(len(reports))
+    if form == 1:
+        return reports[:place] + bytes([reports[place] ^ 1 << draw.randrange(8)]) + reports[place + 1:]
+    if form == 2:
+        return reports + reports[place // 8 * 8:]
+    return reports[:place // 8 * 8] + reports[place // 8 * 8 + 8:]
+
+
+def shuffled(draw, reports):
+    """The same frames, those of each window in another order between the lanes."""
+    frames, at = [], 0
+    from reference import engines
+    while at < len(reports):
+        lane, content, end = engines.decode(reports, at)
+        frames.append((lane, reports[at:end], isinstance(content, int)))
+        at = end
+    lanes = sorted({lane for lane, _, _ in frames})
+    queues = {lane: [frame for other, frame, _ in frames if other == lane] for lane in lanes}
+    ends = {lane: [is_end for other, _, is_end in frames if other == lane] for lane in lanes}
+    text = []
+    while any(queues.values()):
+        open_lanes = list(lanes)
+        while open_lanes:
+            lane = draw.choice(open_lanes)
+            text.append(queues[lane].pop(0))
+            if ends[lane].pop(0):
+                open_lanes.remove(lane)
+    return b''.join(text)
+
+
+def files(draw):
+    """The bytes of each file of a case."""
+    queries_text, window, queries = typed(draw)
+    switch = switch_text(draw)
+    plan = plan_text(draw, switches.parse(switch.encode()), queries)
+    if draw.random() < 0.15:
+        plan = random_queries.spoilt(draw, plan)
+    if draw.random() < 0.05:
+        switch = random_queries.spoilt(draw, switch)
+    return {'switch': switch.encode(), 'queries': queries_text.encode(), 'plan': plan.encode(), 'capture': random_queries.capture(draw)}
+
+
+def write(folder, held):
+    names = {name: os.path.join(folder, name) for name in FILES}
+    for name, content in held.items():
+        with open(names[name], 'wb') as file:
+            file.write(content)
+    return names
+
+
+def ran(executable, command, *names):
+    done = subprocess.run([executable, command, *names], capture_output=True)
+    return done.returncode, done.stdout, done.stderr.decode()
+
+
+def differs(executable, command, *names):
+    """The two answers where they differ, or the status that both have."""
+    wanted = planned.answer(command, *names)
+    return wanted[0] if ran(executable, command, *names) == wanted else None
+
+
+def case(executable, seed, folder):
+    """The statuses of the three commands, None where the program answers otherwise."""
+    draw = random.Random(seed)
+    names = write(folder, files(draw))
+    four = names['switch'], names['queries'], names['plan'], names['capture']
+    found = [differs(executable, command, *four) for command in ('run', 'emit')]
+    _, reports, _ = planned.answer('emit', *four)
+    write(folder, {'reports': spoilt_reports(draw, reports) if draw.random() < 0.4 else shuffled(draw, reports)})
+    return found + [differs(executable, 'finish', names['queries'], names['plan'], names['reports'])]
+
+
+def alone(seed, folder):
+    """The reference against itself: the text of `run` without a damage line, and that of `finish` on the frames of `emit`."""
+    draw = random.Random(seed)
+    names = write(folder, files(draw))
+    four = names['switch'], names['queries'], names['plan'], names['capture']
+    status, text, _ = planned.answer('run', *four)
+    if status not in (0, 5) or not text:
+        return [status]
+    _, reports, _ = planned.answer('emit', *four)
+    write(folder, {'reports': shuffled(draw, reports)})
+    done = planned.answer('finish', names['queries'], names['plan'], names['reports'])
+    lines = [line for line in text.splitlines(True) if not line.startswith(b'capture ')]
+    return [status if done == (0, b''.join(lines), '') else None]
+
+
+def main():
+    words = program.command_line(__doc__)
+    words.add_argument('--cases', type=int, default=1000)
+    words.add_argument('--first', type=int, default=0, help='the first seed')
+    words.add_argument('--alone', action='store_true', help='compare the reference with itself')
+    given = words.parse_args()
+    counts, differing = {}, 0
+    with tempfile.TemporaryDirectory() as folder:
+        for seed in range(given.first, given.first + given.cases):
+            found = alone(seed, folder) if given.alone else case(given.sonata, seed, folder)
+            if None in found:
+                differing += 1
+                print('seed %d: they differ: %s' % (seed, found))
+            counts[tuple(found)] = counts.get(tuple(found), 0) + 1
+    for statuses, count in sorted(counts.items(), key=lambda one: -one[1]):
+        print('%6d cases with the statuses %s' % (count, ', '.join(map(str, statuses))))
+    return 1 if differing else 0
+
+
+if __name__ == '__main__':
+    sys.exit(main())

@@ -1,0 +1,136 @@
+"""Report frames, and what an engine makes of them."""
+
+from . import answers, pipes, plans
+
+
+class BadReports(Exception):
+    """Refused reports: the kind and the byte."""
+
+
+def encoded(lane, item):
+    tag, operator, row = item
+    head = [1, {'at': 0, 'partial': 1}[tag], *lane, operator, len(row), 0]
+    return bytes(head) + b''.join(column.to_bytes(8, 'big') for column in row)
+
+
+def ended(lane, window):
+    return bytes([1, 2, *lane, 0, 1, 0]) + window.to_bytes(8, 'big')
+
+
+def head_bound(place, head):
+    """The values that a frame may have at one of its first eight bytes, the bytes before it being these."""
+    is_end = len(head) > 1 and head[1] == 2
+    return [{1}, {0, 1, 2}, set(range(8)), set(range(4)), {0, 1}, {0} if is_end else set(range(13)), {1} if is_end else set(range(9)), {0}][place]
+
+
+def decode(bytes_, at):
+    """The lane, the item or the window's number, and the end of the frame at a byte."""
+    for place in range(8):
+        if at + place == len(bytes_):
+            raise BadReports('Cut', at)
+        if bytes_[at + place] not in head_bound(place, bytes_[at:at + place]):
+            raise BadReports('Bad', at + place)
+    kind, lane, operator, columns = bytes_[at + 1], tuple(bytes_[at + 2:at + 5]), bytes_[at + 5], bytes_[at + 6]
+    end = at + 8 + 8 * columns
+    if end > len(bytes_):
+        raise BadReports('Cut', at)
+    row = tuple(int.from_bytes(bytes_[k:k + 8], 'big') for k in range(at + 8, end, 8))
+    return lane, (row[0] if kind == 2 else ('at' if kind == 0 else 'partial', operator, row)), end
+
+
+class Lane:
+    """What came of a piece in a window."""
+
+    def __init__(self, query, piece):
+        self.query, self.piece = query, piece
+        self.schemas = pipes.schemas(query, piece.branch)
+        self.prefix = [op.kind for op in query.branches[piece.branch][:piece.cut]]
+        self.clear()
+
+    def clear(self):
+        self.items, self.end = [], None
+
+    def is_tag(self, tag, operator):
+        if tag == 'at':
+            return operator == self.piece.cut or operator < self.piece.cut and self.prefix[operator] in ('distinct', 'reduce')
+        return operator < self.piece.cut and self.prefix[operator] == 'reduce' and 'distinct' in self.prefix[:operator]
+
+    def columns(self, tag, operator):
+        return self.schemas[operator + (tag == 'partial')]
+
+    def is_wide(self, item):
+        columns = self.columns(*item[:2])
+        return len(item[2]) != len(columns) or any(number >> width for number, (_, width, _) in zip(item[2], columns))
+
+    def rows(self, tag, operator):
+        names = [name for name, _, _ in self.columns(tag, operator)]
+        return [dict(zip(names, row)) for t, o, row in self.items if (t, o) == (tag, operator)]
+
+    def value(self):
+        """The rows tagged with the first operator go through all, and the others join where they are tagged."""
+        operators, level = self.query.branches[self.piece.branch], self.piece.level
+        flow = self.rows('at', 0)
+        for i, operator in enumerate(operators):
+            if operator.kind == 'reduce':
+                flow = answers.reduced(flow + self.rows('partial', i), operator)
+            else:
+                flow = answers.apply(flow, operator, level)
+            flow = flow + self.rows('at', i + 1)
+        return flow
+
+
+class Engine:
+    def __init__(self, queries, entries):
+        self.queries, self.entries, self.closed = queries, entries, None
+        self.lanes = {}
+        for q, (query, entry) in enumerate(zip(queries, entries)):
+            for piece in entry.pieces:
+                self.lanes[(q, entry.path.index(piece.level), piece.branch)] = Lane(query, piece)
+
+    def fault(self, lane, content):
+        """Why a frame is refused, or None."""
+        to = self.lanes.get(lane)
+        if isinstance(content, int):
+            if to is None:
+                return 'Stranger'
+            if to.end is not None:
+                return 'AfterEnd'
+            others = [other.end for other in self.lanes.values() if other.end is not None]
+            late = self.closed is not None and content <= self.closed
+            return 'Window' if late or any(other != content for other in others) else None
+        if to is None or not to.is_tag(*content[:2]):
+            return 'Stranger'
+        if to.is_wide(content):
+            return 'Width'
+        return 'AfterEnd' if to.end is not None else None
+
+    def take(self, lane, content):
+        if isinstance(content, int):
+            self.lanes[lane].end = content
+        else:
+            self.lanes[lane].items.append(content)
+
+    def started(self):
+        return any(lane.items or lane.end is not None for lane in self.lanes.values())
+
+    def is_whole(self):
+        return all(lane.end is not None for lane in self.lanes.values())
+
+    def part(self, q, j):
+        query, level = self.queries[q], self.entries[q].path[j]
+        rows = self.lanes[(q, j, 0)].value()
+        if query.join_keys:
+            rows = answers.join(rows, self.lanes[(q, j, 1)].value(), query.join_keys)
+            for operator in query.after:
+                rows = answers.apply(rows, operator, level)
+        return query, level, answers.sorted_rows(query, rows)
+
+    def close(self):
+        """The window's number, its number of items, and its parts."""
+        window = next(iter(self.lanes.values())).end
+        emitted = sum(len(lane.items) for lane in self.lanes.values())
+        parts = [self.part(q, j) for q, entry in enumerate(self.entries) for j in range(len(entry.path))]
+        for lane in self.lanes.values():
+            lane.clear()
+        self.closed = window
+        return window, emitted, parts
