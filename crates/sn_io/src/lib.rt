@@ -5,6 +5,7 @@ pub mod inputs;
 mod known;
 pub mod mem_inputs;
 pub mod mem_sink;
+mod opened;
 pub mod real;
 pub mod sink;
 #[cfg(test)]

@@ -6,15 +6,14 @@ ghost use Rattle.std.specs.FinMap.{get};
 ghost use Rattle.std.specs.String.{string_bytes};
 ghost use Rattle.sn_io.specs.Known.{counts_of, none_told};
 
-use crate::inputs::{InputFault, Inputs, PIECE};
-use crate::known::{Entry, knows, one_more, raise};
+use crate::inputs::{InputFault, Inputs};
+use crate::known::{Entry, one_more, place_of, raise, read_place};
 use crate::sink::{Failed, Sink};
 use sn_base::memory::Memory;
 use std::alloc::Global;
+use std::io;
 use std::io::{Stderr, Stdout, Write};
 use std::marker::Model;
-use std::os::unix::fs::FileExt;
-use std::{fs, io};
 
 #[derive(Drop)]
 enum Stream {
@@ -89,7 +88,7 @@ impl Sink for RealSink {
     }
 }
 
-/// Files of the system, whose names are the words of a command line.
+/// Files of the system, whose names are the words of a command line. Each is opened at its first read, and stays open.
 #[derive(Drop)]
 pub struct RealInputs {
     rt: HostRuntime,
@@ -116,26 +115,16 @@ impl RealInputs {
             let Ok(name) = word.clone() else {
                 return Err(Memory);
             };
-            if known.push(Entry { name, count: 0 }).is_err() {
+            if let Err(_) = known.push(Entry {
+                name,
+                count: 0,
+                file: None,
+            }) {
                 return Err(Memory);
             }
         }
         Ok(RealInputs { rt: *rt, known })
     }
-}
-
-/// Reads bytes of a file from a place on. They come through a buffer of its own, so that an `Err` leaves `into` as
-/// it was.
-fn read_file(rt: &HostRuntime, name: &str, at: u64, into: &mut [u8]) -> io::Result<usize>
-    ensures within { IfOk result (λ n. n ≤ length into.old) }
-    ensures untouched { OnErr result (into.new ≡ into.old) }
-{
-    let mut piece = [0; PIECE];
-    let most = into.len().min(piece.len());
-    let file = fs::open(rt, name)?;
-    let count = file.read_at(&mut piece[..most], at)?;
-    into[..count].copy_from_slice(&piece[..count]);
-    Ok(count)
 }
 
 impl Inputs for RealInputs {
@@ -146,10 +135,10 @@ impl Inputs for RealInputs {
     ghost same_names = { λ s files name e. none_told e };
 
     fn read_at(&mut self, name: &str, at: u64, into: &mut [u8]) -> Result<usize, InputFault> {
-        if !knows(&self.known, name) {
+        let Some(place) = place_of(&self.known, name) else {
             return Err(InputFault::Missing);
-        }
-        match read_file(&self.rt, name, at, into) {
+        };
+        match read_place(&self.rt, &mut self.known, place, at, into) {
             Ok(count) => Ok(count),
             Err(_) => {
                 raise(&mut self.known, name);

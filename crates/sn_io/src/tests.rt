@@ -108,6 +108,39 @@ fn reads_real_files(rt: HostRuntime) -> Result<(), Fail> {
     Ok(())
 }
 
+/// A capture that is replaced, taken away or cut short while it is read stays the file that it was at the first read.
+#[test]
+fn keeps_files_open(rt: HostRuntime) -> Result<(), Fail> {
+    let alloc = rt.alloc();
+    let mut words = Vec::new(alloc);
+    for word in ["renamed.bin", "removed.bin", "cut.bin"] {
+        words.push(String::from_str(alloc, word)?)?;
+        fs::write(&rt, word, b"0123456789".as_slice())?;
+    }
+    let mut files = RealInputs::new(&rt, alloc, &words)?;
+    let mut piece = [0; 4];
+    for word in ["renamed.bin", "removed.bin", "cut.bin"] {
+        assert_eq!(rt; files.read_at(word, 0, &mut piece), Ok(4));
+        assert_eq!(rt; piece, [b'0', b'1', b'2', b'3']);
+    }
+    fs::write(&rt, "other.bin", b"abcdefghijkl".as_slice())?;
+    fs::rename(&rt, "other.bin", "renamed.bin")?;
+    assert_eq!(rt; files.read_at("renamed.bin", 4, &mut piece), Ok(4));
+    assert_eq!(rt; piece, [b'4', b'5', b'6', b'7']);
+    assert_eq!(rt; files.read_at("renamed.bin", 8, &mut piece), Ok(2));
+    assert_eq!(rt; files.read_at("renamed.bin", 10, &mut piece), Ok(0));
+    fs::remove_file(&rt, "removed.bin")?;
+    assert_eq!(rt; files.read_at("removed.bin", 8, &mut piece), Ok(2));
+    assert_eq!(rt; files.read_at("removed.bin", 1, &mut piece), Ok(4));
+    assert_eq!(rt; piece, [b'1', b'2', b'3', b'4']);
+    fs::write(&rt, "cut.bin", b"01234".as_slice())?;
+    assert_eq!(rt; files.read_at("cut.bin", 4, &mut piece), Ok(1));
+    assert_eq!(rt; files.read_at("cut.bin", 5, &mut piece), Ok(0));
+    fs::remove_file(&rt, "renamed.bin")?;
+    fs::remove_file(&rt, "cut.bin")?;
+    Ok(())
+}
+
 #[test]
 fn writes_to_streams(rt: HostRuntime) {
     assert_eq!(rt; write_all_to(&mut RealSink::out(&rt), b"to out\n"), Ok(()));

@@ -12,7 +12,7 @@ abbrev test : List ℕ → Entry → Bool
 test name e = is_named name (shown e)
 
 abbrev change : Entry → Entry
-change e = record { name = e.name; count = counted e.count }
+change e = record e { count = counted e.count }
 
 pub returns-in-Some : goal.returns-in-Some
 returns-in-Some c =
@@ -20,8 +20,8 @@ returns-in-Some c =
     let name = c.args.name.now in
     let d = c.index_mut-entry.result.now in
     let found = rw c.deref.ensures.value at c.in-Some.ensures in
-    let y : Entry = record { name = d.name; count = c.one_more-entry.result } in
-    let same : y ≡ change d = ap (λ (n : ℕ). record { name = d.name; count = n }) c.one_more-entry.ensures in
+    let y : Entry = record d { count = c.one_more-entry.result } in
+    let same : y ≡ change d = ap (λ (n : ℕ). record d { count = n }) c.one_more-entry.ensures in
     ap (map shown) (set_first (test name) change items c.in-Some.place d y (sym found) (same ∙ ap change c.index_mut-entry.ensures.value))
     ∙ map-with_first shown (test name) change (is_named name) (λ entry. (entry.0, counted entry.1)) items (λ e. refl) (λ e. refl)
 
