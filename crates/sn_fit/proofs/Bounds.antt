@@ -28,7 +28,7 @@ use Rattle.sn_types.proofs.Facts.{length-typed_ops}
 use Rattle.sn_fit.specs.Capped.{AreSmall}
 use Rattle.sn_fit.specs.Paths.{path_misfit, is_among, place_of, level_places, places}
 use Rattle.sn_fit.specs.Placing.{IsRising}
-use Rattle.sn_fit.specs.Tables.{is_stateful, stateful}
+use Rattle.sn_types.specs.Cuts.{is_stateful, stateful}
 use Rattle.sn_fit.specs.Registers.{Register, in_stage, register_bits, taken, op_registers, standing_in, count_in, bits_in, row_width, width_if, is_map, metadata}
 use Rattle.sn_fit.specs.Pieces.{piece_misfit, first_misfit, prefix_of, registers_of, metadata_of, on_branch, branch_of, entry_registers, all_registers, entry_metadata, all_metadata}
 use Rattle.sn_fit.specs.Fits.{IsEntryOf, AreEntriesOf, PieceFits, OnBranch, PiecesFit}

@@ -7,7 +7,8 @@ use Rattle.sn_fit.specs.declared.misfit.Misfit.{Misfit}
 use Rattle.sn_fit.specs.declared.misfit.MisfitKind.TheVariants.{Stage}
 use Rattle.sn_fit.specs.Checks.{failing, or_else}
 use Rattle.sn_fit.specs.Placing.{Table, stateless, register}
-use Rattle.sn_fit.specs.Tables.{is_stateful, stateful, op_tables, is_first, membership, end_of, past_end, stage_misfit, order_misfit}
+use Rattle.sn_types.specs.Cuts.{is_stateful, stateful}
+use Rattle.sn_fit.specs.Tables.{op_tables, is_first, membership, end_of, past_end, stage_misfit, order_misfit}
 use Rattle.sn_fit.specs.Pieces.{tables_misfit}
 use Rattle.sn_fit.specs.Gaps.{least_behind, end_misfit}
 

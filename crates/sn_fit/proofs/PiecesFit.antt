@@ -13,7 +13,8 @@ use Rattle.sn_fit.specs.declared.misfit.MisfitKind.TheVariants.{Cut, Slots, Orde
 use Rattle.sn_fit.specs.Checks.{failing, or_else}
 use Rattle.sn_fit.specs.Placing.{Table, stateless, register, HasPlacing, HasGaps}
 use Rattle.sn_fit.specs.Paths.{is_among}
-use Rattle.sn_fit.specs.Tables.{stateful, order_misfit, stage_misfit, end_of}
+use Rattle.sn_types.specs.Cuts.{stateful}
+use Rattle.sn_fit.specs.Tables.{order_misfit, stage_misfit, end_of}
 use Rattle.sn_fit.specs.Gaps.{least_behind, end_misfit}
 use Rattle.sn_fit.specs.Pieces.{prefix_of, tables_of, cut_misfit, strange_size, count_misfit, slots_misfit, stages_misfit, tables_misfit, piece_misfit, on_branch, branch_of, first_piece, first_misfit}
 use Rattle.sn_fit.specs.Fits.{PieceFits, OnBranch, PiecesFit}

@@ -9,7 +9,7 @@ use Rattle.sn_types.specs.declared.typed_query.TypedBranch.{TypedBranch}
 use Rattle.sn_fit.specs.Paths.{is_among, last_of, place_of, places}
 use Rattle.sn_fit.specs.Placing.{HasPlacing, IsRising}
 use Rattle.sn_fit.specs.Pieces.{prefix_of, tables_of, branch_of, all_registers, all_metadata}
-use Rattle.sn_fit.specs.Tables.{stateful}
+use Rattle.sn_types.specs.Cuts.{stateful}
 use Rattle.sn_fit.specs.Registers.{Register, count_in, bits_in}
 
 -- a rising list of a query's levels that ends in the finest

@@ -1,5 +1,5 @@
 -- Paths of queries and the pieces along them.
-use Rattle.std.specs.Prelude.{ℕ, ◌+◌, List, [], ◌∷◌, Bool, true, false, ◌&&◌, ◌==◌, nat_lt, nat_eq, Option, Some, None, if◌then◌else◌}
+use Rattle.std.specs.Prelude.{ℕ, ◌+◌, List, [], ◌∷◌, Bool, true, false, ◌&&◌, ◌==◌, nat_lt, nat_eq, Option, Some, None, position, unwrap_or, if◌then◌else◌}
 use Rattle.std.specs.List.{list_all, list_any, flat_map}
 use Rattle.sn_plan_rules.specs.declared.plan.Entry.{Entry}
 use Rattle.sn_plan_rules.specs.declared.plan.Piece.{Piece}
@@ -40,6 +40,10 @@ same_level (Some n) (Some m) = n == m
 -- a rising list of the query's levels that ends in the finest
 abbrev pub is_path : List ℕ → List ℕ → Bool
 is_path levels path = rises path && list_all (is_among levels) path && same_level (last_of path) (last_of levels)
+
+-- the place of a level in a path, from 0
+abbrev pub place_in : List ℕ → ℕ → ℕ
+place_in path level = unwrap_or (position (λ other. level == other) path) 0
 
 -- ---- the pieces
 

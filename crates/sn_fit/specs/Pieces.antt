@@ -12,7 +12,8 @@ use Rattle.sn_fit.specs.declared.misfit.MisfitKind.TheVariants.{Cut, Slots, Orde
 use Rattle.sn_fit.specs.Checks.{failing, or_else}
 use Rattle.sn_fit.specs.Paths.{is_among, path_misfit}
 use Rattle.sn_fit.specs.Placing.{Table}
-use Rattle.sn_fit.specs.Tables.{stateful, op_tables, membership, order_misfit, stage_misfit}
+use Rattle.sn_types.specs.Cuts.{stateful}
+use Rattle.sn_fit.specs.Tables.{op_tables, membership, order_misfit, stage_misfit}
 use Rattle.sn_fit.specs.Registers.{Register, op_registers, count_in, bits_in, metadata}
 
 -- ---- a piece of a branch

@@ -7,7 +7,7 @@ use Rattle.sn_base.specs.declared.any_fold.AnyFold.TheVariants as folds
 use Rattle.sn_types.specs.declared.typed_op.TOp.{TOp}
 use Rattle.sn_types.specs.declared.typed_op.TOp.TheVariants.{Filter, Map, Distinct, Reduce}
 use Rattle.sn_types.specs.Typed.{schema_at}
-use Rattle.sn_fit.specs.Tables.{is_stateful}
+use Rattle.sn_types.specs.Cuts.{is_stateful}
 
 -- ---- widths in bits
 

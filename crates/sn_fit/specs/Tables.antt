@@ -1,23 +1,11 @@
 -- The tables of a piece, and the first that can't be placed.
 use Rattle.std.specs.Prelude.{ℕ, ◌+◌, ◌-◌, List, [], ◌∷◌, ◌++◌, map, take, drop, length, Bool, true, false, ◌==◌, nat_lt, Option, Some, None, unwrap_or, if◌then◌else◌}
 use Rattle.sn_types.specs.declared.typed_op.TOp.{TOp}
-use Rattle.sn_types.specs.declared.typed_op.TOp.TheVariants.{Filter, Map, Distinct, Reduce}
+use Rattle.sn_types.specs.Cuts.{is_stateful}
 use Rattle.sn_fit.specs.declared.misfit.Misfit.{Misfit}
 use Rattle.sn_fit.specs.declared.misfit.MisfitKind.TheVariants.{Order, Stage}
 use Rattle.sn_fit.specs.Checks.{failing, or_else}
 use Rattle.sn_fit.specs.Placing.{Table, stateless, register}
-
--- distinct and reduce keep rows in registers
-abbrev pub is_stateful : TOp → Bool
-is_stateful (Filter conds) = false
-is_stateful (Map exprs) = false
-is_stateful Distinct = true
-is_stateful (Reduce r) = true
-
--- how many operators do so
-abbrev pub stateful : List TOp → ℕ
-stateful [] = 0
-stateful (op ∷ ops) = if is_stateful op then 1 + stateful ops else stateful ops
 
 -- the tables of operators in order: one without state for each filter and map, and the registers of a chain of d for each distinct and
 -- reduce, with the written stages in order

@@ -11,4 +11,5 @@ mod piece;
 mod whole;
 mod width;
 
+pub use path::place_in;
 pub use whole::{fits, shape};

@@ -5,11 +5,11 @@ ghost use Rattle.sn_fit.specs.Capped.{capped};
 ghost use Rattle.sn_fit.specs.Registers.{in_stage, register_bits, count_in, bits_in, taken};
 ghost use Rattle.sn_fit.specs.Pieces.{on_branch, branch_of, registers_of, entry_registers, all_registers};
 
-use crate::order::is_stateful;
 use crate::piece::prefix;
 use crate::width::register_bits;
 use sn_base::schema::Schema;
 use sn_plan_rules::plan::{Entry, Piece};
+use sn_types::cuts::is_stateful;
 use sn_types::typed_op::TOp;
 use sn_types::typed_query::{TypedBranch, TypedQuery};
 

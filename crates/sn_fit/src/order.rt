@@ -2,33 +2,13 @@
 ghost use Rattle.std.specs.Prelude.{◌≡◌, ◌≤◌, ◌^◌, List, ◌++◌, map, length, max, IfOk};
 ghost use Rattle.sn_fit.specs.Checks.{told};
 ghost use Rattle.sn_fit.specs.Placing.{Table, register};
-ghost use Rattle.sn_fit.specs.Tables.{is_stateful, stateful, op_tables, order_misfit};
+ghost use Rattle.sn_types.specs.Cuts.{is_stateful, stateful};
+ghost use Rattle.sn_fit.specs.Tables.{op_tables, order_misfit};
 ghost use Rattle.sn_fit.specs.Gaps.{least_behind, goes_on, end_misfit};
 
 use crate::misfit::{Misfit, MisfitKind};
+use sn_types::cuts::is_stateful;
 use sn_types::typed_op::TOp;
-
-pub(crate) fn is_stateful(op: &TOp) -> bool
-    ensures { result ≡ is_stateful op.now }
-{
-    match op {
-        TOp::Filter(_) | TOp::Map(_) => false,
-        TOp::Distinct | TOp::Reduce(_) => true,
-    }
-}
-
-/// How many operators keep rows in registers.
-pub(crate) fn stateful(ops: &[TOp]) -> usize
-    ensures { result ≡ stateful ops.now }
-{
-    let mut count = 0;
-    for op in ops {
-        if is_stateful(op) {
-            count += 1;
-        }
-    }
-    count
-}
 
 /// The least stage behind a chain of registers, of which the first may stand in stage `least`.
 fn chain(least: u64, stages: &[u32]) -> Result<u64, Misfit>

@@ -1,9 +1,9 @@
 //! Paths of queries, and the pieces along them.
-ghost use Rattle.std.specs.Prelude.{◌≡◌, List, ◌++◌, false, MatchOption};
+ghost use Rattle.std.specs.Prelude.{◌≡◌, ◌==◌, ◌≤◌, ◌<◌, List, ◌++◌, false, length, position, IfSome, MatchOption};
 ghost use Rattle.std.specs.List.{list_all};
 ghost use Rattle.sn_fit.specs.Checks.{told};
 ghost use Rattle.sn_fit.specs.declared.misfit.MisfitKind.TheVariants as MisfitKind;
-ghost use Rattle.sn_fit.specs.Paths.{rises, is_among, last_of, same_level, is_path, Place, level_places, places, are_at, is_entry, path_misfit};
+ghost use Rattle.sn_fit.specs.Paths.{rises, is_among, last_of, same_level, is_path, place_in, Place, level_places, places, are_at, is_entry, path_misfit};
 
 use crate::misfit::{Misfit, MisfitKind};
 use sn_plan_rules::plan::{Entry, Piece};
@@ -41,6 +41,24 @@ fn are_among(levels: &[u32], path: &[u32]) -> bool
         }
     }
     true
+}
+
+fn position_in(path: &[u32], level: u32) -> Option<usize>
+    ensures place { result ≡ position (λ other. level == other) path.now }
+    ensures within { IfSome result (λ place. place < length path.now) }
+{
+    path.iter().position(|other| level == *other)
+}
+
+/// The place of a level in a path, from 0; and 0 where it isn't there.
+pub fn place_in(path: &[u32], level: u32) -> u32
+    requires { length path.now ≤ 8 }
+    ensures { result ≡ place_in path.now level }
+{
+    match position_in(path, level) {
+        Some(place) => place as u32,
+        None => 0,
+    }
 }
 
 fn last(numbers: &[u32]) -> Option<u32>

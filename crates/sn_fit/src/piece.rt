@@ -4,14 +4,16 @@ ghost use Rattle.sn_switch.specs.Texts.{IsSwitch};
 ghost use Rattle.sn_fit.specs.Checks.{told};
 ghost use Rattle.sn_fit.specs.Placing.{Table};
 ghost use Rattle.sn_fit.specs.Gaps.{least_behind};
-ghost use Rattle.sn_fit.specs.Tables.{stateful, is_first, membership, order_misfit};
+ghost use Rattle.sn_types.specs.Cuts.{stateful};
+ghost use Rattle.sn_fit.specs.Tables.{is_first, membership, order_misfit};
 ghost use Rattle.sn_fit.specs.Pieces.{tables_of, cut_misfit, strange_size, count_misfit, slots_misfit, stages_misfit, tables_misfit, piece_misfit};
 
 use crate::misfit::{Misfit, MisfitKind};
-use crate::order::{end, order, stateful};
+use crate::order::{end, order};
 use crate::path::is_among;
 use sn_plan_rules::plan::Piece;
 use sn_switch::switch::Switch;
+use sn_types::cuts::stateful;
 use sn_types::typed_op::TOp;
 use sn_types::typed_query::TypedBranch;
 

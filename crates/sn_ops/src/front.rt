@@ -2,8 +2,8 @@
 ghost use Rattle.std.specs.Prelude.{◌≡◌};
 ghost use Rattle.sn_ops.specs.Plain.{is_filter, passes_front, behind_front, FrontFits};
 
-use crate::select::passes;
 use sn_base::row::Row;
+use sn_types::evaluate::passes;
 use sn_types::typed_op::TOp;
 
 /// Whether a row passes the filters that stand first.

@@ -9,13 +9,13 @@ ghost use Rattle.sn_base.specs.Groups.{same_row};
 ghost use Rattle.sn_base.specs.Operators.{apply};
 ghost use Rattle.sn_types.specs.Values.{op_at};
 
-use crate::columns::columns_of;
 use indexmap::{IndexMap, IndexSet};
 use sn_base::any_fold::AnyFold;
 use sn_base::fold::Fold;
 use sn_base::memory::Memory;
 use sn_base::row::Row;
 use sn_base::seq::Seq;
+use sn_types::evaluate::columns_of;
 use sn_types::typed_op::{TOp, TReduce};
 use std::alloc::Global;
 

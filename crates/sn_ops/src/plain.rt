@@ -15,37 +15,7 @@ use sn_base::row::Row;
 use sn_base::seq::Seq;
 use sn_fields::tuple::Tuple;
 use sn_types::typed::Typed;
-use sn_types::typed_op::TOp;
-use sn_types::typed_query::TypedQuery;
 use std::alloc::Global;
-
-fn query_of(t: &Typed, q: u32) -> &TypedQuery
-    requires { q < length t.now.queries }
-    ensures { result.now ≡ query_at t.now.queries q }
-{
-    match t.queries.as_slice().get(q as usize) {
-        Some(query) => query,
-        None => unreachable!(),
-    }
-}
-
-fn ops_of(query: &TypedQuery, b: u32) -> &[TOp]
-    requires { b < length query.now.branches }
-    ensures { result.now ≡ (branch_of query.now b).ops }
-{
-    match query.branches.as_slice().get(b as usize) {
-        Some(branch) => branch.ops.as_slice(),
-        None => unreachable!(),
-    }
-}
-
-fn operators(t: &Typed, q: u32, b: u32) -> &[TOp]
-    requires query { q < length t.now.queries }
-    requires branch { b < length (query_at t.now.queries q).branches }
-    ensures { result.now ≡ (branch_of (query_at t.now.queries q) b).ops }
-{
-    ops_of(query_of(t, q), b)
-}
 
 /// The packet row of a tuple that is kept, where it passes the filters that stand first.
 fn front_row(
@@ -67,7 +37,7 @@ fn front_row(
         return None;
     }
     let row = t.packet_row(q, b, level, tuple);
-    if passes_front(operators(t, q, b), level, &row) {
+    if passes_front(t.operators(q, b), level, &row) {
         Some(row)
     } else {
         None
@@ -119,7 +89,7 @@ pub fn branch_rows(
     ensures columns { IfOk result (λ rows. AllByRecursion (IsOf (end_columns (branch_at t.now.queries q b))) rows) }
 {
     let rows = front_rows(alloc, t, q, b, level, kept, tuples)?;
-    run(alloc, behind_front(operators(t, q, b)), level, rows)
+    run(alloc, behind_front(t.operators(q, b)), level, rows)
 }
 
 /// The two branches of a query on these tuples, joined.
@@ -162,7 +132,7 @@ pub fn plain(
 {
     if t.branches(q) == 2 {
         let rows = joined_rows(alloc, t, q, level, kept, tuples)?;
-        run(alloc, query_of(t, q).posts.as_slice(), level, rows)
+        run(alloc, t.query(q).posts.as_slice(), level, rows)
     } else {
         branch_rows(alloc, t, q, 0, level, kept, tuples)
     }

@@ -2,6 +2,7 @@ pub mod Facts
 pub mod Items
 pub mod Joining
 pub mod Known
+pub mod Levels
 pub mod RefinedLemmas
 pub mod RowLemmas
 pub mod RowsAfter

@@ -1,7 +1,23 @@
--- How many operators of a branch can stand in a switch.
-use Rattle.std.specs.Prelude.{ℕ, suc, List, [], ◌∷◌}
+-- Operators in a switch: which of them have registers, and how many of a branch can stand there.
+use Rattle.std.specs.Prelude.{ℕ, suc, ◌+◌, List, [], ◌∷◌, take, Bool, true, false, slice_index, if◌then◌else◌}
 use Rattle.sn_types.specs.declared.typed_op.TOp.{TOp}
 use Rattle.sn_types.specs.declared.typed_op.TOp.TheVariants.{Filter, Map, Distinct, Reduce as Reduced}
+
+-- distinct and reduce keep rows in registers
+abbrev pub is_stateful : TOp → Bool
+is_stateful (Filter conds) = false
+is_stateful (Map exprs) = false
+is_stateful Distinct = true
+is_stateful (Reduced r) = true
+
+-- how many operators do so
+abbrev pub stateful : List TOp → ℕ
+stateful [] = 0
+stateful (op ∷ ops) = if is_stateful op then 1 + stateful ops else stateful ops
+
+-- the slots of each register at an operator: the stateful operators take these sizes in their order
+abbrev pub size_at : List TOp → List ℕ → ℕ → ℕ
+size_at ops sizes i = slice_index sizes (stateful (take i ops))
 
 -- how many operators at the front are filters
 abbrev pub filters_ahead : List TOp → ℕ

@@ -1,5 +1,5 @@
 -- What a typed file tells of its queries.
-use Rattle.std.specs.Prelude.{◌≡◌, ℕ, ◌<◌, ◌^◌, List, [], map, length, Bool, false, not, ◌&&◌, ◌==◌, Option, None, Some, slice_get, slice_index, unwrap_or, if◌then◌else◌}
+use Rattle.std.specs.Prelude.{◌≡◌, ℕ, ◌<◌, ◌-◌, ◌^◌, List, [], map, length, Bool, false, not, ◌&&◌, ◌==◌, Option, None, Some, slice_get, slice_index, unwrap_or, if◌then◌else◌}
 use Rattle.sn_base.specs.declared.column.Column.{Column}
 use Rattle.sn_base.specs.Groups.{Row}
 use Rattle.sn_base.specs.Mask.{masked}
@@ -47,6 +47,10 @@ operator_at ops i = unwrap_or (slice_get ops i) Distinct
 
 abbrev pub schema_at : List (List Column) → ℕ → List Column
 schema_at schemas i = unwrap_or (slice_get schemas i) []
+
+-- the finest level of a query is its last one
+abbrev pub finest_level : TypedQuery → ℕ
+finest_level query = slice_index query.levels (length query.levels - 1)
 
 -- the columns of a branch's packet rows, and those of its rows behind its operators
 abbrev pub first_columns : TypedBranch → List Column

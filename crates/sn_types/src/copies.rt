@@ -31,7 +31,8 @@ fn copy_cond(alloc: Global, cond: &TCond) -> Result<TCond, Memory>
     })
 }
 
-fn copy_conds(alloc: Global, conds: &[TCond]) -> Result<Seq<TCond>, Memory>
+/// Conditions equal to these.
+pub fn copy_conds(alloc: Global, conds: &[TCond]) -> Result<Seq<TCond>, Memory>
     ensures { IfOk result (λ copied. copied ≡ conds.now) }
 {
     let mut copied = Seq::new(alloc);
@@ -41,7 +42,8 @@ fn copy_conds(alloc: Global, conds: &[TCond]) -> Result<Seq<TCond>, Memory>
     Ok(copied)
 }
 
-fn copy_reduce(alloc: Global, reduce: &TReduce) -> Result<TReduce, Memory>
+/// A reduce equal to this one.
+pub fn copy_reduce(alloc: Global, reduce: &TReduce) -> Result<TReduce, Memory>
     ensures { IfOk result (λ copied. copied ≡ reduce.now) }
 {
     let keys = copy_all(alloc, reduce.keys.as_slice())?;

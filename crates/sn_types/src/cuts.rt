@@ -1,8 +1,31 @@
-//! How many operators of a branch can stand in a switch.
+//! Operators in a switch: which of them have registers, and how many of a branch can stand there.
 ghost use Rattle.std.specs.Prelude.{◌≡◌, ◌<◌, ◌≤◌, ◌^◌, length};
-ghost use Rattle.sn_types.specs.Cuts.{filters_ahead, cut_behind_distinct, greatest_cut};
+ghost use Rattle.sn_types.specs.Cuts.{filters_ahead, cut_behind_distinct, greatest_cut, is_stateful, stateful};
 
 use crate::typed_op::TOp;
+
+/// Whether an operator keeps rows in registers.
+pub fn is_stateful(op: &TOp) -> bool
+    ensures { result ≡ is_stateful op.now }
+{
+    match op {
+        TOp::Filter(_) | TOp::Map(_) => false,
+        TOp::Distinct | TOp::Reduce(_) => true,
+    }
+}
+
+/// How many operators keep rows in registers.
+pub fn stateful(ops: &[TOp]) -> usize
+    ensures { result ≡ stateful ops.now }
+{
+    let mut count = 0;
+    for op in ops {
+        if is_stateful(op) {
+            count += 1;
+        }
+    }
+    count
+}
 
 fn filters_ahead(ops: &[TOp]) -> u32
     requires { length ops.now ≤ 12 }

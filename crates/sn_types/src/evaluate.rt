@@ -1,6 +1,7 @@
-//! The values of conditions and expressions at a row.
-ghost use Rattle.std.specs.Prelude.{◌≡◌, ◌==◌, ◌<◌, length};
-ghost use Rattle.std.specs.List.{find};
+//! What conditions and expressions say of one row, and its columns at places.
+ghost use Rattle.std.specs.Prelude.{◌≡◌, ◌==◌, ◌<◌, ◌≤◌, All, length, map};
+ghost use Rattle.std.specs.List.{find, list_all};
+ghost use Rattle.sn_base.specs.Groups.{columns_at};
 ghost use Rattle.sn_types.specs.Values.{compared, constant_at, holds, ratio, value_of, ReadsWithin};
 
 use crate::typed_op::{TCond, TExpr};
@@ -72,4 +73,50 @@ pub fn expr(e: &TExpr, row: &Row) -> u64
         TExpr::Sum(a, b) => columns[a as usize].saturating_add(columns[b as usize]),
         TExpr::Ratio(a, times, b) => ratio(columns[a as usize], times, columns[b as usize]),
     }
+}
+
+/// Whether all conditions hold at a row, with their constants for this level.
+pub fn passes(conds: &[TCond], level: u32, row: &Row) -> bool
+    requires { All (λ c. c.col < length row.now) conds.now }
+    ensures { result ≡ list_all (λ c. holds level c row.now) conds.now }
+{
+    for c in conds {
+        if !cond(c, level, row) {
+            return false;
+        }
+    }
+    true
+}
+
+/// The row of these values at a row.
+pub fn mapped(row: &Row, cols: &[TExpr]) -> Row
+    requires few { length cols.now ≤ 8 }
+    requires reads { All (λ e. ReadsWithin (length row.now) e) cols.now }
+    ensures { result ≡ map (λ e. value_of e row.now) cols.now }
+{
+    let mut numbers = [0u64; 8];
+    for (place, col) in cols.iter().enumerate() {
+        numbers[place] = expr(col, row);
+    }
+    let Some(out) = Row::new(&numbers[..cols.len()]) else {
+        unreachable!();
+    };
+    out
+}
+
+/// The columns of a row at these places.
+pub fn columns_of(row: &Row, places: &[u32]) -> Row
+    requires places { All (λ place. place < length row.now) places.now }
+    requires few { length places.now ≤ 8 }
+    ensures { result ≡ columns_at places.now row.now }
+{
+    let columns = row.as_slice();
+    let mut numbers = [0u64; 8];
+    for (number, place) in places.iter().enumerate() {
+        numbers[number] = columns[*place as usize];
+    }
+    let Some(key) = Row::new(&numbers[..places.len()]) else {
+        unreachable!();
+    };
+    key
 }

@@ -3,8 +3,8 @@
 
 pub mod answers;
 pub mod check;
-mod copies;
-mod cuts;
+pub mod copies;
+pub mod cuts;
 pub mod evaluate;
 pub mod laws;
 mod packet;

@@ -2,7 +2,7 @@
 ghost use Rattle.std.specs.Prelude.{◌≡◌, ◌<◌, ◌≤◌, ◌*◌, IfOk, length, nat_eq, true};
 ghost use Rattle.std.specs.List.{list_any};
 ghost use Rattle.sn_base.specs.Columns.{IsOf};
-ghost use Rattle.sn_types.specs.Typed.{IsTyped, query_at, branch_at, operator_at, schema_at, first_columns, final_columns, packet_row};
+ghost use Rattle.sn_types.specs.Typed.{IsTyped, query_at, branch_at, operator_at, schema_at, finest_level, first_columns, final_columns, packet_row};
 
 use crate::copies::copy_queries;
 use crate::packet::row_of;
@@ -47,7 +47,8 @@ impl Typed {
         self.queries.as_slice().len() as u32
     }
 
-    fn query(&self, q: u32) -> &TypedQuery
+    /// A query.
+    pub fn query(&self, q: u32) -> &TypedQuery
         requires { q < length self.now.queries }
         ensures { result.now ≡ query_at self.now.queries q }
     {
@@ -57,7 +58,8 @@ impl Typed {
         }
     }
 
-    fn branch(&self, q: u32, b: u32) -> &TypedBranch
+    /// A branch of a query.
+    pub fn branch(&self, q: u32, b: u32) -> &TypedBranch
         requires query { q < length self.now.queries }
         requires branch { b < length (query_at self.now.queries q).branches }
         ensures { result.now ≡ branch_at self.now.queries q b }
@@ -82,6 +84,16 @@ impl Typed {
         ensures { result.now ≡ (query_at self.now.queries q).levels }
     {
         self.query(q).levels.as_slice()
+    }
+
+    /// The finest level of a query: its last one.
+    pub fn finest_level(&self, q: u32) -> u32
+        requires { q < length self.now.queries }
+        ensures level { result ≡ finest_level (query_at self.now.queries q) }
+        ensures member { list_any (nat_eq result) (query_at self.now.queries q).levels ≡ true }
+    {
+        let levels = self.levels(q);
+        levels[levels.len() - 1]
     }
 
     /// The refinement field of a query. `None` exactly where it isn't refined.
@@ -162,6 +174,15 @@ impl Typed {
             Some(op) => op,
             None => unreachable!(),
         }
+    }
+
+    /// The operators of a branch, 1 to 12.
+    pub fn operators(&self, q: u32, b: u32) -> &[TOp]
+        requires query { q < length self.now.queries }
+        requires branch { b < length (query_at self.now.queries q).branches }
+        ensures { result.now ≡ (branch_at self.now.queries q b).ops }
+    {
+        self.branch(q, b).ops.as_slice()
     }
 
     /// How many operators stand behind the join of a query, 0 to 12.
