@@ -26,11 +26,11 @@ use Rattle.sn_types.specs.Typed.{IsTyped, schema_at, operator_at}
 use Rattle.sn_types.specs.Typing.{typed_query, typed_branch, levels_of}
 use Rattle.sn_types.proofs.Facts.{length-typed_ops}
 use Rattle.sn_fit.specs.Capped.{AreSmall}
-use Rattle.sn_fit.specs.Paths.{path_misfit, is_among, place_of, level_places, places}
+use Rattle.sn_fit.specs.Paths.{path_misfit, is_among, piece_place, level_places, places}
 use Rattle.sn_fit.specs.Placing.{IsRising}
 use Rattle.sn_types.specs.Cuts.{is_stateful, stateful}
-use Rattle.sn_fit.specs.Registers.{Register, in_stage, register_bits, taken, op_registers, standing_in, count_in, bits_in, row_width, width_if, is_map, metadata}
-use Rattle.sn_fit.specs.Pieces.{piece_misfit, first_misfit, prefix_of, registers_of, metadata_of, on_branch, branch_of, entry_registers, all_registers, entry_metadata, all_metadata}
+use Rattle.sn_fit.specs.Registers.{Register, in_stage, register_bits, taken, op_registers, standing_in, count_in, bits_in, row_width, width_if, is_map_op, metadata}
+use Rattle.sn_fit.specs.Pieces.{piece_misfit, first_misfit, prefix_of, registers_of, metadata_of, on_branch, piece_branch, entry_registers, all_registers, entry_metadata, all_metadata}
 use Rattle.sn_fit.specs.Fits.{IsEntryOf, AreEntriesOf, PieceFits, OnBranch, PiecesFit}
 use Rattle.sn_fit.proofs.Entries.{entries_are}
 use Rattle.sn_fit.proofs.PiecesFit.{piece_none, pieces_none}
@@ -119,7 +119,7 @@ few_pieces : (q : TypedQuery) (e : Entry) → QueryBounds q → IsEntryOf q e �
 few_pieces q e b h =
     let short = path_short e.levels h.path.rising (path_low q.levels e.levels b.levels h.path.known) in
     let most = places_length q.branches e.levels b.branches in
-    let is : length e.pieces ≡ length (places q.branches e.levels) = sym (length-map e.pieces place_of) ∙ ap length h.pieces in
+    let is : length e.pieces ≡ length (places q.branches e.levels) = sym (length-map e.pieces piece_place) ∙ ap length h.pieces in
     omega (arith, short, most, is)
 
 -- ---- registers of a piece
@@ -209,8 +209,8 @@ record IsLittle (registers : List Register) (metadata : ℕ) : Type 0 where
 metadata_most : (schemas : List (List Column)) → ((i : ℕ) → row_width (schema_at schemas i) ≤ 512) → (mapped : Bool) (n : ℕ) (ops : List TOp) → metadata schemas mapped n ops ≤ 512
 metadata_most schemas h mapped n [] = omega arith
 metadata_most schemas h mapped n (op ∷ ops) =
-    let rest = metadata_most schemas h (mapped || is_map op) (n + 1) ops in
-    let here = width_most (mapped || is_map op) in
+    let rest = metadata_most schemas h (mapped || is_map_op op) (n + 1) ops in
+    let here = width_most (mapped || is_map_op op) in
     omega (arith, rest, here)
   where
     width_most : (b : Bool) → width_if b (schema_at schemas (n + 1)) ≤ 512
@@ -257,16 +257,16 @@ record AreLittle (pieces : ℕ) (registers : List Register) (metadata : ℕ) : T
   light : AllByRecursion IsLight registers
   narrow : metadata ≤ 512 * pieces
 
-entry_little : (s : Switch) (path : List ℕ) (q : TypedQuery) (ps : List Piece) → IsSwitch s → QueryBounds q → AllByRecursion (λ p. OnBranch (λ b. PieceFits s path b p) (branch_of q p)) ps
+entry_little : (s : Switch) (path : List ℕ) (q : TypedQuery) (ps : List Piece) → IsSwitch s → QueryBounds q → AllByRecursion (λ p. OnBranch (λ b. PieceFits s path b p) (piece_branch q p)) ps
     → AreLittle (length ps) (entry_registers s.chain q ps) (entry_metadata q ps)
 entry_little s path q [] w bounds f = record { few = omega arith; light = tt; narrow = omega arith }
 entry_little s path q (p ∷ ps) w bounds f =
-    let here = branch_little s path p (branch_of q p) w (of_branch q.branches p.branch bounds.each) f.0 in
+    let here = branch_little s path p (piece_branch q p) w (of_branch q.branches p.branch bounds.each) f.0 in
     let rest = entry_little s path q ps w bounds f.1 in
-    let is = length-append (on_branch [] (λ b. registers_of s.chain b p) (branch_of q p)) (entry_registers s.chain q ps) in
+    let is = length-append (on_branch [] (λ b. registers_of s.chain b p) (piece_branch q p)) (entry_registers s.chain q ps) in
     record {
       few = omega (arith, is, here.few, rest.few);
-      light = all_append IsLight (on_branch [] (λ b. registers_of s.chain b p) (branch_of q p)) (entry_registers s.chain q ps) here.light rest.light;
+      light = all_append IsLight (on_branch [] (λ b. registers_of s.chain b p) (piece_branch q p)) (entry_registers s.chain q ps) here.light rest.light;
       narrow = omega (arith, here.narrow, rest.narrow);
     }
 

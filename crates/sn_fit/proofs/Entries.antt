@@ -11,7 +11,7 @@ use Rattle.sn_types.specs.declared.typed_query.TypedQuery.{TypedQuery}
 use Rattle.sn_walk.specs.Names.{same_name}
 use Rattle.sn_fit.specs.declared.misfit.Misfit.{Misfit}
 use Rattle.sn_fit.specs.Placing.{IsRising}
-use Rattle.sn_fit.specs.Paths.{rises, rises_from, is_among, last_of, same_level, is_path, Place, place_of, places, is_at, are_at, is_entry, wrong_entry, path_misfit}
+use Rattle.sn_fit.specs.Paths.{rises, rises_from, is_among, last_of, same_level, is_path, Place, piece_place, places, is_at, are_at, is_entry, wrong_entry, path_misfit}
 use Rattle.sn_fit.specs.Fits.{IsPath, IsEntryOf, AreEntriesOf}
 use Rattle.sn_fit.proofs.Tests.{both, then, and_true, all_true, is_below, is_equal}
 
@@ -55,7 +55,7 @@ path_is levels path = (
 
 -- ---- the pieces
 
-place_is : (x : Place) (p : Piece) → (is_at x p ≡ true) ↔ (place_of p ≡ x)
+place_is : (x : Place) (p : Piece) → (is_at x p ≡ true) ↔ (piece_place p ≡ x)
 place_is x p = (
   λ e. let parts = (and_true (p.level == x.0) (p.branch == x.1)).0 e in
       let a : p.level ≡ x.0 = (is_equal p.level x.0).0 parts.0 in
@@ -67,16 +67,16 @@ place_is x p = (
 cons_same : {X : Type 0} (x y : X) (xs ys : List X) → x ∷ xs ≡ y ∷ ys → (x ≡ y) × (xs ≡ ys)
 cons_same x y xs ys e = (cc, cc)
 
-pieces_are : (xs : List Place) (ps : List Piece) → (are_at xs ps ≡ true) ↔ (map place_of ps ≡ xs)
+pieces_are : (xs : List Place) (ps : List Piece) → (are_at xs ps ≡ true) ↔ (map piece_place ps ≡ xs)
 pieces_are [] [] = (λ e. refl, λ e. refl)
 pieces_are [] (p ∷ ps) = (λ e. cc, λ e. cc)
 pieces_are (x ∷ xs) [] = (λ e. cc, λ e. cc)
 pieces_are (x ∷ xs) (p ∷ ps) = (
   λ e. let parts = (and_true (is_at x p) (are_at xs ps)).0 e in
-      let a : place_of p ≡ x = (place_is x p).0 parts.0 in
-      let b : map place_of ps ≡ xs = (pieces_are xs ps).0 parts.1 in
+      let a : piece_place p ≡ x = (place_is x p).0 parts.0 in
+      let b : map piece_place ps ≡ xs = (pieces_are xs ps).0 parts.1 in
       rw (a, b) refl,
-  λ e. let parts = cons_same (place_of p) x (map place_of ps) xs e in
+  λ e. let parts = cons_same (piece_place p) x (map piece_place ps) xs e in
       (and_true (is_at x p) (are_at xs ps)).1 ((place_is x p).1 parts.0, (pieces_are xs ps).1 parts.1),
 )
 

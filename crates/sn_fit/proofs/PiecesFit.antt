@@ -16,7 +16,7 @@ use Rattle.sn_fit.specs.Paths.{is_among}
 use Rattle.sn_types.specs.Cuts.{stateful}
 use Rattle.sn_fit.specs.Tables.{order_misfit, stage_misfit, end_of}
 use Rattle.sn_fit.specs.Gaps.{least_behind, end_misfit}
-use Rattle.sn_fit.specs.Pieces.{prefix_of, tables_of, cut_misfit, strange_size, count_misfit, slots_misfit, stages_misfit, tables_misfit, piece_misfit, on_branch, branch_of, first_piece, first_misfit}
+use Rattle.sn_fit.specs.Pieces.{prefix_of, tables_of, cut_misfit, strange_size, count_misfit, slots_misfit, stages_misfit, tables_misfit, piece_misfit, on_branch, piece_branch, first_piece, first_misfit}
 use Rattle.sn_fit.specs.Fits.{PieceFits, OnBranch, PiecesFit}
 use Rattle.sn_fit.proofs.Ends.{stage_misfit_is}
 use Rattle.sn_fit.proofs.Placings.{placing_by_gaps}
@@ -107,11 +107,11 @@ on_branch_none check P None f = (λ e. tt, λ h. refl)
 on_branch_none check P (Some b) f = f b
 
 entry_none : (check : TypedBranch → Piece → Option Misfit) (P : TypedBranch → Piece → Type 0) (q : TypedQuery) → ((b : TypedBranch) (p : Piece) → (check b p ≡ None) ↔ P b p) → (ps : List Piece)
-    → (first_piece check q ps ≡ None) ↔ AllByRecursion (λ p. OnBranch (λ b. P b p) (branch_of q p)) ps
+    → (first_piece check q ps ≡ None) ↔ AllByRecursion (λ p. OnBranch (λ b. P b p) (piece_branch q p)) ps
 entry_none check P q f [] = (λ e. tt, λ h. refl)
 entry_none check P q f (p ∷ ps) =
-    then (or_none (on_branch None (λ b. check b p) (branch_of q p)) (first_piece check q ps))
-    (both (on_branch_none (λ b. check b p) (λ b. P b p) (branch_of q p) (λ b. f b p)) (entry_none check P q f ps))
+    then (or_none (on_branch None (λ b. check b p) (piece_branch q p)) (first_piece check q ps))
+    (both (on_branch_none (λ b. check b p) (λ b. P b p) (piece_branch q p) (λ b. f b p)) (entry_none check P q f ps))
 
 pub pieces_none : (check : List ℕ → TypedBranch → Piece → Option Misfit) (P : List ℕ → TypedBranch → Piece → Type 0) → ((path : List ℕ) (b : TypedBranch) (p : Piece) → (check path b p ≡ None) ↔ P path b p)
     → (qs : List TypedQuery) (es : List Entry) → (first_misfit check qs es ≡ None) ↔ PiecesFit P qs es

@@ -6,10 +6,10 @@ use Rattle.sn_plan_rules.specs.declared.plan.Piece.{Piece}
 use Rattle.sn_switch.specs.declared.switch.Switch.{Switch}
 use Rattle.sn_types.specs.declared.typed_query.TypedQuery.{TypedQuery}
 use Rattle.sn_types.specs.declared.typed_query.TypedBranch.{TypedBranch}
-use Rattle.sn_fit.specs.Paths.{is_among, last_of, place_of, places}
+use Rattle.sn_fit.specs.Paths.{is_among, last_of, piece_place, places}
 use Rattle.sn_fit.specs.Placing.{HasPlacing, IsRising}
-use Rattle.sn_fit.specs.Pieces.{prefix_of, tables_of, branch_of, all_registers, all_metadata}
 use Rattle.sn_types.specs.Cuts.{stateful}
+use Rattle.sn_fit.specs.Pieces.{prefix_of, tables_of, piece_branch, all_registers, all_metadata}
 use Rattle.sn_fit.specs.Registers.{Register, count_in, bits_in}
 
 -- a rising list of a query's levels that ends in the finest
@@ -22,7 +22,7 @@ pub record IsPath (levels path : List ℕ) : Type 0 where
 pub record IsEntryOf (q : TypedQuery) (e : Entry) : Type 0 where
   pub name : e.name ≡ q.name
   pub path : IsPath q.levels e.levels
-  pub pieces : map place_of e.pieces ≡ places q.branches e.levels
+  pub pieces : map piece_place e.pieces ≡ places q.branches e.levels
 
 -- one entry for each query, in order
 abbrev pub AreEntriesOf : List TypedQuery → List Entry → Type 0
@@ -47,7 +47,7 @@ OnBranch P (Some b) = P b
 abbrev pub PiecesFit : (List ℕ → TypedBranch → Piece → Type 0) → List TypedQuery → List Entry → Type 0
 PiecesFit P [] es = Unit {0}
 PiecesFit P (q ∷ qs) [] = Unit {0}
-PiecesFit P (q ∷ qs) (e ∷ es) = AllByRecursion (λ p. OnBranch (λ b. P e.levels b p) (branch_of q p)) e.pieces × PiecesFit P qs es
+PiecesFit P (q ∷ qs) (e ∷ es) = AllByRecursion (λ p. OnBranch (λ b. P e.levels b p) (piece_branch q p)) e.pieces × PiecesFit P qs es
 
 -- the registers of a stage, and their bits
 pub record StageFits (s : Switch) (registers : List Register) (stage : ℕ) : Type 0 where

@@ -2,6 +2,7 @@ pub mod Capped
 pub mod Checks
 pub mod Fits
 pub mod Gaps
+pub mod Loads
 pub mod Paths
 pub mod Pieces
 pub mod Placing

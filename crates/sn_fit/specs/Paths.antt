@@ -54,8 +54,8 @@ Place = ℕ × ℕ
 abbrev pub at_place : ℕ → ℕ → Place
 at_place level branch = (level, branch)
 
-abbrev pub place_of : Piece → Place
-place_of p = at_place p.level p.branch
+abbrev pub piece_place : Piece → Place
+piece_place p = at_place p.level p.branch
 
 -- the places of a level, one for each branch from this number on
 abbrev pub level_places : ℕ → ℕ → List TypedBranch → List Place

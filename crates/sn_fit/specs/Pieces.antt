@@ -64,13 +64,13 @@ abbrev pub on_branch : {A : Type 0} → A → (TypedBranch → A) → Option Typ
 on_branch none f None = none
 on_branch none f (Some b) = f b
 
-abbrev pub branch_of : TypedQuery → Piece → Option TypedBranch
-branch_of q p = slice_get q.branches p.branch
+abbrev pub piece_branch : TypedQuery → Piece → Option TypedBranch
+piece_branch q p = slice_get q.branches p.branch
 
 -- the first misfit of an entry's pieces
 abbrev pub first_piece : (TypedBranch → Piece → Option Misfit) → TypedQuery → List Piece → Option Misfit
 first_piece check q [] = None
-first_piece check q (p ∷ ps) = or_else (on_branch None (λ b. check b p) (branch_of q p)) (first_piece check q ps)
+first_piece check q (p ∷ ps) = or_else (on_branch None (λ b. check b p) (piece_branch q p)) (first_piece check q ps)
 
 -- the first misfit of all pieces, entry by entry; a check takes the path too
 abbrev pub first_misfit : (List ℕ → TypedBranch → Piece → Option Misfit) → List TypedQuery → List Entry → Option Misfit
@@ -82,7 +82,7 @@ first_misfit check (q ∷ qs) (e ∷ es) = or_else (first_piece (check e.levels)
 
 abbrev pub entry_registers : ℕ → TypedQuery → List Piece → List Register
 entry_registers d q [] = []
-entry_registers d q (p ∷ ps) = on_branch [] (λ b. registers_of d b p) (branch_of q p) ++ entry_registers d q ps
+entry_registers d q (p ∷ ps) = on_branch [] (λ b. registers_of d b p) (piece_branch q p) ++ entry_registers d q ps
 
 -- the registers of all pieces
 abbrev pub all_registers : ℕ → List TypedQuery → List Entry → List Register
@@ -92,7 +92,7 @@ all_registers d (q ∷ qs) (e ∷ es) = entry_registers d q e.pieces ++ all_regi
 
 abbrev pub entry_metadata : TypedQuery → List Piece → ℕ
 entry_metadata q [] = 0
-entry_metadata q (p ∷ ps) = on_branch 0 (λ b. metadata_of b p) (branch_of q p) + entry_metadata q ps
+entry_metadata q (p ∷ ps) = on_branch 0 (λ b. metadata_of b p) (piece_branch q p) + entry_metadata q ps
 
 -- the metadata of all pieces
 abbrev pub all_metadata : List TypedQuery → List Entry → ℕ

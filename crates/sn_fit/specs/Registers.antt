@@ -81,11 +81,11 @@ bits_in stage registers = sum_by (λ r. r.bits) (standing_in stage registers)
 
 -- ---- metadata
 
-abbrev pub is_map : TOp → Bool
-is_map (Filter conds) = false
-is_map (Map exprs) = true
-is_map Distinct = false
-is_map (Reduce r) = false
+abbrev pub is_map_op : TOp → Bool
+is_map_op (Filter conds) = false
+is_map_op (Map exprs) = true
+is_map_op Distinct = false
+is_map_op (Reduce r) = false
 
 abbrev pub width_if : Bool → List Column → ℕ
 width_if mapped columns = if mapped then row_width columns else 0
@@ -94,4 +94,4 @@ width_if mapped columns = if mapped then row_width columns else 0
 -- and a map may stand before it.
 abbrev pub metadata : List (List Column) → Bool → ℕ → List TOp → ℕ
 metadata schemas mapped n [] = 0
-metadata schemas mapped n (op ∷ ops) = max (width_if (mapped || is_map op) (schema_at schemas (n + 1))) (metadata schemas (mapped || is_map op) (n + 1) ops)
+metadata schemas mapped n (op ∷ ops) = max (width_if (mapped || is_map_op op) (schema_at schemas (n + 1))) (metadata schemas (mapped || is_map_op op) (n + 1) ops)

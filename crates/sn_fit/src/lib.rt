@@ -2,14 +2,14 @@
 #![tactic(auto)]
 
 pub mod laws;
-mod load;
-mod metadata;
+pub mod loads;
+pub mod metadata;
 pub mod misfit;
-mod order;
+pub mod order;
 mod path;
-mod piece;
+pub mod piece;
 mod whole;
-mod width;
+pub mod width;
 
 pub use path::place_in;
 pub use whole::{fits, shape};

@@ -1,18 +1,18 @@
 //! The metadata of pieces.
 ghost use Rattle.std.specs.Prelude.{◌≡◌, ◌≤◌, ◌*◌, ◌^◌};
 ghost use Rattle.sn_fit.specs.Capped.{capped};
-ghost use Rattle.sn_fit.specs.Registers.{is_map};
-ghost use Rattle.sn_fit.specs.Pieces.{on_branch, branch_of, metadata_of, entry_metadata, all_metadata};
+ghost use Rattle.sn_fit.specs.Registers.{is_map_op};
+ghost use Rattle.sn_fit.specs.Pieces.{on_branch, piece_branch, metadata_of, entry_metadata, all_metadata};
 
-use crate::load::schema_at;
-use crate::piece::prefix;
+use crate::loads::schema_at;
+use crate::piece::{branch_of, prefix};
 use crate::width::row_width;
 use sn_plan_rules::plan::{Entry, Piece};
 use sn_types::typed_op::TOp;
 use sn_types::typed_query::{TypedBranch, TypedQuery};
 
-fn is_map(op: &TOp) -> bool
-    ensures { result ≡ is_map op.now }
+fn is_map_op(op: &TOp) -> bool
+    ensures { result ≡ is_map_op op.now }
 {
     match op {
         TOp::Map(_) => true,
@@ -20,8 +20,8 @@ fn is_map(op: &TOp) -> bool
     }
 }
 
-/// The widest row after any operator before the cut, from the first map on.
-fn piece_metadata(branch: &TypedBranch, piece: &Piece) -> u64
+/// The metadata of a piece of a branch, in bits: the widest row after any operator before the cut, from the first map on.
+pub fn piece_metadata(branch: &TypedBranch, piece: &Piece) -> u64
     ensures { result ≡ metadata_of branch.now piece.now }
 {
     let ops = prefix(branch, piece.cut);
@@ -29,7 +29,7 @@ fn piece_metadata(branch: &TypedBranch, piece: &Piece) -> u64
     let mut mapped = false;
     let mut widest = 0;
     for (n, op) in ops.iter().enumerate() {
-        mapped = mapped || is_map(op);
+        mapped = mapped || is_map_op(op);
         if mapped {
             widest = row_width(&schema_at(schemas, n + 1)).max(widest);
         }
@@ -38,9 +38,9 @@ fn piece_metadata(branch: &TypedBranch, piece: &Piece) -> u64
 }
 
 fn query_metadata(query: &TypedQuery, piece: &Piece) -> u64
-    ensures { result ≡ on_branch 0 (λ b. metadata_of b piece.now) (branch_of query.now piece.now) }
+    ensures { result ≡ on_branch 0 (λ b. metadata_of b piece.now) (piece_branch query.now piece.now) }
 {
-    match query.branches.as_slice().get(piece.branch as usize) {
+    match branch_of(query, piece) {
         None => 0,
         Some(branch) => piece_metadata(branch, piece),
     }

@@ -11,7 +11,7 @@ use sn_types::cuts::is_stateful;
 use sn_types::typed_op::TOp;
 
 /// The least stage behind a chain of registers, of which the first may stand in stage `least`.
-fn chain(least: u64, stages: &[u32]) -> Result<u64, Misfit>
+fn behind_chain(least: u64, stages: &[u32]) -> Result<u64, Misfit>
     ensures goes_on { (behind : List Table) → order_misfit least (map register stages.now ++ behind) ≡ goes_on result behind }
     ensures least { (behind : List Table) → IfOk result (λ n. least_behind least (map register stages.now ++ behind) ≡ least_behind n behind) }
     ensures most { IfOk result (λ n. n ≤ max least (2 ^ 32)) }
@@ -43,7 +43,7 @@ pub(crate) fn order(least: u64, depth: usize, ops: &[TOp], stages: &[u32]) -> Re
     for op in ops {
         if is_stateful(op) {
             let (own, after) = rest.split_at(depth.min(rest.len()));
-            least = chain(least, own)?;
+            least = behind_chain(least, own)?;
             rest = after;
         } else {
             least += 1;

@@ -1,12 +1,12 @@
 //! A piece by itself.
-ghost use Rattle.std.specs.Prelude.{◌≡◌, ◌≤◌, ◌*◌, ◌^◌, ◌++◌, List, take, length};
+ghost use Rattle.std.specs.Prelude.{◌≡◌, ◌≤◌, ◌*◌, ◌^◌, ◌++◌, List, take, length, MatchOption, Some, None};
 ghost use Rattle.sn_switch.specs.Texts.{IsSwitch};
 ghost use Rattle.sn_fit.specs.Checks.{told};
 ghost use Rattle.sn_fit.specs.Placing.{Table};
 ghost use Rattle.sn_fit.specs.Gaps.{least_behind};
 ghost use Rattle.sn_types.specs.Cuts.{stateful};
 ghost use Rattle.sn_fit.specs.Tables.{is_first, membership, order_misfit};
-ghost use Rattle.sn_fit.specs.Pieces.{tables_of, cut_misfit, strange_size, count_misfit, slots_misfit, stages_misfit, tables_misfit, piece_misfit};
+ghost use Rattle.sn_fit.specs.Pieces.{piece_branch, tables_of, cut_misfit, strange_size, count_misfit, slots_misfit, stages_misfit, tables_misfit, piece_misfit};
 
 use crate::misfit::{Misfit, MisfitKind};
 use crate::order::{end, order};
@@ -15,15 +15,22 @@ use sn_plan_rules::plan::Piece;
 use sn_switch::switch::Switch;
 use sn_types::cuts::stateful;
 use sn_types::typed_op::TOp;
-use sn_types::typed_query::TypedBranch;
+use sn_types::typed_query::{TypedBranch, TypedQuery};
 
 /// The operators before a cut.
-pub(crate) fn prefix(branch: &TypedBranch, cut: u32) -> &[TOp]
+pub fn prefix(branch: &TypedBranch, cut: u32) -> &[TOp]
     ensures value { result.now ≡ take cut branch.now.ops }
     ensures few { length result.now ≤ 2 ^ 32 }
 {
     let ops = branch.ops.as_slice();
     ops.split_at(ops.len().min(cut as usize)).0
+}
+
+/// The branch of a piece, if the query has one of its number.
+pub fn branch_of<'a>(query: &'a TypedQuery, piece: &Piece) -> Option<&'a TypedBranch>
+    ensures { MatchOption result (piece_branch query.now piece.now ≡ None) (λ branch. piece_branch query.now piece.now ≡ Some branch.now) }
+{
+    query.branches.as_slice().get(piece.branch as usize)
 }
 
 /// Whether the cut is one of the branch.

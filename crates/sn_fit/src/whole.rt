@@ -1,16 +1,18 @@
 //! Whether a plan fits a switch, and whether it has the shape of the queries.
-ghost use Rattle.std.specs.Prelude.{◌≡◌, ◌↔◌, ◌<◌, ◌≤◌, ◌^◌, IsOk, None, nat_lt};
+ghost use Rattle.std.specs.Prelude.{◌≡◌, ◌↔◌, ℕ, ◌<◌, ◌≤◌, ◌^◌, List, IsOk, None, nat_lt};
 ghost use Rattle.sn_switch.specs.Texts.{IsSwitch};
 ghost use Rattle.sn_fit.specs.Capped.{AreSmall};
 ghost use Rattle.sn_fit.specs.Checks.{told, failing};
 ghost use Rattle.sn_fit.specs.Fits.{Fits, HasShape};
-ghost use Rattle.sn_fit.specs.Pieces.{cut_misfit, piece_misfit, on_branch, branch_of, first_piece, first_misfit, all_registers, all_metadata, load_misfit, loads_misfit, meta_misfit, shape_misfit, fit_misfit};
+ghost use Rattle.sn_fit.specs.Loads.{load_in};
+ghost use Rattle.sn_fit.specs.Registers.{Register};
+ghost use Rattle.sn_fit.specs.Pieces.{cut_misfit, piece_misfit, on_branch, piece_branch, first_piece, first_misfit, all_registers, all_metadata, load_misfit, loads_misfit, meta_misfit, shape_misfit, fit_misfit};
 
-use crate::load::plan_load;
+use crate::loads::{Load, plan_loads};
 use crate::metadata::plan_metadata;
 use crate::misfit::{Misfit, MisfitKind};
 use crate::path::paths;
-use crate::piece::{cut, piece};
+use crate::piece::{branch_of, cut, piece};
 use sn_plan_rules::plan::{Entry, Piece, Plan};
 use sn_switch::switch::Switch;
 use sn_types::typed::Typed;
@@ -24,9 +26,9 @@ fn query_piece(
     piece_of: &Piece,
 ) -> Result<(), Misfit>
     requires { IsSwitch switch.now }
-    ensures { told result ≡ on_branch None (λ b. piece_misfit switch.now path.now b piece_of.now) (branch_of query.now piece_of.now) }
+    ensures { told result ≡ on_branch None (λ b. piece_misfit switch.now path.now b piece_of.now) (piece_branch query.now piece_of.now) }
 {
-    match query.branches.as_slice().get(piece_of.branch as usize) {
+    match branch_of(query, piece_of) {
         None => Ok(()),
         Some(branch) => piece(switch, path, branch, piece_of),
     }
@@ -62,9 +64,9 @@ fn plan_pieces(switch: &Switch, queries: &[TypedQuery], entries: &[Entry]) -> Re
 
 /// Whether the cut of a piece of a query is one of its branch.
 fn query_cut(query: &TypedQuery, piece: &Piece) -> Result<(), Misfit>
-    ensures { told result ≡ on_branch None (λ b. cut_misfit b piece.now) (branch_of query.now piece.now) }
+    ensures { told result ≡ on_branch None (λ b. cut_misfit b piece.now) (piece_branch query.now piece.now) }
 {
-    match query.branches.as_slice().get(piece.branch as usize) {
+    match branch_of(query, piece) {
         None => Ok(()),
         Some(branch) => cut(branch, piece),
     }
@@ -104,16 +106,9 @@ fn at_most(kind: MisfitKind, want: u64, got: u64) -> Result<(), Misfit>
 }
 
 /// Whether the registers of a stage keep the limits.
-fn stage_fits(
-    switch: &Switch,
-    queries: &[TypedQuery],
-    entries: &[Entry],
-    stage: u32,
-) -> Result<(), Misfit>
-    requires { AreSmall switch.now (all_registers switch.now.chain queries.now entries.now) }
-    ensures { told result ≡ load_misfit switch.now (all_registers switch.now.chain queries.now entries.now) stage }
+fn stage_fits(switch: &Switch, load: Load) -> Result<(), Misfit>
+    ensures { (registers : List Register) (stage : ℕ) → AreSmall switch.now registers → load ≡ load_in registers stage → told result ≡ load_misfit switch.now registers stage }
 {
-    let load = plan_load(stage, switch.chain as usize, queries, entries);
     at_most(
         MisfitKind::Actions,
         u64::from(switch.actions),
@@ -123,13 +118,14 @@ fn stage_fits(
 }
 
 /// Whether the registers of each stage keep the limits.
-#[tactic(auto, using(crate::proofs::FitLaws::next_stage))]
 fn stages_fit(switch: &Switch, queries: &[TypedQuery], entries: &[Entry]) -> Result<(), Misfit>
-    requires { AreSmall switch.now (all_registers switch.now.chain queries.now entries.now) }
+    requires few { switch.now.stages ≤ 32 }
+    requires small { AreSmall switch.now (all_registers switch.now.chain queries.now entries.now) }
     ensures { told result ≡ loads_misfit switch.now (all_registers switch.now.chain queries.now entries.now) 0 switch.now.stages }
 {
+    let loads = plan_loads(switch.chain as usize, queries, entries);
     for stage in 0..switch.stages {
-        stage_fits(switch, queries, entries, stage)?;
+        stage_fits(switch, loads.at(stage))?;
     }
     Ok(())
 }

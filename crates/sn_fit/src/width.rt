@@ -9,7 +9,7 @@ use sn_base::schema::Schema;
 use sn_types::typed_op::TOp;
 
 /// The width of a row, in bits.
-pub(crate) fn row_width(columns: &Schema) -> u64
+pub fn row_width(columns: &Schema) -> u64
     ensures value { result ≡ row_width columns.now }
     ensures most { result ≤ 8 * 2 ^ 32 }
 {
@@ -70,9 +70,10 @@ fn value_bits(op: &TOp) -> u64
     }
 }
 
-/// The bits of a register, or 2^64 - 1 where there are more.
+/// The bits of a register of a stateful operator with so many slots, to which rows of these columns come: each slot holds a key,
+/// a value and one bit. 2^64 - 1 where there are more.
 #[tactic(auto, using(crate::proofs::Caps::register_capped))]
-pub(crate) fn register_bits(size: u32, columns: &Schema, op: &TOp) -> u64
+pub fn register_bits(size: u32, columns: &Schema, op: &TOp) -> u64
     ensures { result ≡ capped (register_bits size columns.now op.now) }
 {
     let slot = key_bits(columns, op)

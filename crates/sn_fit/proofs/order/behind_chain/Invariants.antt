@@ -2,7 +2,7 @@ use Rattle.std.proofs.Common.{◌≡◌, ◌≤◌, ◌^◌, ◌++◌, List, map
 use Rattle.sn_fit.specs.Placing.{Table, register}
 use Rattle.sn_fit.specs.Tables.{order_misfit}
 use Rattle.sn_fit.specs.Gaps.{least_behind}
-use Rattle.sn_fit.proofs.order.chain.Given as goal
+use Rattle.sn_fit.proofs.order.behind_chain.Given as goal
 
 abbrev pub invariant-loop-stage : goal.invariant-loop-stage
 invariant-loop-stage l = record {
