@@ -1,0 +1,12 @@
+pub mod Flows
+pub mod Fronts
+pub mod KeptLaw
+pub mod Makings
+pub mod ReadOuts
+pub mod Residing
+pub mod Stands
+pub mod Starts
+pub mod Takes
+pub mod TupleLaw
+pub mod TypedLaw
+pub mod WindowLaw

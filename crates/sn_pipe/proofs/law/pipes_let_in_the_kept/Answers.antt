@@ -1,0 +1,8 @@
+use Rattle.sn_pipe.proofs.KeptLaw.{all_kept, same_kept}
+use Rattle.sn_pipe.proofs.law.pipes_let_in_the_kept.Goals as goal
+
+pub returns-clause-all : goal.returns-clause-all
+returns-clause-all c = all_kept
+
+pub returns-clause-kept : goal.returns-clause-kept
+returns-clause-kept c = same_kept

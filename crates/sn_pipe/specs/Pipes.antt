@@ -1,0 +1,105 @@
+-- A pipe: the prefix of a branch at a level, for the tuples that a coarser level lets in.
+use Rattle.std.specs.Prelude.{◌≡◌, ℕ, ◌<◌, List, [], ◌∷◌, ◌++◌, map, filter, fold, take, length, Bool, true, false, nat_eq, Option, None, Some, IsSome, if◌then◌else◌}
+use Rattle.std.specs.List.{list_any}
+use Rattle.std.specs.Ordering.{nat_cmp}
+use Rattle.std.specs.FinSet as set
+use Rattle.sn_base.specs.Groups.{Row}
+use Rattle.sn_fields.specs.declared.field.Field.{Field}
+use Rattle.sn_ops.specs.Packets.{is_member}
+use Rattle.sn_report.specs.declared.frame.Item.{Item}
+use Rattle.sn_types.specs.declared.typed_op.TOp.{TOp}
+use Rattle.sn_types.specs.declared.typed_query.TypedQuery.{TypedQuery}
+use Rattle.sn_types.specs.Typed.{branch_of, packet_row}
+use Rattle.sn_pipe.specs.declared.stage.Stage.{Stage}
+use Rattle.sn_pipe.specs.declared.stage.Stage.TheVariants.{Filter, Map, Distinct, Reduce}
+use Rattle.sn_types.specs.Cuts.{size_at}
+use Rattle.sn_pipe.specs.Making.{AreStagesOf}
+use Rattle.sn_pipe.specs.Prefixes.{PrefixState}
+use Rattle.sn_pipe.specs.Windows.{option_list}
+use Rattle.sn_pipe.specs.Stages.{cleared, item_from, stages_after, top_of}
+
+-- the query and the number of the branch; the level before on the path, if there is one, and its prefixes; the prefix
+pub record PipeState : Type 0 where
+  pub query : TypedQuery
+  pub branch : ℕ
+  pub coarser : Option ℕ
+  pub members : set.FinSet nat_cmp
+  pub prefix : PrefixState
+
+-- a tuple is let in: where a level before is given, its refinement field masked to that level is in the set
+abbrev pub is_let_in : Option Field → Option ℕ → set.FinSet nat_cmp → List ℕ → Bool
+is_let_in field None members tuple = true
+is_let_in None (Some bits) members tuple = false
+is_let_in (Some field) (Some bits) members tuple = is_member field members bits tuple
+
+abbrev pub lets_in : PipeState → List ℕ → Bool
+lets_in p tuple = is_let_in p.query.field p.coarser p.members tuple
+
+-- the packet row of a tuple
+abbrev pub row_in : PipeState → List ℕ → Row
+row_in p tuple = packet_row p.query.field p.prefix.level (branch_of p.query p.branch).fields tuple
+
+-- the item that a tuple gives
+abbrev pub item_of : PipeState → List ℕ → Option Item
+item_of p tuple = if lets_in p tuple then item_from p.prefix.level 0 p.prefix.stages (row_in p tuple) else None
+
+-- the stages after a tuple
+abbrev pub after_tuple : PipeState → List ℕ → List Stage
+after_tuple p tuple = if lets_in p tuple then stages_after p.prefix.level p.prefix.stages (row_in p tuple) else p.prefix.stages
+
+-- the registers of a reduce have its fold
+abbrev pub FoldsAgree : List Stage → Type 0
+FoldsAgree [] = Unit {0}
+FoldsAgree (Filter conds ∷ ss) = FoldsAgree ss
+FoldsAgree (Map exprs ∷ ss) = FoldsAgree ss
+FoldsAgree (Distinct chain spilled ∷ ss) = FoldsAgree ss
+FoldsAgree (Reduce r chain ∷ ss) = (chain.fold ≡ r.fold) × FoldsAgree ss
+
+-- a level before is one of a refined query's
+abbrev pub IsCoarser : TypedQuery → Option ℕ → Type 0
+IsCoarser query None = Unit {0}
+IsCoarser query (Some bits) = IsSome query.field × (list_any (nat_eq bits) query.levels ≡ true)
+
+-- a prefix of this branch at one of the query's levels
+pub record IsPipe (query : TypedQuery) (branch : ℕ) (coarser : Option ℕ) (prefix : PrefixState) : Type 0 where
+  pub cut : ℕ
+  pub within : branch < length query.branches
+  pub level : list_any (nat_eq prefix.level) query.levels ≡ true
+  pub before : IsCoarser query coarser
+  pub operators : map top_of prefix.stages ≡ take cut (branch_of query branch).ops
+  pub folds : FoldsAgree prefix.stages
+
+-- a pipe as it is made: with these operators at this level, empty registers and an empty prefix set
+pub record IsNewPipe (query : TypedQuery) (branch level : ℕ) (coarser : Option ℕ) (ops : List TOp) (depth : ℕ) (sizes : List ℕ) (pipe : PipeState) : Type 0 where
+  pub same_query : pipe.query ≡ query
+  pub same_branch : pipe.branch ≡ branch
+  pub same_coarser : pipe.coarser ≡ coarser
+  pub no_member : pipe.members ≡ set.empty
+  pub same_level : pipe.prefix.level ≡ level
+  pub stages : AreStagesOf ops depth (size_at ops sizes) pipe.prefix.stages
+  pub unread : pipe.prefix.place ≡ 0
+
+-- ---- a window
+
+-- the rows of the tuples that are let in
+abbrev pub rows_in : PipeState → List (List ℕ) → List Row
+rows_in p tuples = map (row_in p) (filter (lets_in p) tuples)
+
+abbrev pub after_packet : PipeState → List ℕ → PipeState
+after_packet p tuple = record p { prefix = record p.prefix { stages = after_tuple p tuple } }
+
+abbrev pub after_packets : PipeState → List (List ℕ) → PipeState
+after_packets p tuples = fold after_packet p tuples
+
+-- what tuples give that come one after another
+abbrev pub packets_give : PipeState → List (List ℕ) → List Item
+packets_give p [] = []
+packets_give p (tuple ∷ tuples) = option_list (item_of p tuple) ++ packets_give (after_packet p tuple) tuples
+
+-- a pipe at the start of a window, with this prefix set
+abbrev pub at_start : PipeState → set.FinSet nat_cmp → PipeState
+at_start p kept = record p { members = kept; prefix = record p.prefix { stages = map cleared p.prefix.stages; place = 0 } }
+
+-- the tuples are let in that a pipe with these prefixes lets in
+abbrev pub rows_let_in : TypedQuery → ℕ → ℕ → Option ℕ → set.FinSet nat_cmp → List (List ℕ) → List Row
+rows_let_in query b level coarser members tuples = map (packet_row query.field level (branch_of query b).fields) (filter (is_let_in query.field coarser members) tuples)

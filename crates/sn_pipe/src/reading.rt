@@ -1,0 +1,184 @@
+//! What is read out of the stages of a pipe.
+ghost use Rattle.std.specs.Prelude.{◌≡◌, ◌+◌, ◌≤◌, ◌<◌, ◌++◌, ◌∷◌, IfSome, drop, filter, length, slice_get};
+ghost use Rattle.sn_chain.specs.Registers.{cell};
+ghost use Rattle.sn_report.specs.Frames.{operator_of};
+ghost use Rattle.std.specs.Option.{option_map};
+ghost use Rattle.sn_pipe.specs.Passing.{CanRead, CanTest, HoldKeys};
+ghost use Rattle.sn_pipe.specs.Windows.{goes_up, held_row, item_up, left_from, option_list, passes, rows_left, tag_up};
+
+use crate::stage::Stage;
+use sn_base::any_fold::AnyFold;
+use sn_base::row::Row;
+use sn_chain::chain::Chain;
+use sn_report::frame::{Item, Tag};
+use sn_types::evaluate;
+use sn_types::typed_op::TReduce;
+
+/// Whether a row passes these stages, all of which are filters.
+fn passes(stages: &[Stage], level: u32, row: &Row) -> bool
+    requires { CanTest (length row.now) stages.now }
+    ensures { result ≡ passes level stages.now row.now }
+{
+    match stages.split_first() {
+        None => true,
+        Some((Stage::Filter(conds), behind)) => {
+            evaluate::passes(conds.as_slice(), level, row) && passes(behind, level, row)
+        }
+        Some(_) => false,
+    }
+}
+
+/// Whether a held row goes up: as it is where the distinct overflowed, and else where it passes the filters.
+fn goes_up(behind: &[Stage], level: u32, spilled: bool, row: &Row) -> bool
+    requires { CanTest (length row.now) behind.now }
+    ensures { result ≡ goes_up level spilled behind.now row.now }
+{
+    spilled || passes(behind, level, row)
+}
+
+/// With which tag held rows of the reduce of number `first` go up.
+fn tag_up(first: u8, spilled: bool, behind: &[Stage]) -> Tag
+    requires { first + length behind.now < 12 }
+    ensures tag { result ≡ tag_up first spilled behind.now }
+    ensures operator { operator_of result ≤ 12 }
+{
+    if spilled {
+        Tag::Partial(first)
+    } else {
+        Tag::At(first + 1 + behind.len() as u8)
+    }
+}
+
+/// A key that is held, as a row: its columns, and the fold of its values.
+fn held_row(held: (Row, u64)) -> Row
+    requires { length held.0 < 8 }
+    ensures { result ≡ held_row held }
+{
+    let (key, value) = held;
+    let Some(row) = key.with(value) else {
+        unreachable!();
+    };
+    row
+}
+
+/// The row of the key that is held at a place, if one is.
+fn row_at(chain: &Chain<AnyFold>, at: u32, columns: usize) -> Option<Row>
+    requires few { columns < 8 }
+    requires keys { HoldKeys columns chain.now.cells }
+    ensures row { result ≡ option_map held_row (cell chain.now.cells at) }
+    ensures columns { IfSome result (λ row. length row ≡ columns + 1) }
+{
+    match chain.get(at) {
+        Some(held) => Some(held_row(held)),
+        None => None,
+    }
+}
+
+/// The row at a place, if it goes up.
+fn up_at(
+    chain: &Chain<AnyFold>,
+    behind: &[Stage],
+    level: u32,
+    spilled: bool,
+    at: u32,
+    columns: usize,
+) -> Option<Row>
+    requires few { columns < 8 }
+    requires keys { HoldKeys columns chain.now.cells }
+    requires test { CanTest (columns + 1) behind.now }
+    requires within { at < length chain.now.cells }
+    ensures { filter (goes_up level spilled behind.now) (rows_left chain.now at) ≡ option_list result ++ filter (goes_up level spilled behind.now) (rows_left chain.now (at + 1)) }
+{
+    let row = row_at(chain, at, columns)?;
+    if goes_up(behind, level, spilled, &row) {
+        Some(row)
+    } else {
+        None
+    }
+}
+
+/// The first row from a place on that goes up, and the place behind it.
+fn first_up(
+    chain: &Chain<AnyFold>,
+    behind: &[Stage],
+    level: u32,
+    spilled: bool,
+    place: u32,
+    columns: usize,
+) -> (Option<Row>, u32)
+    requires few { columns < 8 }
+    requires keys { HoldKeys columns chain.now.cells }
+    requires test { CanTest (columns + 1) behind.now }
+    ensures row { result.0 ≡ slice_get (filter (goes_up level spilled behind.now) (rows_left chain.now place)) 0 }
+    ensures left { filter (goes_up level spilled behind.now) (rows_left chain.now result.1) ≡ drop 1 (filter (goes_up level spilled behind.now) (rows_left chain.now place)) }
+{
+    for at in place..chain.places() {
+        let row = up_at(chain, behind, level, spilled, at, columns);
+        if row.is_some() {
+            return (row, at + 1);
+        }
+    }
+    (None, place.max(chain.places()))
+}
+
+/// The next item that is read out of stages, the first of which has number `first`, from a place of the reduce on;
+/// and the place behind it.
+pub(crate) fn next_item(
+    stages: &[Stage],
+    level: u32,
+    first: u8,
+    spilled: bool,
+    place: u32,
+) -> (Option<Item>, u32)
+    requires few { first + length stages.now ≤ 12 }
+    requires can { CanRead stages.now }
+    ensures item { result.0 ≡ slice_get (left_from level first spilled place stages.now) 0 }
+    ensures left { left_from level first spilled result.1 stages.now ≡ drop 1 (left_from level first spilled place stages.now) }
+    ensures operator { IfSome result.0 (λ item. operator_of item.tag ≤ 12) }
+{
+    match stages.split_first() {
+        None => (None, place),
+        Some((Stage::Filter(_) | Stage::Map(_), behind)) => {
+            next_item(behind, level, first + 1, spilled, place)
+        }
+        Some((Stage::Distinct(_, over), behind)) => {
+            next_item(behind, level, first + 1, spilled || *over, place)
+        }
+        Some((Stage::Reduce(r, chain), behind)) => {
+            next_held(r, chain, behind, level, first, spilled, place)
+        }
+    }
+}
+
+/// The next item that is read out of a reduce of number `first`, from a place on, and the place behind it.
+fn next_held(
+    r: &TReduce,
+    chain: &Chain<AnyFold>,
+    behind: &[Stage],
+    level: u32,
+    first: u8,
+    spilled: bool,
+    place: u32,
+) -> (Option<Item>, u32)
+    requires few { first + length behind.now < 12 }
+    requires columns { length r.now.keys < 8 }
+    requires keys { HoldKeys (length r.now.keys) chain.now.cells }
+    requires test { CanTest (length r.now.keys + 1) behind.now }
+    ensures item { result.0 ≡ slice_get (left_from level first spilled place (Stage.Reduce r.now chain.now ∷ behind.now)) 0 }
+    ensures left { left_from level first spilled result.1 (Stage.Reduce r.now chain.now ∷ behind.now) ≡ drop 1 (left_from level first spilled place (Stage.Reduce r.now chain.now ∷ behind.now)) }
+    ensures operator { IfSome result.0 (λ item. operator_of item.tag ≤ 12) }
+{
+    let columns = r.keys.as_slice().len();
+    let (row, after) = first_up(chain, behind, level, spilled, place, columns);
+    (with_tag(tag_up(first, spilled, behind), row), after)
+}
+
+fn with_tag(tag: Tag, row: Option<Row>) -> Option<Item>
+    ensures item { result ≡ option_map (item_up tag) row }
+    ensures operator { operator_of tag ≤ 12 → IfSome result (λ item. operator_of item.tag ≤ 12) }
+{
+    match row {
+        Some(row) => Some(Item { tag, row }),
+        None => None,
+    }
+}

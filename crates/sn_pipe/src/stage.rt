@@ -1,0 +1,102 @@
+//! The operators of a pipe, with their registers.
+ghost use Rattle.std.specs.Prelude.{◌≡◌, Some, None, false, if◌then◌else◌};
+ghost use Rattle.sn_pipe.specs.Passing.{CanTake, passed_as};
+ghost use Rattle.sn_pipe.specs.Stages.{after_row, cleared, flows, is_new, is_over, overflows};
+
+use sn_base::any_fold::AnyFold;
+use sn_base::fold::Or;
+use sn_base::row::Row;
+use sn_base::seq::Seq;
+use sn_chain::chain::Chain;
+use sn_chain::offer::Offer;
+use sn_types::evaluate::{columns_of, mapped, passes};
+use sn_types::typed_op::{TCond, TExpr, TReduce};
+
+/// An operator, with the registers that it has.
+#[derive(Drop)]
+pub enum Stage {
+    /// Lets the rows on for which all conditions hold.
+    Filter(Seq<TCond>),
+    /// Makes of each row the row of these values.
+    Map(Seq<TExpr>),
+    /// Lets a row on that its registers don't hold yet. The flag tells whether a row overflowed in this window.
+    Distinct(Chain<Or>, bool),
+    /// Folds the values of each key in its registers.
+    Reduce(TReduce, Chain<AnyFold>),
+}
+
+/// What became of a row at a stage.
+pub(crate) enum Passed {
+    /// It flows on, as this row.
+    On(Row),
+    /// It goes no further.
+    Stays,
+    /// Its key overflows.
+    Over,
+}
+
+fn on_if(goes: bool, row: &Row) -> Passed
+    ensures { result ≡ passed_as false (if goes then Some row.now else None) }
+{
+    if goes {
+        Passed::On(*row)
+    } else {
+        Passed::Stays
+    }
+}
+
+fn first_only(answer: Offer, row: &Row) -> Passed
+    ensures { result ≡ passed_as (is_over answer) (if is_new answer then Some row.now else None) }
+{
+    match answer {
+        Offer::New => Passed::On(*row),
+        Offer::Held => Passed::Stays,
+        Offer::Over => Passed::Over,
+    }
+}
+
+fn folded(answer: Offer) -> Passed
+    ensures { result ≡ passed_as (is_over answer) None }
+{
+    match answer {
+        Offer::New | Offer::Held => Passed::Stays,
+        Offer::Over => Passed::Over,
+    }
+}
+
+impl Stage {
+    /// Takes a row that comes to it.
+    pub(crate) fn pass(&mut self, level: u32, row: &Row) -> Passed
+        requires { CanTake self.old row.now }
+        ensures passed { result ≡ passed_as (overflows self.old row.now) (flows level self.old row.now) }
+        ensures after { self.new ≡ after_row self.old row.now }
+    {
+        match self {
+            Stage::Filter(conds) => on_if(passes(conds.as_slice(), level, row), row),
+            Stage::Map(exprs) => Passed::On(mapped(row, exprs.as_slice())),
+            Stage::Distinct(chain, spilled) => {
+                let answer = chain.offer(row, 0);
+                *spilled = *spilled || answer == Offer::Over;
+                first_only(answer, row)
+            }
+            Stage::Reduce(r, chain) => {
+                let key = columns_of(row, r.keys.as_slice());
+                folded(chain.offer(&key, row.as_slice()[r.value as usize]))
+            }
+        }
+    }
+
+    /// Empties its registers.
+    pub(crate) fn clear(&mut self)
+        ensures { self.new ≡ cleared self.old }
+    {
+        match self {
+            Stage::Filter(_) | Stage::Map(_) => {}
+            Stage::Distinct(chain, spilled) => {
+                chain.clear();
+                *spilled = false;
+            }
+            Stage::Reduce(_, chain) => chain.clear(),
+        }
+    }
+}

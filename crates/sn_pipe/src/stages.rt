@@ -1,0 +1,37 @@
+//! The stages of a pipe, one after another.
+ghost use Rattle.std.specs.Prelude.{◌≡◌, ◌+◌, ◌≤◌, IfSome, length, map};
+ghost use Rattle.sn_report.specs.Frames.{operator_of};
+ghost use Rattle.sn_pipe.specs.Passing.{CanPass};
+ghost use Rattle.sn_pipe.specs.Stages.{cleared, item_from, stages_after};
+
+use crate::stage::{Passed, Stage};
+use sn_base::row::Row;
+use sn_report::frame::{Item, Tag};
+
+/// Takes a row through stages, the first of which has number `first`. The answer is the item that it gives.
+pub(crate) fn pass(stages: &mut [Stage], level: u32, first: u8, row: &Row) -> Option<Item>
+    requires few { first + length stages.old ≤ 12 }
+    requires can { CanPass level stages.old row.now }
+    ensures item { result ≡ item_from level first stages.old row.now }
+    ensures stages { stages.new ≡ stages_after level stages.old row.now }
+    ensures operator { IfSome result (λ item. operator_of item.tag ≤ 12) }
+{
+    let tag = Tag::At(first);
+    let Some((stage, behind)) = stages.split_first_mut() else {
+        return Some(Item { tag, row: *row });
+    };
+    match stage.pass(level, row) {
+        Passed::On(next) => pass(behind, level, first + 1, &next),
+        Passed::Stays => None,
+        Passed::Over => Some(Item { tag, row: *row }),
+    }
+}
+
+/// Empties all registers.
+pub(crate) fn clear(stages: &mut [Stage])
+    ensures { stages.new ≡ map cleared stages.old }
+{
+    for stage in stages.iter_mut() {
+        stage.clear();
+    }
+}
