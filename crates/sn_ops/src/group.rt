@@ -1,12 +1,13 @@
 //! Operators that group rows.
-ghost use Rattle.std.specs.Prelude.{◌≡◌, ◌<◌, ◌++◌, ◌∷◌, [], All, length, map, not, slice_index, unwrap_or, IfOk, OnOk};
+ghost use Rattle.std.specs.Prelude.{◌≡◌, ◌<◌, ◌≤◌, ◌++◌, ◌∷◌, [], All, length, map, take, not, slice_index, unwrap_or, IfOk, OnOk};
 ghost use Rattle.std.specs.List.{list_any};
 ghost use Rattle.std.specs.Map.{lookup};
 ghost use Rattle.sn_base.specs.AnyFold.{any_has, any_unit, any_step};
 ghost use Rattle.indexmap.specs.IndexMap.{insert_entry};
 ghost use Rattle.indexmap.specs.IndexSet.{insert_key};
-ghost use Rattle.sn_base.specs.Groups.{same_row};
-ghost use Rattle.sn_base.specs.Operators.{apply};
+ghost use Rattle.sn_base.specs.Groups.{same_row, folded};
+ghost use Rattle.sn_base.specs.Operators.{apply, grouped, pair_of, parted};
+ghost use Rattle.sn_ops.specs.Flow.{grouping_of, ReduceFits, ArePartsOf};
 ghost use Rattle.sn_types.specs.Values.{op_at};
 
 use indexmap::{IndexMap, IndexSet};
@@ -83,6 +84,51 @@ fn rows_of(alloc: Global, groups: &IndexMap<Row, u64>) -> Result<Seq<Row>, Memor
     Ok(out)
 }
 
+/// The first columns of a row.
+fn front_of(row: &Row, count: usize) -> Row
+    requires { count ≤ length row.now }
+    ensures { result ≡ take count row.now }
+{
+    let Some(front) = Row::new(&row.as_slice()[..count]) else {
+        unreachable!();
+    };
+    front
+}
+
+/// Each key that occurs in the rows, with the fold of that key's values from the unit.
+fn groups_of(alloc: Global, rows: &[Row], r: &TReduce) -> Result<IndexMap<Row, u64>, Memory>
+    requires { ReduceFits r.now rows.now }
+    ensures { IfOk result (λ groups. groups.entries ≡ folded same_row (any_step r.now.fold) (any_unit r.now.fold) (map (pair_of (grouping_of r.now)) rows.now)) }
+{
+    let mut groups = IndexMap::new(alloc);
+    for row in rows {
+        let key = columns_of(row, r.keys.as_slice());
+        add_to(r.fold, &mut groups, key, row.as_slice()[r.value as usize])?;
+    }
+    Ok(groups)
+}
+
+/// One row for each key that occurs in the rows or in the Partial rows, in the order of first places: the key columns,
+/// then the fold of all that key's values from the unit. A Partial row is a key with the fold of a part of its values.
+pub fn reduce_with(
+    alloc: Global,
+    rows: &[Row],
+    parts: &[Row],
+    r: &TReduce,
+) -> Result<Seq<Row>, Memory>
+    requires rows { ReduceFits r.now rows.now }
+    requires parts { ArePartsOf r.now parts.now }
+    ensures { let g = grouping_of r.now in IfOk result (λ out. out ≡ grouped g (map (pair_of g) rows.now ++ map (parted g) parts.now)) }
+{
+    let count = r.keys.as_slice().len();
+    let mut groups = groups_of(alloc, rows, r)?;
+    for part in parts {
+        let value = part.as_slice()[count];
+        add_to(r.fold, &mut groups, front_of(part, count), value)?;
+    }
+    rows_of(alloc, &groups)
+}
+
 /// One row for each key that occurs, in the order of first places: the key columns, then the fold of that key's
 /// values from the unit.
 pub fn reduce(alloc: Global, rows: &[Row], r: &TReduce) -> Result<Seq<Row>, Memory>
@@ -92,10 +138,5 @@ pub fn reduce(alloc: Global, rows: &[Row], r: &TReduce) -> Result<Seq<Row>, Memo
     requires had { All (λ row. any_has r.now.fold (slice_index row r.now.value)) rows.now }
     ensures { IfOk result (λ out. out ≡ apply (op_at 0 (TOp.Reduce r.now)) rows.now) }
 {
-    let mut groups = IndexMap::new(alloc);
-    for row in rows {
-        let key = columns_of(row, r.keys.as_slice());
-        add_to(r.fold, &mut groups, key, row.as_slice()[r.value as usize])?;
-    }
-    rows_of(alloc, &groups)
+    reduce_with(alloc, rows, &[], r)
 }
