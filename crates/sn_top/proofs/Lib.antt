@@ -1,11 +1,7 @@
-pub mod RunLemmas
-pub mod NumberLemmas
 pub mod RunSteps
 pub mod TypedLemmas
 pub mod PartLemmas
+pub mod WindowLemmas
+pub mod TextLemmas
 pub mod PlainLemmas
-pub mod FileLemmas
-pub mod StageLemmas
-pub mod ToldLemmas
 pub mod TopLemmas
-pub mod OutcomeLemmas

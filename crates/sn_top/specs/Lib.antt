@@ -1,12 +1,7 @@
-pub mod Windows
-pub mod Numbering
 pub mod NumberingOf
-pub mod Blocks
 pub mod Words
-pub mod Refusals
-pub mod Outcome
+pub mod Texts
 pub mod Answers
+pub mod Capture
 pub mod Plain
-pub mod Read
-pub mod Told
 pub mod Top

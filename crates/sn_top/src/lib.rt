@@ -2,13 +2,12 @@
 #![tactic(auto)]
 
 pub mod answers;
+pub mod capture;
 pub mod law;
 pub mod plain;
-pub mod refusal;
 pub mod runs;
 #[cfg(test)]
 mod tests;
-pub mod told;
+pub mod texts;
 pub mod top;
-pub mod windows;
 pub mod words;

@@ -1,18 +1,20 @@
 //! The top call: words in, texts and a status out.
-ghost use Rattle.std.specs.Prelude.{◌≡◌, ◌⊎◌, ◌↔◌, ℕ, List, Some, None, Err, true, false};
-ghost use Rattle.std.specs.FinMap.{get};
-ghost use Rattle.sn_io.specs.Counts.{ByName, Rose, RoseAt};
+ghost use Rattle.std.specs.Prelude.{◌≡◌, ◌↔◌, ◌<◌, [], ◌∷◌, Err, length, true, false};
+ghost use Rattle.sn_stage.specs.Desks.{sunk, world};
+ghost use Rattle.sn_stage.specs.Ends.{end_status, IsCommandRun, IsStatusTold};
+ghost use Rattle.sn_stage.specs.Runs.{Works};
+ghost use Rattle.sn_stage.specs.Worlds.{OutRose};
+ghost use Rattle.sn_top.specs.Plain.{Plain};
+ghost use Rattle.sn_top.specs.Top.{around};
 ghost use Rattle.sn_top.specs.Words.{texts, word_at, is_plain};
-ghost use Rattle.sn_top.specs.Outcome.{Outcome, Keeps};
-ghost use Rattle.sn_top.specs.Plain.{IsPlain};
-ghost use Rattle.sn_top.specs.Top.{end_status, end_line, IsRun, IsTold, IsStatusTold, AnyRose, AnyUnknown, OutRose};
 
 use crate::plain::plain;
-use crate::refusal::Refusal;
-use crate::told::tell;
 use crate::words::{Command, words};
 use sn_io::inputs::Inputs;
 use sn_io::sink::Sink;
+use sn_stage::desk::Desk;
+use sn_stage::lines::tell;
+use sn_stage::refusal::Refusal;
 use std::alloc::Global;
 
 fn status_of(answer: Result<(), Refusal>) -> u8
@@ -24,22 +26,40 @@ fn status_of(answer: Result<(), Refusal>) -> u8
     }
 }
 
+/// The word at a place.
+fn word(given: &[String], place: usize) -> &str
+    requires { place < length given.now }
+    ensures { result.now ≡ word_at (texts given.now) place }
+{
+    given[place].as_str()
+}
+
+/// Does the work of `plain`.
+fn work<I: Inputs, O: Sink>(
+    alloc: Global,
+    given: &[String],
+    desk: &mut Desk<'_, I, O>,
+) -> Result<(), Refusal>
+    requires { is_plain (texts given.now) ≡ true }
+    ensures { Works (word_at (texts given.now) 1 ∷ word_at (texts given.now) 2 ∷ []) (Plain (word_at (texts given.now) 1) (word_at (texts given.now) 2)) (world I.Inputs O.Sink desk.old) result (world I.Inputs O.Sink desk.new) }
+{
+    plain(alloc, word(given, 1), word(given, 2), desk)
+}
+
+/// Finds the command, and does its work.
 fn run<I: Inputs, O: Sink>(
     alloc: Global,
     given: &[String],
-    files: &mut I,
-    out: &mut O,
+    desk: &mut Desk<'_, I, O>,
 ) -> Result<(), Refusal>
-    ensures usage { result ≡ Err Refusal.Usage ↔ (is_plain (texts given.now) ≡ false) }
-    ensures nothing { result ≡ Err Refusal.Usage → O.written out.new ≡ O.written out.old }
-    ensures keeps { is_plain (texts given.now) ≡ true → (held : ByName (List ℕ)) → I.told files.old ≡ Some held → (outcome : Outcome (Unit {0})) → IsPlain held (word_at (texts given.now) 1) (word_at (texts given.now) 2) outcome → Keeps outcome result (O.written out.old) (O.written out.new) }
-    ensures missing { result ≡ Err Refusal.Missing → (get (I.faults files.old) (word_at (texts given.now) 1) ≡ None) ⊎ (get (I.faults files.old) (word_at (texts given.now) 2) ≡ None) }
-    ensures unknown { is_plain (texts given.now) ≡ true → get (I.faults files.old) (word_at (texts given.now) 1) ≡ None → result ≡ Err Refusal.Missing }
-    ensures fault { result ≡ Err Refusal.ReadFault → RoseAt (word_at (texts given.now) 1) (I.faults files.old) (I.faults files.new) ⊎ RoseAt (word_at (texts given.now) 2) (I.faults files.old) (I.faults files.new) }
-    ensures write_fault { result ≡ Err Refusal.WriteFault → Rose (O.faults out.old) (O.faults out.new) ⊎ Rose (O.empty_takes out.old) (O.empty_takes out.new) }
+    ensures usage { is_plain (texts given.now) ≡ false → result ≡ Err Refusal.Usage }
+    ensures nothing { is_plain (texts given.now) ≡ false → world I.Inputs O.Sink desk.new ≡ world I.Inputs O.Sink desk.old }
+    ensures works { is_plain (texts given.now) ≡ true → Works (word_at (texts given.now) 1 ∷ word_at (texts given.now) 2 ∷ []) (Plain (word_at (texts given.now) 1) (word_at (texts given.now) 2)) (world I.Inputs O.Sink desk.old) result (world I.Inputs O.Sink desk.new) }
+    ensures files_place { desk.new.files.ghost_name ≡ desk.old.files.ghost_name }
+    ensures out_place { desk.new.out.ghost_name ≡ desk.old.out.ghost_name }
 {
     match words(given) {
-        Ok(Command::Plain) => plain(alloc, given[1].as_str(), given[2].as_str(), files, out),
+        Ok(Command::Plain) => work(alloc, given, desk),
         Err(_) => Err(Refusal::Usage),
     }
 }
@@ -58,25 +78,17 @@ pub fn top<I: Inputs, O: Sink, E: Sink>(
     // 2: exactly where the words aren't in the grammar. Then nothing is written.
     ensures usage { (result ≡ 2) ↔ (is_plain (texts words.now) ≡ false) }
     ensures nothing { result ≡ 2 → O.written out.new ≡ O.written out.old }
-
-    // With a command's words over files whose contents are told, the run is that of its one outcome.
-    ensures run { is_plain (texts words.now) ≡ true → (held : ByName (List ℕ)) → I.told files.old ≡ Some held → (outcome : Outcome (Unit {0})) →
-        IsPlain held (word_at (texts words.now) 1) (word_at (texts words.now) 2) outcome →
-        IsRun outcome (AnyRose (texts words.now) (I.faults files.old) (I.faults files.new)) (OutRose (O.faults out.old) (O.faults out.new) (O.empty_takes out.old) (O.empty_takes out.new)) result (O.written out.old) (O.written out.new) }
-
-    // 9 over any files: only where the count of a file word rose, or a file word isn't known; always where the first isn't.
-    ensures read_fault { result ≡ 9 → AnyRose (texts words.now) (I.faults files.old) (I.faults files.new) ⊎ AnyUnknown (texts words.now) (I.faults files.old) }
-    ensures unknown { is_plain (texts words.now) ≡ true → get (I.faults files.old) (word_at (texts words.now) 1) ≡ None → result ≡ 9 }
     // 10 over any sink: only where a write failed in this call, or took nothing of a rest that has bytes.
-    ensures write_fault { result ≡ 10 → OutRose (O.faults out.old) (O.faults out.new) (O.empty_takes out.old) (O.empty_takes out.new) }
+    ensures write_fault { result ≡ 10 → OutRose (sunk O.Sink out.old) (sunk O.Sink out.new) }
+    // The line of the status is told.
+    ensures line { IsStatusTold result (sunk E.Sink err.old) (sunk E.Sink err.new) }
 
-    // The line of the status is told. Where the status is the one that is due, the line is that of the outcome.
-    ensures line { IsStatusTold result (E.faults err.old) (E.faults err.new) (E.empty_takes err.old) (E.empty_takes err.new) (E.written err.old) (E.written err.new) }
-    ensures due_line { is_plain (texts words.now) ≡ true → (held : ByName (List ℕ)) → I.told files.old ≡ Some held → (outcome : Outcome (Unit {0})) →
-        IsPlain held (word_at (texts words.now) 1) (word_at (texts words.now) 2) outcome → result ≡ end_status outcome.end →
-        IsTold (end_line outcome.end) (E.faults err.old) (E.faults err.new) (E.empty_takes err.old) (E.empty_takes err.new) (E.written err.old) (E.written err.new) }
+    // `plain QUERIES CAPTURE`: the run is that of its stages.
+    ensures plain { is_plain (texts words.now) ≡ true →
+        IsCommandRun (word_at (texts words.now) 1 ∷ word_at (texts words.now) 2 ∷ []) (Plain (word_at (texts words.now) 1) (word_at (texts words.now) 2)) (around I.Inputs O.Sink E.Sink files.old out.old err.old) result (around I.Inputs O.Sink E.Sink files.new out.new err.new) }
 {
-    let answer = run(alloc, words, files, out);
+    let mut desk = Desk { files, out };
+    let answer = run(alloc, words, &mut desk);
     tell(answer, err);
     status_of(answer)
 }

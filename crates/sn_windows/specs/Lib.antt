@@ -1,0 +1,5 @@
+pub mod Windows
+pub mod Numbering
+pub mod NumberingOf
+pub mod Blocks
+pub mod Laws

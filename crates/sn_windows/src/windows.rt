@@ -1,0 +1,72 @@
+//! Windows of records, numbered by time.
+ghost use Rattle.std.specs.Prelude.{◌≡◌, ◌↔◌, ◌≤◌, ◌<◌, IfOk, OnOk, OnErr, IsErr};
+
+/// A window with too many records.
+#[derive(Clone, Copy, Debug, PartialEq, Eq)]
+pub struct TooMany;
+
+/// The most records of one window.
+pub const MOST_RECORDS: u64 = 4194304;
+
+/// Numbers records by their times, one after another.
+#[derive(Clone, Copy, Debug)]
+pub struct Windows {
+    pub(crate) window_ns: u64,
+    pub(crate) first: Option<u64>,
+    pub(crate) number: u64,
+    pub(crate) count: u64,
+    ghost some: { 1 ≤ window_ns },
+    ghost few: { count ≤ 4194304 },
+}
+
+impl Windows {
+    ghost use Rattle.sn_windows.specs.Numbering.{next_number, next_count, stepped, begun};
+    ghost use Rattle.sn_windows.specs.NumberingOf.{numbering};
+
+    /// Windows of so many nanoseconds. The first record's time begins window 0.
+    pub fn new(window_ns: u64) -> Windows
+        requires { 1 ≤ window_ns }
+        ensures { numbering result ≡ begun window_ns }
+    {
+        Windows {
+            window_ns,
+            first: None,
+            number: 0,
+            count: 0,
+        }
+    }
+
+    /// The number of the last record's window, 0 before any record.
+    pub fn number(&self) -> u64
+        ensures { result ≡ self.now.number }
+    {
+        self.number
+    }
+
+    /// The number of the window of the next record: the greatest over it and all records before it.
+    /// `TooMany` exactly at record 4194305 of one window.
+    pub fn next_number(&mut self, time: u64) -> Result<u64, TooMany>
+        ensures number { IfOk result (λ n. n ≡ next_number (numbering self.old) time) }
+        ensures after { OnOk result (numbering self.new ≡ stepped (numbering self.old) time) }
+        ensures too_many { IsErr result ↔ (4194304 ≤ next_count (numbering self.old) time) }
+        ensures unchanged { OnErr result (numbering self.new ≡ numbering self.old) }
+    {
+        let first = self.first.unwrap_or(time);
+        let number = self.number.max(time.saturating_sub(first) / self.window_ns);
+        let before = if self.first.is_some() && number == self.number {
+            self.count
+        } else {
+            0
+        };
+        if before >= MOST_RECORDS {
+            return Err(TooMany);
+        }
+        *self = Windows {
+            window_ns: self.window_ns,
+            first: Some(first),
+            number,
+            count: before + 1,
+        };
+        Ok(number)
+    }
+}
