@@ -1,15 +1,18 @@
 #!/usr/bin/env python3
-"""Answers `run`, `emit` and `finish` as `sonata` should: an independent and slow reference, for comparison.
+"""Answers the commands around plans as `sonata` should: an independent and slow reference, for comparison.
 
     planned.py run SWITCH QUERIES PLAN CAPTURE
     planned.py emit SWITCH QUERIES PLAN CAPTURE
     planned.py finish QUERIES PLAN REPORTS
+    planned.py plan SWITCH QUERIES TRAIN [--nodes N]
+    planned.py check SWITCH QUERIES TRAIN PLANTREE
+    planned.py live SWITCH QUERIES TRAIN CAPTURE [--nodes N]
 """
 
 import sys
 
 from plain import read, told
-from reference import fields, grammar, plans, split, switches, tokens, typing_rules
+from reference import costs, fields, grammar, plans, split, switches, tokens, typing_rules
 
 
 class Refused(Exception):
@@ -79,7 +82,73 @@ def finish(queries_name, plan_name, reports_name):
     return text
 
 
-COMMANDS = {'run': lambda *names: over_capture(split.run, *names), 'emit': lambda *names: over_capture(split.emit, *names), 'finish': finish}
+def trained(window, queries, switch, name):
+    """The costs on a training capture, of which the whole records count."""
+    try:
+        windows, _ = split.windows_of(window, held(name))
+    except fields.BadHeader as fault:
+        raise Refused(5, 'capture %s byte %d' % fault.args) from fault
+    return costs.Costs(queries, switch, windows)
+
+
+def found(table, nodes):
+    """The first least plan."""
+    try:
+        return costs.best(table, nodes)
+    except costs.Budget as budget:
+        raise Refused(8, 'budget %d bound %d' % (nodes, *budget.args)) from budget
+
+
+def nodes_of(words):
+    return int(words[1]) if words else 100000
+
+
+def plan(switch_name, queries_name, train_name, *words):
+    window, queries = read_queries(queries_name)
+    table = trained(window, queries, read_switch(switch_name), train_name)
+    return costs.certificate(table, found(table, nodes_of(words)))
+
+
+def live(switch_name, queries_name, train_name, capture_name, *words):
+    window, queries = read_queries(queries_name)
+    switch = read_switch(switch_name)
+    table = trained(window, queries, switch, train_name)
+    chosen = found(table, nodes_of(words))
+    front = costs.certificate(table, chosen)
+    file = read(capture_name)
+    if file is None:
+        raise Refused(9, 'read fault', front)
+    try:
+        text, ending = split.run(window, queries, switch, chosen.plan(), file)
+    except fields.BadHeader as fault:
+        raise Refused(5, 'capture %s byte %d' % fault.args, front) from fault
+    if ending:
+        raise Refused(5, 'capture %s byte %d' % ending, front + text)
+    return front + text
+
+
+def check(switch_name, queries_name, train_name, certificate_name):
+    window, queries = read_queries(queries_name)
+    switch = read_switch(switch_name)
+    table = trained(window, queries, switch, train_name)
+    entries = read_plan(certificate_name, lambda entries: plans.check_fits(queries, switch, entries))
+    reader = costs.TreeReader(held(certificate_name))
+    reader.plan()
+    try:
+        number, nodes = reader.tree()
+    except tokens.Fault as fault:
+        raise Refused(7, 'tree %s line %d' % (fault.kind, fault.line)) from fault
+    chosen = costs.Partial(table, costs.choices_of(table, entries))
+    try:
+        costs.check_tree(table, chosen, number, nodes)
+    except costs.Untrue as untrue:
+        raise Refused(7, 'tree %s node %d want %d got %d' % untrue.args) from untrue
+    return b'yes cost %d nodes %d\n' % (number, len(nodes))
+
+
+COMMANDS = {'run': lambda *names: over_capture(split.run, *names), 'emit': lambda *names: over_capture(split.emit, *names), 'finish': finish,
+            'plan': plan, 'check': check, 'live': live}
+FILES = {'run': 4, 'emit': 4, 'finish': 3, 'plan': 3, 'check': 4, 'live': 4}
 
 
 def answer(command, *names):
@@ -91,7 +160,7 @@ def answer(command, *names):
 
 
 def main():
-    if len(sys.argv) < 2 or sys.argv[1] not in COMMANDS or len(sys.argv) != (5 if sys.argv[1] == 'finish' else 6):
+    if len(sys.argv) < 2 or sys.argv[1] not in COMMANDS or len(sys.argv) < FILES[sys.argv[1]] + 2:
         sys.exit(__doc__)
     status, text, line = answer(*sys.argv[1:])
     sys.stdout.buffer.write(text)
