@@ -1,8 +1,9 @@
 -- The sums of a plan whose pieces fit are small.
-use Rattle.std.proofs.Common.{◌≡◌, ℕ, zero, suc, ◌+◌, ◌*◌, ◌^◌, ◌≤◌, ◌<◌, List, [], ◌∷◌, map, take, drop, length, Bool, true, false, ◌||◌, cond, nat_eq, Option, Some, None, IfSome, slice_get, refl, ap, sym, ◌∙◌, subst, arith, length-append, length-drop}
+use Rattle.std.proofs.Common.{◌≡◌, ℕ, zero, suc, ◌+◌, ◌*◌, ◌^◌, ◌≤◌, ◌<◌, List, [], ◌∷◌, map, take, drop, length, sum_by, Bool, true, false, ◌||◌, cond, nat_eq, Option, Some, None, IfSome, slice_get, refl, ap, sym, ◌∙◌, subst, arith, length-append, length-drop}
 use Rattle.std.specs.Prelude.{◌==◌, slice_index}
 use Rattle.std.specs.List.{AllByRecursion, list_any}
 use Rattle.std.proofs.lemmas.List.{length-map, length-take}
+use Rattle.std.proofs.lemmas.List.Sums.{sum_by-cons}
 use Rattle.std.proofs.Math.Nat.{mul-le-mul_left}
 use Rattle.std.proofs.Math.Bridge.{le_prop}
 use Rattle.std.proofs.Math.Logic.{∥∥₁_elim}
@@ -121,6 +122,21 @@ few_pieces q e b h =
     let most = places_length q.branches e.levels b.branches in
     let is : length e.pieces ≡ length (places q.branches e.levels) = sym (length-map e.pieces piece_place) ∙ ap length h.pieces in
     omega (arith, short, most, is)
+
+-- a plan has few pieces
+pub few_in_all : (window : ℕ) (qs : List TypedQuery) (es : List Entry) → ∥ IsTyped window qs ∥₁ → AreEntriesOf qs es → sum_by (λ e. length e.pieces) es ≤ 1040
+few_in_all window qs es t h =
+    ∥∥₁_elim t le_prop (λ t. let b = bounded window qs t in let most = few_in_each qs es b.each h in let count = b.count in omega (arith, most, count))
+  where
+    few_in_each : (rest : List TypedQuery) (es : List Entry) → AllByRecursion QueryBounds rest → AreEntriesOf rest es → sum_by (λ e. length e.pieces) es ≤ 130 * length rest
+    few_in_each [] [] b h = omega arith
+    few_in_each [] (e ∷ es) b h = absurd h
+    few_in_each (q ∷ rest) [] b h = absurd h
+    few_in_each (q ∷ rest) (e ∷ es) b h =
+        let here = few_pieces q e b.0 h.0 in
+        let more = few_in_each rest es b.1 h.1 in
+        let both = sum_by-cons (λ (e : Entry). length e.pieces) e es in
+        omega (arith, here, more, both)
 
 -- ---- registers of a piece
 

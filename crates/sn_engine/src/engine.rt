@@ -1,0 +1,182 @@
+//! The engine.
+ghost use Rattle.std.specs.Prelude.{◌≡◌, ◌<◌, ◌^◌, length, map, position, slice_get, is_some, true, false, Some, None, IfOk, OnOk, OnErr};
+ghost use Rattle.std.specs.List.{list_all, list_any};
+ghost use Rattle.std.specs.Option.{option_map_or};
+ghost use Rattle.sn_engine.specs.Intakes.{AreIntakes, are_intakes_prop, EndsAgree, ends_agree_prop, total, with_item, with_end, with_first, is_lane, after_frame, emptied, has_ended, has_started, intakes_of};
+ghost use Rattle.sn_engine.specs.Taking.{take_fault, Refuses};
+ghost use Rattle.sn_engine.specs.Answers.{Closes};
+ghost use Rattle.sn_fit.specs.Fits.{HasShape};
+ghost use Rattle.sn_report.specs.declared.frame.Frame.TheVariants as Frame;
+
+use crate::answers::{first_open, parts, window_of};
+use crate::fault::{CloseFault, TakeFault};
+use crate::intake::Intake;
+use crate::make::intakes;
+use crate::refuse::{place_for_end, place_for_item};
+use sn_base::lane::Lane;
+use sn_base::memory::Memory;
+use sn_plan_rules::plan::Plan;
+use sn_report::frame::{Frame, Item};
+use sn_types::answers::Answers;
+use sn_types::typed::Typed;
+use std::alloc::Global;
+
+/// Takes the frames of a plan's lanes, in any order between the lanes, and answers each window once all lanes have ended it.
+#[derive(Drop)]
+pub struct Engine {
+    pub alloc: Global,
+    pub t: Typed,
+    /// By lane: the pieces of the plan in their order.
+    pub lanes: Vec<Intake>,
+    /// How many items came since the last close.
+    pub count: u64,
+    /// The window that was closed last.
+    pub closed: Option<u64>,
+    ghost counted: { count ≡ total lanes.items },
+    // so that the number of a lane is one for `Unfinished`
+    ghost few: { length lanes.items < 2 ^ 32 },
+    ghost agreed: { EndsAgree lanes.items } by { ends_agree_prop lanes.items },
+    ghost sound: { AreIntakes t.queries lanes.items } by { are_intakes_prop t.queries lanes.items },
+}
+
+/// Adds an item to a lane.
+fn push_item(lanes: &mut Vec<Intake>, at: usize, lane: Lane, item: Item) -> Result<(), TakeFault>
+    requires { position (is_lane lane) lanes.old.items ≡ Some at }
+    ensures ok { OnOk result (lanes.new.items ≡ with_first (is_lane lane) (with_item item) lanes.old.items) }
+    ensures err { OnErr result (lanes.new.items ≡ lanes.old.items) }
+    ensures fault { OnErr result (result ≡ Err TakeFault.Memory) }
+{
+    lanes[at].push(item)
+}
+
+/// Ends a lane's window.
+fn put_end(lanes: &mut Vec<Intake>, at: usize, lane: Lane, window: u64)
+    requires { position (is_lane lane) lanes.old.items ≡ Some at }
+    ensures { lanes.new.items ≡ with_first (is_lane lane) (with_end window) lanes.old.items }
+{
+    lanes[at].end(window);
+}
+
+/// Empties all lanes.
+fn empty_all(alloc: Global, lanes: &mut [Intake])
+    ensures { lanes.new ≡ map emptied lanes.old }
+{
+    for x in lanes.iter_mut() {
+        x.empty(alloc);
+    }
+}
+
+impl Engine {
+    /// The engine of a plan that has the shape of the queries. Nothing has come, and no window was closed.
+    pub fn make(alloc: Global, t: &Typed, plan: &Plan) -> Result<Engine, Memory>
+        requires { HasShape t.now.queries plan.now.entries }
+        ensures queries { IfOk result (λ engine. engine.t.queries ≡ t.now.queries) }
+        ensures lanes { IfOk result (λ engine. engine.lanes.items ≡ intakes_of 0 plan.now.entries) }
+        ensures closed { IfOk result (λ engine. engine.closed ≡ None) }
+    {
+        let lanes = intakes(alloc, plan.entries.as_slice())?;
+        let copied = t.copy()?;
+        Ok(Engine {
+            alloc,
+            t: copied,
+            lanes,
+            count: 0,
+            closed: None,
+        })
+    }
+
+    fn take_row(&mut self, lane: Lane, item: Item) -> Result<(), TakeFault>
+        ensures fault { Refuses result (take_fault self.old.t.queries self.old.lanes.items self.old.closed (Frame.Row lane item)) }
+        ensures taken { OnOk result (self.new.lanes.items ≡ after_frame self.old.lanes.items (Frame.Row lane item)) }
+        ensures kept { OnErr result (self.new.lanes.items ≡ self.old.lanes.items) }
+        ensures closed { self.new.closed ≡ self.old.closed }
+        ensures queries { self.new.t.queries ≡ self.old.t.queries }
+    {
+        let at = place_for_item(&self.t, &self.lanes, lane, &item)?;
+        if self.count == u64::MAX {
+            return Err(TakeFault::Memory);
+        }
+        push_item(&mut self.lanes, at, lane, item)?;
+        self.count += 1;
+        Ok(())
+    }
+
+    fn take_end(&mut self, lane: Lane, window: u64) -> Result<(), TakeFault>
+        ensures fault { Refuses result (take_fault self.old.t.queries self.old.lanes.items self.old.closed (Frame.End lane window)) }
+        ensures taken { OnOk result (self.new.lanes.items ≡ after_frame self.old.lanes.items (Frame.End lane window)) }
+        ensures kept { OnErr result (self.new.lanes.items ≡ self.old.lanes.items) }
+        ensures closed { self.new.closed ≡ self.old.closed }
+        ensures queries { self.new.t.queries ≡ self.old.t.queries }
+    {
+        let at = place_for_end(&self.lanes, self.closed, lane, window)?;
+        put_end(&mut self.lanes, at, lane, window);
+        Ok(())
+    }
+
+    /// Takes a frame. A refusal changes nothing. Refusals are looked for in the order of the variants.
+    pub fn take(&mut self, frame: &Frame) -> Result<(), TakeFault>
+        ensures fault { Refuses result (take_fault self.old.t.queries self.old.lanes.items self.old.closed frame.now) }
+        ensures taken { OnOk result (self.new.lanes.items ≡ after_frame self.old.lanes.items frame.now) }
+        ensures kept { OnErr result (self.new.lanes.items ≡ self.old.lanes.items) }
+        ensures closed { self.new.closed ≡ self.old.closed }
+        ensures queries { self.new.t.queries ≡ self.old.t.queries }
+    {
+        match frame {
+            Frame::Row(lane, item) => self.take_row(*lane, *item),
+            Frame::End(lane, window) => self.take_end(*lane, *window),
+        }
+    }
+
+    /// What `close_window` would answer. Nothing changes.
+    pub fn value(&self) -> Result<Answers, CloseFault>
+        ensures answers { Closes self.now.t.queries self.now.lanes.items result }
+        ensures ended { IfOk result (λ answers. list_all (has_ended answers.window) self.now.lanes.items ≡ true) }
+    {
+        if let Some(lane) = first_open(&self.lanes) {
+            return Err(CloseFault::Unfinished(lane as u32));
+        }
+        match parts(self.alloc, &self.t, &self.lanes) {
+            Ok(parts) => Ok(Answers {
+                window: window_of(&self.lanes),
+                emitted: self.count,
+                parts,
+            }),
+            Err(_) => Err(CloseFault::Memory),
+        }
+    }
+
+    /// The answers of the window that all lanes have ended: the value of the items that came since the last close, sorted,
+    /// and their number. The engine is then empty, and keeps the number of the window. A refusal changes nothing.
+    pub fn close_window(&mut self) -> Result<Answers, CloseFault>
+        ensures answers { Closes self.old.t.queries self.old.lanes.items result }
+        // All lanes have ended the one window that is answered.
+        ensures ended { IfOk result (λ answers. list_all (has_ended answers.window) self.old.lanes.items ≡ true) }
+        ensures emptied { OnOk result (self.new.lanes.items ≡ map emptied self.old.lanes.items) }
+        ensures last { IfOk result (λ answers. self.new.closed ≡ Some answers.window) }
+        ensures kept { OnErr result ((self.new.lanes.items ≡ self.old.lanes.items) × (self.new.closed ≡ self.old.closed)) }
+        ensures queries { self.new.t.queries ≡ self.old.t.queries }
+    {
+        let answers = self.value()?;
+        empty_all(self.alloc, &mut self.lanes);
+        self.count = 0;
+        self.closed = Some(answers.window);
+        Ok(answers)
+    }
+
+    /// Whether a lane has ended the window. A lane that is no piece of the plan never has.
+    pub fn lane_ended(&self, lane: u32) -> bool
+        ensures { result ≡ option_map_or (λ x. is_some x.end) (slice_get self.now.lanes.items lane) false }
+    {
+        match self.lanes.get(lane as usize) {
+            Some(x) => !x.is_open(),
+            None => false,
+        }
+    }
+
+    /// Whether a frame came since the last close.
+    pub fn started(&self) -> bool
+        ensures { result ≡ list_any has_started self.now.lanes.items }
+    {
+        self.lanes.iter().any(|x| x.has_started())
+    }
+}

@@ -1,0 +1,215 @@
+//! Which frames an engine takes.
+ghost use Rattle.std.specs.Prelude.{◌≡◌, ◌^◌, ◌<◌, ◌&&◌, ℕ, List, Option, length, nat_lt, position, take};
+ghost use Rattle.std.specs.List.{list_any, list_all};
+ghost use Rattle.sn_engine.specs.Intakes.{is_lane, agrees, AreIntakes};
+ghost use Rattle.sn_engine.specs.Taking.{has_columns, is_above, row_fault, end_fault, take_fault, Places};
+ghost use Rattle.sn_report.specs.declared.frame.Frame.TheVariants as Frame;
+ghost use Rattle.sn_types.specs.declared.typed_query.TypedQuery.{TypedQuery};
+ghost use Rattle.sn_split.specs.Branches.{is_distinct, is_reduce, is_at_place, is_tag_of, tag_columns};
+ghost use Rattle.sn_types.specs.Cuts.{is_stateful};
+ghost use Rattle.sn_types.specs.Typed.{query_at, branch_at, schema_at};
+
+use crate::fault::TakeFault;
+use crate::intake::Intake;
+use sn_base::lane::Lane;
+use sn_base::row::Row;
+use sn_base::schema::Schema;
+use sn_report::frame::{Item, Tag};
+use sn_types::cuts::is_stateful;
+use sn_types::typed::Typed;
+use sn_types::typed_op::TOp;
+use sn_types::typed_query::TypedBranch;
+
+/// The place of a lane. `None` exactly where the lane is no piece of the plan.
+fn lane_at(lanes: &[Intake], lane: Lane) -> Option<usize>
+    ensures { result ≡ position (is_lane lane) lanes.now }
+{
+    lanes.iter().position(|x| x.is_lane(lane))
+}
+
+fn is_distinct(op: &TOp) -> bool
+    ensures { result ≡ is_distinct op.now }
+{
+    match op {
+        TOp::Distinct => true,
+        TOp::Filter(_) | TOp::Map(_) | TOp::Reduce(_) => false,
+    }
+}
+
+fn is_reduce(op: &TOp) -> bool
+    ensures { result ≡ is_reduce op.now }
+{
+    match op {
+        TOp::Reduce(_) => true,
+        TOp::Filter(_) | TOp::Map(_) | TOp::Distinct => false,
+    }
+}
+
+fn is_stateful_at(ops: &[TOp], i: usize) -> bool
+    ensures { result ≡ is_at_place is_stateful ops.now i }
+{
+    match ops.get(i) {
+        Some(op) => is_stateful(op),
+        None => false,
+    }
+}
+
+fn is_reduce_at(ops: &[TOp], i: usize) -> bool
+    ensures { result ≡ is_at_place is_reduce ops.now i }
+{
+    match ops.get(i) {
+        Some(op) => is_reduce(op),
+        None => false,
+    }
+}
+
+/// Whether one of the first operators is a distinct.
+fn has_distinct(ops: &[TOp], count: usize) -> bool
+    ensures { result ≡ list_any is_distinct (take count ops.now) }
+{
+    ops.iter().take(count).any(|op| is_distinct(op))
+}
+
+fn is_tag_of(ops: &[TOp], cut: u32, tag: Tag) -> bool
+    ensures { result ≡ is_tag_of ops.now cut tag }
+{
+    match tag {
+        Tag::At(i) => i as u32 == cut || (i as u32) < cut && is_stateful_at(ops, i as usize),
+        Tag::Partial(i) => {
+            (i as u32) < cut && is_reduce_at(ops, i as usize) && has_distinct(ops, i as usize)
+        }
+    }
+}
+
+fn has_bits(number: u64, width: u32) -> bool
+    ensures { result ≡ nat_lt number (2 ^ width) }
+{
+    width >= 64 || number >> width == 0
+}
+
+fn has_columns(schema: &Schema, row: &Row) -> bool
+    ensures { result ≡ has_columns schema.now row.now }
+{
+    let numbers = row.as_slice();
+    if numbers.len() != schema.len() {
+        return false;
+    }
+    for (place, number) in numbers.iter().enumerate() {
+        let Some(column) = schema.get(place) else {
+            unreachable!();
+        };
+        if !has_bits(*number, column.width) {
+            return false;
+        }
+    }
+    true
+}
+
+fn schema_at(branch: &TypedBranch, number: usize) -> Schema
+    ensures { result ≡ schema_at branch.now.schemas number }
+{
+    match branch.schemas.as_slice().get(number) {
+        Some(schema) => *schema,
+        None => Schema::new(),
+    }
+}
+
+/// The columns of the rows with a tag.
+fn tag_columns(branch: &TypedBranch, tag: Tag) -> Schema
+    ensures { result ≡ tag_columns branch.now.schemas tag }
+{
+    match tag {
+        Tag::At(i) => schema_at(branch, i as usize),
+        Tag::Partial(i) => schema_at(branch, i as usize + 1),
+    }
+}
+
+/// The first reason for which a lane doesn't take an item.
+fn row_fault(t: &Typed, x: &Intake, item: &Item) -> Option<TakeFault>
+    requires query { x.now.query < length t.now.queries }
+    requires branch { x.now.branch < length (query_at t.now.queries x.now.query).branches }
+    ensures { result ≡ row_fault t.now.queries x.now item.now }
+{
+    let branch = t.branch(x.query, x.branch);
+    if !is_tag_of(branch.ops.as_slice(), x.cut, item.tag) {
+        Some(TakeFault::Stranger)
+    } else if !has_columns(&tag_columns(branch, item.tag), &item.row) {
+        Some(TakeFault::Width)
+    } else if !x.is_open() {
+        Some(TakeFault::AfterEnd)
+    } else {
+        None
+    }
+}
+
+fn is_above(closed: Option<u64>, window: u64) -> bool
+    ensures { result ≡ is_above closed window }
+{
+    match closed {
+        Some(last) => last < window,
+        None => true,
+    }
+}
+
+fn agrees(x: &Intake, window: u64) -> bool
+    ensures { result ≡ agrees window x.now }
+{
+    match x.end {
+        Some(end) => end == window,
+        None => true,
+    }
+}
+
+fn all_agree(lanes: &[Intake], window: u64) -> bool
+    ensures { result ≡ list_all (agrees window) lanes.now }
+{
+    lanes.iter().all(|other| agrees(other, window))
+}
+
+/// The first reason for which a lane doesn't take its End.
+fn end_fault(lanes: &[Intake], closed: Option<u64>, x: &Intake, window: u64) -> Option<TakeFault>
+    ensures { result ≡ end_fault lanes.now closed x.now window }
+{
+    if !x.is_open() {
+        return Some(TakeFault::AfterEnd);
+    }
+    let next = is_above(closed, window) && all_agree(lanes, window);
+    if next { None } else { Some(TakeFault::Window) }
+}
+
+/// The place of the lane that takes an item, or the first reason for which none does.
+pub(crate) fn place_for_item(
+    t: &Typed,
+    lanes: &[Intake],
+    lane: Lane,
+    item: &Item,
+) -> Result<usize, TakeFault>
+    requires { AreIntakes t.now.queries lanes.now }
+    ensures { (closed : Option ℕ) → Places result (position (is_lane lane) lanes.now) (take_fault t.now.queries lanes.now closed (Frame.Row lane item.now)) }
+{
+    match lane_at(lanes, lane) {
+        Some(at) => match row_fault(t, &lanes[at], item) {
+            Some(fault) => Err(fault),
+            None => Ok(at),
+        },
+        None => Err(TakeFault::Stranger),
+    }
+}
+
+/// The place of the lane that takes its End, or the first reason for which none does.
+pub(crate) fn place_for_end(
+    lanes: &[Intake],
+    closed: Option<u64>,
+    lane: Lane,
+    window: u64,
+) -> Result<usize, TakeFault>
+    ensures { (queries : List TypedQuery) → Places result (position (is_lane lane) lanes.now) (take_fault queries lanes.now closed (Frame.End lane window)) }
+{
+    match lane_at(lanes, lane) {
+        Some(at) => match end_fault(lanes, closed, &lanes[at], window) {
+            Some(fault) => Err(fault),
+            None => Ok(at),
+        },
+        None => Err(TakeFault::Stranger),
+    }
+}

@@ -1,0 +1,4 @@
+pub mod Held
+pub mod Levels
+pub mod Places
+pub mod Windows
