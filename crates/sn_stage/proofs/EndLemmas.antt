@@ -1,16 +1,15 @@
 -- The table of the statuses, over plain values.
-use Rattle.std.proofs.Common.{◌≡◌, ◌≢◌, ℕ, ◌⊎◌, List, true, false, Option, Some, Result, Ok, Err, inl, inr, refl, ap, sym, ◌∙◌, subst, arith}
+use Rattle.std.proofs.Common.{◌≡◌, ◌≢◌, ℕ, ◌⊎◌, List, true, false, Option, Result, Ok, Err, inl, inr, refl, ap, sym, ◌∙◌, subst, arith}
 use Rattle.std.proofs.lemmas.Bool.{false≢true}
 use Rattle.sn_base.proofs.Lists.{by_test}
 use Rattle.std.specs.Io.KnownBytes.{append_known}
-use Rattle.sn_io.specs.Counts.{ByName}
 use Rattle.sn_stage.specs.declared.refusal.Refusal.{Refusal}
 use Rattle.sn_stage.specs.declared.refusal.Refusal.TheVariants.{Memory, Usage, Missing, ReadFault, WriteFault, Refused}
 use Rattle.sn_stage.specs.Refusals.{by_chance}
-use Rattle.sn_stage.specs.Worlds.{Files, Sunk, World, AnyRose, AnyUnknown, FirstUnknown, OutRose}
+use Rattle.sn_stage.specs.Worlds.{Sunk, World, AnyRose, OutRose}
 use Rattle.sn_stage.specs.Outcomes.{Outcome, Stage, Keeps}
 use Rattle.sn_stage.specs.Runs.{Works}
-use Rattle.sn_stage.specs.Ends.{end_status, end_line, Excused, Comes, IsRun, IsTold, IsStatusTold, Around, IsCommandRun}
+use Rattle.sn_stage.specs.Ends.{end_status, end_line, Excused, Comes, IsRun, IsTold, IsStatusTold, IsCommandRun}
 use Rattle.sn_stage.proofs.FaultLemmas.{faults_own}
 
 -- status 1 is that of want of memory alone

@@ -1,8 +1,6 @@
 -- One stage behind another.
-use Rattle.std.proofs.Common.{◌≡◌, ℕ, List, [], ◌∷◌, ◌++◌, true, false, Option, Result, Ok, Err, refl, ap, sym, ◌∙◌, subst}
+use Rattle.std.proofs.Common.{◌≡◌, ℕ, List, [], ◌∷◌, ◌++◌, false, Option, Result, Ok, Err, refl, ap, sym, ◌∙◌, subst}
 use Rattle.std.specs.Io.KnownBytes.{append_known}
-use Rattle.std.proofs.lemmas.Bool.{false≢true}
-use Rattle.sn_base.proofs.Lists.{by_test}
 use Rattle.sn_io.specs.Counts.{ByName}
 use Rattle.sn_stage.specs.declared.fault.Fault.{Fault}
 use Rattle.sn_stage.specs.declared.refusal.Refusal.{Refusal}
@@ -13,7 +11,7 @@ use Rattle.sn_stage.specs.Outcomes.{Outcome, silent, Stage, WentOutFront, Keeps}
 use Rattle.sn_stage.specs.Stages.{Does, Adds, Gives, Judges, Bytes, most_text, GoesOn, Then, Text}
 use Rattle.sn_stage.specs.Runs.{Runs, Works, Answers}
 use Rattle.sn_stage.proofs.OutcomeLemmas.{front_longer, behind_text, silent_keeps, chance_keeps}
-use Rattle.sn_stage.proofs.WorldLemmas.{follows_self, follows_then, any_earlier, any_later, any_left, any_right, unknown_left, unknown_right, unknown_earlier, out_earlier}
+use Rattle.sn_stage.proofs.WorldLemmas.{follows_self, follows_then, any_earlier, any_left, any_right, unknown_left, unknown_right, unknown_earlier, out_earlier}
 
 err_ok : {A : Type 0} {r : Refusal} {a : A} {G : Type 0} → ◌≡◌ {A = Result A Refusal} (Err r) (Ok a) → G
 err_ok e = absurd cc

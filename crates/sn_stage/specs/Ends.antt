@@ -1,7 +1,7 @@
 -- How a command ends, and why.
 use Rattle.std.specs.Prelude.{◌≡◌, ℕ, ◌⊎◌, List, [], Option, Some, Result, Ok, Err}
 use Rattle.std.specs.Io.KnownBytes.{append_known}
-use Rattle.sn_io.specs.Counts.{ByName, Rose}
+use Rattle.sn_io.specs.Counts.{ByName}
 use Rattle.sn_stage.specs.declared.refusal.Refusal.{Refusal}
 use Rattle.sn_stage.specs.Refusals.{status_of}
 use Rattle.sn_stage.specs.Lines.{line_of}

@@ -1,4 +1,4 @@
-use Rattle.std.proofs.Common.{◌≡◌, ◌<◌, ◌^◌, ℕ, List, None, Ok, Err, true, length, is_some, ap, sym, ◌∙◌, refl}
+use Rattle.std.proofs.Common.{◌≡◌, ◌<◌, ℕ, List, None, Ok, Err, true, length, is_some, ap, ◌∙◌, refl}
 use Rattle.std.specs.FinMap.{get}
 use Rattle.sn_stage.specs.declared.refusal.Refusal.TheVariants.{Refused}
 use Rattle.sn_stage.specs.declared.fault.Fault.TheVariants.{TooLarge}
