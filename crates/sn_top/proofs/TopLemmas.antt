@@ -1,6 +1,78 @@
--- The words that were passed on, over plain values.
-use Rattle.std.proofs.Common.{◌≡◌, ℕ, List}
+-- The words and the work of a command, over plain values.
+use Rattle.std.proofs.Common.{◌≡◌, ◌⊎◌, ℕ, ◌+◌, ◌<◌, List, Bool, true, false, Option, Some, None, Result, Err, length, inl, inr, refl, ap, sym, ◌∙◌, arith, length-append}
+use Rattle.std.specs.Prelude.{String}
+use Rattle.std.specs.String.{string_bytes}
+use Rattle.std.specs.declared.alloc.Global.{Global}
+use Rattle.std.proofs.lemmas.Bool.{true≢false}
+use Rattle.std.proofs.lemmas.List.{length-map}
+use Rattle.sn_cli.specs.declared.command.Command.{Command}
+use Rattle.sn_cli.specs.declared.command.Command.TheVariants as commands
+use Rattle.sn_cli.specs.declared.options.Options.{Options}
+use Rattle.sn_cli.specs.Grammar.{Line, Spells}
+use Rattle.sn_cli.specs.Reading.{command_of}
+use Rattle.sn_cli.specs.Words.{texts}
+use Rattle.sn_cli.proofs.GrammarLemmas.{read_is_spelled, spelled_is_read}
+use Rattle.sn_cli.proofs.NumberLemmas.{none_some}
+use Rattle.sn_stage.specs.declared.refusal.Refusal.{Refusal}
+use Rattle.sn_stage.specs.declared.refusal.Refusal.TheVariants.{Usage, WriteFault}
+use Rattle.sn_stage.specs.Outcomes.{Stage}
+use Rattle.sn_stage.specs.Runs.{Works}
+use Rattle.sn_stage.specs.Worlds.{World, OutRose, Follows}
+use Rattle.sn_top.specs.Top.{is_built, IsUsage, IsWork}
 
 -- what holds of the words that were passed holds of the words
 pub of_two : (P : List ℕ → List ℕ → Type 0) {a b x y : List ℕ} → a ≡ x → b ≡ y → P a b → P x y
 of_two P e f h = rw (← e, ← f) h
+
+-- the words spell a command or none
+pub by_command : {G : Type 0} (words : List (List ℕ)) → ((command : Command) → Spells words command → G) → (((command : Command) → Spells words command → ⊥) → G) → G
+by_command {G} words some none = of (command_of words) refl
+  where
+    of : (o : Option Command) → command_of words ≡ o → G
+    of None e = none (λ command spells. none_some (sym e ∙ spelled_is_read words command spells))
+    of (Some command) e = some command (read_is_spelled words command e)
+
+-- as many words stand behind a command word as it has files
+pub has_files : (command : List ℕ) (files : ℕ) (options : Options) (given : List (String Global)) → Line command files options (texts given) → files < length given
+has_files command files options given l =
+    let all : length given ≡ 1 + (length l.names + length l.behind) = sym (length-map given string_bytes) ∙ ap length l.are ∙ rw length-append (omega arith) in
+    let many = l.as_many in
+    omega arith
+
+-- work that was begun
+pub record Begun (before : World) (answer : Result (Unit {0}) Refusal) (now : World) : Type 0 where
+  pub words : answer ≡ Err Usage → ⊥
+  pub write_fault : answer ≡ Err WriteFault → OutRose before.out now.out
+  pub follows : Follows before now
+
+begun : {names : List (List ℕ)} {stage : Stage (Unit {0})} {before now : World} {answer : Result (Unit {0}) Refusal} → Works names stage before answer now → Begun before answer now
+begun w = record { words = w.runs.words; write_fault = w.runs.write_fault; follows = w.runs.follows }
+
+-- the work of a command that is built was begun, and that of another is refused as a usage
+pub by_work : (command : Command) (words : List (List ℕ)) {before now : World} {answer : Result (Unit {0}) Refusal} → IsWork command words before answer now
+    → ((is_built command ≡ true) × Begun before answer now) ⊎ ((is_built command ≡ false) × IsUsage before answer now)
+by_work commands.Plain words w = inl (refl, begun w)
+by_work (commands.Plan nodes) words w = inr (refl, w)
+by_work (commands.Run csv) words w = inr (refl, w)
+by_work commands.Emit words w = inr (refl, w)
+by_work commands.Finish words w = inr (refl, w)
+by_work commands.Check words w = inr (refl, w)
+by_work (commands.Live nodes schedule trace) words w = inr (refl, w)
+by_work (commands.Gen number) words w = inr (refl, w)
+by_work (commands.Job number) words w = inr (refl, w)
+
+-- where the answer is a usage, nothing was done, and the command isn't built
+pub usage_of : (command : Command) (words : List (List ℕ)) (before : World) (answer : Result (Unit {0}) Refusal) (now : World) → IsWork command words before answer now → answer ≡ Err Usage → (is_built command ≡ false) × (now ≡ before)
+usage_of command words before answer now w e = elim (by_work command words w) [ inl b ↦ absurd (b.1.words e) | inr u ↦ (u.0, u.1.1) ]
+
+-- a command that isn't built is refused
+pub unbuilt_of : (command : Command) (words : List (List ℕ)) (before : World) (answer : Result (Unit {0}) Refusal) (now : World) → IsWork command words before answer now → is_built command ≡ false → answer ≡ Err Usage
+unbuilt_of command words before answer now w e = elim (by_work command words w) [ inl b ↦ absurd (true≢false (sym b.0 ∙ e)) | inr u ↦ u.1.0 ]
+
+-- where a write failed, a count of the output rose
+pub write_fault_of : (command : Command) (words : List (List ℕ)) (before : World) (answer : Result (Unit {0}) Refusal) (now : World) → IsWork command words before answer now → answer ≡ Err WriteFault → OutRose before.out now.out
+write_fault_of command words before answer now w e = elim (by_work command words w) [ inl b ↦ b.1.write_fault e | inr u ↦ absurd (let other = sym u.1.0 ∙ e in cc) ]
+
+-- the files and the output stay where they stand
+pub places_of : (command : Command) (words : List (List ℕ)) (before : World) (answer : Result (Unit {0}) Refusal) (now : World) → IsWork command words before answer now → now.places ≡ before.places
+places_of command words before answer now w = elim (by_work command words w) [ inl b ↦ b.1.follows.places | inr u ↦ ap (λ (v : World). v.places) u.1.1 ]

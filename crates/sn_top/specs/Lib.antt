@@ -1,5 +1,4 @@
 pub mod NumberingOf
-pub mod Words
 pub mod Texts
 pub mod Answers
 pub mod Capture

@@ -10,4 +10,3 @@ pub mod runs;
 mod tests;
 pub mod texts;
 pub mod top;
-pub mod words;

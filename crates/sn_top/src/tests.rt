@@ -356,6 +356,12 @@ fn refuses_words_and_faults(rt: HostRuntime) -> Result<(), Fail> {
     let usage = run(alloc, &["plain", "q"], SYN, &HEADER, None)?;
     assert_eq!(rt; usage.status, 2);
     assert_eq!(rt; usage.err.bytes(), b"sonata: usage\n".as_slice());
+    // in the grammar, and not built yet
+    let later = run(alloc, &["check", "q", "q", "c", "c"], SYN, &HEADER, None)?;
+    assert_eq!(rt; later.status, 2);
+    assert_eq!(rt; later.out.bytes(), b"".as_slice());
+    let made = run(alloc, &["gen", "7"], SYN, &HEADER, None)?;
+    assert_eq!(rt; made.status, 2);
     let unknown = run(alloc, &["plain", "q", "d"], SYN, &HEADER, None)?;
     assert_eq!(rt; unknown.status, 9);
     assert_eq!(rt; unknown.err.bytes(), b"sonata: read fault\n".as_slice());

@@ -1,15 +1,17 @@
 //! The top call: words in, texts and a status out.
-ghost use Rattle.std.specs.Prelude.{◌≡◌, ◌↔◌, ◌<◌, [], ◌∷◌, Err, length, true, false};
+ghost use Rattle.std.specs.Prelude.{◌≡◌, ◌↔◌, ◌<◌, [], ◌∷◌, length, false};
+ghost use Rattle.sn_cli.specs.declared.command.Command.{Command};
+ghost use Rattle.sn_cli.specs.Grammar.{Spells};
+ghost use Rattle.sn_cli.specs.Words.{texts, word_at};
 ghost use Rattle.sn_stage.specs.Desks.{sunk, world};
 ghost use Rattle.sn_stage.specs.Ends.{end_status, IsCommandRun, IsStatusTold};
-ghost use Rattle.sn_stage.specs.Runs.{Works};
 ghost use Rattle.sn_stage.specs.Worlds.{OutRose};
 ghost use Rattle.sn_top.specs.Plain.{Plain};
-ghost use Rattle.sn_top.specs.Top.{around};
-ghost use Rattle.sn_top.specs.Words.{texts, word_at, is_plain};
+ghost use Rattle.sn_top.specs.Top.{is_built, IsUsage, IsWork, around};
 
 use crate::plain::plain;
-use crate::words::{Command, words};
+use sn_cli::command::Command;
+use sn_cli::words::words;
 use sn_io::inputs::Inputs;
 use sn_io::sink::Sink;
 use sn_stage::desk::Desk;
@@ -34,16 +36,27 @@ fn word(given: &[String], place: usize) -> &str
     given[place].as_str()
 }
 
-/// Does the work of `plain`.
+/// Does the work of a command.
 fn work<I: Inputs, O: Sink>(
     alloc: Global,
+    command: Command,
     given: &[String],
     desk: &mut Desk<'_, I, O>,
 ) -> Result<(), Refusal>
-    requires { is_plain (texts given.now) ≡ true }
-    ensures { Works (word_at (texts given.now) 1 ∷ word_at (texts given.now) 2 ∷ []) (Plain (word_at (texts given.now) 1) (word_at (texts given.now) 2)) (world I.Inputs O.Sink desk.old) result (world I.Inputs O.Sink desk.new) }
+    requires { Spells (texts given.now) command }
+    ensures { IsWork command (texts given.now) (world I.Inputs O.Sink desk.old) result (world I.Inputs O.Sink desk.new) }
 {
-    plain(alloc, word(given, 1), word(given, 2), desk)
+    match command {
+        Command::Plain => plain(alloc, word(given, 1), word(given, 2), desk),
+        Command::Plan { .. }
+        | Command::Run { .. }
+        | Command::Emit
+        | Command::Finish
+        | Command::Check
+        | Command::Live { .. }
+        | Command::Gen { .. }
+        | Command::Job { .. } => Err(Refusal::Usage),
+    }
 }
 
 /// Finds the command, and does its work.
@@ -52,21 +65,20 @@ fn run<I: Inputs, O: Sink>(
     given: &[String],
     desk: &mut Desk<'_, I, O>,
 ) -> Result<(), Refusal>
-    ensures usage { is_plain (texts given.now) ≡ false → result ≡ Err Refusal.Usage }
-    ensures nothing { is_plain (texts given.now) ≡ false → world I.Inputs O.Sink desk.new ≡ world I.Inputs O.Sink desk.old }
-    ensures works { is_plain (texts given.now) ≡ true → Works (word_at (texts given.now) 1 ∷ word_at (texts given.now) 2 ∷ []) (Plain (word_at (texts given.now) 1) (word_at (texts given.now) 2)) (world I.Inputs O.Sink desk.old) result (world I.Inputs O.Sink desk.new) }
+    ensures works { (command : Command) → Spells (texts given.now) command → IsWork command (texts given.now) (world I.Inputs O.Sink desk.old) result (world I.Inputs O.Sink desk.new) }
+    ensures usage { ((command : Command) → Spells (texts given.now) command → ⊥) → IsUsage (world I.Inputs O.Sink desk.old) result (world I.Inputs O.Sink desk.new) }
     ensures files_place { desk.new.files.ghost_name ≡ desk.old.files.ghost_name }
     ensures out_place { desk.new.out.ghost_name ≡ desk.old.out.ghost_name }
 {
     match words(given) {
-        Ok(Command::Plain) => work(alloc, given, desk),
+        Ok(command) => work(alloc, command, given, desk),
         Err(_) => Err(Refusal::Usage),
     }
 }
 
 /// Runs a command: its text goes to `out`, a line on its status to `err`, and the status is the answer.
 ///
-/// The words are those after the program's name. `plain QUERIES CAPTURE` is the one command so far. A fault in
+/// The words are those after the program's name. `plain QUERIES CAPTURE` is the one command that is built. A fault in
 /// writing the line to `err` is dropped, and the status stays.
 pub fn top<I: Inputs, O: Sink, E: Sink>(
     alloc: Global,
@@ -75,8 +87,8 @@ pub fn top<I: Inputs, O: Sink, E: Sink>(
     out: &mut O,
     err: &mut E,
 ) -> u8
-    // 2: exactly where the words aren't in the grammar. Then nothing is written.
-    ensures usage { (result ≡ 2) ↔ (is_plain (texts words.now) ≡ false) }
+    // 2: exactly where the words spell no command that is built. Then nothing is written.
+    ensures usage { (result ≡ 2) ↔ ((command : Command) → Spells (texts words.now) command → is_built command ≡ false) }
     ensures nothing { result ≡ 2 → O.written out.new ≡ O.written out.old }
     // 10 over any sink: only where a write failed in this call, or took nothing of a rest that has bytes.
     ensures write_fault { result ≡ 10 → OutRose (sunk O.Sink out.old) (sunk O.Sink out.new) }
@@ -84,7 +96,7 @@ pub fn top<I: Inputs, O: Sink, E: Sink>(
     ensures line { IsStatusTold result (sunk E.Sink err.old) (sunk E.Sink err.new) }
 
     // `plain QUERIES CAPTURE`: the run is that of its stages.
-    ensures plain { is_plain (texts words.now) ≡ true →
+    ensures plain { Spells (texts words.now) Command.Plain →
         IsCommandRun (word_at (texts words.now) 1 ∷ word_at (texts words.now) 2 ∷ []) (Plain (word_at (texts words.now) 1) (word_at (texts words.now) 2)) (around I.Inputs O.Sink E.Sink files.old out.old err.old) result (around I.Inputs O.Sink E.Sink files.new out.new err.new) }
 {
     let mut desk = Desk { files, out };

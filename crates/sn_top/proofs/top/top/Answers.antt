@@ -1,37 +1,42 @@
-use Rattle.std.proofs.Common.{◌≡◌, ap, sym, ◌∙◌, rules}
-use Rattle.sn_base.proofs.Lists.{by_test}
+use Rattle.std.proofs.Common.{◌≡◌, Err, ap, sym, ◌∙◌, rules}
+use Rattle.sn_cli.specs.declared.command.Command.TheVariants as commands
+use Rattle.sn_cli.specs.Words.{texts}
+use Rattle.sn_stage.specs.declared.refusal.Refusal.TheVariants.{Usage}
 use Rattle.sn_stage.specs.Ends.{end_status}
 use Rattle.sn_stage.specs.Worlds.{World}
 use Rattle.sn_stage.proofs.EndLemmas.{two_is, ten_is, command_run, status_told}
-use Rattle.sn_top.specs.Words.{texts, is_plain}
+use Rattle.sn_top.proofs.TopLemmas.{by_command, usage_of, unbuilt_of, write_fault_of}
 use Rattle.sn_top.proofs.top.top.Goals as goal
 
 pub returns-clause-usage : goal.returns-clause-usage
 returns-clause-usage g c = (
-  λ two. by_test (is_plain (texts c.args.words.now)) (λ is. absurd ((c.run-answer.ensures.works is).runs.words (two_is c.run-answer.result (sym c.status_of.ensures ∙ two)))) (λ isnt. isnt),
-  λ isnt. c.status_of.ensures ∙ ap end_status (c.run-answer.ensures.usage isnt),
+  λ two command spells. (usage_of command (texts c.args.words.now) _ _ _ (c.run-answer.ensures.works command spells) (two_is c.run-answer.result (sym c.status_of.ensures ∙ two))).0,
+  λ unbuilt. c.status_of.ensures ∙ ap end_status (by_command (texts c.args.words.now)
+      (λ command spells. unbuilt_of command (texts c.args.words.now) _ _ _ (c.run-answer.ensures.works command spells) (unbuilt command spells))
+      (λ none. (c.run-answer.ensures.usage none).0)),
 )
 
 pub returns-clause-nothing : goal.returns-clause-nothing
 returns-clause-nothing g c = λ two.
     let out : c.out-1.given.0 ≡ c.run-answer.new.desk.out.now = search rules in
-    rw out (by_test (is_plain (texts c.args.words.now))
-    (λ is. absurd ((c.run-answer.ensures.works is).runs.words (two_is c.run-answer.result (sym c.status_of.ensures ∙ two))))
-    (λ isnt. ap (λ (w : World). w.out.written) (c.run-answer.ensures.nothing isnt)))
+    let usage : c.run-answer.result ≡ Err Usage = two_is c.run-answer.result (sym c.status_of.ensures ∙ two) in
+    rw out (ap (λ (w : World). w.out.written) (by_command (texts c.args.words.now)
+    (λ command spells. (usage_of command (texts c.args.words.now) _ _ _ (c.run-answer.ensures.works command spells) usage).1)
+    (λ none. (c.run-answer.ensures.usage none).1)))
 
 pub returns-clause-write_fault : goal.returns-clause-write_fault
 returns-clause-write_fault g c = λ ten.
     let out : c.out-1.given.0 ≡ c.run-answer.new.desk.out.now = search rules in
     let failed = ten_is c.run-answer.result (sym c.status_of.ensures ∙ ten) in
-    rw out (by_test (is_plain (texts c.args.words.now))
-    (λ is. (c.run-answer.ensures.works is).runs.write_fault failed)
-    (λ isnt. absurd (let usage = c.run-answer.ensures.usage isnt in cc)))
+    rw out (by_command (texts c.args.words.now)
+    (λ command spells. write_fault_of command (texts c.args.words.now) _ _ _ (c.run-answer.ensures.works command spells) failed)
+    (λ none. absurd (let usage = sym (c.run-answer.ensures.usage none).0 ∙ failed in cc)))
 
 pub returns-clause-plain : goal.returns-clause-plain
-returns-clause-plain g c = λ is.
+returns-clause-plain g c = λ spells.
     let files : c.files-1.given.0 ≡ c.run-answer.new.desk.files.now = search rules in
     let out : c.out-1.given.0 ≡ c.run-answer.new.desk.out.now = search rules in
-    rw (c.status_of.ensures, files, out) (command_run _ _ c.run-answer.result _ _ _ _ (c.run-answer.ensures.works is) c.tell.ensures)
+    rw (c.status_of.ensures, files, out) (command_run _ _ c.run-answer.result _ _ _ _ (c.run-answer.ensures.works commands.Plain spells) c.tell.ensures)
 
 pub returns-clause-line : goal.returns-clause-line
 returns-clause-line g c = rw c.status_of.ensures (status_told c.run-answer.result _ _ c.tell.ensures)
