@@ -1,0 +1,5 @@
+pub mod CountLaw
+pub mod EmitLaw
+pub mod LaneLaw
+pub mod PlanFacts
+pub mod PlanLanes

@@ -1,0 +1,5 @@
+pub mod Lanes
+pub mod Making
+pub mod Plans
+pub mod Runs
+pub mod Senders

@@ -1,0 +1,7 @@
+//! The frames of a plan's pipes.
+#![tactic(auto)]
+
+pub mod lanes;
+pub mod law;
+mod making;
+pub mod sender;

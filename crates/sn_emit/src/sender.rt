@@ -1,0 +1,73 @@
+//! One lane of the emitter.
+ghost use Rattle.std.specs.Prelude.{◌≡◌, IfSome, drop, false, slice_get};
+ghost use Rattle.std.specs.FinSet as set;
+ghost use Rattle.std.specs.Option.{option_map};
+ghost use Rattle.std.specs.Ordering.{nat_cmp};
+ghost use Rattle.sn_emit.specs.Making.{CanEncode, InRange};
+ghost use Rattle.sn_emit.specs.Runs.{IsReadOut};
+ghost use Rattle.sn_emit.specs.Senders.{counted, row_frame, sender_next, sender_start};
+ghost use Rattle.sn_pipe.specs.Pipes.{at_start, item_of};
+
+use sn_base::lane::Lane;
+use sn_base::members::Members;
+use sn_fields::tuple::Tuple;
+use sn_pipe::pipe::Pipe;
+use sn_report::frame::Frame;
+
+/// A pipe that gives frames.
+#[derive(Drop)]
+pub struct Sender {
+    /// What its frames are named by.
+    pub lane: Lane,
+    /// What gives their rows.
+    pub pipe: Pipe,
+    /// How many frames with rows it gave in this window, or 2^64 - 1 where they are more.
+    pub given: u64,
+    /// Whether the End of this window was given.
+    pub ended: bool,
+}
+
+impl Sender {
+    /// Takes a tuple, before any read-out. `Some` exactly where the pipe gives an item. Takes no memory.
+    pub fn packet(&mut self, tuple: &Tuple) -> Option<Frame>
+        requires { self.old.pipe.prefix.place ≡ 0 }
+        ensures frame { result ≡ option_map (row_frame self.old.lane) (item_of self.old.pipe tuple.now) }
+        ensures after { self.new ≡ sender_next self.old tuple.now }
+        ensures range { InRange self.old.lane → IfSome result CanEncode }
+    {
+        match self.pipe.packet(tuple) {
+            Some(item) => {
+                self.given = self.given.saturating_add(1);
+                Some(Frame::Row(self.lane, item))
+            }
+            None => None,
+        }
+    }
+
+    /// The next frame of the read-out: the rows, then one End, then `None`. Takes no memory.
+    pub fn read_out(&mut self, window: u64) -> Option<Frame>
+        ensures frame { IsReadOut window self.old result self.new }
+        ensures lane { self.new.lane ≡ self.old.lane }
+        ensures pipe { (kept : set.FinSet nat_cmp) → at_start self.new.pipe kept ≡ at_start self.old.pipe kept }
+        ensures range { InRange self.old.lane → IfSome result CanEncode }
+    {
+        if let Some(item) = self.pipe.read_out_next() {
+            self.given = self.given.saturating_add(1);
+            return Some(Frame::Row(self.lane, item));
+        }
+        if self.ended {
+            return None;
+        }
+        self.ended = true;
+        Some(Frame::End(self.lane, window))
+    }
+
+    /// Begins a window: empty registers, this prefix set, and nothing given. Takes no memory.
+    pub fn next_window(&mut self, kept: Members)
+        ensures { self.new ≡ sender_start self.old kept }
+    {
+        self.pipe.next_window(kept);
+        self.given = 0;
+        self.ended = false;
+    }
+}
