@@ -84,9 +84,11 @@ groups_are_short g rows parts entries few long is =
     (part_keys_short g parts few (recursion_from_All (λ (row : Row). length g.places < length row) parts long)))))))
 
 -- the groups as rows
+pub rows_of_groups : (g : Grouping) (pairs : List (Row × ℕ)) (entries : List (Row × ℕ)) → entries ≡ groups_of g pairs → map (λ (e : Row × ℕ). e.0 ++ e.1 ∷ []) entries ≡ grouped g pairs
+rows_of_groups g pairs entries is =
+    ap (map (λ (e : Row × ℕ). e.0 ++ e.1 ∷ [])) is
+    ∙ map_both (paired (λ k. fold (any_step g.by) (any_unit g.by) (values_at same_row k pairs))) (λ (e : Row × ℕ). e.0 ++ e.1 ∷ []) (once same_row (keys pairs))
+
 pub rows_of_all : (g : Grouping) (rows parts : List Row) (m : ℕ) (entries : List (Row × ℕ)) → length parts ≤ m → entries ≡ groups_of g (pairs_to g rows (take m parts))
     → map (λ (e : Row × ℕ). e.0 ++ e.1 ∷ []) entries ≡ grouped g (pairs_to g rows parts)
-rows_of_all g rows parts m entries all is =
-    let pairs = pairs_to g rows parts in
-    ap (map (λ (e : Row × ℕ). e.0 ++ e.1 ∷ [])) (is ∙ ap (λ ps. groups_of g (pairs_to g rows ps)) (take_all m parts all))
-    ∙ map_both (paired (λ k. fold (any_step g.by) (any_unit g.by) (values_at same_row k pairs))) (λ (e : Row × ℕ). e.0 ++ e.1 ∷ []) (once same_row (keys pairs))
+rows_of_all g rows parts m entries all is = rows_of_groups g (pairs_to g rows parts) entries (is ∙ ap (λ ps. groups_of g (pairs_to g rows ps)) (take_all m parts all))

@@ -21,7 +21,7 @@ use sn_types::typed_op::{TOp, TReduce};
 use std::alloc::Global;
 
 /// Adds a row. Whether it is new.
-fn is_new(seen: &mut IndexSet<Row>, row: Row) -> Result<bool, Memory>
+pub(crate) fn is_new(seen: &mut IndexSet<Row>, row: Row) -> Result<bool, Memory>
     ensures new { IfOk result (λ new. new ≡ not (list_any (same_row row) seen.old.keys)) }
     ensures keys { OnOk result (seen.new.keys ≡ insert_key same_row seen.old.keys row) }
 {
@@ -45,8 +45,8 @@ pub fn distinct(alloc: Global, rows: &[Row]) -> Result<Seq<Row>, Memory>
     Ok(out)
 }
 
-/// Puts a value to its key's fold.
-fn add_to(
+/// Puts a value to its key's fold. The key is looked up once.
+pub(crate) fn add_to(
     fold: AnyFold,
     groups: &mut IndexMap<Row, u64>,
     key: Row,
@@ -56,18 +56,16 @@ fn add_to(
     requires value { any_has fold value }
     ensures ok { OnOk result (groups.new.entries ≡ insert_entry same_row groups.old.entries key (any_step fold (unwrap_or (lookup (same_row key) groups.old.entries) (any_unit fold)) value)) }
 {
-    let so_far = match groups.get(&key) {
-        Some(total) => *total,
-        None => fold.unit(),
+    let Ok(entry) = groups.entry(key) else {
+        return Err(Memory);
     };
-    match groups.insert(key, fold.step(so_far, value)) {
-        Ok(_) => Ok(()),
-        Err(_) => Err(Memory),
-    }
+    let total = entry.or_insert(fold.unit());
+    *total = fold.step(*total, value);
+    Ok(())
 }
 
 /// A row for each group: its key, then its fold.
-fn rows_of(alloc: Global, groups: &IndexMap<Row, u64>) -> Result<Seq<Row>, Memory>
+pub(crate) fn rows_of(alloc: Global, groups: &IndexMap<Row, u64>) -> Result<Seq<Row>, Memory>
     requires { All (λ g. length g.0 < 8) groups.now.entries }
     ensures { IfOk result (λ out. out ≡ map (λ g. g.0 ++ g.1 ∷ []) groups.now.entries) }
 {

@@ -1,0 +1,81 @@
+//! What an operator has seen.
+ghost use Rattle.std.specs.Prelude.{◌≡◌, ℕ, ◌≤◌, ◌<◌, ◌∷◌, [], All, length, not, slice_index, unwrap_or, IfOk, OnOk, Some, None, if◌then◌else◌};
+ghost use Rattle.std.specs.List.{list_any};
+ghost use Rattle.std.specs.Map.{lookup};
+ghost use Rattle.indexmap.specs.IndexMap.{insert_entry};
+ghost use Rattle.indexmap.specs.IndexSet.{insert_key};
+ghost use Rattle.sn_base.specs.AnyFold.{any_has, any_step, any_unit};
+ghost use Rattle.sn_base.specs.Groups.{columns_at, same_row};
+ghost use Rattle.sn_ops.specs.Passing.{CanMeet, flows};
+ghost use Rattle.sn_ops.specs.Standing.{Stands, groups_after, rows_after};
+
+use crate::group::{add_to, is_new};
+use indexmap::{IndexMap, IndexSet};
+use sn_base::memory::Memory;
+use sn_base::row::Row;
+use sn_types::evaluate::{columns_of, mapped, passes};
+use sn_types::typed_op::{TOp, TReduce};
+use std::alloc::Global;
+
+/// What an operator has seen: a distinct its rows, a reduce its groups, and the others nothing.
+#[derive(Drop)]
+pub struct Seen {
+    pub(crate) rows: IndexSet<Row>,
+    pub(crate) groups: IndexMap<Row, u64>,
+}
+
+/// Puts a row's value to its key's fold.
+fn add_row(r: &TReduce, groups: &mut IndexMap<Row, u64>, row: &Row) -> Result<(), Memory>
+    requires { CanMeet (TOp.Reduce r.now) groups.old.entries row.now }
+    ensures { OnOk result (groups.new.entries ≡ groups_after (TOp.Reduce r.now) groups.old.entries row.now) }
+{
+    let key = columns_of(row, r.keys.as_slice());
+    add_to(r.fold, groups, key, row.as_slice()[r.value as usize])
+}
+
+/// What these operators have seen at first: nothing.
+pub(crate) fn unseen(alloc: Global, ops: &[TOp]) -> Result<Vec<Seen>, Memory>
+    ensures { IfOk result (λ seen. (level : ℕ) → Stands level ops.now seen.items [] []) }
+{
+    let mut seen = Vec::new(alloc);
+    for place in 0..ops.len() {
+        if let Err(_) = seen.push(Seen::new(alloc)) {
+            return Err(Memory);
+        }
+    }
+    Ok(seen)
+}
+
+impl Seen {
+    /// Nothing.
+    pub fn new(alloc: Global) -> Seen
+        ensures rows { result.rows.keys ≡ [] }
+        ensures groups { result.groups.entries ≡ [] }
+    {
+        Seen {
+            rows: IndexSet::new(alloc),
+            groups: IndexMap::new(alloc),
+        }
+    }
+
+    /// Whether a row goes on at the operator that has seen this, as which `row` then is. It is seen then.
+    pub(crate) fn pass(&mut self, op: &TOp, level: u32, row: &mut Row) -> Result<bool, Memory>
+        requires { CanMeet op.now self.old.groups.entries row.old }
+        ensures passed { IfOk result (λ goes. (if goes then Some row.new else None) ≡ flows level op.now self.old.rows.keys row.old) }
+        ensures rows { OnOk result (self.new.rows.keys ≡ rows_after op.now self.old.rows.keys row.old) }
+        ensures groups { OnOk result (self.new.groups.entries ≡ groups_after op.now self.old.groups.entries row.old) }
+    {
+        match op {
+            TOp::Filter(conds) => Ok(passes(conds.as_slice(), level, row)),
+            TOp::Map(exprs) => {
+                *row = mapped(row, exprs.as_slice());
+                Ok(true)
+            }
+            TOp::Distinct => is_new(&mut self.rows, *row),
+            TOp::Reduce(r) => {
+                add_row(r, &mut self.groups, row)?;
+                Ok(false)
+            }
+        }
+    }
+}
