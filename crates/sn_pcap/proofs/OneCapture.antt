@@ -75,11 +75,11 @@ within_more header file n found more packet all has packet_is more_is =
     All-same (IsWithin file) more (found ++ packet ∷ []) more_is
     (All-push (IsWithin file) found packet all (packet_within header file n packet has packet_is))
 
-by_test : {G : Type 0} (b : Bool) → (b ≡ true → G) → (b ≡ false → G) → G
+pub by_test : {G : Type 0} (b : Bool) → (b ≡ true → G) → (b ≡ false → G) → G
 by_test true holds fails = holds refl
 by_test false holds fails = fails refl
 
-below_or_not : {G : Type 0} (a b : ℕ) → (a < b → G) → (b ≤ a → G) → G
+pub below_or_not : {G : Type 0} (a b : ℕ) → (a < b → G) → (b ≤ a → G) → G
 below_or_not a b below above = by_test (nat_lt a b) (λ e. below (ltb-true a b e)) (λ e. above (ltb-false a b e))
 
 some_within : (header : Header) (file : List ℕ) (room n : ℕ) → length file ≤ n + room → HasRecords header file n

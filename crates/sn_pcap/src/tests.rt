@@ -1,5 +1,8 @@
 ghost use Rattle.std.specs.Prelude.{◌≤◌, ◌+◌};
 
+mod reading;
+mod slow;
+
 use crate::header::{HeadFault, Header, head};
 use crate::packet::{Ending, Packet, packets};
 use sn_base::link::Link;

@@ -1,0 +1,111 @@
+-- The records that are left for a reader.
+use Rattle.std.proofs.Common.{◌≡◌, ℕ, ◌+◌, List, [], ◌∷◌, Option, None, Some, Result, Ok, Err, inl, inr, refl, ap, sym, subst, ◌∙◌, arith}
+use Rattle.sn_io.specs.declared.inputs.ReadError.{ReadError}
+use Rattle.sn_pcap.specs.declared.header.Header.{Header}
+use Rattle.sn_pcap.specs.declared.packet.Packet.{Packet}
+use Rattle.sn_pcap.specs.declared.packet.Ending.{Ending}
+use Rattle.sn_pcap.specs.declared.seen.Seen.{Seen}
+use Rattle.sn_pcap.specs.declared.seen.Next.{Next}
+use Rattle.sn_pcap.specs.declared.seen.Next.TheVariants as next
+use Rattle.sn_pcap.specs.declared.seen.Last.{Last}
+use Rattle.sn_pcap.specs.declared.seen.Last.TheVariants as last
+use Rattle.sn_pcap.specs.Capture.{Records, HasRecord, packet_at, captured, no_byte, short_header, too_large, short_packet, whole}
+use Rattle.sn_pcap.specs.Reading.{within, last_of, IsSeen, ReaderState, answer_of, TellsPacket, TellsEnd, TellsAgain, IsStep, Left, records, none, HasLeft, TakesPacket, Takes, Run, more, ends, AllSeen, nothing, also}
+use Rattle.sn_pcap.proofs.OneCapture.{records_once, records_some}
+
+apart : {X : Type 0} (x : X) → None ≡ Some x → ⊥
+apart x e = cc
+
+some_is : {X : Type 0} {a b : X} → Some a ≡ Some b → a ≡ b
+some_is e = cc
+
+-- of each reader at most one list of records is left
+pub left_once : (file : List ℕ) (reader : ReaderState) (ps qs : List Packet) (e f : Last) → Left file reader ps e → Left file reader qs f → (ps ≡ qs) × (e ≡ f)
+left_once file reader ps qs e f (records _ a _ goes are is) (records _ b _ also_goes also_are also_is) =
+    let same = records_once are also_are in
+    (same.0, is ∙ ap (last_of file) same.1 ∙ sym also_is)
+left_once file reader ps qs e f (records _ a _ goes are is) (none _ told) = absurd (cc)
+left_once file reader ps qs e f (none _ told) (records _ b _ goes are is) = absurd (cc)
+left_once file reader ps qs e f (none _ told) (none _ also_told) = (refl, some_is (sym told ∙ also_told))
+
+-- and there is one
+pub left_some : (file : List ℕ) (reader : ReaderState) → HasLeft file reader
+left_some file reader =
+    elim reader.last as (λ o. reader.last ≡ o → HasLeft file reader) [
+      | None ↦ λ goes.
+          let found = records_some reader.header (within file) reader.offset in
+          record { packets = found.packets; last = last_of file found.ending; are = records found.packets found.ending (last_of file found.ending) goes found.are refl }
+      | Some l ↦ λ told. record { packets = []; last = l; are = none l told }
+    ] refl
+
+-- of records whose first one is whole it is the first, and the others are left
+record IsFirst (header : Header) (file : List ℕ) (n : ℕ) (packets : List Packet) (ending : Ending) : Type 0 where
+  others : List Packet
+  is : packets ≡ packet_at header file n ∷ others
+  are : Records header file (n + 16 + captured header file n) others ending
+
+first_whole : {header : Header} {file : List ℕ} {n : ℕ} {packets : List Packet} {ending : Ending} → HasRecord header file n → Records header file n packets ending → IsFirst header file n packets ending
+first_whole has (no_byte n a) = absurd (omega arith)
+first_whole has (short_header n a b) = absurd (omega arith)
+first_whole has (too_large n a b) = absurd (omega arith)
+first_whole has (short_packet n a b c) = absurd (omega arith)
+first_whole has (whole n ps e a r) = record { others = ps; is = refl; are = r }
+
+-- the others are left behind a packet
+left_behind : (file : List ℕ) (before now : ReaderState) (answer : Result Next ReadError) (others : List Packet) (ending : Ending) (l : Last) → TellsPacket file before answer now
+    → Records before.header (within file) (before.offset + 16 + captured before.header (within file) before.offset) others ending → l ≡ last_of file ending → Left file now others l
+left_behind file before now answer others ending l t are is =
+    let at : Records before.header (within file) now.offset others ending = subst (λ (n : ℕ). Records before.header (within file) n others ending) (sym t.moved) are in
+    records others ending l t.still (subst (λ (h : Header). Records h (within file) now.offset others ending) (sym t.same_header) at) is
+
+-- one call takes the first of what is left
+pub left_taken : (file : List ℕ) (before now : ReaderState) (packets : List Packet) (l : Last) (answer : Result Next ReadError) → Left file before packets l → IsStep file before answer now → Takes file packets l answer now
+left_taken file before now packets l answer (records _ ending _ goes are is) (inl t) =
+    let first = first_whole t.whole are in
+    subst (λ (ps : List Packet). Takes file ps l answer now) (sym first.is)
+    (record { seen = t.seen; is_seen = t.is_seen; answered = t.answered; left = left_behind file before now answer first.others ending l t first.are is })
+left_taken file before now packets l answer (records _ ending _ goes are is) (inr (inl t)) =
+    let same = records_once are t.none in
+    let ends : l ≡ last_of file t.ending = is ∙ ap (last_of file) same.1 in
+    subst (λ (ps : List Packet). Takes file ps l answer now) (sym same.0)
+    (t.answered ∙ ap answer_of (sym ends), none l (t.noted ∙ ap (λ (x : Last). Some x) (sym ends)))
+left_taken file before now packets l answer (records _ ending _ goes are is) (inr (inr t)) = absurd (apart t.last (sym goes ∙ t.told))
+left_taken file before now packets l answer (none _ told) (inl t) = absurd (apart l (sym t.goes_on ∙ told))
+left_taken file before now packets l answer (none _ told) (inr (inl t)) = absurd (apart l (sym t.goes_on ∙ told))
+left_taken file before now packets l answer (none _ told) (inr (inr t)) =
+    let same : t.last ≡ l = some_is (sym t.told ∙ told) in
+    (t.answered ∙ ap answer_of same, none l (ap (λ (r : ReaderState). r.last) t.kept ∙ told))
+
+-- an end is no packet
+never_packet : (l : Last) (seen : Seen) → Ok (next.Packet seen) ≡ answer_of l → ⊥
+never_packet (last.Ended ending) seen e = cc
+never_packet last.TooLarge seen e = cc
+
+answer_one : (a b : Last) → answer_of a ≡ answer_of b → a ≡ b
+answer_one (last.Ended e) (last.Ended f) is = cc
+answer_one (last.Ended e) last.TooLarge is = cc
+answer_one last.TooLarge (last.Ended f) is = cc
+answer_one last.TooLarge last.TooLarge is = refl
+
+abbrev packet_answer : Seen → Result Next ReadError
+packet_answer seen = Ok (next.Packet seen)
+
+packet_is : (a b : Seen) → packet_answer a ≡ packet_answer b → a ≡ b
+packet_is a b e = cc
+
+-- a run of calls gives the records of the file
+pub run_records : {file : List ℕ} {reader : ReaderState} {seens : List Seen} {l : Last} (packets : List Packet) (ending : Ending) → Run file reader seens l → reader.last ≡ None
+    → Records reader.header (within file) reader.offset packets ending → AllSeen (within file) packets seens × (l ≡ last_of file ending)
+run_records {file} {reader} packets ending (more {after = after} {seens = seens} seen (inl t) rest) goes are =
+    let first = first_whole t.whole are in
+    let at : Records reader.header (within file) after.offset first.others ending = subst (λ (n : ℕ). Records reader.header (within file) n first.others ending) (sym t.moved) first.are in
+    let behind = run_records first.others ending rest t.still (subst (λ (h : Header). Records h (within file) after.offset first.others ending) (sym t.same_header) at) in
+    let this : IsSeen (within file) (packet_at reader.header (within file) reader.offset) seen = subst (λ (s : Seen). IsSeen (within file) (packet_at reader.header (within file) reader.offset) s) (sym (packet_is seen t.seen t.answered)) t.is_seen in
+    (subst (λ (ps : List Packet). AllSeen (within file) ps (seen ∷ seens)) (sym first.is) (also this behind.0), behind.1)
+run_records packets ending (more seen (inr (inl t)) rest) goes are = absurd (never_packet _ seen t.answered)
+run_records packets ending (more seen (inr (inr t)) rest) goes are = absurd (apart t.last (sym goes ∙ t.told))
+run_records packets ending (ends l (inl t)) goes are = absurd (never_packet l t.seen (sym t.answered))
+run_records {file} packets ending (ends l (inr (inl t))) goes are =
+    let same = records_once are t.none in
+    (subst (λ (ps : List Packet). AllSeen (within file) ps []) (sym same.0) nothing, answer_one l (last_of file t.ending) t.answered ∙ ap (last_of file) (sym same.1))
+run_records packets ending (ends l (inr (inr t))) goes are = absurd (apart t.last (sym goes ∙ t.told))

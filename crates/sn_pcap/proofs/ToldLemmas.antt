@@ -1,0 +1,212 @@
+-- What a call does to a file whose contents are told.
+use Rattle.std.proofs.Common.{◌≡◌, ◌≢◌, ℕ, ◌+◌, ◌-◌, ◌<◌, ◌≤◌, ◌^◌, List, [], ◌∷◌, ◌++◌, Option, None, Some, Result, Ok, Err, IfSome, is_some, true, length, take, drop, min, inl, inr, refl, ap, sym, subst, ◌∙◌, arith, length-take}
+use Rattle.std.proofs.lemmas.List.{take-take}
+use Rattle.std.specs.FinMap.{get}
+use Rattle.sn_io.specs.Counts.{ByName, OnlyRises}
+use Rattle.sn_io.specs.Inputs.{told_file}
+use Rattle.sn_io.specs.declared.inputs.InputFault.{InputFault}
+use Rattle.sn_io.specs.declared.inputs.InputFault.TheVariants as faults
+use Rattle.sn_io.specs.declared.inputs.ReadError.{ReadError}
+use Rattle.sn_io.specs.declared.inputs.ReadError.TheVariants as errors
+use Rattle.sn_pcap.specs.declared.header.Header.{Header}
+use Rattle.sn_pcap.specs.declared.packet.Packet.{Packet}
+use Rattle.sn_pcap.specs.declared.packet.Ending.{Ending}
+use Rattle.sn_pcap.specs.declared.packet.Ending.TheVariants.{Clean, Cut, Bad}
+use Rattle.sn_pcap.specs.declared.seen.Seen.{Seen}
+use Rattle.sn_pcap.specs.declared.seen.Next.{Next}
+use Rattle.sn_pcap.specs.declared.seen.Next.TheVariants as next
+use Rattle.sn_pcap.specs.declared.seen.Last.{Last}
+use Rattle.sn_pcap.specs.declared.seen.Last.TheVariants as last
+use Rattle.sn_pcap.specs.Capture.{number_at, captured, packet_at}
+use Rattle.sn_pcap.specs.Reading.{within, last_of, HoldsAt, Follows, HasRead, IsSeen, ReaderState, answer_of, error_of, TellsPacket, TellsEnd, TellsAgain, IsStep, Left, Takes}
+use Rattle.sn_pcap.specs.Stands.{IsShort, IsNextPacket, IsNextEnd}
+use Rattle.sn_pcap.proofs.Holding.{holds_more, holds_rest, held_stand, length_within}
+use Rattle.sn_pcap.proofs.Shorts.{short_large, short_clean, short_cut, end_in_header, end_in_bad, end_in_packet}
+use Rattle.sn_pcap.proofs.Fronts.{read_number, captured_kept, packet_read}
+use Rattle.sn_pcap.proofs.LeftLemmas.{left_taken}
+use Rattle.sn_pcap.proofs.OneCapture.{below_or_not}
+use Rattle.std.proofs.lemmas.Bool.{true≢false}
+
+pub at_told : (P : List ℕ → Type 0) (now : Option (List ℕ)) (file : List ℕ) → now ≡ Some file → IfSome now P → P file
+at_told P now file same h = subst (λ (o : Option (List ℕ)). IfSome o P) same h
+
+-- a name that isn't known stays so
+pub still_unknown : (name : List ℕ) (old new : ByName ℕ) → OnlyRises name old new → get old name ≡ None → get new name ≡ None
+still_unknown name old new rises none =
+    let same : is_some (get new name) ≡ is_some {T = ℕ} None = rises.known ∙ ap is_some none in
+    elim (get new name) as (λ o. is_some o ≡ is_some {T = ℕ} None → o ≡ None) [ Some n ↦ λ e. cc | None ↦ λ e. refl ] same
+
+-- what was held stays at the front
+pub kept_more : (first held more : List ℕ) → take (length first) held ≡ first → take (length held) more ≡ held → take (length first) more ≡ first
+kept_more first held more kept again =
+    let long : length (take (length first) held) ≡ length first = ap length kept in
+    let within : length first ≤ length held = omega (arith, long, length-take (length first) held) in
+    sym (take-take (length first) (length held) more within) ∙ ap (take (length first)) again ∙ kept
+
+-- a read adds to what is held
+pub told_more : (told now : Option (List ℕ)) (first held more : List ℕ) (offset at n : ℕ) → now ≡ told → at ≡ offset + length held
+    → IfSome told (λ file. HoldsAt file offset first → HoldsAt file offset held) → IfSome now (λ file. more ≡ held ++ take n (drop at file)) → IfSome now (λ file. n ≤ length file - at)
+    → IfSome told (λ file. HoldsAt file offset first → HoldsAt file offset more)
+told_more None now first held more offset at n same place holds bytes stand = tt
+told_more (Some file) now first held more offset at n same place holds bytes stand =
+    λ begin.
+    let read : more ≡ held ++ take n (drop (offset + length held) file) = at_told (λ f. more ≡ held ++ take n (drop at f)) now file same bytes ∙ ap (λ (k : ℕ). held ++ take n (drop k file)) place in
+    let count : n ≤ length file - at = at_told (λ f. n ≤ length f - at) now file same stand in
+    holds_more file held more offset n (holds begin) read (omega arith)
+
+-- How a capture ends of which too few bytes stand, or that they stand.
+pub told_large : (told : Option (List ℕ)) (buffer : List ℕ) (n need want count : ℕ) → n ≤ 2 ^ 40 → 2 ^ 40 < n + count → count ≤ want → want ≤ need
+    → IfSome told (λ file. HoldsAt file n buffer → count ≡ min want (length file - n)) → IfSome told (λ file. HoldsAt file n buffer → IsShort file n need last.TooLarge)
+told_large None buffer n need want count most past asked less counted = tt
+told_large (Some file) buffer n need want count most past asked less counted =
+    λ holds.
+    let is : count ≡ min want (length file - n) = counted holds in
+    short_large file n need count (omega arith) (omega arith) most past
+
+pub told_clean : (told : Option (List ℕ)) (buffer : List ℕ) (n need want count : ℕ) → n ≤ 2 ^ 40 → 0 < need → 0 < want → count ≡ 0
+    → IfSome told (λ file. HoldsAt file n buffer → count ≡ min want (length file - n)) → IfSome told (λ file. HoldsAt file n buffer → IsShort file n need (last.Ended Clean))
+told_clean None buffer n need want count most some asks nothing counted = tt
+told_clean (Some file) buffer n need want count most some asks nothing counted =
+    λ holds.
+    let is : count ≡ min want (length file - n) = counted holds in
+    short_clean file n need some most (omega arith)
+
+pub told_cut : (told : Option (List ℕ)) (buffer : List ℕ) (n need want count : ℕ) → n ≤ 2 ^ 40 → 0 < count → count < need → n + count ≤ 2 ^ 40 → want ≡ min need (2 ^ 40 + 1 - n)
+    → IfSome told (λ file. HoldsAt file n buffer → count ≡ min want (length file - n)) → IfSome told (λ file. HoldsAt file n buffer → IsShort file n need (last.Ended (Cut n)))
+told_cut None buffer n need want count most some few within asked counted = tt
+told_cut (Some file) buffer n need want count most some few within asked counted =
+    λ holds.
+    let is : count ≡ min want (length file - n) = counted holds in
+    short_cut file n need count some few (omega arith) (omega arith)
+
+pub told_whole : (told : Option (List ℕ)) (buffer : List ℕ) (n need want count : ℕ) → need ≤ count → 0 < need → n + count ≤ 2 ^ 40
+    → IfSome told (λ file. HoldsAt file n buffer → count ≡ min want (length file - n)) → IfSome told (λ file. HoldsAt file n buffer → n + need ≤ length (within file))
+told_whole None buffer n need want count enough some most counted = tt
+told_whole (Some file) buffer n need want count enough some most counted =
+    λ holds.
+    let is : count ≡ min want (length file - n) = counted holds in
+    omega (arith, length_within file)
+
+-- What stands at an offset.
+pub told_in_header : (told : Option (List ℕ)) (header : Header) (buffer : List ℕ) (n : ℕ) (e : Last) → IfSome told (λ file. HoldsAt file n buffer → IsShort file n 16 e) → IfSome told (λ file. HoldsAt file n buffer → IsNextEnd header file n e)
+told_in_header None header buffer n e short = tt
+told_in_header (Some file) header buffer n e short = λ holds. end_in_header header file n e (short holds)
+
+-- the captured length that is read is the file's
+cap_is : (header : Header) (file held : List ℕ) (n cap : ℕ) → HoldsAt file n held → 16 ≤ length held → n + 16 ≤ length (within file) → cap ≡ number_at header.big 4 held 8 → cap ≡ captured header (within file) n
+cap_is header file held n cap holds long stands is = is ∙ read_number header.big file held n 8 holds (omega arith) (omega arith)
+
+pub told_bad : (told : Option (List ℕ)) (header : Header) (buffer held : List ℕ) (n cap : ℕ) → 16 ≤ length held → cap ≡ number_at header.big 4 held 8 → 262144 < cap
+    → IfSome told (λ file. HoldsAt file n buffer → HoldsAt file n held) → IfSome told (λ file. HoldsAt file n buffer → n + 16 ≤ length (within file))
+    → IfSome told (λ file. HoldsAt file n buffer → IsNextEnd header file n (last.Ended (Bad n)))
+told_bad None header buffer held n cap long is large holding whole = tt
+told_bad (Some file) header buffer held n cap long is large holding whole =
+    λ holds.
+    let same = cap_is header file held n cap (holding holds) long (whole holds) is in
+    end_in_bad header file n (whole holds) (omega arith)
+
+pub told_in_packet : (told now : Option (List ℕ)) (header : Header) (buffer held : List ℕ) (n cap need : ℕ) (e : Last) → now ≡ told → 16 ≤ length held → cap ≡ number_at header.big 4 held 8 → cap ≤ 262144 → need ≡ 16 + cap
+    → IfSome told (λ file. HoldsAt file n buffer → HoldsAt file n held) → IfSome told (λ file. HoldsAt file n buffer → n + 16 ≤ length (within file)) → IfSome now (λ file. HoldsAt file n held → IsShort file n need e)
+    → IfSome told (λ file. HoldsAt file n buffer → IsNextEnd header file n e)
+told_in_packet None now header buffer held n cap need e same long is lawful asked holding whole short = tt
+told_in_packet (Some file) now header buffer held n cap need e same long is lawful asked holding whole short =
+    λ holds.
+    let is_file = cap_is header file held n cap (holding holds) long (whole holds) is in
+    end_in_packet header file n need e (whole holds) (omega arith) (asked ∙ ap (λ (x : ℕ). 16 + x) is_file) (at_told (λ f. HoldsAt f n held → IsShort f n need e) now file same short (holding holds))
+
+pub told_packet : (told now : Option (List ℕ)) (header : Header) (buffer held more : List ℕ) (n cap need : ℕ) (seen : Seen) → now ≡ told → cap ≡ captured header more 0 → cap ≤ 262144 → need ≡ 16 + cap → 16 + min cap 128 ≤ length more
+    → IfSome told (λ file. HoldsAt file n buffer → HoldsAt file n held) → IfSome now (λ file. HoldsAt file n held → HoldsAt file n more) → IfSome now (λ file. HoldsAt file n held → n + need ≤ length (within file))
+    → IsSeen more (packet_at header more 0) seen → IfSome told (λ file. HoldsAt file n buffer → IsNextPacket header file n seen)
+told_packet None now header buffer held more n cap need seen same is lawful asked long holding goes whole packet = tt
+told_packet (Some file) now header buffer held more n cap need seen same is lawful asked long holding goes whole packet =
+    λ holds.
+    let held_is = holding holds in
+    let stands : n + need ≤ length (within file) = at_told (λ f. HoldsAt f n held → n + need ≤ length (within f)) now file same whole held_is in
+    packet_read header file more n seen (at_told (λ f. HoldsAt f n held → HoldsAt f n more) now file same goes held_is) (omega arith) (omega arith) (omega arith) packet
+
+-- what holds of each file holds of a told one
+if_all : (told : Option (List ℕ)) (P : List ℕ → Type 0) → ((file : List ℕ) → P file) → IfSome told P
+if_all None P all = tt
+if_all (Some file) P all = all file
+
+-- One call of a reader, which is seen as `before`.
+pub told_packet_step : (told : Option (List ℕ)) (seen_as before now : ReaderState) (seen : Seen) → seen_as ≡ before → seen_as.last ≡ None → now.header ≡ seen_as.header → now.offset ≡ seen_as.offset + (16 + seen.cap) → now.last ≡ None
+    → IfSome told (λ file. Follows file before) → IfSome told (λ file. HoldsAt file seen_as.offset seen_as.held → IsNextPacket seen_as.header file seen_as.offset seen)
+    → IfSome told (λ file. Ok (next.Packet seen) ≢ Err errors.ReadFault → IsStep file before (Ok (next.Packet seen)) now)
+told_packet_step None seen_as before now seen view goes header offset still follows packet = tt
+told_packet_step (Some file) seen_as before now seen view goes header offset still follows packet =
+    λ _.
+    let found = packet (subst (λ (r : ReaderState). Follows file r) (sym view) follows) in
+    let cap : seen.cap ≡ captured seen_as.header (within file) seen_as.offset = found.is_seen.cap in
+    let step : IsStep file seen_as (Ok (next.Packet seen)) now =
+    inl (record { goes_on = goes; whole = found.whole; seen = seen; is_seen = found.is_seen; answered = refl; same_header = header; moved = omega arith; still = still }) in
+    subst (λ (r : ReaderState). IsStep file r (Ok (next.Packet seen)) now) view step
+
+pub told_end_step : (told : Option (List ℕ)) (seen_as before now : ReaderState) (l : Last) (answer : Result Next ReadError) → seen_as ≡ before → answer ≡ answer_of l → seen_as.last ≡ None → now.header ≡ seen_as.header → now.offset ≡ seen_as.offset → now.last ≡ Some l
+    → IfSome told (λ file. Follows file before) → IfSome told (λ file. HoldsAt file seen_as.offset seen_as.held → IsNextEnd seen_as.header file seen_as.offset l)
+    → IfSome told (λ file. answer ≢ Err errors.ReadFault → IsStep file before answer now)
+told_end_step None seen_as before now l answer view is goes header offset noted follows end = tt
+told_end_step (Some file) seen_as before now l answer view is goes header offset noted follows end =
+    λ _.
+    let found = end (subst (λ (r : ReaderState). Follows file r) (sym view) follows) in
+    let step : IsStep file seen_as answer now =
+    inr (inl (record { goes_on = goes; ending = found.ending; none = found.none; answered = is ∙ ap answer_of found.ends; same_header = header; same_offset = offset; noted = noted ∙ ap (λ (x : Last). Some x) found.ends })) in
+    subst (λ (r : ReaderState). IsStep file r answer now) view step
+
+-- a name that isn't known has no told file
+told_missing : (files : Option (ByName (List ℕ))) (counts : ByName ℕ) (name : List ℕ) (P : List ℕ → Type 0) → ((held : ByName (List ℕ)) (other : List ℕ) → files ≡ Some held → is_some (get held other) ≡ is_some (get counts other))
+    → get counts name ≡ None → IfSome (told_file files name) P
+told_missing None counts name P law unknown = tt
+told_missing (Some held) counts name P law unknown =
+    let same : is_some (get held name) ≡ is_some {T = ℕ} None = law held name refl ∙ ap is_some unknown in
+    elim (get held name) as (λ o. is_some o ≡ is_some {T = ℕ} None → IfSome o P) [ Some file ↦ λ e. absurd (cc) | None ↦ λ e. tt ] same
+
+-- a read that fails is no step
+pub told_fault_step : (files : Option (ByName (List ℕ))) (counts : ByName ℕ) (name : List ℕ) (before now : ReaderState) (fault : InputFault) (answer : Result Next ReadError) → answer ≡ Err (error_of fault)
+    → ((held : ByName (List ℕ)) (other : List ℕ) → files ≡ Some held → is_some (get held other) ≡ is_some (get counts other)) → (fault ≡ faults.Missing → get counts name ≡ None)
+    → IfSome (told_file files name) (λ file. answer ≢ Err errors.ReadFault → IsStep file before answer now)
+told_fault_step files counts name before now faults.Failed answer is law missing = if_all (told_file files name) (λ file. answer ≢ Err errors.ReadFault → IsStep file before answer now) (λ file apart. absurd (apart is))
+told_fault_step files counts name before now faults.Missing answer is law missing = told_missing files counts name (λ file. answer ≢ Err errors.ReadFault → IsStep file before answer now) law (missing refl)
+
+-- a step takes the first of what is left
+pub told_takes : (told : Option (List ℕ)) (before now : ReaderState) (answer : Result Next ReadError) → IfSome told (λ file. answer ≢ Err errors.ReadFault → IsStep file before answer now)
+    → IfSome told (λ file. (packets : List Packet) (l : Last) → Left file before packets l → answer ≢ Err errors.ReadFault → Takes file packets l answer now)
+told_takes None before now answer step = tt
+told_takes (Some file) before now answer step = λ packets l left read. left_taken file before now packets l answer left (step read)
+
+-- the reader goes on following the file
+pub told_follows : (told : Option (List ℕ)) (seen_as before now : ReaderState) (held : List ℕ) (n : ℕ) → seen_as ≡ before → now.offset ≡ seen_as.offset + n → now.held ≡ drop n held
+    → IfSome told (λ file. Follows file before) → IfSome told (λ file. HoldsAt file seen_as.offset seen_as.held → HoldsAt file seen_as.offset held) → IfSome told (λ file. Follows file now)
+told_follows None seen_as before now held n view offset rest follows holding = tt
+told_follows (Some file) seen_as before now held n view offset rest follows holding =
+    let first = subst (λ (r : ReaderState). Follows file r) (sym view) follows in
+    let at : HoldsAt file (seen_as.offset + n) now.held = holds_rest file held now.held seen_as.offset n (holding first) rest in
+    subst (λ (k : ℕ). HoldsAt file k now.held) (sym offset) at
+
+-- what is said of an answer that is this one
+pub short_ends : (short : Option Last) (e : Last) (told : Option (List ℕ)) (buffer : List ℕ) (n need : ℕ) → short ≡ Some e → IfSome short (λ l. IfSome told (λ file. HoldsAt file n buffer → IsShort file n need l)) → IfSome told (λ file. HoldsAt file n buffer → IsShort file n need e)
+short_ends short e told buffer n need is ends = subst (λ (o : Option Last). IfSome o (λ l. IfSome told (λ file. HoldsAt file n buffer → IsShort file n need l))) is ends
+
+-- told contents stay as they were
+pub told_still : (old new : Option (ByName (List ℕ))) (name : List ℕ) (P : List ℕ → Type 0) → new ≡ old → IfSome (told_file old name) P → IfSome (told_file new name) P
+told_still old new name P same given = subst (λ (t : Option (ByName (List ℕ))). IfSome (told_file t name) P) (sym same) given
+
+-- a name that was known is known
+pub known_still : (name : List ℕ) (old new : ByName ℕ) → OnlyRises name old new → (get old name ≡ None → ⊥) → is_some (get new name) ≡ true
+known_still name old new rises known = rises.known ∙ elim (get old name) as (λ o. (o ≡ None → ⊥) → is_some o ≡ true) [ Some n ↦ λ k. refl | None ↦ λ k. absurd (k refl) ] known
+
+-- it is known, unless nothing was read of it
+pub not_unknown : (seen_as before : ReaderState) (name : List ℕ) (old : ByName ℕ) → seen_as ≡ before → (HasRead before → is_some (get old name) ≡ true) → (length seen_as.held ≡ 0 → get old name ≡ None → ⊥) → get old name ≡ None → ⊥
+not_unknown seen_as before name old view known empty none =
+    below_or_not 0 (length seen_as.held)
+    (λ some.
+    let has : HasRead seen_as = inl some in
+    let is : is_some (get old name) ≡ true = known (subst (λ (r : ReaderState). HasRead r) view has) in
+    true≢false (sym is ∙ ap is_some none))
+    (λ nothing. empty (omega arith) none)
+
+abbrev result : (A E : Type 0) → Result A E → Result A E
+result A E r = r
+
+pub not_err : {A E : Type 0} {a : A} {e : E} → result A E (Ok a) ≡ result A E (Err e) → ⊥
+not_err e = cc
