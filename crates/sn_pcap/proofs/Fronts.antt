@@ -1,12 +1,11 @@
 -- What is read of a record at the front of a buffer is what stands in the file.
-use Rattle.std.proofs.Common.{◌≡◌, ℕ, ◌+◌, ◌-◌, ◌*◌, ◌<◌, ◌≤◌, ◌^◌, Bool, true, false, if◌then◌else◌, List, length, take, drop, min, refl, ap, sym, subst, ◌∙◌, arith, length-drop, length-take}
+use Rattle.std.proofs.Common.{◌≡◌, ℕ, ◌+◌, ◌-◌, ◌*◌, ◌≤◌, ◌^◌, Bool, true, false, if◌then◌else◌, List, length, take, drop, min, ap, sym, ◌∙◌, arith}
 use Rattle.std.proofs.lemmas.List.{drop-drop, drop-take, take-take}
 use Rattle.byteorder.specs.Endian.{big_number, little_number}
 use Rattle.byteorder.specs.Numbers.{big_from-take, little_from-take}
 use Rattle.sn_pcap.specs.declared.header.Header.{Header}
-use Rattle.sn_pcap.specs.declared.packet.Packet.{Packet}
 use Rattle.sn_pcap.specs.declared.seen.Seen.{Seen}
-use Rattle.sn_pcap.specs.Capture.{number_at, captured, time_at, packet_at, bytes_of, HasRecord}
+use Rattle.sn_pcap.specs.Capture.{number_at, captured, time_at, packet_at}
 use Rattle.sn_pcap.specs.Reading.{within, HoldsAt, IsSeen}
 use Rattle.sn_pcap.specs.Stands.{IsNextPacket}
 use Rattle.sn_pcap.proofs.Holding.{length_within}

@@ -1,5 +1,5 @@
 -- The header of a file is that of its first 24 bytes.
-use Rattle.std.proofs.Common.{◌≡◌, ℕ, ◌+◌, ◌<◌, ◌≤◌, Bool, true, false, if◌then◌else◌, ◌&&◌, ◌%◌, List, [], ◌++◌, Option, None, Some, Result, Err, IfSome, length, take, drop, min, refl, ap, sym, ◌∙◌, arith, length-take}
+use Rattle.std.proofs.Common.{◌≡◌, ℕ, ◌+◌, ◌≤◌, Bool, true, false, if◌then◌else◌, ◌&&◌, ◌%◌, List, ◌++◌, Option, None, Some, Result, Err, IfSome, length, take, drop, min, refl, ap, sym, ◌∙◌, arith, length-take}
 use Rattle.std.specs.Prelude.{nat_lt, ◌==◌}
 use Rattle.std.proofs.Math.Seq.{take-add}
 use Rattle.std.proofs.lemmas.List.{take_all}

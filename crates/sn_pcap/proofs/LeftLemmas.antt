@@ -1,5 +1,5 @@
 -- The records that are left for a reader.
-use Rattle.std.proofs.Common.{◌≡◌, ℕ, ◌+◌, List, [], ◌∷◌, Option, None, Some, Result, Ok, Err, inl, inr, refl, ap, sym, subst, ◌∙◌, arith}
+use Rattle.std.proofs.Common.{◌≡◌, ℕ, ◌+◌, List, [], ◌∷◌, None, Some, Result, Ok, inl, inr, refl, ap, sym, subst, ◌∙◌, arith}
 use Rattle.sn_io.specs.declared.inputs.ReadError.{ReadError}
 use Rattle.sn_pcap.specs.declared.header.Header.{Header}
 use Rattle.sn_pcap.specs.declared.packet.Packet.{Packet}
@@ -10,7 +10,7 @@ use Rattle.sn_pcap.specs.declared.seen.Next.TheVariants as next
 use Rattle.sn_pcap.specs.declared.seen.Last.{Last}
 use Rattle.sn_pcap.specs.declared.seen.Last.TheVariants as last
 use Rattle.sn_pcap.specs.Capture.{Records, HasRecord, packet_at, captured, no_byte, short_header, too_large, short_packet, whole}
-use Rattle.sn_pcap.specs.Reading.{within, last_of, IsSeen, ReaderState, answer_of, TellsPacket, TellsEnd, TellsAgain, IsStep, Left, records, none, HasLeft, TakesPacket, Takes, Run, more, ends, AllSeen, nothing, also}
+use Rattle.sn_pcap.specs.Reading.{within, last_of, IsSeen, ReaderState, answer_of, TellsPacket, IsStep, Left, records, none, HasLeft, Takes, Run, more, ends, AllSeen, nothing, also}
 use Rattle.sn_pcap.proofs.OneCapture.{records_once, records_some}
 
 apart : {X : Type 0} (x : X) → None ≡ Some x → ⊥

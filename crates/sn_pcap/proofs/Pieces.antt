@@ -1,6 +1,5 @@
 -- Fronts and rests of lists, as a buffer cuts them.
-use Rattle.std.proofs.Common.{◌≡◌, ℕ, suc, ◌+◌, ◌-◌, ◌<◌, ◌≤◌, List, ◌∷◌, [], ◌++◌, length, take, drop, set, get_or, refl, ap, sym, ◌∙◌, arith, length-drop, get_or-drop}
-use Rattle.std.proofs.Math.Seq.{take-add}
+use Rattle.std.proofs.Common.{◌≡◌, ℕ, ◌+◌, ◌-◌, ◌<◌, ◌≤◌, List, ◌∷◌, [], ◌++◌, length, take, drop, set, get_or, ap, sym, ◌∙◌, arith, get_or-drop}
 use Rattle.std.proofs.lemmas.List.{drop-drop, drop-take, take_more, take_more_set, drop-set-lt}
 
 -- the front of a range is taken off

@@ -1,13 +1,12 @@
 -- How a capture ends of which too few bytes stand.
-use Rattle.std.proofs.Common.{◌≡◌, ℕ, ◌+◌, ◌-◌, ◌<◌, ◌≤◌, ◌^◌, nat_lt, nat_le, Bool, true, false, cond, List, [], length, min, refl, ap, sym, subst, ◌∙◌, arith}
-use Rattle.std.proofs.lemmas.Bool.{ltb-false}
+use Rattle.std.proofs.Common.{◌≡◌, ℕ, ◌+◌, ◌-◌, ◌<◌, ◌≤◌, ◌^◌, nat_lt, nat_le, Bool, true, false, cond, List, [], length, refl, ap, sym, subst, ◌∙◌, arith}
 use Rattle.std.proofs.lemmas.Bool.Decides.{nat_tests}
 use Rattle.sn_pcap.specs.declared.header.Header.{Header}
 use Rattle.sn_pcap.specs.declared.packet.Ending.{Ending}
 use Rattle.sn_pcap.specs.declared.packet.Ending.TheVariants.{Clean, Cut, Bad}
 use Rattle.sn_pcap.specs.declared.seen.Last.{Last}
 use Rattle.sn_pcap.specs.declared.seen.Last.TheVariants as last
-use Rattle.sn_pcap.specs.Capture.{Records, HasRecord, captured, no_byte, short_header, too_large, short_packet}
+use Rattle.sn_pcap.specs.Capture.{Records, captured, no_byte, short_header, too_large, short_packet}
 use Rattle.sn_pcap.specs.Reading.{within, last_of}
 use Rattle.sn_pcap.specs.Stands.{short_ending, IsShort, IsNextEnd}
 use Rattle.sn_pcap.proofs.Holding.{length_within}

@@ -1,5 +1,5 @@
 -- A read into the front of some bytes, for tests.
-use Rattle.std.proofs.Common.{◌≡◌, ℕ, ◌+◌, ◌<◌, ◌≤◌, ◌↔◌, ◌⊎◌, List, ◌++◌, Option, None, Some, Result, Ok, Err, IfOk, IfSome, length, take, drop, min, inl, inr, refl, ap, sym, ◌∙◌, arith, append_assoc, length-take}
+use Rattle.std.proofs.Common.{◌≡◌, ℕ, ◌≤◌, ◌⊎◌, List, ◌++◌, Option, None, Some, Result, Ok, Err, IfOk, IfSome, length, take, drop, min, inl, inr, ap, sym, ◌∙◌, arith, append_assoc, length-take}
 use Rattle.std.proofs.lemmas.List.{take-append-drop, drop-append-le}
 use Rattle.sn_io.specs.declared.inputs.InputFault.{InputFault}
 use Rattle.sn_io.specs.Inputs.{Reads}
@@ -8,7 +8,7 @@ reads_front : (file old mid part new : List ℕ) (at n most : ℕ) → mid ≡ t
 reads_front file old mid part new at n most mid_is new_is fits some within r =
     let long : length mid ≡ most = ap length mid_is ∙ length-take most old ∙ (omega arith) in
     let rest : drop n old ≡ drop n mid ++ drop most old =
-        ap (drop n) (sym (take-append-drop most old) ∙ ap (λ (xs : List ℕ). xs ++ drop most old) (sym mid_is)) ∙ drop-append-le n mid (drop most old) (omega arith) in
+    ap (drop n) (sym (take-append-drop most old) ∙ ap (λ (xs : List ℕ). xs ++ drop most old) (sym mid_is)) ∙ drop-append-le n mid (drop most old) (omega arith) in
     record {
       bytes = new_is ∙ ap (λ (xs : List ℕ). xs ++ drop most old) r.bytes ∙ append_assoc (take n (drop at file)) (drop n mid) (drop most old) ∙ ap (λ (xs : List ℕ). take n (drop at file) ++ xs) (sym rest);
       within = r.within;

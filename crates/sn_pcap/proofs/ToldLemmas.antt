@@ -1,5 +1,5 @@
 -- What a call does to a file whose contents are told.
-use Rattle.std.proofs.Common.{◌≡◌, ◌≢◌, ℕ, ◌+◌, ◌-◌, ◌<◌, ◌≤◌, ◌^◌, List, [], ◌∷◌, ◌++◌, Option, None, Some, Result, Ok, Err, IfSome, is_some, true, length, take, drop, min, inl, inr, refl, ap, sym, subst, ◌∙◌, arith, length-take}
+use Rattle.std.proofs.Common.{◌≡◌, ◌≢◌, ℕ, ◌+◌, ◌-◌, ◌<◌, ◌≤◌, ◌^◌, List, ◌++◌, Option, None, Some, Result, Ok, Err, IfSome, is_some, true, length, take, drop, min, inl, inr, refl, ap, sym, subst, ◌∙◌, arith, length-take}
 use Rattle.std.proofs.lemmas.List.{take-take}
 use Rattle.std.specs.FinMap.{get}
 use Rattle.sn_io.specs.Counts.{ByName, OnlyRises}
@@ -10,7 +10,6 @@ use Rattle.sn_io.specs.declared.inputs.ReadError.{ReadError}
 use Rattle.sn_io.specs.declared.inputs.ReadError.TheVariants as errors
 use Rattle.sn_pcap.specs.declared.header.Header.{Header}
 use Rattle.sn_pcap.specs.declared.packet.Packet.{Packet}
-use Rattle.sn_pcap.specs.declared.packet.Ending.{Ending}
 use Rattle.sn_pcap.specs.declared.packet.Ending.TheVariants.{Clean, Cut, Bad}
 use Rattle.sn_pcap.specs.declared.seen.Seen.{Seen}
 use Rattle.sn_pcap.specs.declared.seen.Next.{Next}
@@ -18,11 +17,11 @@ use Rattle.sn_pcap.specs.declared.seen.Next.TheVariants as next
 use Rattle.sn_pcap.specs.declared.seen.Last.{Last}
 use Rattle.sn_pcap.specs.declared.seen.Last.TheVariants as last
 use Rattle.sn_pcap.specs.Capture.{number_at, captured, packet_at}
-use Rattle.sn_pcap.specs.Reading.{within, last_of, HoldsAt, Follows, HasRead, IsSeen, ReaderState, answer_of, error_of, TellsPacket, TellsEnd, TellsAgain, IsStep, Left, Takes}
+use Rattle.sn_pcap.specs.Reading.{within, HoldsAt, Follows, HasRead, IsSeen, ReaderState, answer_of, error_of, IsStep, Left, Takes}
 use Rattle.sn_pcap.specs.Stands.{IsShort, IsNextPacket, IsNextEnd}
-use Rattle.sn_pcap.proofs.Holding.{holds_more, holds_rest, held_stand, length_within}
+use Rattle.sn_pcap.proofs.Holding.{holds_more, holds_rest, length_within}
 use Rattle.sn_pcap.proofs.Shorts.{short_large, short_clean, short_cut, end_in_header, end_in_bad, end_in_packet}
-use Rattle.sn_pcap.proofs.Fronts.{read_number, captured_kept, packet_read}
+use Rattle.sn_pcap.proofs.Fronts.{read_number, packet_read}
 use Rattle.sn_pcap.proofs.LeftLemmas.{left_taken}
 use Rattle.sn_pcap.proofs.OneCapture.{below_or_not}
 use Rattle.std.proofs.lemmas.Bool.{true≢false}

@@ -1,5 +1,5 @@
 -- A capture that is read from front to back, one record after another.
-use Rattle.std.specs.Prelude.{◌≡◌, ℕ, ◌<◌, ◌≤◌, ◌+◌, ◌^◌, ◌⊎◌, Bool, true, nat_lt, nat_le, min, if◌then◌else◌, List, [], ◌∷◌, length, take, drop, Option, None, Some, is_some, Result, Ok, Err}
+use Rattle.std.specs.Prelude.{◌≡◌, ℕ, ◌<◌, ◌≤◌, ◌+◌, ◌^◌, ◌⊎◌, true, nat_lt, min, if◌then◌else◌, List, [], ◌∷◌, length, take, drop, Option, None, Some, is_some, Result, Ok, Err}
 use Rattle.sn_io.specs.declared.inputs.InputFault.{InputFault}
 use Rattle.sn_io.specs.declared.inputs.InputFault.TheVariants as faults
 use Rattle.sn_io.specs.declared.inputs.ReadError.{ReadError}

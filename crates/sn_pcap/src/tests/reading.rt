@@ -162,8 +162,7 @@ fn tells_where_a_capture_is_damaged(rt: HostRuntime) -> Result<(), Fail> {
 }
 
 /// A capture of one record with so many captured bytes, of which so many stand.
-fn one_long(alloc: Global, length: u32, stand: usize) -> Result<Vec<u8>, Memory>
-{
+fn one_long(alloc: Global, length: u32, stand: usize) -> Result<Vec<u8>, Memory> {
     let mut bytes = Vec::new(alloc);
     if bytes.extend_from_slice(&HEADER).is_err()
         || bytes.extend_from_slice(&[9, 0, 0, 0, 0, 0, 0, 0]).is_err()

@@ -1,4 +1,4 @@
-use Rattle.std.proofs.Common.{ℕ, ◌<◌, ◌-◌, length, drop, arith, length-drop}
+use Rattle.std.proofs.Common.{◌<◌, length, drop, arith, length-drop}
 use Rattle.sn_pcap.proofs.Pieces.{moved_more, rest_more}
 use Rattle.sn_pcap.proofs.buffer.move_front.Goals as goal
 

@@ -1,4 +1,4 @@
-use Rattle.std.proofs.Common.{◌≡◌, ◌+◌, None, Option, List, ℕ, ap, ◌∙◌, arith, rules}
+use Rattle.std.proofs.Common.{◌≡◌, None, Option, List, ℕ, ap, ◌∙◌, arith, rules}
 use Rattle.std.specs.FinMap.{get}
 use Rattle.sn_io.specs.Counts.{ByName}
 use Rattle.sn_io.specs.Inputs.{told_file}

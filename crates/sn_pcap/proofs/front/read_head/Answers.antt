@@ -1,4 +1,3 @@
-use Rattle.std.proofs.Common.{ap, ◌∙◌}
 use Rattle.sn_io.specs.Inputs.{told_file}
 use Rattle.sn_pcap.proofs.HeadLemmas.{told_head}
 use Rattle.sn_pcap.proofs.front.read_head.Goals as goal

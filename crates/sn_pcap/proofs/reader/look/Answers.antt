@@ -1,4 +1,4 @@
-use Rattle.std.proofs.Common.{◌≡◌, ◌+◌, ◌<◌, ◌≤◌, ℕ, List, Option, None, length, min, refl, ap, sym, subst, ◌∙◌, arith, rules}
+use Rattle.std.proofs.Common.{◌≡◌, ◌+◌, ◌≤◌, ℕ, List, Option, None, length, min, ap, sym, subst, ◌∙◌, arith, rules}
 use Rattle.sn_io.specs.Counts.{ByName}
 use Rattle.sn_io.specs.Inputs.{told_file}
 use Rattle.sn_pcap.specs.Capture.{number_at, captured, packet_at}

@@ -1,4 +1,4 @@
-use Rattle.std.proofs.Common.{◌≡◌, ◌+◌, ◌-◌, ◌<◌, ◌≤◌, ◌^◌, min, arith}
+use Rattle.std.proofs.Common.{◌≤◌, arith}
 use Rattle.sn_io.specs.Inputs.{told_file}
 use Rattle.sn_pcap.proofs.ToldLemmas.{told_large, told_clean, told_cut, told_whole}
 use Rattle.sn_pcap.proofs.reader.short.Goals as goal

@@ -1,4 +1,4 @@
-use Rattle.std.proofs.Common.{ℕ, List, ◌≡◌, ◌≤◌, ◌+◌, ◌-◌, take, drop, length, ap, ◌∙◌, arith, length-take, length-drop}
+use Rattle.std.proofs.Common.{◌≡◌, ◌≤◌, ◌+◌, ◌-◌, take, drop, length, ap, ◌∙◌, arith, length-take}
 use Rattle.sn_pcap.proofs.Pieces.{range_passed}
 use Rattle.sn_pcap.proofs.buffer.Buffer.pass.Goals as goal
 

@@ -1,9 +1,6 @@
-use Rattle.std.proofs.Common.{◌≡◌, ◌+◌, ℕ, List, Result, Err, None, Some, take, subst, refl, ap, sym, ◌∙◌, arith, rules}
+use Rattle.std.proofs.Common.{◌≡◌, ◌+◌, ℕ, List, Err, None, Some, take, subst, refl, ap, ◌∙◌, rules}
 use Rattle.sn_io.specs.Inputs.{told_file}
 use Rattle.sn_io.specs.declared.inputs.ReadError.{ReadError}
-use Rattle.sn_pcap.specs.declared.header.Header.{Header}
-use Rattle.sn_pcap.specs.declared.seen.Next.{Next}
-use Rattle.sn_pcap.specs.declared.seen.Next.TheVariants as next
 use Rattle.sn_pcap.specs.Reading.{ReaderState, Follows, HasRead}
 use Rattle.sn_pcap.proofs.ToldLemmas.{told_packet_step, told_end_step, told_fault_step, told_takes, told_follows, told_still, known_still, not_unknown, not_err}
 use Rattle.sn_pcap.proofs.reader.Reader.next.Goals as goal

@@ -1,4 +1,4 @@
-use Rattle.std.proofs.Common.{◌≡◌, ◌≤◌, ◌-◌, length, take, refl, arith}
+use Rattle.std.proofs.Common.{◌≤◌, refl, arith}
 use Rattle.sn_pcap.proofs.SlowLemmas.{slow_reads}
 use Rattle.sn_pcap.proofs.tests.slow.SlowInputs.read_at.Goals as goal
 
