@@ -1,0 +1,117 @@
+//! A query that is refined over windows.
+ghost use Rattle.std.specs.Prelude.{◌≡◌, ◌<◌, length, nat_eq, true};
+ghost use Rattle.std.specs.List.{list_any};
+ghost use Rattle.sn_refine.specs.Steps.{IsPathOf, IsAbove};
+ghost use Rattle.sn_types.specs.Typed.{query_at};
+
+use crate::texts::{NET, queries, row, syn};
+use sn_base::memory::Memory;
+use sn_base::row::Row;
+use sn_base::seq::Seq;
+use sn_fields::tuple::Tuple;
+use sn_refine::members::members;
+use sn_refine::refined::Refined;
+use sn_types::answers::Part;
+use sn_types::typed::Typed;
+use std::alloc::Global;
+use std::test::Fail;
+
+/// Destinations of more than one packet, by network and by host.
+const HEAVY: &[u8] =
+    b"window 1000000 query q { refine ip.dst: 8, 32; packets | map ip.dst as d, 1 as n | reduce d: sum(n) width 16 | filter n > 1; }";
+
+fn has_level(t: &Typed, level: u32) -> bool
+    requires { 0 < length t.now.queries }
+    ensures { result ≡ list_any (nat_eq level) (query_at t.now.queries 0).levels }
+{
+    t.levels(0).iter().any(|other| level == *other)
+}
+
+/// Whether these are levels of the one query, which is refined.
+fn is_path(t: &Typed, path: &[u32]) -> bool
+    requires { 0 < length t.now.queries }
+    ensures { result ≡ true → IsPathOf t.now.queries 0 path.now }
+{
+    t.refine_field(0).is_some() && path.iter().all(|level| has_level(t, *level))
+}
+
+fn is_above(last: Option<u64>, w: u64) -> bool
+    ensures { result ≡ true → IsAbove last w }
+{
+    match last {
+        Some(last) => last < w,
+        None => true,
+    }
+}
+
+/// The query on the path 8, 32.
+fn refined(alloc: Global, t: &Typed) -> Result<Refined, Memory> {
+    let path = [8, 32];
+    if t.queries() != 1 || !is_path(t, &path) {
+        return Err(Memory);
+    }
+    Refined::make(alloc, t, 0, &path)
+}
+
+/// The answers of a window. `Err` where it may not be asked for.
+fn answers(
+    t: &Typed,
+    refined: &mut Refined,
+    w: u64,
+    tuples: &[Tuple],
+) -> Result<Seq<Part>, Memory> {
+    if t.queries() == 0 || refined.query != 0 {
+        return Err(Memory);
+    }
+    if !is_path(t, refined.path.as_slice()) || !is_above(refined.last, w) {
+        return Err(Memory);
+    }
+    refined.window(t, w, tuples)
+}
+
+fn rows(parts: &Seq<Part>, place: usize) -> &[Row] {
+    match parts.as_slice().get(place) {
+        Some(part) => part.rows.as_slice(),
+        None => &[],
+    }
+}
+
+#[test]
+fn finer_levels_see_what_was_answered_before(rt: HostRuntime) -> Result<(), Fail> {
+    let t = queries(rt.alloc(), HEAVY).ok_or("no queries")?;
+    let mut refined = refined(rt.alloc(), &t)?;
+    let tuples = [syn(1, 9), syn(1, 9)];
+    let first = answers(&t, &mut refined, 0, &tuples)?;
+    assert_eq!(rt; first.as_slice().len(), 2);
+    assert_eq!(rt; rows(&first, 0), [row(&[NET, 2])].as_slice());
+    assert_eq!(rt; rows(&first, 1).len(), 0);
+    let second = answers(&t, &mut refined, 1, &tuples)?;
+    assert_eq!(rt; rows(&second, 0), [row(&[NET, 2])].as_slice());
+    assert_eq!(rt; rows(&second, 1), [row(&[NET + 9, 2])].as_slice());
+    Ok(())
+}
+
+#[test]
+fn a_gap_empties_the_finer_levels(rt: HostRuntime) -> Result<(), Fail> {
+    let t = queries(rt.alloc(), HEAVY).ok_or("no queries")?;
+    let mut refined = refined(rt.alloc(), &t)?;
+    let tuples = [syn(1, 9), syn(1, 9)];
+    let first = answers(&t, &mut refined, 0, &tuples)?;
+    assert_eq!(rt; rows(&first, 1).len(), 0);
+    let second = answers(&t, &mut refined, 2, &tuples)?;
+    assert_eq!(rt; rows(&second, 0), [row(&[NET, 2])].as_slice());
+    assert_eq!(rt; rows(&second, 1).len(), 0);
+    Ok(())
+}
+
+#[test]
+fn members_are_the_refinement_column(rt: HostRuntime) -> Result<(), Fail> {
+    let t = queries(rt.alloc(), HEAVY).ok_or("no queries")?;
+    assert_eq!(rt; t.queries(), 1);
+    let found = members(rt.alloc(), &t, 0, &[row(&[NET, 2]), row(&[2 * NET, 2])])?;
+    assert!(rt; found.has(NET));
+    assert!(rt; found.has(2 * NET));
+    assert!(rt; !found.has(NET + 9));
+    assert!(rt; !found.has(2));
+    Ok(())
+}
