@@ -3,16 +3,15 @@ use Rattle.std.proofs.Common.{◌≡◌, ℕ, zero, suc, ◌≤◌, List, [], �
 use Rattle.std.specs.Prelude.{nat_lt, is_none, option_and_then, option_map, codes, String}
 use Rattle.std.specs.String.{string_bytes}
 use Rattle.std.specs.declared.alloc.Global.{Global}
-use Rattle.std.specs.Cmp.Lexicographic.{bytes_decides}
 use Rattle.std.proofs.lemmas.Bool.{le-ltb, ltb-false}
 use Rattle.std.proofs.lemmas.List.{length-take-le}
 use Rattle.sn_base.proofs.Lists.{by_test}
 use Rattle.sn_cli.specs.declared.command.Command.{Command}
 use Rattle.sn_cli.specs.declared.command.Command.TheVariants as commands
 use Rattle.sn_cli.specs.declared.options.Options.{Options}
-use Rattle.sn_cli.specs.Words.{texts, IsNumber}
-use Rattle.sn_cli.specs.Grammar.{no_options, AreOptions, Line, Numbered, Spells}
-use Rattle.sn_cli.specs.Reading.{same, number_of, is_flag, flag_of, numbered_of, options_from, all_file_words, line_of, lone_number, bare_of, plan_of, run_of, live_of, command_with, command_of}
+use Rattle.sn_cli.specs.Words.{texts}
+use Rattle.sn_cli.specs.Grammar.{no_options, Line, Numbered, Spells}
+use Rattle.sn_cli.specs.Reading.{same, is_flag, flag_of, numbered_of, options_from, all_file_words, line_of, lone_number, bare_of, plan_of, run_of, live_of, command_with, command_of}
 use Rattle.sn_cli.proofs.NumberLemmas.{and_left, and_right, none_some, some_same, taken, passed, number_is, is_number}
 use Rattle.sn_cli.proofs.OptionLemmas.{flag_step, options_found, options_are_said, is_free, is_false, word_is}
 

@@ -3,7 +3,7 @@ use Rattle.std.proofs.Common.{◌≡◌, ℕ, ◌+◌, ◌-◌, ◌*◌, ◌<◌
 use Rattle.std.specs.Prelude.{nat_lt, nat_le, ◌==◌, option_and_then}
 use Rattle.std.specs.List.{list_all}
 use Rattle.std.proofs.Math.Seq.{drop-cons}
-use Rattle.std.proofs.lemmas.Bool.{false≢true, lt-ltb, le-ltb, lt-leb, le-leb, ltb-false, leb-true, eqb-false, ne_eqb}
+use Rattle.std.proofs.lemmas.Bool.{false≢true, le-ltb, lt-leb, le-leb, ltb-false, leb-true, eqb-false, ne_eqb}
 use Rattle.sn_base.proofs.Lists.{by_test}
 use Rattle.sn_cli.specs.Words.{is_digit, value_behind, decimal_value, IsNumber}
 use Rattle.sn_cli.specs.Reading.{value_within, at_least, number_of}

@@ -7,7 +7,7 @@ use Rattle.sn_cli.specs.declared.options.Options.{Options}
 use Rattle.sn_cli.specs.Words.{IsNumber}
 use Rattle.sn_cli.specs.Grammar.{no_options, AreOptions, none, nodes, schedule, csv, trace}
 use Rattle.sn_cli.specs.Reading.{same, number_of, is_flag, flag_of, with_nodes, with_schedule, numbered_of, options_from}
-use Rattle.sn_cli.proofs.NumberLemmas.{and_left, and_right, never_both, none_some, some_same, taken, passed, number_is, is_number}
+use Rattle.sn_cli.proofs.NumberLemmas.{and_left, and_right, never_both, none_some, some_same, passed, number_is, is_number}
 
 -- no option is in both
 record Apart (a b : Options) : Type 0 where

@@ -1,5 +1,4 @@
-use Rattle.std.proofs.Common.{◌≡◌, List, ℕ, Option, Some, None, ap, sym, ◌∙◌, ◌∷◌}
-use Rattle.sn_cli.specs.declared.command.Command.{Command}
+use Rattle.std.proofs.Common.{◌≡◌, None, ap, sym, ◌∙◌, ◌∷◌}
 use Rattle.sn_cli.specs.Reading.{command_of}
 use Rattle.sn_cli.specs.Words.{texts}
 use Rattle.sn_cli.proofs.GrammarLemmas.{read_is_spelled, spelled_is_read, first_word}
