@@ -3,3 +3,4 @@ pub mod EmitLaw
 pub mod LaneLaw
 pub mod PlanFacts
 pub mod PlanLanes
+pub mod Unread

@@ -5,3 +5,5 @@ pub mod lanes;
 pub mod law;
 mod making;
 pub mod sender;
+#[cfg(test)]
+mod tests;
