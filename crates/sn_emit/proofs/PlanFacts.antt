@@ -9,7 +9,7 @@ use Rattle.std.proofs.lemmas.List.Elements.{All-from_recursion}
 use Rattle.sn_base.proofs.Lists.{all_append, all_filter, all_map, all_weaker, by_test, nat_same, nat_self, or_right}
 use Rattle.sn_fields.specs.declared.field.Field.{Field}
 use Rattle.sn_query_rules.specs.declared.ast.Refine.{Refine}
-use Rattle.sn_walk.specs.Limits.{RefineLimits}
+use Rattle.sn_query_rules.specs.Limits.{RefineLimits}
 use Rattle.sn_switch.specs.declared.switch.Switch.{Switch}
 use Rattle.sn_switch.specs.Texts.{IsSwitch}
 use Rattle.sn_plan_rules.specs.declared.plan.Entry.{Entry}

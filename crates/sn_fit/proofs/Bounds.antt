@@ -13,7 +13,7 @@ use Rattle.sn_query_rules.specs.declared.ast.Query.{Query}
 use Rattle.sn_query_rules.specs.declared.ast.Branch.{Branch}
 use Rattle.sn_query_rules.specs.declared.ast.Refine.{Refine}
 use Rattle.sn_query_rules.specs.declared.ast.Join.{Join}
-use Rattle.sn_walk.specs.Limits.{QueryLimits, RefineLimits, BranchLimits, AreJoined}
+use Rattle.sn_query_rules.specs.Limits.{QueryLimits, RefineLimits, BranchLimits, AreJoined}
 use Rattle.sn_walk.specs.Columns.{packet_columns}
 use Rattle.sn_plan_rules.specs.declared.plan.Entry.{Entry}
 use Rattle.sn_plan_rules.specs.declared.plan.Piece.{Piece}

@@ -21,7 +21,7 @@ use Rattle.sn_query_rules.specs.declared.ast.What.TheVariants as what
 use Rattle.sn_walk.specs.Names.{Name, same_name, packet_fields}
 use Rattle.sn_walk.specs.Widths.{folded_width}
 use Rattle.sn_walk.specs.Columns.{place_of, column_named, expr_width, mapped_column, folded_column, as_schema, columns_after, field_column, packet_columns}
-use Rattle.sn_walk.specs.Limits.{IsBranchExpr, FoldWidth, BranchOp}
+use Rattle.sn_query_rules.specs.Limits.{IsBranchExpr, FoldWidth, BranchOp}
 use Rattle.sn_types.specs.declared.typed_op.TOp.{TOp}
 use Rattle.sn_types.specs.Typed.{schema_at, operator_at}
 use Rattle.sn_types.specs.Typing.{typed_op, typed_reduce, typed_ops, schemas_along}

@@ -16,7 +16,6 @@ use sn_types::typed::Typed;
 use std::alloc::Global;
 use std::test::Fail;
 
-#[tactic(auto, using(sn_limits::proofs::FileLemmas::accepted_keeps_limits))]
 fn typed(alloc: Global, text: &[u8]) -> Option<Typed> {
     if text.len() > 1024 {
         return None;

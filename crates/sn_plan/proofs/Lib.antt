@@ -1,6 +1,6 @@
-pub mod Chunks
 pub mod Leaves
 pub mod PlanChunks
 pub mod PlanMarks
 pub mod Plans
 pub mod Rewritten
+pub mod Readings

@@ -4,13 +4,13 @@ use Rattle.std.specs.Prelude.{codes}
 use Rattle.std.specs.Fmt.{decimal}
 use Rattle.std.proofs.lemmas.List.{append-nil}
 use Rattle.sn_rules.specs.Tokens.{Lexeme, word, number, symbol}
-use Rattle.sn_print.specs.Layout.{lexeme_text}
-use Rattle.sn_print.proofs.Symbols.{HeadOk}
+use Rattle.sn_text.specs.Writing.{lexeme_text}
+use Rattle.sn_text.proofs.Symbols.{HeadOk}
+use Rattle.sn_text.proofs.Chunks.{Chunk, chunk, text_of, Blank, Spaced}
 use Rattle.sn_plan_rules.specs.declared.plan.Plan.{Plan}
 use Rattle.sn_plan_rules.specs.declared.plan.Entry.{Entry}
 use Rattle.sn_plan_rules.specs.declared.plan.Piece.{Piece}
 use Rattle.sn_plan.specs.Printing.{texts, next_text, list_text, sizes_text, piece_text, entry_text, plan_text}
-use Rattle.sn_plan.proofs.Chunks.{Chunk, chunk, text_of, Blank, Spaced}
 
 abbrev pub space : List ℕ
 space = 32 ∷ []
@@ -126,40 +126,40 @@ plan_is p = ap (λ (w : List ℕ). codes "plan\n" ++ w) (entries_are p.entries)
 -- ---- blanks
 
 further_spaced : (n : ℕ) (ms g : List ℕ) (later : List Chunk) → Blank g → HeadOk (g ++ text_of later) → Spaced later → Spaced (further_chunks n ms g later)
-further_spaced n [] g later b h s = (b, h, s)
-further_spaced n (m ∷ ms) g later b h s = (tt, (refl, refl, refl), ((inl refl, tt), (refl, refl, refl), further_spaced m ms g later b h s))
+further_spaced n [] g later b h s = (b, inl h, s)
+further_spaced n (m ∷ ms) g later b h s = (tt, inl (refl, refl, refl), ((inl refl, tt), inl (refl, refl, refl), further_spaced m ms g later b h s))
 
 list_spaced : (ns : List ℕ) (later : List Chunk) → HeadOk (text_of later) → Spaced later → Spaced (list_chunks ns [] later)
 list_spaced [] later h s = s
 list_spaced (n ∷ ns) later h s = further_spaced n ns [] later tt h s
 
 sizes_spaced : (cut : ℕ) (slots stages : List ℕ) (later : List Chunk) → HeadOk (text_of later) → Spaced later → Spaced (sizes_chunks cut slots stages later)
-sizes_spaced cut [] stages later h s = (tt, h, s)
+sizes_spaced cut [] stages later h s = (tt, inl h, s)
 sizes_spaced cut (n ∷ ns) stages later h s = (
   (inl refl, tt),
-  (refl, refl, refl),
+  inl (refl, refl, refl),
   (
     (inl refl, tt),
-    (refl, refl, refl),
+    inl (refl, refl, refl),
     further_spaced n ns space (chunk (word (codes "stages")) space ∷ list_chunks stages [] later) (inl refl, tt) (refl, refl, refl)
-        ((inl refl, tt), (refl, refl, refl), list_spaced stages later h s),
+        ((inl refl, tt), inl (refl, refl, refl), list_spaced stages later h s),
   ),
 )
 
 piece_spaced : (p : Piece) (later : List Chunk) → Spaced later → Spaced (piece_chunks p later)
 piece_spaced p later s = (
   (inl refl, tt),
-  (refl, refl, refl),
+  inl (refl, refl, refl),
   (
     (inl refl, tt),
-    (refl, refl, refl),
+    inl (refl, refl, refl),
     (
       (inl refl, tt),
-      (refl, refl, refl),
+      inl (refl, refl, refl),
       (
         (inl refl, tt),
-        (refl, refl, refl),
-        sizes_spaced p.cut p.slots p.stages (chunk (symbol 2) line_end ∷ later) (refl, refl, refl) ((inr refl, tt), (refl, refl, refl), s),
+        inl (refl, refl, refl),
+        sizes_spaced p.cut p.slots p.stages (chunk (symbol 2) line_end ∷ later) (refl, refl, refl) ((inr refl, tt), inl (refl, refl, refl), s),
       ),
     ),
   ),
@@ -173,18 +173,18 @@ entries_spaced : (es : List Entry) → Spaced (entries_chunks es)
 entries_spaced [] = tt
 entries_spaced (e ∷ es) = (
   (inl refl, tt),
-  (refl, refl, refl),
+  inl (refl, refl, refl),
   (
     (inl refl, tt),
-    (refl, refl, refl),
+    inl (refl, refl, refl),
     (
       (inl refl, tt),
-      (refl, refl, refl),
+      inl (refl, refl, refl),
       list_spaced e.levels (chunk (symbol 2) line_end ∷ pieces_chunks e.pieces (entries_chunks es)) (refl, refl, refl)
-          ((inr refl, tt), (refl, refl, refl), pieces_spaced e.pieces (entries_chunks es) (entries_spaced es)),
+          ((inr refl, tt), inl (refl, refl, refl), pieces_spaced e.pieces (entries_chunks es) (entries_spaced es)),
     ),
   ),
 )
 
 pub plan_spaced : (p : Plan) → Spaced (plan_chunks p)
-plan_spaced p = ((inr refl, tt), (refl, refl, refl), entries_spaced p.entries)
+plan_spaced p = ((inr refl, tt), inl (refl, refl, refl), entries_spaced p.entries)

@@ -10,7 +10,7 @@ use Rattle.sn_plan_rules.specs.declared.plan.Plan.{Plan}
 use Rattle.sn_plan_rules.specs.declared.plan.Entry.{Entry}
 use Rattle.sn_plan_rules.specs.declared.plan.Piece.{Piece}
 use Rattle.sn_plan_rules.specs.Grammar.{numbers, both_rule, sizes_rule, piece_rule, pieces_rule, entry_rule, entries_rule, plan_rule, file_rule}
-use Rattle.sn_plan.proofs.Chunks.{Chunk, chunk, face_of}
+use Rattle.sn_text.proofs.Chunks.{Chunk, chunk, face_of}
 use Rattle.sn_plan.proofs.PlanChunks.{space, line_end, further_chunks, list_chunks, sizes_chunks, piece_chunks, pieces_chunks, entry_chunks, entries_chunks, plan_chunks}
 
 faces_append : (xs ys : List Mark) (zs : List Lexeme) → mark_faces (xs ++ ys) ++ zs ≡ mark_faces xs ++ (mark_faces ys ++ zs)

@@ -2,13 +2,15 @@
 use Rattle.std.proofs.Common.{◌≡◌, ℕ, Bool, true, cond, List, [], ◌∷◌, ◌++◌, Result, Ok, Err, refl, sym, ap, subst, ◌∙◌, append_assoc}
 use Rattle.std.proofs.lemmas.List.{append_cancel_right}
 use Rattle.sn_rules.specs.declared.Flaw.{Flaw}
-use Rattle.sn_rules.specs.declared.Flaw.TheVariants as flaws
+use Rattle.sn_rules.specs.declared.Flaw.TheVariants as kinds
 use Rattle.sn_rules.specs.Tokens.{Tok, Spelled, Read, got, fails}
-use Rattle.sn_rules.specs.Rules.{kept}
+use Rattle.sn_rules.specs.Rules.{kept, FirstFault}
 use Rattle.sn_rules.specs.Words.{judged_by}
 use Rattle.sn_rules.proofs.Common.{same_value, same_rest, respelled, spelled_append}
 use Rattle.sn_rules.proofs.Faults.{fault_of as first_fault}
-use Rattle.sn_text.specs.Cutting.{is_last}
+use Rattle.sn_rules.proofs.Bounded.{told_ok}
+use Rattle.sn_text.specs.Cutting.{is_last, tokens_of}
+use Rattle.sn_text.proofs.Ends.{tokens_ended}
 use Rattle.sn_text.specs.Lexing.{left}
 use Rattle.sn_read.specs.declared.stop.Stop.{Stop}
 use Rattle.sn_read.specs.declared.stop.Stop.TheVariants as stops
@@ -17,7 +19,7 @@ use Rattle.sn_read.proofs.Tokens.{Next, halts}
 use Rattle.sn_plan_rules.specs.declared.plan.Plan.{Plan}
 use Rattle.sn_plan_rules.specs.Grammar.{end_in, any_end, end_rule, plan_rule, file_rule}
 use Rattle.sn_plan_rules.proofs.Goods.{plan_good, end_good, file_good, ends}
-use Rattle.sn_plan_rules.proofs.Flaws.{file_says}
+use Rattle.sn_plan_rules.proofs.Bounded.{flaws, file_telling}
 use Rattle.sn_plan.specs.declared.fault.PlanFault.{PlanFault}
 use Rattle.sn_plan.specs.declared.fault.PlanFault.TheVariants as faults
 use Rattle.sn_plan.specs.Reading.{BeginsAt}
@@ -65,7 +67,7 @@ file_spelled : (front : List Tok) (t : Tok) (p : Plan) (b : Bool) → Spelled fr
 unfolding file_rule
 file_spelled front t p b f e = spelled_append front (t ∷ []) (plan_rule.spell p) (end_rule.spell b) f e
 
-one_token : (front : List Tok) (b : Bool) → Spelled front (end_rule.spell b) → (t : Tok) × (front ≡ t ∷ [])
+pub one_token : (front : List Tok) (b : Bool) → Spelled front (end_rule.spell b) → (t : Tok) × (front ≡ t ∷ [])
 one_token [] b s = absurd s
 one_token (t ∷ []) b s = (t, refl)
 one_token (t ∷ u ∷ ts) b s = absurd s.1
@@ -115,18 +117,17 @@ free_end : (us : List Tok) → file_rule.follow us ≡ true
 unfolding file_rule
 free_end us = refl
 
-stood : (ts : List Tok) (p : Plan) (byte : ℕ) (s : StandsFor ts p byte) → file_rule.read kept ts ≡ got (p, s.cost) s.rest
+pub stood : (ts : List Tok) (p : Plan) (byte : ℕ) (s : StandsFor ts p byte) → file_rule.read kept ts ≡ got (p, s.cost) s.rest
 stood ts p byte s = ap (file_rule.read kept) s.parts ∙ file_good.again kept (s.front ++ s.at ∷ []) s.rest (p, s.cost) s.accepted.fits s.accepted.spelled (free_end s.rest)
 
 abbrev both : Plan → Bool → Plan × Bool
 both p b = (p, b)
 
-only : (ts us : List Tok) (p q : Plan) (byte other : ℕ) → plan_rule.read kept ts ≡ got p us → here_ends byte us → StandsFor ts q other → (p ≡ q) × (byte ≡ other)
-only ts us p q byte other g h s =
-    let l = last_of ts us h.1 p h.0 byte g h.2 h.3 in
-    let e : got (both p h.0) h.1 ≡ got (both q s.cost) s.rest = sym (file_read ts us h.1 p h.0 g h.2) ∙ stood ts q other s in
-    let v = same_value (both p h.0) (both q s.cost) h.1 s.rest e in
-    let r = same_rest (both p h.0) (both q s.cost) h.1 s.rest e in
+pub same_plan : (ts : List Tok) (p q : Plan) (byte other : ℕ) → StandsFor ts p byte → StandsFor ts q other → (p ≡ q) × (byte ≡ other)
+same_plan ts p q byte other l s =
+    let e : got (both p l.cost) l.rest ≡ got (both q s.cost) s.rest = sym (stood ts p byte l) ∙ stood ts q other s in
+    let v = same_value (both p l.cost) (both q s.cost) l.rest s.rest e in
+    let r = same_rest (both p l.cost) (both q s.cost) l.rest s.rest e in
     let c = append_cancel_right (l.front ++ l.at ∷ []) (s.front ++ s.at ∷ []) s.rest (ap (λ (w : List Tok). (l.front ++ l.at ∷ []) ++ w) (sym r) ∙ sym l.parts ∙ s.parts) in
     let t = last_same l.front s.front l.at s.at c in
     (ap (λ (x : Plan × Bool). x.0) v, sym l.starts ∙ ap (λ (x : Tok). x.start) t ∙ s.starts)
@@ -137,23 +138,26 @@ pub found_so : (ts ls us : List Tok) (p : Plan) (byte n : ℕ) → ls ≡ ts →
 found_so ts ls us p byte n h g e k = subst (λ (m : ℕ). StandsFor ts p m) (sym k) (stands ts us p byte (ap (plan_rule.read kept) (sym h) ∙ g) e)
 
 pub only_so : (ts ls us : List Tok) (p q : Plan) (byte n other : ℕ) → ls ≡ ts → plan_rule.read kept ls ≡ got p us → here_ends byte us → n ≡ byte → StandsFor ts q other → (p ≡ q) × (n ≡ other)
-only_so ts ls us p q byte n other h g e k s = let o = only ts us p q byte other (ap (plan_rule.read kept) (sym h) ∙ g) e s in (o.0, k ∙ o.1)
+only_so ts ls us p q byte n other h g e k s = let o = same_plan ts p q byte other (stands ts us p byte (ap (plan_rule.read kept) (sym h) ∙ g) e) s in (o.0, k ∙ o.1)
 
-is_fault : (ts us l : List Tok) (t : Tok) (x : Flaw) → file_rule.read kept ts ≡ fails x us → us ≡ t ∷ l → IsFault ts (fault_of x t.line)
-is_fault ts us l t flaws.Lex e h = (t.column, first_fault file_rule file_good ends ts us l t flaws.Lex e h)
-is_fault ts us l t flaws.Expected e h = (t.column, first_fault file_rule file_good ends ts us l t flaws.Expected e h)
-is_fault ts us l t flaws.TooMany e h = (let k = file_says.says ts us flaws.TooMany e in absurd cc)
-is_fault ts us l t flaws.Range e h = (let k = file_says.says ts us flaws.Range e in absurd cc)
-is_fault ts us l t flaws.Twice e h = (let k = file_says.says ts us flaws.Twice e in absurd cc)
-is_fault ts us l t flaws.Missing e h = (let k = file_says.says ts us flaws.Missing e in absurd cc)
+-- a first fault of the format is the text's, under its name
+pub shown : (ts : List Tok) (x : Flaw) (line column : ℕ) → flaws.ok x ≡ true → FirstFault file_rule ts x line column → IsFault ts (fault_of x line)
+shown ts kinds.Lex line column o f = (column, f)
+shown ts kinds.Expected line column o f = (column, f)
+shown ts kinds.TooMany line column o f = absurd cc
+shown ts kinds.Range line column o f = absurd cc
+shown ts kinds.Twice line column o f = absurd cc
+shown ts kinds.Missing line column o f = absurd cc
 
 -- where reading stops, the answer is the first fault, and the text stands for no plan, unless memory ran out
-pub fault_so : (ts ls : List Tok) (e : Stop) (f : PlanFault) → ls ≡ ts → Halts e (file_rule.read kept ls) → Answers e f → IsFault ts f
-fault_so ts ls stops.NoMemory f g h k = subst (λ (s : PlanFault). IsFault ts s) (sym k) tt
-fault_so ts ls (stops.Fault x l) f g h k =
+pub fault_so : (text : List ℕ) (ls : List Tok) (e : Stop) (f : PlanFault) → ls ≡ tokens_of text → Halts e (file_rule.read kept ls) → Answers e f → IsFault (tokens_of text) f
+fault_so text ls stops.NoMemory f g h k = subst (λ (s : PlanFault). IsFault (tokens_of text) s) (sym k) tt
+fault_so text ls (stops.Fault x l) f g h k =
+    let ts : List Tok = tokens_of text in
     let e = here ts ls (fails x (left l)) g h in
     let s = file_good.stands kept ts (left l) x e in
-    subst (λ (r : PlanFault). IsFault ts r) (sym (k ∙ ap (λ (us : List Tok). fault_of x (line_of us)) s.head)) (is_fault ts (left l) s.rest s.at x e s.head)
+    let ok = told_ok file_telling ts (left l) x (tokens_ended text) e in
+    subst (λ (r : PlanFault). IsFault ts r) (sym (k ∙ ap (λ (us : List Tok). fault_of x (line_of us)) s.head)) (shown ts x s.at.line s.at.column ok (first_fault file_rule file_good ends ts (left l) s.rest s.at x e s.head))
 
 pub none_so : (ts ls : List Tok) (e : Stop) (f : PlanFault) (p : Plan) (byte : ℕ) → ls ≡ ts → Halts e (file_rule.read kept ls) → Answers e f → StandsFor ts p byte → f ≡ faults.Memory
 none_so ts ls stops.NoMemory f p byte g h k j = k

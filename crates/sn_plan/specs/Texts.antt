@@ -1,5 +1,5 @@
 -- Which texts stand for which plans, and what the fault of another is.
-use Rattle.std.specs.Prelude.{◌≡◌, ℕ, Bool, List, [], ◌∷◌, ◌++◌, Result, Ok, Err}
+use Rattle.std.specs.Prelude.{◌≡◌, ◌≢◌, ℕ, Bool, List, [], ◌∷◌, ◌++◌, length, Result, Ok, Err}
 use Rattle.sn_rules.specs.declared.Flaw.{Flaw}
 use Rattle.sn_rules.specs.declared.Flaw.TheVariants as flaws
 use Rattle.sn_rules.specs.Tokens.{Tok}
@@ -27,9 +27,9 @@ pub record StandsFor (ts : List Tok) (plan : Plan) (byte : ℕ) : Type 0 where
 abbrev pub IsParsed : Plan → Type 0
 IsParsed plan = (text : List ℕ) × (byte : ℕ) × StandsFor (tokens_of text) plan byte
 
--- the text stands for the plan
+-- the whole text stands for the plan: what ends it is the end of the text
 abbrev pub StandsAgain : List ℕ → Plan → Type 0
-StandsAgain text plan = (byte : ℕ) × StandsFor (tokens_of text) plan byte
+StandsAgain text plan = StandsFor (tokens_of text) plan (length text)
 
 -- the first fault of the text, on this line
 abbrev pub FaultAt : List Tok → Flaw → ℕ → Type 0
@@ -57,3 +57,15 @@ line_of (t ∷ ts) = t.line
 abbrev pub Answers : Stop → PlanFault → Type 0
 Answers stops.NoMemory e = e ≡ faults.Memory
 Answers (stops.Fault x l) e = e ≡ fault_of x (line_of (left l))
+
+-- ---- the one reading of a text
+
+-- a plan, and the byte where what ends it begins
+abbrev pub IsRead : List ℕ → Result (Plan × ℕ) PlanFault → Type 0
+IsRead text (Ok x) = StandsFor (tokens_of text) x.0 x.1
+IsRead text (Err e) = IsFault (tokens_of text) e × (e ≢ faults.Memory)
+
+-- a text is read as something
+pub record HasReading (text : List ℕ) : Type 0 where
+  pub reading : Result (Plan × ℕ) PlanFault
+  pub is : IsRead text reading

@@ -9,7 +9,7 @@ ghost use Rattle.sn_plan_rules.specs.Grammar.{name_test, name, entry_rule, entri
 ghost use Rattle.sn_plan_rules.proofs.Goods.{entries_alike};
 ghost use Rattle.sn_plan.specs.Reading.{word_lexeme};
 
-use crate::lists::{full_at, levels};
+use crate::lists::{full_at, numbers};
 use crate::pieces::{SEMICOLON, pieces};
 use crate::plan::{Entry, Plan};
 use sn_base::name::Name;
@@ -61,7 +61,7 @@ fn entry<'a>(alloc: Global, at: Lexer<'a>) -> Result<(Entry, Lexer<'a>), Stop<'a
         Err(stop) => return Err(stop),
     };
     let rest = word(rest, b"path")?;
-    let (levels, rest) = match levels(alloc, rest) {
+    let (levels, rest) = match numbers(alloc, 4, 0, 64, rest) {
         Ok(found) => found,
         Err(stop) => return Err(stop),
     };
@@ -86,23 +86,24 @@ struct EntryItems;
 impl Items for EntryItems {
     type Item = Entry;
 
-    ghost goes = { is_word (codes "query") };
+    ghost goes = { λ items. is_word (codes "query") };
 
-    ghost shut = { full 8 Expected };
+    ghost shut = { λ items. full 8 Expected };
 
-    ghost rule = { λ seen. entry_rule };
+    ghost rule = { λ items seen. entry_rule };
 
-    ghost laws = { entries_alike };
+    ghost laws = { λ items. entries_alike };
 
-    fn begins(at: Lexer<'_>) -> bool {
+    fn begins(&self, at: Lexer<'_>) -> bool {
         next_is_word(at, b"query")
     }
 
-    fn shut_by(seen: &[Entry]) -> Option<Flaw> {
+    fn shut_by(&self, seen: &[Entry]) -> Option<Flaw> {
         full_at(seen.len(), 8)
     }
 
     fn item<'a>(
+        &self,
         alloc: Global,
         _seen: &[Entry],
         at: Lexer<'a>,
@@ -115,13 +116,10 @@ impl Items for EntryItems {
 fn entries<'a>(alloc: Global, at: Lexer<'a>) -> Result<(Seq<Entry>, Lexer<'a>), Stop<'a>>
     ensures { Reads result (entries_rule.read kept (left at.entry)) }
 {
-    let (first, rest) = match entry(alloc, at) {
-        Ok(found) => found,
-        Err(stop) => return Err(stop),
-    };
+    let (first, rest) = entry(alloc, at)?;
     let mut entries = Seq::new(alloc);
     entries.push(first)?;
-    further::<EntryItems>(alloc, entries, rest)
+    further(alloc, &EntryItems, entries, rest)
 }
 
 /// A plan, and the place behind it.

@@ -9,6 +9,7 @@ mod entries;
 pub mod fault;
 #[cfg(test)]
 mod fit_tests;
+pub mod law;
 mod lists;
 mod pieces;
 #[cfg(test)]

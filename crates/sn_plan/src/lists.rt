@@ -6,7 +6,7 @@ ghost use Rattle.sn_rules.specs.Words.{is_symbol, sign, number_in, full, ◌▸�
 ghost use Rattle.sn_text.specs.Lexing.{left};
 ghost use Rattle.sn_read.specs.Reading.{Reads};
 ghost use Rattle.sn_plan_rules.specs.Grammar.{numbers};
-ghost use Rattle.sn_plan_rules.proofs.Goods.{levels_alike, slots_alike, stages_alike};
+ghost use Rattle.sn_plan_rules.proofs.Goods.{numbers_alike};
 
 use crate::short::Short;
 use sn_base::seq::Seq;
@@ -51,159 +51,74 @@ pub(crate) fn full_at(count: usize, limit: usize) -> Option<Flaw>
     }
 }
 
-/// The levels of a path.
-struct LevelItems;
+/// The numbers of a list behind its first one: at most so many in all, each in a range.
+#[derive(Clone, Copy)]
+struct NumberItems {
+    limit: usize,
+    low: u32,
+    high: u32,
+    ghost range: { low ≤ high },
+}
 
-impl Items for LevelItems {
+impl Items for NumberItems {
     type Item = u32;
 
-    ghost goes = { is_symbol 3 };
+    ghost goes = { λ list. is_symbol 3 };
 
-    ghost shut = { full 4 Expected };
+    ghost shut = { λ list. full list.limit Expected };
 
-    ghost rule = { λ seen. sign 3 ▸ number_in 0 64 };
+    ghost rule = { λ list seen. sign 3 ▸ number_in list.low list.high };
 
-    ghost laws = { levels_alike };
+    ghost laws = { λ list. numbers_alike list.limit list.low list.high list.range };
 
-    fn begins(at: Lexer<'_>) -> bool {
+    fn begins(&self, at: Lexer<'_>) -> bool {
         next_is_symbol(at, COMMA)
     }
 
-    fn shut_by(seen: &[u32]) -> Option<Flaw> {
-        full_at(seen.len(), 4)
+    fn shut_by(&self, seen: &[u32]) -> Option<Flaw> {
+        full_at(seen.len(), self.limit)
     }
 
     fn item<'a>(
+        &self,
         _alloc: Global,
         _seen: &[u32],
         at: Lexer<'a>,
     ) -> Result<(u32, Lexer<'a>), Stop<'a>> {
-        next_number(at, 0, 64)
+        next_number(at, self.low, self.high)
     }
 }
 
 #[tactic(auto, unfolding(sn_plan_rules::specs::Grammar::numbers))]
-fn all_levels<'a>(alloc: Global, at: Lexer<'a>) -> Result<(Seq<u32>, Lexer<'a>), Stop<'a>>
-    ensures { Reads result ((numbers 4 0 64).read kept (left at.entry)) }
+fn all<'a>(
+    alloc: Global,
+    list: &NumberItems,
+    at: Lexer<'a>,
+) -> Result<(Seq<u32>, Lexer<'a>), Stop<'a>>
+    ensures { Reads result ((numbers list.now.limit list.now.low list.now.high).read kept (left at.entry)) }
 {
-    let (first, rest) = small_number(at, 0, 64)?;
+    let (first, rest) = small_number(at, list.low, list.high)?;
     let mut numbers = Seq::new(alloc);
     numbers.push(first)?;
-    further::<LevelItems>(alloc, numbers, rest)
+    further(alloc, list, numbers, rest)
 }
 
-/// The levels of a path, and the place behind them.
-#[tactic(auto, using(sn_plan_rules::proofs::Counts::levels_read))]
-pub(crate) fn levels<'a>(alloc: Global, at: Lexer<'a>) -> Result<(Short, Lexer<'a>), Stop<'a>>
-    ensures { Reads result ((numbers 4 0 64).read kept (left at.entry)) }
+/// At most so many numbers with commas between them, each from `low` to `high`, and the place behind them.
+#[tactic(auto, using(sn_plan_rules::proofs::Counts::few_read))]
+pub(crate) fn numbers<'a>(
+    alloc: Global,
+    limit: usize,
+    low: u32,
+    high: u32,
+    at: Lexer<'a>,
+) -> Result<(Short, Lexer<'a>), Stop<'a>>
+    requires some { 1 ≤ limit }
+    requires few { limit ≤ 8 }
+    requires range { low ≤ high }
+    ensures { Reads result ((numbers limit low high).read kept (left at.entry)) }
 {
-    let (numbers, rest) = all_levels(alloc, at)?;
-    match Short::new(alloc, numbers.as_slice()) {
-        Some(short) => Ok((short, rest)),
-        None => unreachable!(),
-    }
-}
-
-/// The sizes of registers.
-struct SlotItems;
-
-impl Items for SlotItems {
-    type Item = u32;
-
-    ghost goes = { is_symbol 3 };
-
-    ghost shut = { full 2 Expected };
-
-    ghost rule = { λ seen. sign 3 ▸ number_in 1 65536 };
-
-    ghost laws = { slots_alike };
-
-    fn begins(at: Lexer<'_>) -> bool {
-        next_is_symbol(at, COMMA)
-    }
-
-    fn shut_by(seen: &[u32]) -> Option<Flaw> {
-        full_at(seen.len(), 2)
-    }
-
-    fn item<'a>(
-        _alloc: Global,
-        _seen: &[u32],
-        at: Lexer<'a>,
-    ) -> Result<(u32, Lexer<'a>), Stop<'a>> {
-        next_number(at, 1, 65536)
-    }
-}
-
-#[tactic(auto, unfolding(sn_plan_rules::specs::Grammar::numbers))]
-fn all_slots<'a>(alloc: Global, at: Lexer<'a>) -> Result<(Seq<u32>, Lexer<'a>), Stop<'a>>
-    ensures { Reads result ((numbers 2 1 65536).read kept (left at.entry)) }
-{
-    let (first, rest) = small_number(at, 1, 65536)?;
-    let mut numbers = Seq::new(alloc);
-    numbers.push(first)?;
-    further::<SlotItems>(alloc, numbers, rest)
-}
-
-/// The sizes of registers, and the place behind them.
-#[tactic(auto, using(sn_plan_rules::proofs::Counts::slots_read))]
-pub(crate) fn slots<'a>(alloc: Global, at: Lexer<'a>) -> Result<(Short, Lexer<'a>), Stop<'a>>
-    ensures { Reads result ((numbers 2 1 65536).read kept (left at.entry)) }
-{
-    let (numbers, rest) = all_slots(alloc, at)?;
-    match Short::new(alloc, numbers.as_slice()) {
-        Some(short) => Ok((short, rest)),
-        None => unreachable!(),
-    }
-}
-
-/// The stages of registers.
-struct StageItems;
-
-impl Items for StageItems {
-    type Item = u32;
-
-    ghost goes = { is_symbol 3 };
-
-    ghost shut = { full 8 Expected };
-
-    ghost rule = { λ seen. sign 3 ▸ number_in 0 31 };
-
-    ghost laws = { stages_alike };
-
-    fn begins(at: Lexer<'_>) -> bool {
-        next_is_symbol(at, COMMA)
-    }
-
-    fn shut_by(seen: &[u32]) -> Option<Flaw> {
-        full_at(seen.len(), 8)
-    }
-
-    fn item<'a>(
-        _alloc: Global,
-        _seen: &[u32],
-        at: Lexer<'a>,
-    ) -> Result<(u32, Lexer<'a>), Stop<'a>> {
-        next_number(at, 0, 31)
-    }
-}
-
-#[tactic(auto, unfolding(sn_plan_rules::specs::Grammar::numbers))]
-fn all_stages<'a>(alloc: Global, at: Lexer<'a>) -> Result<(Seq<u32>, Lexer<'a>), Stop<'a>>
-    ensures { Reads result ((numbers 8 0 31).read kept (left at.entry)) }
-{
-    let (first, rest) = small_number(at, 0, 31)?;
-    let mut numbers = Seq::new(alloc);
-    numbers.push(first)?;
-    further::<StageItems>(alloc, numbers, rest)
-}
-
-/// The stages of registers, and the place behind them.
-#[tactic(auto, using(sn_plan_rules::proofs::Counts::stages_read))]
-pub(crate) fn stages<'a>(alloc: Global, at: Lexer<'a>) -> Result<(Short, Lexer<'a>), Stop<'a>>
-    ensures { Reads result ((numbers 8 0 31).read kept (left at.entry)) }
-{
-    let (numbers, rest) = all_stages(alloc, at)?;
+    let list = NumberItems { limit, low, high };
+    let (numbers, rest) = all(alloc, &list, at)?;
     match Short::new(alloc, numbers.as_slice()) {
         Some(short) => Ok((short, rest)),
         None => unreachable!(),

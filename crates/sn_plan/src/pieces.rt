@@ -8,7 +8,7 @@ ghost use Rattle.sn_read.specs.Reading.{Reads};
 ghost use Rattle.sn_plan_rules.specs.Grammar.{both_rule, sizes_rule, piece_rule, pieces_rule};
 ghost use Rattle.sn_plan_rules.proofs.Goods.{pieces_alike};
 
-use crate::lists::{full_at, slots, small_number, stages};
+use crate::lists::{full_at, numbers, small_number};
 use crate::plan::Piece;
 use crate::short::Short;
 use sn_base::seq::Seq;
@@ -27,15 +27,9 @@ fn both<'a>(alloc: Global, at: Lexer<'a>) -> Result<((Short, Short), Lexer<'a>),
     ensures { Reads result (both_rule.read kept (left at.entry)) }
 {
     let rest = word(at, b"slots")?;
-    let (slots, rest) = match slots(alloc, rest) {
-        Ok(found) => found,
-        Err(stop) => return Err(stop),
-    };
+    let (slots, rest) = numbers(alloc, 2, 1, 65536, rest)?;
     let rest = word(rest, b"stages")?;
-    let (stages, rest) = match stages(alloc, rest) {
-        Ok(found) => found,
-        Err(stop) => return Err(stop),
-    };
+    let (stages, rest) = numbers(alloc, 8, 0, 31, rest)?;
     Ok(((slots, stages), rest))
 }
 
@@ -67,10 +61,7 @@ fn piece<'a>(alloc: Global, at: Lexer<'a>) -> Result<(Piece, Lexer<'a>), Stop<'a
     let (branch, rest) = small_number(rest, 0, 1)?;
     let rest = word(rest, b"cut")?;
     let (cut, rest) = small_number(rest, 0, 12)?;
-    let ((slots, stages), rest) = match sizes(alloc, rest) {
-        Ok(found) => found,
-        Err(stop) => return Err(stop),
-    };
+    let ((slots, stages), rest) = sizes(alloc, rest)?;
     let rest = symbol(rest, SEMICOLON)?;
     Ok((
         Piece {
@@ -90,23 +81,24 @@ struct PieceItems;
 impl Items for PieceItems {
     type Item = Piece;
 
-    ghost goes = { is_word (codes "piece") };
+    ghost goes = { λ items. is_word (codes "piece") };
 
-    ghost shut = { full 8 Expected };
+    ghost shut = { λ items. full 8 Expected };
 
-    ghost rule = { λ seen. piece_rule };
+    ghost rule = { λ items seen. piece_rule };
 
-    ghost laws = { pieces_alike };
+    ghost laws = { λ items. pieces_alike };
 
-    fn begins(at: Lexer<'_>) -> bool {
+    fn begins(&self, at: Lexer<'_>) -> bool {
         next_is_word(at, b"piece")
     }
 
-    fn shut_by(seen: &[Piece]) -> Option<Flaw> {
+    fn shut_by(&self, seen: &[Piece]) -> Option<Flaw> {
         full_at(seen.len(), 8)
     }
 
     fn item<'a>(
+        &self,
         alloc: Global,
         _seen: &[Piece],
         at: Lexer<'a>,
@@ -120,5 +112,5 @@ impl Items for PieceItems {
 pub(crate) fn pieces<'a>(alloc: Global, at: Lexer<'a>) -> Result<(Seq<Piece>, Lexer<'a>), Stop<'a>>
     ensures { Reads result (pieces_rule.read kept (left at.entry)) }
 {
-    further::<PieceItems>(alloc, Seq::new(alloc), at)
+    further(alloc, &PieceItems, Seq::new(alloc), at)
 }

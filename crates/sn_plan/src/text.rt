@@ -52,10 +52,7 @@ fn end_at<'a>(at: Lexer<'a>) -> Result<u32, Stop<'a>>
 fn read<'a>(alloc: Global, at: Lexer<'a>) -> Result<(Plan, u32), Stop<'a>>
     ensures { ReadsPlan result (left at.entry) }
 {
-    let (plan, rest) = match plan(alloc, at) {
-        Ok(found) => found,
-        Err(stop) => return Err(stop),
-    };
+    let (plan, rest) = plan(alloc, at)?;
     match end_at(rest) {
         Ok(byte) => Ok((plan, byte)),
         Err(stop) => Err(stop),

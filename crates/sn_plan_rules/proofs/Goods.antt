@@ -1,34 +1,20 @@
 -- The rules of the plan text keep the laws.
-use Rattle.std.proofs.Common.{◌≡◌, ℕ, ◌≤◌, Bool, true, false, cond, List, [], ◌∷◌, ◌++◌, length, Option, Some, None, refl, sym, ap, subst, ◌∙◌, arith}
-use Rattle.std.specs.Prelude.{codes, not, nat_le, nat_lt, ◌==◌, ◌||◌}
+use Rattle.std.proofs.Common.{◌≡◌, ℕ, ◌≤◌, Bool, true, false, cond, List, [], ◌∷◌, ◌++◌, Option, Some, None, refl, sym, ap, ◌∙◌, arith}
+use Rattle.std.specs.Prelude.{codes, not}
 use Rattle.std.specs.Cmp.Lexicographic.{same_text}
-use Rattle.sn_rules.specs.declared.Flaw.{Flaw}
 use Rattle.sn_rules.specs.declared.Flaw.TheVariants.{Expected}
 use Rattle.sn_rules.specs.Tokens.{Lexeme, word, number, symbol, finish, bad, Tok, Mark, plain, Spelled}
-use Rattle.sn_rules.specs.Rules.{kept, aside, closed, Rule, pair, embedded, renamed, maybe, many, chain}
-use Rattle.sn_rules.specs.Words.{same, is_word, is_symbol, leaf, keyword, sign, number_in, full, ◌▸◌, ◌◂◌}
+use Rattle.sn_rules.specs.Rules.{aside, maybe}
+use Rattle.sn_rules.specs.Words.{same, is_word, is_symbol, keyword, sign, number_in, full, ◌▸◌}
 use Rattle.sn_rules.proofs.Common.{Heads, bearers, bearers_spelled}
-use Rattle.sn_rules.proofs.Laws.{Good, Follows, pair_good, freely}
+use Rattle.sn_rules.proofs.Laws.{Good, pair_good, free_pair, headed_pair}
 use Rattle.sn_rules.proofs.Choices.{Undoes, embedded_good, renamed_good, maybe_good}
-use Rattle.sn_rules.proofs.Chains.{Alike, many_good, chain_good}
-use Rattle.sn_rules.proofs.Words.{leaf_good, word_by_good, number_in_good, word_mark, symbol_mark, same_self, before_sign, after_word, after_sign, word_starts}
+use Rattle.sn_rules.proofs.Series.{Alike, many_good, series_good}
+use Rattle.sn_rules.proofs.Words.{Stands_for, leaf_good, word_by_good, number_in_good, word_mark, symbol_mark, same_self, before_sign, after_word, after_sign}
 use Rattle.sn_rules.proofs.Lists.{always_alike}
-use Rattle.sn_plan_rules.specs.declared.plan.Plan.{Plan}
 use Rattle.sn_plan_rules.specs.declared.plan.Entry.{Entry}
 use Rattle.sn_plan_rules.specs.declared.plan.Piece.{Piece}
 use Rattle.sn_plan_rules.specs.Grammar.{name_test, name, numbers, Sizes, to_sizes, with_sizes, from_sizes, both_rule, sizes_rule, to_piece, from_piece, piece_rule, to_entry, from_entry, pieces_rule, entry_rule, to_plan, from_plan, entries_rule, plan_rule, end_face, cost_in, end_in, any_end, end_rule, file_rule}
-
-pub free_pair : {A B : Type 0} (p : Rule A) (q : Rule B) → Good p → Good q → ((us : List Tok) → p.follow us ≡ true) → Good (pair p q)
-free_pair p q gp gq h = pair_good p q gp gq (freely p q h)
-
--- the first mark of what q spells decides
-pub headed_follows : {A B : Type 0} (p : Rule A) (q : Rule B) (goes : Lexeme → Bool) → ((b : B) → q.fits aside b → Heads goes (q.spell b)) → ((t : Tok) (us : List Tok) → goes t.face ≡ true → p.follow (t ∷ us) ≡ true) → Follows p q
-headed_follows {A} {B} p q goes heads h = record { meets = λ front us b f s e. go front us (q.spell b) (heads b f) s }
-  where
-    go : (front us : List Tok) (ms : List Mark) → Heads goes ms → Spelled front ms → p.follow (front ++ us) ≡ true
-    go front us [] k s = absurd k
-    go [] us (m ∷ ms) k s = absurd s
-    go (t ∷ front) us (m ∷ ms) k s = h t (front ++ us) (ap goes s.0.0 ∙ k)
 
 -- ---- tokens
 
@@ -36,16 +22,16 @@ name_good : Good name
 name_good = word_by_good name_test (codes "a", refl)
 
 more_good : (low high : ℕ) → low ≤ high → Good (sign 3 ▸ number_in low high)
-more_good low high le = after_sign 3 (number_in low high) (number_in_good low high le)
+more_good low high le = after_sign 3 (number_in_good low high le)
 
 pub numbers_alike : (limit low high : ℕ) → low ≤ high → Alike (is_symbol 3) (full limit Expected) (λ (seen : List ℕ). sign 3 ▸ number_in low high)
-numbers_alike limit low high le = always_alike (is_symbol 3) limit Expected (sign 3 ▸ number_in low high) (more_good low high le) (λ t us e. refl) (λ a f. refl) (λ t e.
+numbers_alike limit low high le = always_alike (is_symbol 3) limit Expected (more_good low high le) (λ t us e. refl) (λ a f. refl) (λ t e.
     let b = (number_in_good low high le).some in
     (b.0, bearers ((number_in low high).spell b.0), (tt, b.1), (((symbol_mark 3).only t.face e, tt), bearers_spelled ((number_in low high).spell b.0))))
 
 pub numbers_good : (limit low high : ℕ) → low ≤ high → Good (numbers limit low high)
 unfolding numbers
-numbers_good limit low high le = chain_good (number_in low high) (is_symbol 3) (full limit Expected) (λ seen. sign 3 ▸ number_in low high) (record { good = number_in_good low high le; marked = λ t us e. refl; bares = λ a. refl }) (numbers_alike limit low high le)
+numbers_good limit low high le = series_good (numbers_alike limit low high le) (record { good = number_in_good low high le; marked = λ t us e. refl; bares = λ a. refl })
 
 -- what may stand behind numbers: no comma
 numbers_end : (limit low high : ℕ) (t : Tok) (us : List Tok) → is_symbol 3 t.face ≡ false → (numbers limit low high).follow (t ∷ us) ≡ true
@@ -59,7 +45,7 @@ numbers_some limit low high f = f
 -- ---- pieces
 
 stages_part : Good (keyword (codes "stages") ▸ numbers 8 0 31)
-stages_part = after_word (codes "stages") (numbers 8 0 31) (numbers_good 8 0 31 (omega arith))
+stages_part = after_word (codes "stages") (numbers_good 8 0 31 (omega arith))
 
 no_comma : (text : List ℕ) (x : Lexeme) → is_word text x ≡ true → is_symbol 3 x ≡ false
 no_comma text (word w) e = refl
@@ -70,9 +56,8 @@ no_comma text bad e = refl
 
 pub both_good : Good both_rule
 unfolding both_rule
-both_good = after_word (codes "slots") (pair (numbers 2 1 65536) (keyword (codes "stages") ▸ numbers 8 0 31))
-    (pair_good (numbers 2 1 65536) (keyword (codes "stages") ▸ numbers 8 0 31) (numbers_good 2 1 65536 (omega arith)) stages_part
-    (headed_follows (numbers 2 1 65536) (keyword (codes "stages") ▸ numbers 8 0 31) (is_word (codes "stages")) (λ b f. same_self (codes "stages")) (λ t us e. numbers_end 2 1 65536 t us (no_comma (codes "stages") t.face e))))
+both_good = after_word (codes "slots")
+    (headed_pair (is_word (codes "stages")) (numbers_good 2 1 65536 (omega arith)) stages_part (λ b f. same_self (codes "stages")) (λ t us e. numbers_end 2 1 65536 t us (no_comma (codes "stages") t.face e)))
 
 both_some : (ss ts : List ℕ) → both_rule.fits aside (ss, ts) → with_sizes ss ts ≡ Some (Some (ss, ts))
 unfolding both_rule
@@ -103,7 +88,7 @@ both_end t us e = numbers_end 8 0 31 t us e
 
 sizes_good : Good sizes_rule
 unfolding sizes_rule
-sizes_good = embedded_good to_sizes from_sizes (maybe (is_word (codes "slots")) both_rule) sizes_undone (maybe_good (is_word (codes "slots")) both_rule both_good (record { heads = λ a f. both_starts a }))
+sizes_good = embedded_good to_sizes from_sizes sizes_undone (maybe_good (is_word (codes "slots")) both_good (record { heads = λ a f. both_starts a }))
 
 sizes_end : (t : Tok) (us : List Tok) → t.face ≡ symbol 2 → sizes_rule.follow (t ∷ us) ≡ true
 unfolding sizes_rule
@@ -115,12 +100,12 @@ sizes_end t us e = ends (not (is_word (codes "slots") t.face)) (both_rule.follow
 pub piece_good : Good piece_rule
 unfolding piece_rule
 piece_good =
-    let a = free_pair (number_in 0 12) (sizes_rule ◂ sign 2) (number_in_good 0 12 (omega arith)) (before_sign sizes_rule 2 sizes_good sizes_end) (λ us. refl) in
-    let b = after_word (codes "cut") (pair (number_in 0 12) (sizes_rule ◂ sign 2)) a in
-    let d = free_pair (number_in 0 1) (keyword (codes "cut") ▸ pair (number_in 0 12) (sizes_rule ◂ sign 2)) (number_in_good 0 1 (omega arith)) b (λ us. refl) in
-    let e = free_pair (number_in 0 64) (pair (number_in 0 1) (keyword (codes "cut") ▸ pair (number_in 0 12) (sizes_rule ◂ sign 2))) (number_in_good 0 64 (omega arith)) d (λ us. refl) in
-    renamed_good to_piece from_piece (keyword (codes "piece") ▸ pair (number_in 0 64) (pair (number_in 0 1) (keyword (codes "cut") ▸ pair (number_in 0 12) (sizes_rule ◂ sign 2)))) (λ a. refl) (λ b. refl)
-    (after_word (codes "piece") (pair (number_in 0 64) (pair (number_in 0 1) (keyword (codes "cut") ▸ pair (number_in 0 12) (sizes_rule ◂ sign 2)))) e)
+    let a = free_pair (number_in_good 0 12 (omega arith)) (before_sign 2 sizes_good sizes_end) (λ us. refl) in
+    let b = after_word (codes "cut") a in
+    let d = free_pair (number_in_good 0 1 (omega arith)) b (λ us. refl) in
+    let e = free_pair (number_in_good 0 64 (omega arith)) d (λ us. refl) in
+    renamed_good to_piece from_piece (λ a. refl) (λ b. refl)
+    (after_word (codes "piece") e)
 
 piece_free : (us : List Tok) → piece_rule.follow us ≡ true
 unfolding piece_rule
@@ -143,20 +128,20 @@ piece_opens t e =
 -- ---- entries
 
 pub pieces_alike : Alike (is_word (codes "piece")) (full 8 Expected) (λ (seen : List Piece). piece_rule)
-pieces_alike = always_alike (is_word (codes "piece")) 8 Expected piece_rule piece_good (λ t us e. piece_free (t ∷ us)) (λ a f. piece_heads a) piece_opens
+pieces_alike = always_alike (is_word (codes "piece")) 8 Expected piece_good (λ t us e. piece_free (t ∷ us)) (λ a f. piece_heads a) piece_opens
 
 pieces_good : Good pieces_rule
 unfolding pieces_rule
-pieces_good = many_good (is_word (codes "piece")) (full 8 Expected) (λ seen. piece_rule) pieces_alike
+pieces_good = many_good pieces_alike
 
 pub entry_good : Good entry_rule
 unfolding entry_rule
 entry_good =
-    let a = free_pair (numbers 4 0 64 ◂ sign 2) pieces_rule (before_sign (numbers 4 0 64) 2 (numbers_good 4 0 64 (omega arith)) (λ t us e. numbers_end 4 0 64 t us (ap (is_symbol 3) e))) pieces_good (λ us. refl) in
-    let b = after_word (codes "path") (pair (numbers 4 0 64 ◂ sign 2) pieces_rule) a in
-    let d = free_pair name (keyword (codes "path") ▸ pair (numbers 4 0 64 ◂ sign 2) pieces_rule) name_good b (λ us. refl) in
-    renamed_good to_entry from_entry (keyword (codes "query") ▸ pair name (keyword (codes "path") ▸ pair (numbers 4 0 64 ◂ sign 2) pieces_rule)) (λ a. refl) (λ b. refl)
-    (after_word (codes "query") (pair name (keyword (codes "path") ▸ pair (numbers 4 0 64 ◂ sign 2) pieces_rule)) d)
+    let a = free_pair (before_sign 2 (numbers_good 4 0 64 (omega arith)) (λ t us e. numbers_end 4 0 64 t us (ap (is_symbol 3) e))) pieces_good (λ us. refl) in
+    let b = after_word (codes "path") a in
+    let d = free_pair name_good b (λ us. refl) in
+    renamed_good to_entry from_entry (λ a. refl) (λ b. refl)
+    (after_word (codes "query") d)
 
 entry_heads : (a : Entry) → Heads (is_word (codes "query")) (entry_rule.spell a)
 unfolding entry_rule
@@ -180,11 +165,11 @@ query_is : (t : Tok) → is_word (codes "query") t.face ≡ true → is_word (co
 query_is t e = ap (is_word (codes "piece")) ((word_mark (codes "query")).only t.face e)
 
 pub entries_alike : Alike (is_word (codes "query")) (full 8 Expected) (λ (seen : List Entry). entry_rule)
-entries_alike = always_alike (is_word (codes "query")) 8 Expected entry_rule entry_good (λ t us e. entry_end t us (query_is t e)) (λ a f. entry_heads a) entry_opens
+entries_alike = always_alike (is_word (codes "query")) 8 Expected entry_good (λ t us e. entry_end t us (query_is t e)) (λ a f. entry_heads a) entry_opens
 
 entries_good : Good entries_rule
 unfolding entries_rule
-entries_good = chain_good entry_rule (is_word (codes "query")) (full 8 Expected) (λ seen. entry_rule) (record { good = entry_good; marked = λ t us e. entry_end t us (query_is t e); bares = λ a. refl }) entries_alike
+entries_good = series_good entries_alike (record { good = entry_good; marked = λ t us e. entry_end t us (query_is t e); bares = λ a. refl })
 
 entries_end : (t : Tok) (us : List Tok) → is_word (codes "query") t.face ≡ false → is_word (codes "piece") t.face ≡ false → entries_rule.follow (t ∷ us) ≡ true
 unfolding entries_rule
@@ -192,7 +177,7 @@ entries_end t us e f = ends_both (not (is_word (codes "query") t.face)) (cond (e
 
 pub plan_good : Good plan_rule
 unfolding plan_rule
-plan_good = renamed_good to_plan from_plan (keyword (codes "plan") ▸ entries_rule) (λ a. refl) (λ b. refl) (after_word (codes "plan") entries_rule entries_good)
+plan_good = renamed_good to_plan from_plan (λ a. refl) (λ b. refl) (after_word (codes "plan") entries_good)
 
 -- ---- the text
 
@@ -211,8 +196,11 @@ end_only (symbol k) b e = absurd cc
 end_only finish b e = let h : false ≡ b = cc in ap end_face h
 end_only bad b e = absurd cc
 
+pub ends_stand : Stands_for end_face end_in
+ends_stand = record { undone = end_undone; only = end_only }
+
 pub end_good : Good end_rule
-end_good = leaf_good end_face end_in (record { undone = end_undone; only = end_only }) any_end (true, refl)
+end_good = leaf_good end_face end_in ends_stand any_end (true, refl)
 
 plan_end : (b : Bool) (t : Tok) (us : List Tok) → t.face ≡ end_face b → plan_rule.follow (t ∷ us) ≡ true
 unfolding plan_rule
@@ -225,19 +213,8 @@ plan_meets (t ∷ ts) us b s = plan_end b t (ts ++ us) s.0.0
 
 pub file_good : Good file_rule
 unfolding file_rule
-file_good = pair_good plan_rule end_rule plan_good end_good (record { meets = λ front us b f s e. plan_meets front us b s })
+file_good = pair_good plan_good end_good (record { meets = λ front us b f s e. plan_meets front us b s })
 
 pub ends : file_rule.follow [] ≡ true
 unfolding file_rule
 ends = refl
-
--- ---- the lists of numbers
-
-pub levels_alike : Alike (is_symbol 3) (full 4 Expected) (λ (seen : List ℕ). sign 3 ▸ number_in 0 64)
-levels_alike = numbers_alike 4 0 64 (omega arith)
-
-pub slots_alike : Alike (is_symbol 3) (full 2 Expected) (λ (seen : List ℕ). sign 3 ▸ number_in 1 65536)
-slots_alike = numbers_alike 2 1 65536 (omega arith)
-
-pub stages_alike : Alike (is_symbol 3) (full 8 Expected) (λ (seen : List ℕ). sign 3 ▸ number_in 0 31)
-stages_alike = numbers_alike 8 0 31 (omega arith)

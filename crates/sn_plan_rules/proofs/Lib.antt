@@ -1,3 +1,3 @@
 pub mod Goods
-pub mod Flaws
+pub mod Bounded
 pub mod Counts

@@ -3,7 +3,7 @@ use Rattle.std.specs.Prelude.{ℕ, Bool, true, false, List, [], ◌∷◌, lengt
 use Rattle.sn_rules.specs.declared.Flaw.{Flaw}
 use Rattle.sn_rules.specs.declared.Flaw.TheVariants.{Expected}
 use Rattle.sn_rules.specs.Tokens.{Lexeme, word, finish}
-use Rattle.sn_rules.specs.Rules.{Rule, pair, embedded, renamed, maybe, many, chain}
+use Rattle.sn_rules.specs.Rules.{Rule, pair, embedded, renamed, maybe, many, series}
 use Rattle.sn_rules.specs.Words.{same, is_word, is_symbol, leaf, word_by, keyword, sign, number_in, full, ◌▸◌, ◌◂◌}
 use Rattle.sn_plan_rules.specs.declared.plan.Plan.{Plan}
 use Rattle.sn_plan_rules.specs.declared.plan.Entry.{Entry}
@@ -20,7 +20,7 @@ name = word_by name_test
 
 -- NUM { "," NUM }, so many at most
 unfoldable pub numbers : ℕ → ℕ → ℕ → Rule (List ℕ)
-numbers limit low high = chain (number_in low high) (is_symbol 3) (full limit Expected) (λ seen. sign 3 ▸ number_in low high)
+numbers limit low high = series (number_in low high) (is_symbol 3) (full limit Expected) (λ seen. sign 3 ▸ number_in low high)
 
 -- ---- pieces
 
@@ -83,7 +83,7 @@ from_plan p = p.entries
 
 -- entry { entry }
 unfoldable pub entries_rule : Rule (List Entry)
-entries_rule = chain entry_rule (is_word (codes "query")) (full 8 Expected) (λ seen. entry_rule)
+entries_rule = series entry_rule (is_word (codes "query")) (full 8 Expected) (λ seen. entry_rule)
 
 -- plan = "plan" entry { entry }
 unfoldable pub plan_rule : Rule Plan

@@ -1,7 +1,7 @@
 -- The printer of the code, as a state.
 use Rattle.std.specs.Prelude.{ℕ, zero, suc, List, [], ◌∷◌, ◌++◌, fold, Option, Some, None, codes}
 use Rattle.sn_rules.specs.Tokens.{Mark, plain, word, number, symbol}
-use Rattle.sn_rules.specs.Rules.{chain_spelled, maybe_spelled}
+use Rattle.sn_rules.specs.Rules.{series_spelled, maybe_spelled}
 use Rattle.sn_query_rules.specs.declared.ast.FoldWord.{FoldWord}
 use Rattle.sn_query_rules.specs.declared.ast.FoldWord.TheVariants as folds
 use Rattle.sn_query_rules.specs.declared.ast.Query.{Query}
@@ -21,7 +21,7 @@ puts s ms = fold put s ms
 
 -- items with commas between them
 abbrev pub list_spelled : {A : Type 0} → (A → List Mark) → List A → List Mark
-list_spelled spell items = chain_spelled spell (λ item. plain (symbol 3) ∷ spell item) items
+list_spelled spell items = series_spelled spell (λ item. plain (symbol 3) ∷ spell item) items
 
 -- [ "&" NUM ]
 abbrev pub and_spelled : Option ℕ → List Mark
@@ -41,10 +41,10 @@ abbrev pub refined_spelled : Option Refine → List Mark
 refined_spelled r = maybe_spelled refine_rule.spell r
 
 abbrev pub ops_spelled : List Op → List Mark
-ops_spelled ops = chain_spelled op_rule.spell op_rule.spell ops
+ops_spelled ops = series_spelled op_rule.spell op_rule.spell ops
 
 abbrev pub queries_spelled : List Query → List Mark
-queries_spelled queries = chain_spelled (query_rule []).spell (query_rule []).spell queries
+queries_spelled queries = series_spelled (query_rule []).spell (query_rule []).spell queries
 
 -- what stands before the first branch's end: the word, the name and the refinement
 abbrev pub head_spelled : List ℕ → Option Refine → Branch → List Mark

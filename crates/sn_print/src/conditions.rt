@@ -43,7 +43,7 @@ fn put_relaxes(alloc: Global, relaxed: &[Relax], out: &mut Printer) -> Result<()
     }
 }
 
-fn place_of(cmp: Cmp) -> u8
+fn sign_of(cmp: Cmp) -> u8
     ensures { result ≡ cmp_sign cmp }
 {
     match cmp {
@@ -78,7 +78,7 @@ impl Shown for CondText {
     fn put(alloc: Global, item: &Cond, out: &mut Printer) -> Result<(), Memory> {
         out.word(item.name.as_bytes())?;
         put_and(alloc, item.and, out)?;
-        out.symbol(place_of(item.cmp))?;
+        out.symbol(sign_of(item.cmp))?;
         out.number(alloc, item.own)?;
         put_relaxes(alloc, item.relaxed.as_slice(), out)?;
         Ok(())

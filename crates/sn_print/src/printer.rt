@@ -2,7 +2,8 @@
 ghost use Rattle.std.specs.Prelude.{◌≡◌, ◌++◌, OnOk};
 ghost use Rattle.sn_rules.specs.Tokens.{plain, number, symbol, finish};
 ghost use Rattle.sn_rules.specs.Words.{same};
-ghost use Rattle.sn_print.specs.Layout.{word_gap, symbol_gap, symbol_text, gap, last_of, put, start};
+ghost use Rattle.sn_text.specs.Writing.{symbol_text};
+ghost use Rattle.sn_print.specs.Layout.{word_gap, symbol_gap, gap, last_of, put, start};
 ghost use Rattle.sn_print.specs.Printing.{state};
 ghost use Rattle.sn_print.specs.Layout.{word_lexeme};
 

@@ -2,6 +2,4 @@ pub mod Leaves
 pub mod Picks
 pub mod FoldParts
 pub mod BodyParts
-pub mod OnlyLaws
-pub mod OnlyOurs
 pub mod Files

@@ -2,7 +2,7 @@
 use Rattle.std.specs.Prelude.{ℕ, List, [], Option, codes}
 use Rattle.sn_rules.specs.declared.Flaw.TheVariants.{TooMany}
 use Rattle.sn_rules.specs.Tokens.{Tok, Read, got, bind}
-use Rattle.sn_rules.specs.Rules.{Rule, kept, pair, maybe, many, chain}
+use Rattle.sn_rules.specs.Rules.{Rule, kept, pair, maybe, many, series}
 use Rattle.sn_rules.specs.Words.{is_word, is_symbol, sign, number_in, full, ◌▸◌, ◌◂◌}
 use Rattle.sn_query_rules.specs.declared.ast.Query.{Query}
 use Rattle.sn_query_rules.specs.declared.ast.Refine.{Refine}
@@ -43,7 +43,7 @@ fold_read keys ts = bind ((fold_rule keys).read kept ts) (λ x us. got (fold_to 
 
 -- op { op }
 abbrev pub ops_rule : Rule (List Op)
-ops_rule = chain op_rule (is_symbol 4) (full 12 TooMany) (λ seen. op_rule)
+ops_rule = series op_rule (is_symbol 4) (full 12 TooMany) (λ seen. op_rule)
 
 -- { "|" ( filter | postmap ) }
 abbrev pub post_rule : Rule (List Op)
@@ -63,7 +63,7 @@ second_rule = maybe (is_word (codes "packets")) joined_rule
 
 -- query { query }
 abbrev pub queries_rule : Rule (List Query)
-queries_rule = chain (query_rule []) (is_word (codes "query")) (full 8 TooMany) (λ seen. query_rule (query_names seen))
+queries_rule = series (query_rule []) (is_word (codes "query")) (full 8 TooMany) (λ seen. query_rule (query_names seen))
 
 -- NUM of a level
 abbrev pub level_rule : Rule ℕ

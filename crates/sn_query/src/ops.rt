@@ -39,10 +39,7 @@ fn what<'a>(alloc: Global, at: Lexer<'a>) -> Result<(What, Lexer<'a>), Stop<'a>>
         let rest = word(at, b"distinct")?;
         return Ok((What::Distinct, rest));
     }
-    let (reduce, rest) = match reduce(alloc, at) {
-        Ok(found) => found,
-        Err(stop) => return Err(stop),
-    };
+    let (reduce, rest) = reduce(alloc, at)?;
     Ok((What::Reduce(reduce), rest))
 }
 
@@ -51,10 +48,7 @@ fn op<'a>(alloc: Global, at: Lexer<'a>) -> Result<(Op, Lexer<'a>), Stop<'a>>
     ensures { Reads result (op_rule.read kept (left at.entry)) }
 {
     let (line, rest) = symbol_line(at, 4)?;
-    let (what, rest) = match what(alloc, rest) {
-        Ok(found) => found,
-        Err(stop) => return Err(stop),
-    };
+    let (what, rest) = what(alloc, rest)?;
     Ok((Op { line, what }, rest))
 }
 
@@ -64,19 +58,19 @@ struct OpItems;
 impl Items for OpItems {
     type Item = Op;
 
-    ghost goes = { is_symbol 4 };
+    ghost goes = { λ items. is_symbol 4 };
 
-    ghost shut = { full 12 TooMany };
+    ghost shut = { λ items. full 12 TooMany };
 
-    ghost rule = { λ taken. op_rule };
+    ghost rule = { λ items taken. op_rule };
 
-    ghost laws = { ops_alike };
+    ghost laws = { λ items. ops_alike };
 
-    fn begins(at: Lexer<'_>) -> bool {
+    fn begins(&self, at: Lexer<'_>) -> bool {
         next_is_symbol(at, 4)
     }
 
-    fn shut_by(taken: &[Op]) -> Option<Flaw> {
+    fn shut_by(&self, taken: &[Op]) -> Option<Flaw> {
         if is_full_at(taken.len(), 12) {
             Some(Flaw::TooMany)
         } else {
@@ -84,7 +78,12 @@ impl Items for OpItems {
         }
     }
 
-    fn item<'a>(alloc: Global, _taken: &[Op], at: Lexer<'a>) -> Result<(Op, Lexer<'a>), Stop<'a>> {
+    fn item<'a>(
+        &self,
+        alloc: Global,
+        _taken: &[Op],
+        at: Lexer<'a>,
+    ) -> Result<(Op, Lexer<'a>), Stop<'a>> {
         op(alloc, at)
     }
 }
@@ -93,13 +92,10 @@ impl Items for OpItems {
 pub(crate) fn ops<'a>(alloc: Global, at: Lexer<'a>) -> Result<(Seq<Op>, Lexer<'a>), Stop<'a>>
     ensures { Reads result (ops_rule.read kept (left at.entry)) }
 {
-    let (first, rest) = match op(alloc, at) {
-        Ok(found) => found,
-        Err(stop) => return Err(stop),
-    };
+    let (first, rest) = op(alloc, at)?;
     let mut items = Seq::new(alloc);
     items.push(first)?;
-    further::<OpItems>(alloc, items, rest)
+    further(alloc, &OpItems, items, rest)
 }
 
 #[tactic(auto, using(crate::proofs::Picks::post_filter_value, crate::proofs::Picks::post_filter_halt, crate::proofs::Picks::post_map_value, crate::proofs::Picks::post_map_halt))]
@@ -119,10 +115,7 @@ fn post_op<'a>(alloc: Global, at: Lexer<'a>) -> Result<(Op, Lexer<'a>), Stop<'a>
     ensures { Reads result (post_op_rule.read kept (left at.entry)) }
 {
     let (line, rest) = symbol_line(at, 4)?;
-    let (what, rest) = match post_what(alloc, rest) {
-        Ok(found) => found,
-        Err(stop) => return Err(stop),
-    };
+    let (what, rest) = post_what(alloc, rest)?;
     Ok((Op { line, what }, rest))
 }
 
@@ -132,19 +125,19 @@ struct PostItems;
 impl Items for PostItems {
     type Item = Op;
 
-    ghost goes = { is_symbol 4 };
+    ghost goes = { λ items. is_symbol 4 };
 
-    ghost shut = { full 12 TooMany };
+    ghost shut = { λ items. full 12 TooMany };
 
-    ghost rule = { λ taken. post_op_rule };
+    ghost rule = { λ items taken. post_op_rule };
 
-    ghost laws = { post_ops_alike };
+    ghost laws = { λ items. post_ops_alike };
 
-    fn begins(at: Lexer<'_>) -> bool {
+    fn begins(&self, at: Lexer<'_>) -> bool {
         next_is_symbol(at, 4)
     }
 
-    fn shut_by(taken: &[Op]) -> Option<Flaw> {
+    fn shut_by(&self, taken: &[Op]) -> Option<Flaw> {
         if is_full_at(taken.len(), 12) {
             Some(Flaw::TooMany)
         } else {
@@ -152,7 +145,12 @@ impl Items for PostItems {
         }
     }
 
-    fn item<'a>(alloc: Global, _taken: &[Op], at: Lexer<'a>) -> Result<(Op, Lexer<'a>), Stop<'a>> {
+    fn item<'a>(
+        &self,
+        alloc: Global,
+        _taken: &[Op],
+        at: Lexer<'a>,
+    ) -> Result<(Op, Lexer<'a>), Stop<'a>> {
         post_op(alloc, at)
     }
 }
@@ -161,5 +159,5 @@ impl Items for PostItems {
 pub(crate) fn post<'a>(alloc: Global, at: Lexer<'a>) -> Result<(Seq<Op>, Lexer<'a>), Stop<'a>>
     ensures { Reads result (post_rule.read kept (left at.entry)) }
 {
-    further::<PostItems>(alloc, Seq::new(alloc), at)
+    further(alloc, &PostItems, Seq::new(alloc), at)
 }

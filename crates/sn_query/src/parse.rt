@@ -6,6 +6,7 @@ ghost use Rattle.sn_text.specs.Lexing.{left};
 ghost use Rattle.sn_read.specs.Reading.{ReadsAll};
 ghost use Rattle.sn_query_rules.specs.declared.ast.QueryFile.{QueryFile};
 ghost use Rattle.sn_query_rules.specs.Grammar.{file_rule};
+ghost use Rattle.sn_query_rules.specs.Limits.{KeepsLimits};
 ghost use Rattle.sn_query.specs.Texts.{shown, IsFault, IsFile};
 
 use crate::fault::ParseFault;
@@ -24,10 +25,7 @@ fn file<'a>(alloc: Global, at: Lexer<'a>) -> Result<QueryFile, Stop<'a>>
 {
     let rest = word(at, b"window")?;
     let (window_us, rest) = number(rest, 1, 3600000000)?;
-    let (queries, rest) = match queries(alloc, rest) {
-        Ok(found) => found,
-        Err(stop) => return Err(stop),
-    };
+    let (queries, rest) = queries(alloc, rest)?;
     end(rest)?;
     Ok(QueryFile { window_us, queries })
 }
@@ -50,6 +48,8 @@ pub fn parse(alloc: Global, text: &[u8]) -> Result<QueryFile, ParseFault>
     requires { length text.now ≤ 2 ^ 30 }
     // What is read is accepted: the text stands for it.
     ensures found { IfOk result (λ file. Accepts file_rule (tokens_of text.now) file) }
+    // It keeps the limits that the check of types asks for.
+    ensures limits { IfOk result KeepsLimits }
     // What is accepted is read, unless memory runs out.
     ensures only { (file : QueryFile) → Accepts file_rule (tokens_of text.now) file → IsFile file result }
     // Else the first fault.

@@ -101,10 +101,7 @@ fn maybe_refine<'a>(alloc: Global, at: Lexer<'a>) -> Result<(Option<Refine>, Lex
     if !next_is_word(at, b"refine") {
         return Ok((None, at));
     }
-    let (refine, rest) = match refine(alloc, at) {
-        Ok(found) => found,
-        Err(stop) => return Err(stop),
-    };
+    let (refine, rest) = refine(alloc, at)?;
     Ok((Some(refine), rest))
 }
 
@@ -113,10 +110,7 @@ fn branch<'a>(alloc: Global, at: Lexer<'a>) -> Result<(Branch, Lexer<'a>), Stop<
     ensures { Reads result (branch_rule.read kept (left at.entry)) }
 {
     let rest = word(at, b"packets")?;
-    let (ops, rest) = match ops(alloc, rest) {
-        Ok(found) => found,
-        Err(stop) => return Err(stop),
-    };
+    let (ops, rest) = ops(alloc, rest)?;
     let rest = symbol(rest, 2)?;
     Ok((Branch { ops }, rest))
 }
@@ -126,14 +120,8 @@ fn join<'a>(alloc: Global, at: Lexer<'a>) -> Result<(Join, Lexer<'a>), Stop<'a>>
     ensures { Reads result (join_rule.read kept (left at.entry)) }
 {
     let (line, rest) = word_line(at, b"join")?;
-    let (keys, rest) = match keys(alloc, rest) {
-        Ok(found) => found,
-        Err(stop) => return Err(stop),
-    };
-    let (post, rest) = match post(alloc, rest) {
-        Ok(found) => found,
-        Err(stop) => return Err(stop),
-    };
+    let (keys, rest) = keys(alloc, rest)?;
+    let (post, rest) = post(alloc, rest)?;
     let rest = symbol(rest, 2)?;
     Ok((Join { line, keys, post }, rest))
 }
@@ -142,14 +130,8 @@ fn join<'a>(alloc: Global, at: Lexer<'a>) -> Result<(Join, Lexer<'a>), Stop<'a>>
 fn joined<'a>(alloc: Global, at: Lexer<'a>) -> Result<((Branch, Join), Lexer<'a>), Stop<'a>>
     ensures { Reads result (joined_rule.read kept (left at.entry)) }
 {
-    let (branch, rest) = match branch(alloc, at) {
-        Ok(found) => found,
-        Err(stop) => return Err(stop),
-    };
-    let (join, rest) = match join(alloc, rest) {
-        Ok(found) => found,
-        Err(stop) => return Err(stop),
-    };
+    let (branch, rest) = branch(alloc, at)?;
+    let (join, rest) = join(alloc, rest)?;
     Ok(((branch, join), rest))
 }
 
@@ -163,10 +145,7 @@ fn maybe_joined<'a>(
     if !next_is_word(at, b"packets") {
         return Ok((None, at));
     }
-    let (second, rest) = match joined(alloc, at) {
-        Ok(found) => found,
-        Err(stop) => return Err(stop),
-    };
+    let (second, rest) = joined(alloc, at)?;
     Ok((Some(second), rest))
 }
 
@@ -236,19 +215,19 @@ struct QueryItems;
 impl Items for QueryItems {
     type Item = Query;
 
-    ghost goes = { is_word (codes "query") };
+    ghost goes = { λ items. is_word (codes "query") };
 
-    ghost shut = { full 8 TooMany };
+    ghost shut = { λ items. full 8 TooMany };
 
-    ghost rule = { λ taken. query_rule (query_names taken) };
+    ghost rule = { λ items taken. query_rule (query_names taken) };
 
-    ghost laws = { queries_alike };
+    ghost laws = { λ items. queries_alike };
 
-    fn begins(at: Lexer<'_>) -> bool {
+    fn begins(&self, at: Lexer<'_>) -> bool {
         next_is_word(at, b"query")
     }
 
-    fn shut_by(taken: &[Query]) -> Option<Flaw> {
+    fn shut_by(&self, taken: &[Query]) -> Option<Flaw> {
         if is_full_at(taken.len(), 8) {
             Some(Flaw::TooMany)
         } else {
@@ -257,6 +236,7 @@ impl Items for QueryItems {
     }
 
     fn item<'a>(
+        &self,
         alloc: Global,
         taken: &[Query],
         at: Lexer<'a>,
@@ -270,10 +250,7 @@ pub(crate) fn queries<'a>(alloc: Global, at: Lexer<'a>) -> Result<(Seq<Query>, L
     ensures { Reads result (queries_rule.read kept (left at.entry)) }
 {
     let mut items: Seq<Query> = Seq::new(alloc);
-    let (first, rest) = match query(alloc, items.as_slice(), at) {
-        Ok(found) => found,
-        Err(stop) => return Err(stop),
-    };
+    let (first, rest) = query(alloc, items.as_slice(), at)?;
     items.push(first)?;
-    further::<QueryItems>(alloc, items, rest)
+    further(alloc, &QueryItems, items, rest)
 }

@@ -1,12 +1,12 @@
 -- The productions of the query text keep the laws.
-use Rattle.std.proofs.Common.{◌≡◌, ℕ, Bool, true, false, List, [], ◌∷◌, ◌++◌, Option, Some, None, refl, sym, ap, subst, ◌∙◌, arith, inl, inr, ◌⊎◌}
+use Rattle.std.proofs.Common.{◌≡◌, ℕ, Bool, true, false, List, [], ◌∷◌, Option, Some, None, refl, sym, ap, subst, ◌∙◌, arith, inl, inr, ◌⊎◌}
 use Rattle.std.specs.Prelude.{codes, not, ◌==◌}
 use Rattle.sn_rules.specs.declared.Flaw.{Flaw}
-use Rattle.sn_rules.specs.Tokens.{Lexeme, word, number, symbol, finish, bad, Tok, Mark, Spelled, got, fails, bind}
+use Rattle.sn_rules.specs.Tokens.{Lexeme, word, number, symbol, finish, bad, Tok, Spelled, got, fails, bind}
 use Rattle.sn_rules.specs.Rules.{kept, aside, is_limit, Rule, pair, maybe, either}
 use Rattle.sn_rules.specs.Words.{is_word, is_symbol, is_number, keyword, sign, number_in, ◌▸◌, ◌◂◌, commas}
 use Rattle.sn_rules.proofs.Common.{Heads}
-use Rattle.sn_rules.proofs.Laws.{Good, Follows, pair_good, freely}
+use Rattle.sn_rules.proofs.Laws.{Good, Follows, pair_good, free_pair, headed_follows, headed_pair}
 use Rattle.sn_rules.proofs.Choices.{Undoes, embedded_good, renamed_good, maybe_good, either_good, Past}
 use Rattle.sn_rules.proofs.Words.{number_in_good, word_mark, before_sign, after_word, after_sign, word_starts, sign_starts, Listed, always_listed, commas_good}
 use Rattle.sn_rules.proofs.Lists.{pair_past, embedded_past, keyed, commas_sign}
@@ -20,25 +20,12 @@ use Rattle.sn_query_rules.specs.Names.{name, name_not, any_number, past_name, pa
 use Rattle.sn_query_rules.specs.Grammar.{Name, to_relax, from_relax, relax_rule, to_relaxes, from_relaxes, relaxes_rule, to_cond, from_cond, cond_rule, filter_rule, Tail, to_expr, from_expr, goes_tail, expr_rule, past_col, to_col, from_col, col_name, col_names, col_rule, map_rule, PostTail, to_post_expr, from_post_expr, goes_post_tail, post_expr_rule, post_col_rule, post_map_rule}
 use Rattle.sn_query_rules.proofs.Names.{name_good, name_past, any_good, number_past, comparison_good}
 
--- anything may stand behind the first of two
-pub free_pair : {A B : Type 0} (p : Rule A) (q : Rule B) → Good p → Good q → ((us : List Tok) → p.follow us ≡ true) → Good (pair p q)
-free_pair p q gp gq h = pair_good p q gp gq (freely p q h)
-
--- the first mark of what q spells decides
-pub headed_follows : {A B : Type 0} (p : Rule A) (q : Rule B) (goes : Lexeme → Bool) → ((b : B) → q.fits aside b → Heads goes (q.spell b)) → ((t : Tok) (us : List Tok) → goes t.face ≡ true → p.follow (t ∷ us) ≡ true) → Follows p q
-headed_follows {A} {B} p q goes heads h = record { meets = λ front us b f s e. go front us (q.spell b) (heads b f) s }
-  where
-    go : (front us : List Tok) (ms : List Mark) → Heads goes ms → Spelled front ms → p.follow (front ++ us) ≡ true
-    go front us [] k s = absurd k
-    go [] us (m ∷ ms) k s = absurd s
-    go (t ∷ front) us (m ∷ ms) k s = h t (front ++ us) (ap goes s.0.0 ∙ k)
-
 -- ---- conditions
 
 pub relax_good : Good relax_rule
 unfolding relax_rule
-relax_good = renamed_good to_relax from_relax (pair (number_in 0 64) (sign 7 ▸ any_number)) (λ a. refl) (λ b. refl)
-    (free_pair (number_in 0 64) (sign 7 ▸ any_number) (number_in_good 0 64 (omega arith)) (after_sign 7 any_number any_good) (λ us. refl))
+relax_good = renamed_good to_relax from_relax (λ a. refl) (λ b. refl)
+    (free_pair (number_in_good 0 64 (omega arith)) (after_sign 7 any_good) (λ us. refl))
 
 relax_free : (t : Tok) (us : List Tok) → relax_rule.follow (t ∷ us) ≡ true
 unfolding relax_rule
@@ -46,17 +33,17 @@ relax_free t us = refl
 
 relax_past : Past (past_number 0 64) relax_rule
 unfolding relax_rule
-relax_past = embedded_past (past_number 0 64) to_relax (λ b. Some (from_relax b)) (pair (number_in 0 64) (sign 7 ▸ any_number)) (record { back = λ a f. refl; forth = λ b a e. let h : from_relax b ≡ a = cc in ap to_relax (sym h) })
-    (pair_past (past_number 0 64) (number_in 0 64) (sign 7 ▸ any_number) (after_sign 7 any_number any_good) (number_past 0 64))
+relax_past = embedded_past (past_number 0 64) to_relax (λ b. Some (from_relax b)) (record { back = λ a f. refl; forth = λ b a e. let h : from_relax b ≡ a = cc in ap to_relax (sym h) })
+    (pair_past (past_number 0 64) (after_sign 7 any_good) (number_past 0 64))
 
 pub relax_listed : Listed (past_number 0 64) (λ (seen : List Relax). relax_rule)
-relax_listed = always_listed (past_number 0 64) relax_rule relax_good (λ t us e. relax_free t us) relax_past
+relax_listed = always_listed (past_number 0 64) relax_good (λ t us e. relax_free t us) relax_past
 
 abbrev relaxes : Rule (List Relax)
 relaxes = commas 4 (past_number 0 64) (λ seen. relax_rule)
 
 relaxes_good_in : Good relaxes
-relaxes_good_in = commas_good 4 (past_number 0 64) (λ seen. relax_rule) relax_listed
+relaxes_good_in = commas_good 4 relax_listed
 
 relaxes_sign : (t : Tok) (us : List Tok) → t.face ≡ symbol 6 → relaxes.follow (t ∷ us) ≡ true
 relaxes_sign t us e = commas_sign 4 (past_number 0 64) (λ seen. relax_rule) t us (ap (is_symbol 3) e) (relax_free t us)
@@ -65,7 +52,7 @@ abbrev at_rule : Rule (List Relax)
 at_rule = keyword (codes "at") ▸ sign 5 ▸ (relaxes ◂ sign 6)
 
 at_good : Good at_rule
-at_good = after_word (codes "at") (sign 5 ▸ (relaxes ◂ sign 6)) (after_sign 5 (relaxes ◂ sign 6) (before_sign relaxes 6 relaxes_good_in relaxes_sign))
+at_good = after_word (codes "at") (after_sign 5 (before_sign 6 relaxes_good_in relaxes_sign))
 
 relaxes_undone : Undoes to_relaxes from_relaxes (maybe (is_word (codes "at")) at_rule)
 relaxes_undone = record { back = back; forth = forth }
@@ -81,8 +68,8 @@ relaxes_undone = record { back = back; forth = forth }
 
 pub relaxes_good : Good relaxes_rule
 unfolding relaxes_rule
-relaxes_good = embedded_good to_relaxes from_relaxes (maybe (is_word (codes "at")) at_rule) relaxes_undone
-    (maybe_good (is_word (codes "at")) at_rule at_good (word_starts (codes "at") (sign 5 ▸ (relaxes ◂ sign 6))))
+relaxes_good = embedded_good to_relaxes from_relaxes relaxes_undone
+    (maybe_good (is_word (codes "at")) at_good (word_starts (codes "at") (sign 5 ▸ (relaxes ◂ sign 6))))
 
 relaxes_end : (k : ℕ) (t : Tok) (us : List Tok) → t.face ≡ symbol k → relaxes_rule.follow (t ∷ us) ≡ true
 unfolding relaxes_rule
@@ -114,11 +101,11 @@ and_free t us e = rw e refl
 pub cond_good : Good cond_rule
 unfolding cond_rule
 cond_good =
-    let own = free_pair any_number relaxes_rule any_good relaxes_good (λ us. refl) in
-    let test = free_pair comparison own_rule comparison_good own (λ us. refl) in
-    let and = maybe_good (is_symbol 8) (sign 8 ▸ any_number) (after_sign 8 any_number any_good) (sign_starts 8 any_number) in
-    let tail = pair_good and_rule test_rule and test (headed_follows and_rule test_rule no_and (λ b f. cmp_heads b.0) and_free) in
-    renamed_good to_cond from_cond (pair name (pair and_rule test_rule)) (λ a. refl) (λ b. refl) (free_pair name (pair and_rule test_rule) (name_good []) tail (λ us. refl))
+    let own = free_pair any_good relaxes_good (λ us. refl) in
+    let test = free_pair comparison_good own (λ us. refl) in
+    let and = maybe_good (is_symbol 8) (after_sign 8 any_good) (sign_starts 8 any_number) in
+    let tail = headed_pair no_and and test (λ b f. cmp_heads b.0) and_free in
+    renamed_good to_cond from_cond (λ a. refl) (λ b. refl) (free_pair (name_good []) tail (λ us. refl))
 
 pub cond_end : (k : ℕ) (t : Tok) (us : List Tok) → t.face ≡ symbol k → cond_rule.follow (t ∷ us) ≡ true
 unfolding cond_rule
@@ -127,19 +114,19 @@ cond_end k t us e = relaxes_end k t us e
 cond_past : Past past_name cond_rule
 unfolding cond_rule
 cond_past =
-    let own = free_pair any_number relaxes_rule any_good relaxes_good (λ us. refl) in
-    let test = free_pair comparison own_rule comparison_good own (λ us. refl) in
-    let and = maybe_good (is_symbol 8) (sign 8 ▸ any_number) (after_sign 8 any_number any_good) (sign_starts 8 any_number) in
-    let tail = pair_good and_rule test_rule and test (headed_follows and_rule test_rule no_and (λ b f. cmp_heads b.0) and_free) in
-    embedded_past past_name to_cond (λ b. Some (from_cond b)) (pair name (pair and_rule test_rule)) (record { back = λ a f. refl; forth = λ b a e. let h : from_cond b ≡ a = cc in ap to_cond (sym h) })
-    (pair_past past_name name (pair and_rule test_rule) tail (name_past []))
+    let own = free_pair any_good relaxes_good (λ us. refl) in
+    let test = free_pair comparison_good own (λ us. refl) in
+    let and = maybe_good (is_symbol 8) (after_sign 8 any_good) (sign_starts 8 any_number) in
+    let tail = headed_pair no_and and test (λ b f. cmp_heads b.0) and_free in
+    embedded_past past_name to_cond (λ b. Some (from_cond b)) (record { back = λ a f. refl; forth = λ b a e. let h : from_cond b ≡ a = cc in ap to_cond (sym h) })
+    (pair_past past_name tail (name_past []))
 
 pub cond_listed : Listed past_name (λ (seen : List Cond). cond_rule)
-cond_listed = always_listed past_name cond_rule cond_good (λ t us e. cond_end 3 t us e) cond_past
+cond_listed = always_listed past_name cond_good (λ t us e. cond_end 3 t us e) cond_past
 
 pub filter_good : Good filter_rule
 unfolding filter_rule
-filter_good = after_word (codes "filter") (commas 8 past_name (λ seen. cond_rule)) (commas_good 8 past_name (λ seen. cond_rule) cond_listed)
+filter_good = after_word (codes "filter") (commas_good 8 cond_listed)
 
 pub filter_end : (k : ℕ) → (k == 3) ≡ false → (t : Tok) (us : List Tok) → t.face ≡ symbol k → filter_rule.follow (t ∷ us) ≡ true
 unfolding filter_rule
@@ -157,13 +144,13 @@ abbrev tail_rule : Rule Tail
 tail_rule = maybe goes_tail (either (is_symbol 8) mask_rule shift_rule)
 
 shift_good : Good shift_rule
-shift_good = after_sign 18 (number_in 0 63) (number_in_good 0 63 (omega arith))
+shift_good = after_sign 18 (number_in_good 0 63 (omega arith))
 
 mask_good : Good mask_rule
-mask_good = after_sign 8 any_number any_good
+mask_good = after_sign 8 any_good
 
 tail_good : Good tail_rule
-tail_good = maybe_good goes_tail (either (is_symbol 8) mask_rule shift_rule) (either_good (is_symbol 8) mask_rule shift_rule mask_good shift_good (sign_starts 8 any_number) (record { heads = λ a f. refl })) (record { heads = heads })
+tail_good = maybe_good goes_tail (either_good (is_symbol 8) mask_good shift_good (sign_starts 8 any_number) (record { heads = λ a f. refl })) (record { heads = heads })
   where
     heads : (a : ℕ ⊎ ℕ) → (either (is_symbol 8) mask_rule shift_rule).fits aside a → Heads goes_tail ((either (is_symbol 8) mask_rule shift_rule).spell a)
     heads (inl k) f = refl
@@ -176,13 +163,13 @@ abbrev copied_rule : Rule (Name × Tail)
 copied_rule = pair name tail_rule
 
 copied_good : Good copied_rule
-copied_good = free_pair name tail_rule (name_good []) tail_good (λ us. refl)
+copied_good = free_pair (name_good []) tail_good (λ us. refl)
 
 abbrev expr_in : Rule (ℕ ⊎ (Name × Tail))
 expr_in = either is_number any_number copied_rule
 
 expr_in_good : Good expr_in
-expr_in_good = either_good is_number any_number copied_rule any_good copied_good (record { heads = λ a f. refl }) (record { heads = λ a f. refl })
+expr_in_good = either_good is_number any_good copied_good (record { heads = λ a f. refl }) (record { heads = λ a f. refl })
 
 expr_undone : Undoes to_expr from_expr expr_in
 expr_undone = record { back = back; forth = forth }
@@ -203,7 +190,7 @@ expr_undone = record { back = back; forth = forth }
 
 pub expr_good : Good expr_rule
 unfolding expr_rule
-expr_good = embedded_good to_expr from_expr expr_in expr_undone expr_in_good
+expr_good = embedded_good to_expr from_expr expr_undone expr_in_good
 
 -- a number or a name begins a column
 module _ {A : Type 0} (q : Rule A) (w : Past past_name q) where
@@ -251,7 +238,7 @@ module _ {A : Type 0} (q : Rule A) (w : Past past_name q) where
 
 expr_past : Past past_col expr_rule
 unfolding expr_rule
-expr_past = embedded_past past_col to_expr from_expr expr_in expr_undone (numbered_past copied_rule (pair_past past_name name tail_rule tail_good (name_past [])))
+expr_past = embedded_past past_col to_expr from_expr expr_undone (numbered_past copied_rule (pair_past past_name tail_good (name_past [])))
 
 tail_end : (t : Tok) (us : List Tok) → goes_tail t.face ≡ false → tail_rule.follow (t ∷ us) ≡ true
 tail_end t us e = rw e refl
@@ -265,7 +252,7 @@ abbrev as_rule : List Name → Rule Name
 as_rule seen = keyword (codes "as") ▸ name_not seen
 
 as_good : (seen : List Name) → Good (as_rule seen)
-as_good seen = after_word (codes "as") (name_not seen) (name_good seen)
+as_good seen = after_word (codes "as") (name_good seen)
 
 as_follows : (p : Rule Expr) (seen : List Name) → ((t : Tok) (us : List Tok) → t.face ≡ word (codes "as") → p.follow (t ∷ us) ≡ true) → Follows p (as_rule seen)
 as_follows p seen h = headed_follows p (as_rule seen) (is_word (codes "as")) (λ b f. refl) (λ t us e. h t us ((word_mark (codes "as")).only t.face e))
@@ -275,12 +262,12 @@ col_undone p = record { back = λ a f. refl; forth = λ b a e. let h : from_col 
 
 pub col_good : (seen : List Name) → Good (col_rule seen)
 unfolding col_rule
-col_good seen = renamed_good to_col from_col (pair expr_rule (as_rule seen)) (λ a. refl) (λ b. refl)
-    (pair_good expr_rule (as_rule seen) expr_good (as_good seen) (as_follows expr_rule seen (λ t us e. expr_end t us (ap goes_tail e))))
+col_good seen = renamed_good to_col from_col (λ a. refl) (λ b. refl)
+    (pair_good expr_good (as_good seen) (as_follows expr_rule seen (λ t us e. expr_end t us (ap goes_tail e))))
 
 col_past : Past past_col (col_rule [])
 unfolding col_rule
-col_past = embedded_past past_col to_col (λ b. Some (from_col b)) (pair expr_rule (as_rule [])) (col_undone (pair expr_rule (as_rule []))) (pair_past past_col expr_rule (as_rule []) (as_good []) expr_past)
+col_past = embedded_past past_col to_col (λ b. Some (from_col b)) (col_undone (pair expr_rule (as_rule []))) (pair_past past_col (as_good []) expr_past)
 
 pub col_listed : Listed past_col (λ seen. col_rule (col_names seen))
 unfolding col_rule
@@ -296,7 +283,7 @@ col_listed = record {
 
 pub map_good : Good map_rule
 unfolding map_rule
-map_good = after_word (codes "map") (commas 8 past_col (λ seen. col_rule (col_names seen))) (commas_good 8 past_col (λ seen. col_rule (col_names seen)) col_listed)
+map_good = after_word (codes "map") (commas_good 8 col_listed)
 
 col_free : (t : Tok) (us : List Tok) → (col_rule []).follow (t ∷ us) ≡ true
 unfolding col_rule
@@ -327,17 +314,17 @@ abbrev post_tail : Rule PostTail
 post_tail = maybe goes_post_tail mask_on
 
 ratio_good : Good ratio_tail
-ratio_good = after_sign 10 (pair any_number (sign 11 ▸ name)) (free_pair any_number (sign 11 ▸ name) any_good (after_sign 11 name (name_good [])) (λ us. refl))
+ratio_good = after_sign 10 (free_pair any_good (after_sign 11 (name_good [])) (λ us. refl))
 
 join_tail_good : Good join_tail
-join_tail_good = either_good (is_symbol 9) sum_tail ratio_tail (after_sign 9 name (name_good [])) ratio_good (sign_starts 9 name) (record { heads = λ a f. refl })
+join_tail_good = either_good (is_symbol 9) (after_sign 9 (name_good [])) ratio_good (sign_starts 9 name) (record { heads = λ a f. refl })
 
 join_heads : (a : Name ⊎ (ℕ × Name)) → Heads (λ x. not (is_symbol 18 x)) (join_tail.spell a)
 join_heads (inl a) = refl
 join_heads (inr a) = refl
 
 shift_on_good : Good shift_on
-shift_on_good = either_good (is_symbol 18) shift_rule join_tail shift_good join_tail_good (sign_starts 18 (number_in 0 63)) (record { heads = λ a f. join_heads a })
+shift_on_good = either_good (is_symbol 18) shift_good join_tail_good (sign_starts 18 (number_in 0 63)) (record { heads = λ a f. join_heads a })
 
 shift_heads : (a : ℕ ⊎ (Name ⊎ (ℕ × Name))) → Heads (λ x. not (is_symbol 8 x)) (shift_on.spell a)
 shift_heads (inl a) = refl
@@ -345,7 +332,7 @@ shift_heads (inr (inl a)) = refl
 shift_heads (inr (inr a)) = refl
 
 mask_on_good : Good mask_on
-mask_on_good = either_good (is_symbol 8) mask_rule shift_on mask_good shift_on_good (sign_starts 8 any_number) (record { heads = λ a f. shift_heads a })
+mask_on_good = either_good (is_symbol 8) mask_good shift_on_good (sign_starts 8 any_number) (record { heads = λ a f. shift_heads a })
 
 mask_heads : (a : ℕ ⊎ (ℕ ⊎ (Name ⊎ (ℕ × Name)))) → Heads goes_post_tail (mask_on.spell a)
 mask_heads (inl a) = refl
@@ -354,19 +341,19 @@ mask_heads (inr (inr (inl a))) = refl
 mask_heads (inr (inr (inr a))) = refl
 
 post_tail_good : Good post_tail
-post_tail_good = maybe_good goes_post_tail mask_on mask_on_good (record { heads = λ a f. mask_heads a })
+post_tail_good = maybe_good goes_post_tail mask_on_good (record { heads = λ a f. mask_heads a })
 
 abbrev post_copied : Rule (Name × PostTail)
 post_copied = pair name post_tail
 
 post_copied_good : Good post_copied
-post_copied_good = free_pair name post_tail (name_good []) post_tail_good (λ us. refl)
+post_copied_good = free_pair (name_good []) post_tail_good (λ us. refl)
 
 abbrev post_expr_in : Rule (ℕ ⊎ (Name × PostTail))
 post_expr_in = either is_number any_number post_copied
 
 post_expr_in_good : Good post_expr_in
-post_expr_in_good = either_good is_number any_number post_copied any_good post_copied_good (record { heads = λ a f. refl }) (record { heads = λ a f. refl })
+post_expr_in_good = either_good is_number any_good post_copied_good (record { heads = λ a f. refl }) (record { heads = λ a f. refl })
 
 post_back : (a : ℕ ⊎ (Name × PostTail)) → from_post_expr (to_post_expr a) ≡ a
 post_back (inl k) = refl
@@ -386,12 +373,12 @@ post_forth (exprs.Ratio n k m) = refl
 
 pub post_expr_good : Good post_expr_rule
 unfolding post_expr_rule
-post_expr_good = renamed_good to_post_expr from_post_expr post_expr_in post_back post_forth post_expr_in_good
+post_expr_good = renamed_good to_post_expr from_post_expr post_back post_forth post_expr_in_good
 
 post_expr_past : Past past_col post_expr_rule
 unfolding post_expr_rule
-post_expr_past = embedded_past past_col to_post_expr (λ b. Some (from_post_expr b)) post_expr_in (record { back = λ a f. ap (λ (x : ℕ ⊎ (Name × PostTail)). Some x) (post_back a); forth = λ b a e. let h : from_post_expr b ≡ a = cc in ap to_post_expr (sym h) ∙ post_forth b })
-    (numbered_past post_copied (pair_past past_name name post_tail post_tail_good (name_past [])))
+post_expr_past = embedded_past past_col to_post_expr (λ b. Some (from_post_expr b)) (record { back = λ a f. ap (λ (x : ℕ ⊎ (Name × PostTail)). Some x) (post_back a); forth = λ b a e. let h : from_post_expr b ≡ a = cc in ap to_post_expr (sym h) ∙ post_forth b })
+    (numbered_past post_copied (pair_past past_name post_tail_good (name_past [])))
 
 post_expr_end : (t : Tok) (us : List Tok) → goes_post_tail t.face ≡ false → post_expr_rule.follow (t ∷ us) ≡ true
 unfolding post_expr_rule
@@ -399,12 +386,12 @@ post_expr_end t us e = rw e refl
 
 pub post_col_good : (seen : List Name) → Good (post_col_rule seen)
 unfolding post_col_rule
-post_col_good seen = renamed_good to_col from_col (pair post_expr_rule (as_rule seen)) (λ a. refl) (λ b. refl)
-    (pair_good post_expr_rule (as_rule seen) post_expr_good (as_good seen) (as_follows post_expr_rule seen (λ t us e. post_expr_end t us (ap goes_post_tail e))))
+post_col_good seen = renamed_good to_col from_col (λ a. refl) (λ b. refl)
+    (pair_good post_expr_good (as_good seen) (as_follows post_expr_rule seen (λ t us e. post_expr_end t us (ap goes_post_tail e))))
 
 post_col_past : Past past_col (post_col_rule [])
 unfolding post_col_rule
-post_col_past = embedded_past past_col to_col (λ b. Some (from_col b)) (pair post_expr_rule (as_rule [])) (col_undone (pair post_expr_rule (as_rule []))) (pair_past past_col post_expr_rule (as_rule []) (as_good []) post_expr_past)
+post_col_past = embedded_past past_col to_col (λ b. Some (from_col b)) (col_undone (pair post_expr_rule (as_rule []))) (pair_past past_col (as_good []) post_expr_past)
 
 pub post_col_listed : Listed past_col (λ seen. post_col_rule (col_names seen))
 unfolding post_col_rule
@@ -420,7 +407,7 @@ post_col_listed = record {
 
 pub post_map_good : Good post_map_rule
 unfolding post_map_rule
-post_map_good = after_word (codes "map") (commas 8 past_col (λ seen. post_col_rule (col_names seen))) (commas_good 8 past_col (λ seen. post_col_rule (col_names seen)) post_col_listed)
+post_map_good = after_word (codes "map") (commas_good 8 post_col_listed)
 
 post_col_free : (t : Tok) (us : List Tok) → (post_col_rule []).follow (t ∷ us) ≡ true
 unfolding post_col_rule

@@ -11,7 +11,7 @@ use Rattle.sn_rules.specs.Rules.{aside, is_limit, closed}
 use Rattle.sn_rules.specs.Words.{same, judged_as, judged_by, word_in, number_at, in_range, number_in}
 use Rattle.sn_rules.proofs.Laws.{Good}
 use Rattle.sn_rules.proofs.Choices.{Past}
-use Rattle.sn_rules.proofs.Words.{leaf_good, word_by_good, number_in_good}
+use Rattle.sn_rules.proofs.Words.{Stands_for, leaf_good, word_by_good, number_in_good}
 use Rattle.sn_query_rules.specs.declared.ast.Cmp.{Cmp}
 use Rattle.sn_query_rules.specs.declared.ast.Cmp.TheVariants as cmps
 use Rattle.sn_query_rules.specs.declared.ast.FoldWord.{FoldWord}
@@ -158,8 +158,11 @@ cmp_only (symbol k) c e = ap symbol (cmp_is (k == 12) (k == 13) (k == 14) (k == 
 cmp_only finish c e = absurd cc
 cmp_only bad c e = absurd cc
 
+pub comparisons_stand : Stands_for cmp_face cmp_in
+comparisons_stand = record { undone = cmp_undone; only = cmp_only }
+
 pub comparison_good : Good comparison
-comparison_good = leaf_good cmp_face cmp_in (record { undone = cmp_undone; only = cmp_only }) any_cmp (cmps.Eq, refl)
+comparison_good = leaf_good cmp_face cmp_in comparisons_stand any_cmp (cmps.Eq, refl)
 
 -- ---- folds
 
@@ -188,5 +191,8 @@ fold_only (symbol k) f e = absurd cc
 fold_only finish f e = absurd cc
 fold_only bad f e = absurd cc
 
+pub folds_stand : Stands_for fold_face fold_in
+folds_stand = record { undone = fold_undone; only = fold_only }
+
 pub plain_fold_good : Good plain_fold
-plain_fold_good = leaf_good fold_face fold_in (record { undone = fold_undone; only = fold_only }) no_sum (folds.Max, refl)
+plain_fold_good = leaf_good fold_face fold_in folds_stand no_sum (folds.Max, refl)

@@ -3,13 +3,13 @@ use Rattle.std.proofs.Common.{◌≡◌, ℕ, zero, suc, Bool, true, false, cond
 use Rattle.std.specs.Prelude.{codes, not, ◌||◌, ◌==◌}
 use Rattle.sn_rules.specs.declared.Flaw.TheVariants.{Expected, TooMany}
 use Rattle.sn_rules.specs.Tokens.{Lexeme, word, number, symbol, finish, bad, Tok, Mark, plain, Spelled}
-use Rattle.sn_rules.specs.Rules.{kept, aside, Rule, anything, pair, pair_on, embedded, maybe, either, many, chain, holds_of, spelled_as, bared_as}
-use Rattle.sn_rules.specs.Words.{is_word, is_symbol, keyword, sign, the_end, line_of_word, line_of_sign, number_in, ◌▸◌, ◌◂◌, full, commas, behind_comma}
+use Rattle.sn_rules.specs.Rules.{kept, aside, Rule, anything, pair, pair_on, maybe, either, many, series, holds_of, spelled_as, bared_as}
+use Rattle.sn_rules.specs.Words.{is_word, is_symbol, keyword, sign, the_end, number_in, ◌▸◌, ◌◂◌, full, commas, behind_comma}
 use Rattle.sn_rules.proofs.Common.{Heads, either_way, bearers, bearers_spelled, heads_append}
 use Rattle.std.proofs.lemmas.Bool.{eqb-true}
-use Rattle.sn_rules.proofs.Laws.{Good, pair_on_good, Follows, pair_good}
+use Rattle.sn_rules.proofs.Laws.{Good, pair_on_good, Follows, pair_good, free_pair, headed_follows, headed_pair}
 use Rattle.sn_rules.proofs.Choices.{Undoes, embedded_good, renamed_good, Starts, maybe_good, either_good}
-use Rattle.sn_rules.proofs.Chains.{Alike, many_good, chain_good}
+use Rattle.sn_rules.proofs.Series.{Alike, many_good, series_good}
 use Rattle.sn_rules.proofs.Words.{keyword_good, end_good, line_of_word_good, line_of_sign_good, number_in_good, word_mark, symbol_mark, before_good, before_sign, after_word, after_sign, word_starts, Listed, always_listed, commas_good}
 use Rattle.sn_rules.proofs.Lists.{keyed, unmapped, full_steady, always_alike, commas_sign}
 use Rattle.sn_query_rules.specs.declared.ast.Query.{Query}
@@ -27,7 +27,7 @@ use Rattle.sn_query_rules.specs.declared.ast.MapCol.{MapCol}
 use Rattle.sn_query_rules.specs.Names.{name, name_not, past_name, past_number, fold_text, plain_fold}
 use Rattle.sn_query_rules.specs.Grammar.{Name, filter_rule, map_rule, post_map_rule, keys_rule, fold_rule, fold_to, to_reduce, fold_from, from_reduce, reduce_rule, to_what, from_what, what_rule, to_op, from_op, op_rule, to_post_what, from_post_what, post_what_rule, post_op_rule, to_refine, from_refine, levels_rule, refine_rule, to_branch, from_branch, branch_rule, to_join, from_join, join_rule, Body, body_rule, with_body, to_query, body_of, with_name, from_query, query_rule, query_name, query_names, to_file, from_file, file_rule}
 use Rattle.sn_query_rules.proofs.Names.{name_good, name_past, number_past, plain_fold_good}
-use Rattle.sn_query_rules.proofs.Goods.{free_pair, headed_follows, filter_good, filter_end, map_good, map_end, post_map_good, post_map_end}
+use Rattle.sn_query_rules.proofs.Goods.{filter_good, filter_end, map_good, map_end, post_map_good, post_map_end}
 
 -- ---- keys and folds
 
@@ -46,7 +46,7 @@ abbrev keys : Rule (List Name)
 keys = commas 8 past_name (λ seen. name_not seen)
 
 keys_good_in : Good keys
-keys_good_in = commas_good 8 past_name (λ seen. name_not seen) keys_listed
+keys_good_in = commas_good 8 keys_listed
 
 pub keys_good : Good keys_rule
 unfolding keys_rule
@@ -64,25 +64,25 @@ abbrev column_rule : List Name → Rule Name
 column_rule seen = sign 5 ▸ (name_not seen ◂ sign 6)
 
 column_good : (seen : List Name) → Good (column_rule seen)
-column_good seen = after_sign 5 (name_not seen ◂ sign 6) (before_sign (name_not seen) 6 (name_good seen) (λ t us e. refl))
+column_good seen = after_sign 5 (before_sign 6 (name_good seen) (λ t us e. refl))
 
 abbrev width_rule : Rule ℕ
 width_rule = keyword (codes "width") ▸ number_in 1 64
 
 width_good : Good width_rule
-width_good = after_word (codes "width") (number_in 1 64) (number_in_good 1 64 (omega arith))
+width_good = after_word (codes "width") (number_in_good 1 64 (omega arith))
 
 abbrev sum_rule : List Name → Rule (Name × ℕ)
 sum_rule seen = keyword (codes "sum") ▸ pair (column_rule seen) width_rule
 
 sum_good : (seen : List Name) → Good (sum_rule seen)
-sum_good seen = after_word (codes "sum") (pair (column_rule seen) width_rule) (free_pair (column_rule seen) width_rule (column_good seen) width_good (λ us. refl))
+sum_good seen = after_word (codes "sum") (free_pair (column_good seen) width_good (λ us. refl))
 
-abbrev others_rule : List Name → Rule (FoldWord × Name)
-others_rule seen = pair plain_fold (column_rule seen)
+abbrev plain_rule : List Name → Rule (FoldWord × Name)
+plain_rule seen = pair plain_fold (column_rule seen)
 
-others_good : (seen : List Name) → Good (others_rule seen)
-others_good seen = free_pair plain_fold (column_rule seen) plain_fold_good (column_good seen) (λ us. refl)
+plain_good : (seen : List Name) → Good (plain_rule seen)
+plain_good seen = free_pair plain_fold_good (column_good seen) (λ us. refl)
 
 abbrev not_sum : Lexeme → Bool
 not_sum x = not (is_word (codes "sum") x)
@@ -95,7 +95,7 @@ fold_heads folds.Or h = refl
 
 pub fold_good : (seen : List Name) → Good (fold_rule seen)
 unfolding fold_rule
-fold_good seen = either_good (is_word (codes "sum")) (sum_rule seen) (others_rule seen) (sum_good seen) (others_good seen) (word_starts (codes "sum") (pair (column_rule seen) width_rule)) (record { heads = λ a f. fold_heads a.0 f.0 })
+fold_good seen = either_good (is_word (codes "sum")) (sum_good seen) (plain_good seen) (word_starts (codes "sum") (pair (column_rule seen) width_rule)) (record { heads = λ a f. fold_heads a.0 f.0 })
 
 fold_free : (seen : List Name) (us : List Tok) → (fold_rule seen).follow us ≡ true
 unfolding fold_rule
@@ -108,7 +108,7 @@ steady_if_same : {A B : Type 0} (q : A → Rule B) (a c : A) (b : B) → a ≡ c
 steady_if_same q a c b e = (ap (λ x. (q x).spell b) e, λ f. subst (λ x. (q x).fits kept b) e f, ap (λ x. (q x).bare b) e)
 
 folded_good : Good folded_rule
-folded_good = pair_on_good keys_rule (λ seen. sign 7 ▸ fold_rule seen) anything keys_good (λ seen. after_sign 7 (fold_rule seen) (fold_good seen)) (record {
+folded_good = pair_on_good keys_good (λ seen. after_sign 7 (fold_good seen)) (record {
   meets = λ a front us b f s e. (headed_follows keys_rule (sign 7 ▸ fold_rule a) (is_symbol 7) (λ b f. refl) (λ t us e. keys_end 7 refl t us ((symbol_mark 7).only t.face e))).meets front us b f s (fold_free a us);
   ends = λ a us e. fold_free a us;
   steady = λ a c b e. steady_if_same (λ seen. sign 7 ▸ fold_rule seen) a c b (keys_same a c e);
@@ -143,7 +143,7 @@ folded_undone = record { back = λ a f. back a.0 a.1 f.1.1; forth = λ b a e. fo
 
 pub reduce_good : Good reduce_rule
 unfolding reduce_rule
-reduce_good = after_word (codes "reduce") (embedded to_reduce from_reduce folded_rule) (embedded_good to_reduce from_reduce folded_rule folded_undone folded_good)
+reduce_good = after_word (codes "reduce") (embedded_good to_reduce from_reduce folded_undone folded_good)
 
 -- ---- operators
 
@@ -190,7 +190,7 @@ is_only : (text : List ℕ) (other : Lexeme → Bool) → other (word text) ≡ 
 is_only text other e x h = ap other ((word_mark text).only x h) ∙ e
 
 distinct_on_good : Good distinct_on
-distinct_on_good = either_good (is_word (codes "distinct")) (keyword (codes "distinct")) reduce_rule (keyword_good (codes "distinct")) reduce_good (record { heads = λ a f. refl })
+distinct_on_good = either_good (is_word (codes "distinct")) (keyword_good (codes "distinct")) reduce_good (record { heads = λ a f. refl })
     (record { heads = λ a f. other_head (is_word (codes "reduce")) no_distinct (reduce_rule.spell a) (is_only (codes "reduce") no_distinct refl) (reduce_heads a) })
 
 after_map : (x : Unit {0} ⊎ Reduce) → Heads no_map (distinct_on.spell x)
@@ -198,7 +198,7 @@ after_map (inl u) = refl
 after_map (inr r) = other_head (is_word (codes "reduce")) no_map (reduce_rule.spell r) (is_only (codes "reduce") no_map refl) (reduce_heads r)
 
 map_on_good : Good map_on
-map_on_good = either_good (is_word (codes "map")) map_rule distinct_on map_good distinct_on_good (record { heads = λ a f. map_heads a }) (record { heads = λ a f. after_map a })
+map_on_good = either_good (is_word (codes "map")) map_good distinct_on_good (record { heads = λ a f. map_heads a }) (record { heads = λ a f. after_map a })
 
 after_filter : (x : List MapCol ⊎ (Unit {0} ⊎ Reduce)) → Heads no_filter (map_on.spell x)
 after_filter (inl cols) = other_head (is_word (codes "map")) no_filter (map_rule.spell cols) (is_only (codes "map") no_filter refl) (map_heads cols)
@@ -206,7 +206,7 @@ after_filter (inr (inl u)) = refl
 after_filter (inr (inr r)) = other_head (is_word (codes "reduce")) no_filter (reduce_rule.spell r) (is_only (codes "reduce") no_filter refl) (reduce_heads r)
 
 filter_on_good : Good filter_on
-filter_on_good = either_good (is_word (codes "filter")) filter_rule map_on filter_good map_on_good (record { heads = λ a f. filter_heads a }) (record { heads = λ a f. after_filter a })
+filter_on_good = either_good (is_word (codes "filter")) filter_good map_on_good (record { heads = λ a f. filter_heads a }) (record { heads = λ a f. after_filter a })
 
 what_back : (a : List Cond ⊎ (List MapCol ⊎ (Unit {0} ⊎ Reduce))) → from_what (to_what a) ≡ a
 what_back (inl conds) = refl
@@ -222,7 +222,7 @@ what_forth (whats.Reduce r) = refl
 
 pub what_good : Good what_rule
 unfolding what_rule
-what_good = renamed_good to_what from_what filter_on what_back what_forth filter_on_good
+what_good = renamed_good to_what from_what what_back what_forth filter_on_good
 
 both : (a b : Bool) → a ≡ true → b ≡ true → cond a b false ≡ true
 both a b e f = rw (e, f) refl
@@ -237,7 +237,7 @@ what_end k n t us e = both (filter_rule.follow (t ∷ us)) (map_on.follow (t ∷
 
 pub op_good : Good op_rule
 unfolding op_rule
-op_good = renamed_good to_op from_op (pair (line_of_sign 4) what_rule) (λ a. refl) (λ b. refl) (free_pair (line_of_sign 4) what_rule (line_of_sign_good 4) what_good (λ us. refl))
+op_good = renamed_good to_op from_op (λ a. refl) (λ b. refl) (free_pair (line_of_sign_good 4) what_good (λ us. refl))
 
 op_end : (k : ℕ) → (k == 3) ≡ false → (t : Tok) (us : List Tok) → t.face ≡ symbol k → op_rule.follow (t ∷ us) ≡ true
 unfolding op_rule
@@ -254,13 +254,13 @@ unfolding op_rule
 op_heads a = refl
 
 pub ops_alike : Alike (is_symbol 4) (full 12 TooMany) (λ (seen : List Op). op_rule)
-ops_alike = always_alike (is_symbol 4) 12 TooMany op_rule op_good (λ t us e. op_end 4 refl t us ((symbol_mark 4).only t.face e)) (λ a f. op_heads a) op_opens
+ops_alike = always_alike (is_symbol 4) 12 TooMany op_good (λ t us e. op_end 4 refl t us ((symbol_mark 4).only t.face e)) (λ a f. op_heads a) op_opens
 
 abbrev post_on : Rule (List Cond ⊎ List MapCol)
 post_on = either (is_word (codes "filter")) filter_rule post_map_rule
 
 post_on_good : Good post_on
-post_on_good = either_good (is_word (codes "filter")) filter_rule post_map_rule filter_good post_map_good (record { heads = λ a f. filter_heads a })
+post_on_good = either_good (is_word (codes "filter")) filter_good post_map_good (record { heads = λ a f. filter_heads a })
     (record { heads = λ a f. other_head (is_word (codes "map")) no_filter (post_map_rule.spell a) (is_only (codes "map") no_filter refl) (post_map_heads a) })
 
 post_undone : Undoes to_post_what from_post_what post_on
@@ -278,7 +278,7 @@ post_undone = record { back = λ a f. there a; forth = again }
 
 pub post_what_good : Good post_what_rule
 unfolding post_what_rule
-post_what_good = embedded_good to_post_what from_post_what post_on post_undone post_on_good
+post_what_good = embedded_good to_post_what from_post_what post_undone post_on_good
 
 post_what_end : (k : ℕ) → (k == 3) ≡ false → (t : Tok) (us : List Tok) → t.face ≡ symbol k → post_what_rule.follow (t ∷ us) ≡ true
 unfolding post_what_rule
@@ -286,7 +286,7 @@ post_what_end k n t us e = both (filter_rule.follow (t ∷ us)) (post_map_rule.f
 
 pub post_op_good : Good post_op_rule
 unfolding post_op_rule
-post_op_good = renamed_good to_op from_op (pair (line_of_sign 4) post_what_rule) (λ a. refl) (λ b. refl) (free_pair (line_of_sign 4) post_what_rule (line_of_sign_good 4) post_what_good (λ us. refl))
+post_op_good = renamed_good to_op from_op (λ a. refl) (λ b. refl) (free_pair (line_of_sign_good 4) post_what_good (λ us. refl))
 
 post_op_end : (k : ℕ) → (k == 3) ≡ false → (t : Tok) (us : List Tok) → t.face ≡ symbol k → post_op_rule.follow (t ∷ us) ≡ true
 unfolding post_op_rule
@@ -303,16 +303,16 @@ unfolding post_op_rule
 post_op_heads a = refl
 
 pub post_ops_alike : Alike (is_symbol 4) (full 12 TooMany) (λ (seen : List Op). post_op_rule)
-post_ops_alike = always_alike (is_symbol 4) 12 TooMany post_op_rule post_op_good (λ t us e. post_op_end 4 refl t us ((symbol_mark 4).only t.face e)) (λ a f. post_op_heads a) post_op_opens
+post_ops_alike = always_alike (is_symbol 4) 12 TooMany post_op_good (λ t us e. post_op_end 4 refl t us ((symbol_mark 4).only t.face e)) (λ a f. post_op_heads a) post_op_opens
 
 -- ---- refinement
 
 pub levels_listed : Listed (past_number 0 64) (λ (seen : List ℕ). number_in 0 64)
-levels_listed = always_listed (past_number 0 64) (number_in 0 64) (number_in_good 0 64 (omega arith)) (λ t us e. refl) (number_past 0 64)
+levels_listed = always_listed (past_number 0 64) (number_in_good 0 64 (omega arith)) (λ t us e. refl) (number_past 0 64)
 
 pub levels_good : Good levels_rule
 unfolding levels_rule
-levels_good = commas_good 4 (past_number 0 64) (λ seen. number_in 0 64) levels_listed
+levels_good = commas_good 4 levels_listed
 
 levels_end : (k : ℕ) → (k == 3) ≡ false → (t : Tok) (us : List Tok) → t.face ≡ symbol k → levels_rule.follow (t ∷ us) ≡ true
 unfolding levels_rule
@@ -321,10 +321,10 @@ levels_end k n t us e = commas_sign 4 (past_number 0 64) (λ seen. number_in 0 6
 pub refine_good : Good refine_rule
 unfolding refine_rule
 refine_good =
-    let levels = after_sign 7 (levels_rule ◂ sign 2) (before_sign levels_rule 2 levels_good (λ t us e. levels_end 2 refl t us e)) in
-    let rest = free_pair name (sign 7 ▸ (levels_rule ◂ sign 2)) (name_good []) levels (λ us. refl) in
-    renamed_good to_refine from_refine (pair (line_of_word (codes "refine")) (pair name (sign 7 ▸ (levels_rule ◂ sign 2)))) (λ a. refl) (λ b. refl)
-    (free_pair (line_of_word (codes "refine")) (pair name (sign 7 ▸ (levels_rule ◂ sign 2))) (line_of_word_good (codes "refine")) rest (λ us. refl))
+    let levels = after_sign 7 (before_sign 2 levels_good (λ t us e. levels_end 2 refl t us e)) in
+    let rest = free_pair (name_good []) levels (λ us. refl) in
+    renamed_good to_refine from_refine (λ a. refl) (λ b. refl)
+    (free_pair (line_of_word_good (codes "refine")) rest (λ us. refl))
 
 refine_heads : (a : Refine) → Heads (is_word (codes "refine")) (refine_rule.spell a)
 unfolding refine_rule
@@ -337,10 +337,10 @@ refine_free us = refl
 -- ---- branches and joins
 
 abbrev ops_rule : Rule (List Op)
-ops_rule = chain op_rule (is_symbol 4) (full 12 TooMany) (λ seen. op_rule)
+ops_rule = series op_rule (is_symbol 4) (full 12 TooMany) (λ seen. op_rule)
 
 ops_good : Good ops_rule
-ops_good = chain_good op_rule (is_symbol 4) (full 12 TooMany) (λ seen. op_rule) (record { good = op_good; marked = λ t us e. op_end 4 refl t us ((symbol_mark 4).only t.face e); bares = λ a. refl }) ops_alike
+ops_good = series_good ops_alike (record { good = op_good; marked = λ t us e. op_end 4 refl t us ((symbol_mark 4).only t.face e); bares = λ a. refl })
 
 ends_both : (c a b : Bool) → c ≡ true → a ≡ true → b ≡ true → cond c (cond a b false) false ≡ true
 ends_both c a b e f g = rw (e, f, g) refl
@@ -353,7 +353,7 @@ ops_end t us e = ends_both (not (is_symbol 4 t.face)) (op_rule.follow (t ∷ us)
 
 pub branch_good : Good branch_rule
 unfolding branch_rule
-branch_good = renamed_good to_branch from_branch (keyword (codes "packets") ▸ (ops_rule ◂ sign 2)) (λ a. refl) (λ b. refl) (after_word (codes "packets") (ops_rule ◂ sign 2) (before_sign ops_rule 2 ops_good ops_end))
+branch_good = renamed_good to_branch from_branch (λ a. refl) (λ b. refl) (after_word (codes "packets") (before_sign 2 ops_good ops_end))
 
 branch_free : (us : List Tok) → branch_rule.follow us ≡ true
 unfolding branch_rule
@@ -367,7 +367,7 @@ abbrev post_rule : Rule (List Op)
 post_rule = many (is_symbol 4) (full 12 TooMany) (λ seen. post_op_rule)
 
 post_good : Good post_rule
-post_good = many_good (is_symbol 4) (full 12 TooMany) (λ seen. post_op_rule) post_ops_alike
+post_good = many_good post_ops_alike
 
 post_end : (t : Tok) (us : List Tok) → t.face ≡ symbol 2 → post_rule.follow (t ∷ us) ≡ true
 post_end t us e = both (not (is_symbol 4 t.face)) (post_op_rule.follow (t ∷ us)) (no_sign 4 2 t e refl) (post_op_end 2 refl t us e)
@@ -399,10 +399,10 @@ ends_keys_at bad t us e h = absurd cc
 pub join_good : Good join_rule
 unfolding join_rule
 join_good =
-    let post = before_sign post_rule 2 post_good post_end in
-    let rest = pair_good keys_rule (post_rule ◂ sign 2) keys_good post (headed_follows keys_rule (post_rule ◂ sign 2) ends_keys (λ b f. post_heads b) (λ t us e. ends_keys_at t.face t us refl e)) in
-    renamed_good to_join from_join (pair (line_of_word (codes "join")) (pair keys_rule (post_rule ◂ sign 2))) (λ a. refl) (λ b. refl)
-    (free_pair (line_of_word (codes "join")) (pair keys_rule (post_rule ◂ sign 2)) (line_of_word_good (codes "join")) rest (λ us. refl))
+    let post = before_sign 2 post_good post_end in
+    let rest = headed_pair ends_keys keys_good post (λ b f. post_heads b) (λ t us e. ends_keys_at t.face t us refl e) in
+    renamed_good to_join from_join (λ a. refl) (λ b. refl)
+    (free_pair (line_of_word_good (codes "join")) rest (λ us. refl))
 
 join_free : (us : List Tok) → join_rule.follow us ≡ true
 unfolding join_rule
@@ -414,14 +414,14 @@ abbrev joined_rule : Rule (Branch × Join)
 joined_rule = pair branch_rule join_rule
 
 joined_good : Good joined_rule
-joined_good = free_pair branch_rule join_rule branch_good join_good branch_free
+joined_good = free_pair branch_good join_good branch_free
 
 joined_starts : Starts (is_word (codes "packets")) joined_rule
 joined_starts = record { heads = λ a f. heads_append (is_word (codes "packets")) (branch_rule.spell a.0) (join_rule.spell a.1) (branch_heads a.0) }
 
 pub body_good : Good body_rule
 unfolding body_rule
-body_good = free_pair branch_rule (maybe (is_word (codes "packets")) joined_rule) branch_good (maybe_good (is_word (codes "packets")) joined_rule joined_good joined_starts) branch_free
+body_good = free_pair branch_good (maybe_good (is_word (codes "packets")) joined_good joined_starts) branch_free
 
 body_end : (t : Tok) (us : List Tok) → t.face ≡ symbol 1 → body_rule.follow (t ∷ us) ≡ true
 unfolding body_rule
@@ -435,7 +435,7 @@ abbrev refined_rule : Rule (Option Refine)
 refined_rule = maybe (is_word (codes "refine")) refine_rule
 
 refined_good : Good refined_rule
-refined_good = maybe_good (is_word (codes "refine")) refine_rule refine_good (record { heads = λ a f. refine_heads a })
+refined_good = maybe_good (is_word (codes "refine")) refine_good (record { heads = λ a f. refine_heads a })
 
 refined_follows : Follows refined_rule body_rule
 refined_follows = headed_follows refined_rule body_rule (is_word (codes "packets")) (λ b f. body_heads b)
@@ -445,13 +445,13 @@ abbrev inner_rule : Rule (Option Refine × Body)
 inner_rule = pair refined_rule body_rule
 
 inner_good : Good inner_rule
-inner_good = pair_good refined_rule body_rule refined_good body_good refined_follows
+inner_good = pair_good refined_good body_good refined_follows
 
 abbrev named_rule : List Name → Rule (Name × (Option Refine × Body))
 named_rule names = pair (name_not names) (sign 0 ▸ (inner_rule ◂ sign 1))
 
 named_good : (names : List Name) → Good (named_rule names)
-named_good names = free_pair (name_not names) (sign 0 ▸ (inner_rule ◂ sign 1)) (name_good names) (after_sign 0 (inner_rule ◂ sign 1) (before_sign inner_rule 1 inner_good body_end)) (λ us. refl)
+named_good names = free_pair (name_good names) (after_sign 0 (before_sign 1 inner_good body_end)) (λ us. refl)
 
 abbrev Named : Type 0
 Named = Name × (Option Refine × Body)
@@ -480,7 +480,7 @@ query_undone names = record { back = λ a f. query_back a.0 a.1.0 a.1.1.0 a.1.1.
 
 pub query_good : (names : List Name) → Good (query_rule names)
 unfolding query_rule
-query_good names = embedded_good to_query from_query (behind_query names) (query_undone names) (after_word (codes "query") (named_rule names) (named_good names))
+query_good names = embedded_good to_query from_query (query_undone names) (after_word (codes "query") (named_good names))
 
 query_heads : (names : List Name) (q : Query) → (query_rule names).fits aside q → Heads (is_word (codes "query")) ((query_rule names).spell q)
 unfolding query_rule
@@ -534,10 +534,10 @@ queries_alike = record {
 -- ---- the file
 
 abbrev queries_rule : Rule (List Query)
-queries_rule = chain (query_rule []) (is_word (codes "query")) (full 8 TooMany) (λ seen. query_rule (query_names seen))
+queries_rule = series (query_rule []) (is_word (codes "query")) (full 8 TooMany) (λ seen. query_rule (query_names seen))
 
 queries_good : Good queries_rule
-queries_good = chain_good (query_rule []) (is_word (codes "query")) (full 8 TooMany) (λ seen. query_rule (query_names seen)) (record { good = query_good []; marked = λ t us e. query_free [] (t ∷ us); bares = λ a. refl }) queries_alike
+queries_good = series_good queries_alike (record { good = query_good []; marked = λ t us e. query_free [] (t ∷ us); bares = λ a. refl })
 
 queries_end : (t : Tok) (us : List Tok) → t.face ≡ finish → queries_rule.follow (t ∷ us) ≡ true
 queries_end t us e = ends_both (not (is_word (codes "query") t.face)) ((query_rule []).follow (t ∷ us)) ((query_rule []).follow (t ∷ us)) (ap (λ (x : Lexeme). not (is_word (codes "query") x)) e) (query_free [] (t ∷ us)) (query_free [] (t ∷ us))
@@ -555,9 +555,9 @@ window_rule = number_in 1 3600000000
 pub file_good : Good file_rule
 unfolding file_rule
 file_good =
-    let ended = before_good queries_rule the_end queries_good end_good end_follows in
-    renamed_good to_file from_file (keyword (codes "window") ▸ pair window_rule (queries_rule ◂ the_end)) (λ a. refl) (λ b. refl)
-    (after_word (codes "window") (pair window_rule (queries_rule ◂ the_end)) (free_pair window_rule (queries_rule ◂ the_end) (number_in_good 1 3600000000 (omega arith)) ended (λ us. refl)))
+    let ended = before_good queries_good end_good end_follows in
+    renamed_good to_file from_file (λ a. refl) (λ b. refl)
+    (after_word (codes "window") (free_pair (number_in_good 1 3600000000 (omega arith)) ended (λ us. refl)))
 
 pub file_ends : file_rule.follow [] ≡ true
 unfolding file_rule

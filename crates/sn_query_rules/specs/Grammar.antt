@@ -4,7 +4,7 @@ use Rattle.std.proofs.Common.{inl, inr, ◌⊎◌}
 use Rattle.sn_rules.specs.declared.Flaw.{Flaw}
 use Rattle.sn_rules.specs.declared.Flaw.TheVariants.{TooMany}
 use Rattle.sn_rules.specs.Tokens.{Lexeme, number}
-use Rattle.sn_rules.specs.Rules.{Rule, anything, pair, pair_on, embedded, renamed, maybe, either, many, chain}
+use Rattle.sn_rules.specs.Rules.{Rule, anything, pair, pair_on, embedded, renamed, maybe, either, many, series}
 use Rattle.sn_rules.specs.Words.{is_word, is_symbol, is_number, keyword, sign, the_end, line_of_word, line_of_sign, number_in, ◌▸◌, ◌◂◌, full, commas}
 use Rattle.sn_query_rules.specs.Names.{name, name_not, any_number, past_name, past_number, comparison, plain_fold}
 use Rattle.sn_query_rules.specs.declared.ast.QueryFile.{QueryFile}
@@ -266,7 +266,7 @@ from_branch b = b.ops
 
 -- branch = "packets" op { op } ";"
 unfoldable pub branch_rule : Rule Branch
-branch_rule = renamed to_branch from_branch (keyword (codes "packets") ▸ (chain op_rule (is_symbol 4) (full 12 TooMany) (λ seen. op_rule) ◂ sign 2))
+branch_rule = renamed to_branch from_branch (keyword (codes "packets") ▸ (series op_rule (is_symbol 4) (full 12 TooMany) (λ seen. op_rule) ◂ sign 2))
 
 abbrev pub to_join : ℕ × (List Name × List Op) → Join
 to_join x = record { line = x.0; keys = x.1.0; post = x.1.1 }
@@ -324,4 +324,4 @@ from_file f = (f.window_us, f.queries)
 -- file = "window" NUM query { query }
 unfoldable pub file_rule : Rule QueryFile
 file_rule = renamed to_file from_file (keyword (codes "window") ▸ pair (number_in 1 3600000000)
-    (chain (query_rule []) (is_word (codes "query")) (full 8 TooMany) (λ seen. query_rule (query_names seen)) ◂ the_end))
+    (series (query_rule []) (is_word (codes "query")) (full 8 TooMany) (λ seen. query_rule (query_names seen)) ◂ the_end))

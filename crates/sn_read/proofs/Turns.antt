@@ -6,7 +6,7 @@ use Rattle.sn_rules.specs.Tokens.{Lexeme, Tok, Read, got, fails}
 use Rattle.sn_rules.specs.Rules.{Rule, kept, links, past_at}
 use Rattle.sn_rules.specs.Words.{is_symbol, sign, ◌▸◌, never, next_item, behind_comma}
 use Rattle.sn_rules.proofs.Words.{Listed, comma_alike}
-use Rattle.sn_rules.proofs.Chains.{links_fail}
+use Rattle.sn_rules.proofs.Series.{links_fail}
 use Rattle.sn_text.specs.Lexing.{left}
 use Rattle.sn_read.specs.declared.stop.Stop.{Stop}
 use Rattle.sn_read.specs.declared.stop.Stop.TheVariants as stops
@@ -41,19 +41,19 @@ module _ {A : Type 0} (limit : ℕ) (begun : Lexeme → Flaw) (p : List A → Ru
   past_item seen us ws u f n = rw f (ap (past_at begun) n ∙ ap (fails (begun u.face)) (sym n))
 
   pub comma_over : (seen : List A) (ts us : List Tok) (t : Tok) → Next ts t us → is_symbol 3 t.face ≡ false → S seen ts ≡ got seen ts
-  comma_over seen ts us t n e = over (is_symbol 3) never (behind_comma limit begun p) (comma_alike limit begun p h) seen ts (peeked (is_symbol 3) false ts us t n (sym e))
+  comma_over seen ts us t n e = over (comma_alike limit h) seen ts (peeked (is_symbol 3) false ts us t n (sym e))
 
   item_read : (seen : List A) (ts us vs : List Tok) (t : Tok) (a : A) → Next ts t us → is_symbol 3 t.face ≡ true → nat_le limit (length seen) ≡ false → (p seen).read kept us ≡ got a vs → (B seen).read kept ts ≡ got a vs
   item_read seen ts us vs t a n e f r = behind_got (next_item limit begun p seen) ts us vs a (comma ts us t n e) (open_item seen us f ∙ r)
 
   pub comma_turns : (seen : List A) (ts us vs : List Tok) (t : Tok) (a : A) → Next ts t us → is_symbol 3 t.face ≡ true → nat_le limit (length seen) ≡ false → (p seen).read kept us ≡ got a vs → S seen ts ≡ S (seen ++ a ∷ []) vs
-  comma_turns seen ts us vs t a n e f r = turns (is_symbol 3) never (behind_comma limit begun p) (comma_alike limit begun p h) seen ts vs a (peeked (is_symbol 3) true ts us t n (sym e)) refl (item_read seen ts us vs t a n e f r)
+  comma_turns seen ts us vs t a n e f r = turns (comma_alike limit h) seen ts vs a (peeked (is_symbol 3) true ts us t n (sym e)) refl (item_read seen ts us vs t a n e f r)
 
   pub comma_shorter : (seen : List A) (ts us vs : List Tok) (t : Tok) (a : A) → Next ts t us → is_symbol 3 t.face ≡ true → nat_le limit (length seen) ≡ false → (p seen).read kept us ≡ got a vs → suc (length vs) ≤ length ts
-  comma_shorter seen ts us vs t a n e f r = shorter (is_symbol 3) never (behind_comma limit begun p) (comma_alike limit begun p h) seen ts vs a (item_read seen ts us vs t a n e f r)
+  comma_shorter seen ts us vs t a n e f r = shorter (comma_alike limit h) seen ts vs a (item_read seen ts us vs t a n e f r)
 
   pub comma_stops : (seen : List A) (ts us : List Tok) (t : Tok) (e : Stop) → Next ts t us → is_symbol 3 t.face ≡ true → nat_le limit (length seen) ≡ false → Halts e ((p seen).read kept us) → Halts e (S seen ts)
-  comma_stops seen ts us t e n c f r = stops_at (is_symbol 3) never (behind_comma limit begun p) (comma_alike limit begun p h) seen ts e (peeked (is_symbol 3) true ts us t n (sym c)) refl
+  comma_stops seen ts us t e n c f r = stops_at (comma_alike limit h) seen ts e (peeked (is_symbol 3) true ts us t n (sym c)) refl
       (behind_halts (next_item limit begun p seen) ts us e (comma ts us t n c) (subst (Halts e) (sym (open_item seen us f)) r))
 
   pub comma_past : (seen : List A) (ts us ws : List Tok) (t u : Tok) (l : List Tok) → Next ts t us → is_symbol 3 t.face ≡ true → nat_le limit (length seen) ≡ true → Next us u ws → S seen ts ≡ fails (begun u.face) us
@@ -61,4 +61,4 @@ module _ {A : Type 0} (limit : ℕ) (begun : Lexeme → Flaw) (p : List A → Ru
     where
       fails_here : (seen : List A) (ts us : List Tok) (x : Flaw) → Peeked true (is_symbol 3) ts → (B seen).read kept ts ≡ fails x us → S seen ts ≡ fails x us
       fails_here seen [] us x q e = absurd q
-      fails_here seen (t ∷ ts) us x q e = links_fail (is_symbol 3) never (behind_comma limit begun p) (comma_alike limit begun p h) kept seen t ts us x (sym q) refl e
+      fails_here seen (t ∷ ts) us x q e = links_fail (comma_alike limit h) kept seen t ts us x (sym q) refl e

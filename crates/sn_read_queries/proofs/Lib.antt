@@ -1,5 +1,3 @@
-pub mod Ending
-pub mod Halting
 pub mod RealFaults
 pub mod OneReading
 pub mod SomeReading

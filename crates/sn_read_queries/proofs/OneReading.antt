@@ -2,9 +2,9 @@
 use Rattle.std.proofs.Common.{◌≡◌, ℕ, List, ◌∷◌, Some, None, Result, Ok, Err, refl, sym, ap, subst, ◌∙◌, inl, inr, ◌⊎◌}
 use Rattle.sn_rules.specs.declared.Flaw.{Flaw}
 use Rattle.sn_rules.specs.declared.Flaw.TheVariants as flaws
-use Rattle.sn_rules.specs.Tokens.{Tok, Read, fails}
+use Rattle.sn_rules.specs.Tokens.{Tok}
 use Rattle.sn_rules.specs.Rules.{FirstFault, Accepts}
-use Rattle.sn_rules.proofs.Faults.{again_of, only_of, regroup}
+use Rattle.sn_rules.proofs.Faults.{again_of, only_of, same_fault, not_both}
 use Rattle.sn_text.specs.Cutting.{tokens_of}
 use Rattle.sn_query_rules.specs.declared.ast.QueryFile.{QueryFile}
 use Rattle.sn_query_rules.specs.Grammar.{file_rule}
@@ -42,29 +42,14 @@ named ts (texts.Expected line column) fault h e = record { flaw = flaws.Expected
 named ts (texts.TooMany line column) fault h e = record { flaw = flaws.TooMany; line = line; column = column; is = refl; first = h }
 named ts (texts.Twice line column) fault h e = record { flaw = flaws.Twice; line = line; column = column; is = refl; first = h }
 
-refuses_all : (ts : List Tok) (flaw : Flaw) (line column : ℕ) (file : QueryFile) → FirstFault file_rule ts flaw line column → Accepts file_rule ts file → ⊥
-refuses_all ts flaw line column file f h = f.refuses f.rest file (subst (λ (us : List Tok). Accepts file_rule us file) (f.parts ∙ sym (regroup f.front f.rest f.at)) h)
-
-fails_flaw : {A : Type 0} (x y : Flaw) (us vs : List Tok) → ◌≡◌ {A = Read A} (fails x us) (fails y vs) → x ≡ y
-fails_flaw x y us vs e = cc
-
-fails_rest : {A : Type 0} (x y : Flaw) (t u : Tok) (ts us : List Tok) → ◌≡◌ {A = Read A} (fails x (t ∷ ts)) (fails y (u ∷ us)) → t ≡ u
-fails_rest x y t u ts us e = cc
-
 same_found : (ts : List Tok) (a b : ParseFault) → Named ts a → Named ts b → a ≡ b
-same_found ts a b m n =
-    let both = sym m.first.kind ∙ n.first.kind in
-    let flaw : m.flaw ≡ n.flaw = fails_flaw m.flaw n.flaw (m.first.at ∷ m.first.rest) (n.first.at ∷ n.first.rest) both in
-    let at : m.first.at ≡ n.first.at = fails_rest m.flaw n.flaw m.first.at n.first.at m.first.rest n.first.rest both in
-    let line : m.line ≡ n.line = sym m.first.line_is ∙ ap (λ (t : Tok). t.line) at ∙ n.first.line_is in
-    let column : m.column ≡ n.column = sym m.first.column_is ∙ ap (λ (t : Tok). t.column) at ∙ n.first.column_is in
-    m.is ∙ rw (flaw, line, column) refl ∙ sym n.is
+same_found ts a b m n = let s = same_fault m.first n.first in m.is ∙ rw (s.flaw, s.line_is, s.column_is) refl ∙ sym n.is
 
 fault_is : (a b : QueryFault) → ◌≡◌ {A = Refused} (refused.Fault a) (refused.Fault b) → a ≡ b
 fault_is a b e = cc
 
 not_text : (text : List ℕ) (file : QueryFile) (fault : QueryFault) → Accepted text file → IsTextFault text fault → ⊥
-not_text text file fault h (found, is, e) = let n = named (tokens_of text) found fault is e in refuses_all (tokens_of text) n.flaw n.line n.column file n.first h
+not_text text file fault h (found, is, e) = let n = named (tokens_of text) found fault is e in not_both file n.first h
 
 text_once : (text : List ℕ) (a b : QueryFault) → IsTextFault text a → IsTextFault text b → a ≡ b
 text_once text a b (found, is, e) (other, its, f) =

@@ -14,7 +14,7 @@ pub record Undoes {A B : Type 0} (to : A → B) (from : B → Option A) (p : Rul
   pub back : (a : A) → p.fits aside a → from (to a) ≡ Some a
   pub forth : (b : B) (a : A) → from b ≡ Some a → to a ≡ b
 
-module _ {A B : Type 0} (to : A → B) (from : B → Option A) (p : Rule A) (u : Undoes to from p) (gp : Good p) where
+module _ {A B : Type 0} (to : A → B) (from : B → Option A) {p : Rule A} (u : Undoes to from p) (gp : Good p) where
   abbrev E : Rule B
   E = embedded to from p
 
@@ -93,8 +93,8 @@ module _ {A B : Type 0} (to : A → B) (from : B → Option A) (p : Rule A) (u :
     relines = λ b ts f s. relines_in b ts (from b) refl f s;
   }
 
-pub renamed_good : {A B : Type 0} (to : A → B) (from : B → A) (p : Rule A) → ((a : A) → from (to a) ≡ a) → ((b : B) → to (from b) ≡ b) → Good p → Good (renamed to from p)
-renamed_good {A} to from p back forth gp = embedded_good to (λ b. Some (from b)) p (record { back = λ a _. ap (λ (x : A). Some x) (back a); forth = λ b a e. let h : from b ≡ a = cc in ap to (sym h) ∙ forth b }) gp
+pub renamed_good : {A B : Type 0} (to : A → B) (from : B → A) {p : Rule A} → ((a : A) → from (to a) ≡ a) → ((b : B) → to (from b) ≡ b) → Good p → Good (renamed to from p)
+renamed_good {A} to from back forth gp = embedded_good to (λ b. Some (from b)) (record { back = λ a _. ap (λ (x : A). Some x) (back a); forth = λ b a e. let h : from b ≡ a = cc in ap to (sym h) ∙ forth b }) gp
 
 -- ---- a part that is there where its first token is
 
@@ -102,7 +102,7 @@ renamed_good {A} to from p back forth gp = embedded_good to (λ b. Some (from b)
 pub record Starts {A : Type 0} (goes : Lexeme → Bool) (p : Rule A) : Type 0 where
   pub heads : (a : A) → p.fits aside a → Heads goes (p.spell a)
 
-module _ {A : Type 0} (goes : Lexeme → Bool) (p : Rule A) (gp : Good p) (s : Starts goes p) where
+module _ {A : Type 0} (goes : Lexeme → Bool) {p : Rule A} (gp : Good p) (s : Starts goes p) where
   abbrev M : Rule (Option A)
   M = maybe goes p
 
@@ -267,7 +267,7 @@ pub is_no : (b : Bool) → not b ≡ true → b ≡ false
 is_no true e = absurd cc
 is_no false e = refl
 
-module _ {A B : Type 0} (goes : Lexeme → Bool) (p : Rule A) (q : Rule B) (gp : Good p) (gq : Good q) (s : Starts goes p) (r : Starts (λ x. not (goes x)) q) where
+module _ {A B : Type 0} (goes : Lexeme → Bool) {p : Rule A} {q : Rule B} (gp : Good p) (gq : Good q) (s : Starts goes p) (r : Starts (λ x. not (goes x)) q) where
   abbrev O : Rule (A ⊎ B)
   O = either goes p q
 
@@ -457,7 +457,7 @@ pub record Past {A : Type 0} (wrong : Lexeme → Flaw) (p : Rule A) : Type 0 whe
   pub no_item : (t : Tok) (ts : List Tok) → is_limit (wrong t.face) ≡ false → p.read aside (t ∷ ts) ≡ fails (wrong t.face) (t ∷ ts)
   pub item : (t : Tok) → is_limit (wrong t.face) ≡ true → (a : A) × (more : List Tok) × p.fits aside a × Spelled (t ∷ more) (p.spell a)
 
-module _ {A : Type 0} (wrong : Lexeme → Flaw) (p : Rule A) (gp : Good p) (w : Past wrong p) where
+module _ {A : Type 0} (wrong : Lexeme → Flaw) {p : Rule A} (gp : Good p) (w : Past wrong p) where
   abbrev Q : Rule A
   Q = past wrong p
 

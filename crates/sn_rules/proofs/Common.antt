@@ -88,6 +88,12 @@ pub mark_faces_append : (ms ns : List Mark) → mark_faces (ms ++ ns) ≡ mark_f
 mark_faces_append [] ns = refl
 mark_faces_append (m ∷ ms) ns = ap (λ (x : List Lexeme). m.face ∷ x) (mark_faces_append ms ns)
 
+pub spelled_faces : (ts : List Tok) (ms : List Mark) → Spelled ts ms → faces ts ≡ mark_faces ms
+spelled_faces [] [] s = refl
+spelled_faces [] (m ∷ ms) s = absurd s
+spelled_faces (t ∷ ts) [] s = absurd s
+spelled_faces (t ∷ ts) (m ∷ ms) s = rw (s.0.0, spelled_faces ts ms s.1) refl
+
 pub split_faces : (front : List Tok) (xs ys : List Lexeme) → faces front ≡ xs ++ ys → (a : List Tok) × (b : List Tok) × (front ≡ a ++ b) × (faces a ≡ xs) × (faces b ≡ ys)
 split_faces front [] ys e = ([], front, refl, refl, e)
 split_faces [] (x ∷ xs) ys e = absurd cc

@@ -1,5 +1,5 @@
 -- What a reading says of a whole text, for every good rule.
-use Rattle.std.proofs.Common.{◌≡◌, suc, true, List, [], ◌∷◌, ◌++◌, length, refl, sym, ap, ◌∙◌, arith, length-append}
+use Rattle.std.proofs.Common.{◌≡◌, ℕ, suc, true, List, [], ◌∷◌, ◌++◌, length, refl, sym, ap, subst, ◌∙◌, arith, length-append}
 use Rattle.std.proofs.lemmas.List.{append-nil, append_cancel_right}
 use Rattle.sn_rules.specs.declared.Flaw.{Flaw}
 use Rattle.sn_rules.specs.Tokens.{Tok, Spelled, Read, got, fails, short}
@@ -92,3 +92,22 @@ only_of r g ends ts a b e h = same_value a b [] [] (sym e ∙ again_of r g ends 
 
 pub none_of : {A : Type 0} (r : Rule A) → Good r → r.follow [] ≡ true → (ts us : List Tok) (x : Flaw) (a : A) → r.read kept ts ≡ fails x us → Accepts r ts a → ⊥
 none_of r g ends ts us x a e h = let k : got a [] ≡ fails x us = sym (again_of r g ends ts a h) ∙ e in cc
+
+-- ---- at most one fault, and none beside a value
+
+pub record SameFault (x y : Flaw) (line other column across : ℕ) : Type 0 where
+  pub flaw : x ≡ y
+  pub line_is : line ≡ other
+  pub column_is : column ≡ across
+
+pub same_fault : {A : Type 0} {r : Rule A} {ts : List Tok} {x y : Flaw} {line other column across : ℕ} → FirstFault r ts x line column → FirstFault r ts y other across → SameFault x y line other column across
+same_fault {A} {x = x} {y = y} f g =
+    let both = fails_same {A = A} x y (f.at ∷ f.rest) (g.at ∷ g.rest) (sym f.kind ∙ g.kind) in
+    let at : f.at ≡ g.at = head_is f.at g.at f.rest g.rest both.1 in
+    record { flaw = both.0; line_is = sym f.line_is ∙ ap (λ (t : Tok). t.line) at ∙ g.line_is; column_is = sym f.column_is ∙ ap (λ (t : Tok). t.column) at ∙ g.column_is }
+  where
+    head_is : (t u : Tok) (ts us : List Tok) → t ∷ ts ≡ u ∷ us → t ≡ u
+    head_is t u ts us e = cc
+
+pub not_both : {A : Type 0} {r : Rule A} {ts : List Tok} {x : Flaw} {line column : ℕ} (a : A) → FirstFault r ts x line column → Accepts r ts a → ⊥
+not_both {r = r} a f h = f.refuses f.rest a (subst (λ (us : List Tok). Accepts r us a) (f.parts ∙ sym (regroup f.front f.rest f.at)) h)

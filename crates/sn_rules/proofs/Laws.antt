@@ -3,7 +3,7 @@ use Rattle.std.proofs.Common.{◌≡◌, suc, Bool, true, false, List, [], ◌�
 use Rattle.sn_rules.specs.declared.Flaw.{Flaw}
 use Rattle.sn_rules.specs.Tokens.{Lexeme, Tok, Mark, plain, Bears, Spelled, faces, mark_faces, Read, got, fails, short, bind}
 use Rattle.sn_rules.specs.Rules.{Limits, kept, aside, is_limit, Rule, judged, token_at, one, token, pair_on, pair, Begins}
-use Rattle.sn_rules.proofs.Common.{same_value, same_rest, bind_got, bind_fails, bind_short, left, left_bind, respelled, spelled_append, split_spelled, mark_faces_append, split_faces, bearer, bearers, bears, bearers_spelled}
+use Rattle.sn_rules.proofs.Common.{same_value, same_rest, bind_got, bind_fails, bind_short, left, left_bind, respelled, spelled_append, split_spelled, mark_faces_append, split_faces, bearer, bearers, bears, bearers_spelled, Heads}
 
 -- ---- the laws
 
@@ -239,7 +239,7 @@ pub record Meets {A B : Type 0} (p : Rule A) (q : A → Rule B) (follow : List T
   pub ends : (a : A) (us : List Tok) → follow us ≡ true → (q a).follow us ≡ true
   pub steady : (a c : A) (b : B) → p.bare a ≡ p.bare c → ((q a).spell b ≡ (q c).spell b) × ((q a).fits kept b → (q c).fits kept b) × ((q a).bare b ≡ (q c).bare b)
 
-module _ {A B : Type 0} (p : Rule A) (q : A → Rule B) (follow : List Tok → Bool) (gp : Good p) (gq : (a : A) → Good (q a)) (m : Meets p q follow) where
+module _ {A B : Type 0} {p : Rule A} {q : A → Rule B} {follow : List Tok → Bool} (gp : Good p) (gq : (a : A) → Good (q a)) (m : Meets p q follow) where
   abbrev P : Rule (A × B)
   P = pair_on p q follow
 
@@ -394,9 +394,24 @@ module _ {A B : Type 0} (p : Rule A) (q : A → Rule B) (follow : List Tok → B
 pub record Follows {A B : Type 0} (p : Rule A) (q : Rule B) : Type 0 where
   pub meets : (front us : List Tok) (b : B) → q.fits aside b → Spelled front (q.spell b) → q.follow us ≡ true → p.follow (front ++ us) ≡ true
 
-pub pair_good : {A B : Type 0} (p : Rule A) (q : Rule B) → Good p → Good q → Follows p q → Good (pair p q)
-pair_good p q gp gq m = pair_on_good p (λ a. q) q.follow gp (λ a. gq) (record { meets = λ a front us b f s e. m.meets front us b f s e; ends = λ a us e. e; steady = λ a c b e. (refl, λ f. f, refl) })
+pub pair_good : {A B : Type 0} {p : Rule A} {q : Rule B} → Good p → Good q → Follows p q → Good (pair p q)
+pair_good gp gq m = pair_on_good gp (λ a. gq) (record { meets = λ a front us b f s e. m.meets front us b f s e; ends = λ a us e. e; steady = λ a c b e. (refl, λ f. f, refl) })
 
 -- anything may stand behind the first
 pub freely : {A B : Type 0} (p : Rule A) (q : Rule B) → ((us : List Tok) → p.follow us ≡ true) → Follows p q
 freely p q h = record { meets = λ front us b _ _ _. h (front ++ us) }
+
+pub free_pair : {A B : Type 0} {p : Rule A} {q : Rule B} → Good p → Good q → ((us : List Tok) → p.follow us ≡ true) → Good (pair p q)
+free_pair {p = p} {q = q} gp gq h = pair_good gp gq (freely p q h)
+
+-- the first mark of what the second spells decides
+pub headed_follows : {A B : Type 0} (p : Rule A) (q : Rule B) (goes : Lexeme → Bool) → ((b : B) → q.fits aside b → Heads goes (q.spell b)) → ((t : Tok) (us : List Tok) → goes t.face ≡ true → p.follow (t ∷ us) ≡ true) → Follows p q
+headed_follows {A} {B} p q goes heads h = record { meets = λ front us b f s e. go front us (q.spell b) (heads b f) s }
+  where
+    go : (front us : List Tok) (ms : List Mark) → Heads goes ms → Spelled front ms → p.follow (front ++ us) ≡ true
+    go front us [] k s = absurd k
+    go [] us (m ∷ ms) k s = absurd s
+    go (t ∷ front) us (m ∷ ms) k s = h t (front ++ us) (ap goes s.0.0 ∙ k)
+
+pub headed_pair : {A B : Type 0} {p : Rule A} {q : Rule B} (goes : Lexeme → Bool) → Good p → Good q → ((b : B) → q.fits aside b → Heads goes (q.spell b)) → ((t : Tok) (us : List Tok) → goes t.face ≡ true → p.follow (t ∷ us) ≡ true) → Good (pair p q)
+headed_pair {p = p} {q = q} goes gp gq heads h = pair_good gp gq (headed_follows p q goes heads h)

@@ -1,7 +1,9 @@
 pub mod Common
 pub mod Laws
 pub mod Choices
-pub mod Chains
+pub mod Series
 pub mod Words
 pub mod Lists
 pub mod Faults
+pub mod Bounded
+pub mod Items

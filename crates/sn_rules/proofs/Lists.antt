@@ -9,12 +9,12 @@ use Rattle.sn_rules.specs.Words.{is_symbol, full, behind_comma, commas}
 use Rattle.sn_rules.proofs.Common.{Heads, bearers, bearers_spelled, spelled_append}
 use Rattle.sn_rules.proofs.Laws.{Good}
 use Rattle.sn_rules.proofs.Choices.{Past, Undoes}
-use Rattle.sn_rules.proofs.Chains.{Alike}
+use Rattle.sn_rules.proofs.Series.{Alike}
 
 -- ---- past a limit
 
-pub pair_past : {A B : Type 0} (wrong : Lexeme → Flaw) (p : Rule A) (q : Rule B) → Good q → Past wrong p → Past wrong (pair p q)
-pair_past wrong p q gq w = record {
+pub pair_past : {A B : Type 0} (wrong : Lexeme → Flaw) {p : Rule A} {q : Rule B} → Good q → Past wrong p → Past wrong (pair p q)
+pair_past wrong {p = p} {q = q} gq w = record {
   no_item = λ t ts n. rw (w.no_item t ts n) refl;
   item = λ t n.
       let k = w.item t n in
@@ -22,8 +22,8 @@ pair_past wrong p q gq w = record {
       ((k.0, b.0), k.1 ++ bearers (q.spell b.0), (k.2, b.1), spelled_append (t ∷ k.1) (bearers (q.spell b.0)) (p.spell k.0) (q.spell b.0) k.3 (bearers_spelled (q.spell b.0)));
 }
 
-pub embedded_past : {A B : Type 0} (wrong : Lexeme → Flaw) (to : A → B) (from : B → Option A) (p : Rule A) → Undoes to from p → Past wrong p → Past wrong (embedded to from p)
-embedded_past wrong to from p u w = record {
+pub embedded_past : {A B : Type 0} (wrong : Lexeme → Flaw) (to : A → B) (from : B → Option A) {p : Rule A} → Undoes to from p → Past wrong p → Past wrong (embedded to from p)
+embedded_past wrong to from {p = p} u w = record {
   no_item = λ t ts n. rw (w.no_item t ts n) refl;
   item = λ t n.
       let k = w.item t n in
@@ -66,9 +66,9 @@ unmapped f h (a ∷ xs) (b ∷ ys) e =
     cc
 
 -- the same rule for each item, up to a limit
-pub always_alike : {A : Type 0} (goes : Lexeme → Bool) (limit : ℕ) (x : Flaw) (p : Rule A) → Good p → ((t : Tok) (us : List Tok) → goes t.face ≡ true → p.follow (t ∷ us) ≡ true) → ((a : A) → p.fits aside a → Heads goes (p.spell a))
+pub always_alike : {A : Type 0} (goes : Lexeme → Bool) (limit : ℕ) (x : Flaw) {p : Rule A} → Good p → ((t : Tok) (us : List Tok) → goes t.face ≡ true → p.follow (t ∷ us) ≡ true) → ((a : A) → p.fits aside a → Heads goes (p.spell a))
     → ((t : Tok) → goes t.face ≡ true → (a : A) × (more : List Tok) × p.fits aside a × Spelled (t ∷ more) (p.spell a)) → Alike goes (full limit x) (λ (seen : List A). p)
-always_alike goes limit x p g marked heads opens = record {
+always_alike goes limit x {p = p} g marked heads opens = record {
   good = λ seen. g;
   spells = λ seen a. refl;
   follows = λ seen us. refl;

@@ -6,12 +6,12 @@ use Rattle.std.proofs.lemmas.Bool.{eqb-true, eq-eqb, le-leb}
 use Rattle.std.proofs.lemmas.List.{length-map}
 use Rattle.sn_rules.specs.declared.Flaw.{Flaw}
 use Rattle.sn_rules.specs.Tokens.{Lexeme, word, number, symbol, finish, bad, Tok, Mark, plain, lined, Spelled}
-use Rattle.sn_rules.specs.Rules.{Limits, kept, aside, is_limit, Rule, pair, closed, past, either_rule}
+use Rattle.sn_rules.specs.Rules.{Limits, kept, aside, is_limit, Rule, closed, past, either_rule}
 use Rattle.sn_rules.specs.Words.{same, wrong, is_word, is_symbol, is_finish, passed, the, keyword, sign, the_end, line_at, line_of_word, line_of_sign, judged_as, judged_by, leaf, word_in, number_at, word_by, number_by, in_range, number_in, second, with_first, first, with_second, ◌▸◌, ◌◂◌, never, behind_comma, commas}
 use Rattle.sn_rules.proofs.Common.{bearers, bearers_spelled, remarked}
-use Rattle.sn_rules.proofs.Laws.{Good, one_good, token_good, Follows, pair_good, freely}
+use Rattle.sn_rules.proofs.Laws.{Good, one_good, token_good, Follows, pair_good, free_pair}
 use Rattle.sn_rules.proofs.Choices.{renamed_good, Past, past_good, Starts}
-use Rattle.sn_rules.proofs.Chains.{Alike, chain_good, open_aside, shut_aside, limit_aside}
+use Rattle.sn_rules.proofs.Series.{Alike, series_good, open_aside, shut_aside, limit_aside}
 
 -- ---- marks
 
@@ -181,17 +181,17 @@ number_in_good low high le = number_by_good (in_range low high) (low, (let a : n
 
 -- ---- words and signs before and behind a part
 
-pub behind_good : {A : Type 0} (p : Rule (Unit {0})) (q : Rule A) → Good p → Good q → ((us : List Tok) → p.follow us ≡ true) → Good (p ▸ q)
-behind_good p q gp gq h = renamed_good second with_first (pair p q) (λ a. refl) (λ b. refl) (pair_good p q gp gq (freely p q h))
+pub behind_good : {A : Type 0} {p : Rule (Unit {0})} {q : Rule A} → Good p → Good q → ((us : List Tok) → p.follow us ≡ true) → Good (p ▸ q)
+behind_good gp gq h = renamed_good second with_first (λ a. refl) (λ b. refl) (free_pair gp gq h)
 
-pub before_good : {A : Type 0} (p : Rule A) (q : Rule (Unit {0})) → Good p → Good q → Follows p q → Good (p ◂ q)
-before_good p q gp gq m = renamed_good first with_second (pair p q) (λ a. refl) (λ b. refl) (pair_good p q gp gq m)
+pub before_good : {A : Type 0} {p : Rule A} {q : Rule (Unit {0})} → Good p → Good q → Follows p q → Good (p ◂ q)
+before_good gp gq m = renamed_good first with_second (λ a. refl) (λ b. refl) (pair_good gp gq m)
 
-pub after_word : {A : Type 0} (text : List ℕ) (q : Rule A) → Good q → Good (keyword text ▸ q)
-after_word text q gq = behind_good (keyword text) q (keyword_good text) gq (λ us. refl)
+pub after_word : {A : Type 0} (text : List ℕ) {q : Rule A} → Good q → Good (keyword text ▸ q)
+after_word text gq = behind_good (keyword_good text) gq (λ us. refl)
 
-pub after_sign : {A : Type 0} (k : ℕ) (q : Rule A) → Good q → Good (sign k ▸ q)
-after_sign k q gq = behind_good (sign k) q (sign_good k) gq (λ us. refl)
+pub after_sign : {A : Type 0} (k : ℕ) {q : Rule A} → Good q → Good (sign k ▸ q)
+after_sign k gq = behind_good (sign_good k) gq (λ us. refl)
 
 -- a sign behind a rule that it may stand behind
 pub sign_follows : {A : Type 0} (p : Rule A) (k : ℕ) → ((t : Tok) (us : List Tok) → t.face ≡ symbol k → p.follow (t ∷ us) ≡ true) → Follows p (sign k)
@@ -201,8 +201,8 @@ sign_follows {A} p k h = record { meets = meets }
     meets [] us b f e g = absurd e
     meets (t ∷ ts) us b f e g = h t (ts ++ us) e.0.0
 
-pub before_sign : {A : Type 0} (p : Rule A) (k : ℕ) → Good p → ((t : Tok) (us : List Tok) → t.face ≡ symbol k → p.follow (t ∷ us) ≡ true) → Good (p ◂ sign k)
-before_sign p k gp h = before_good p (sign k) gp (sign_good k) (sign_follows p k h)
+pub before_sign : {A : Type 0} {p : Rule A} (k : ℕ) → Good p → ((t : Tok) (us : List Tok) → t.face ≡ symbol k → p.follow (t ∷ us) ≡ true) → Good (p ◂ sign k)
+before_sign {p = p} k gp h = before_good gp (sign_good k) (sign_follows p k h)
 
 -- a part behind its word begins with the word
 pub word_starts : {A : Type 0} (text : List ℕ) (q : Rule A) → Starts (is_word text) (keyword text ▸ q)
@@ -224,15 +224,15 @@ pub record Listed {A : Type 0} (begun : Lexeme → Flaw) (p : List A → Rule A)
   pub steady : (seen other : List A) → map (p []).bare seen ≡ map (p []).bare other → (a : A) → (p seen).fits kept a → (p other).fits kept a
 
 -- the same rule for each item
-pub always_listed : {A : Type 0} (begun : Lexeme → Flaw) (p : Rule A) → Good p → ((t : Tok) (us : List Tok) → t.face ≡ symbol 3 → p.follow (t ∷ us) ≡ true) → Past begun p → Listed begun (λ (seen : List A). p)
-always_listed begun p g h w = record { good = λ seen. g; spells = λ seen a. refl; follows = λ seen us. refl; comma = h; past = w; bares = λ seen a. refl; steady = λ seen other e a f. f }
+pub always_listed : {A : Type 0} (begun : Lexeme → Flaw) {p : Rule A} → Good p → ((t : Tok) (us : List Tok) → t.face ≡ symbol 3 → p.follow (t ∷ us) ≡ true) → Past begun p → Listed begun (λ (seen : List A). p)
+always_listed begun g h w = record { good = λ seen. g; spells = λ seen a. refl; follows = λ seen us. refl; comma = h; past = w; bares = λ seen a. refl; steady = λ seen other e a f. f }
 
-module _ {A : Type 0} (limit : ℕ) (begun : Lexeme → Flaw) (p : List A → Rule A) (h : Listed begun p) where
+module _ {A : Type 0} (limit : ℕ) {begun : Lexeme → Flaw} {p : List A → Rule A} (h : Listed begun p) where
   abbrev X : Bool → List A → Rule A
   X b seen = either_rule b (past begun (p [])) (p seen)
 
   x_good : (b : Bool) (seen : List A) → Good (X b seen)
-  x_good true seen = past_good begun (p []) (h.good []) h.past
+  x_good true seen = past_good begun (h.good []) h.past
   x_good false seen = h.good seen
 
   x_spells : (b c : Bool) (seen : List A) (a : A) → (X b seen).spell a ≡ (X c []).spell a
@@ -268,7 +268,7 @@ module _ {A : Type 0} (limit : ℕ) (begun : Lexeme → Flaw) (p : List A → Ru
 
   pub comma_alike : Alike (is_symbol 3) never (behind_comma limit begun p)
   comma_alike = record {
-    good = λ seen. after_sign 3 (X (is_past seen) seen) (x_good (is_past seen) seen);
+    good = λ seen. after_sign 3 (x_good (is_past seen) seen);
     spells = λ seen a. ap (λ (ms : List Mark). plain (symbol 3) ∷ ms) (x_spells (is_past seen) (is_past []) seen a);
     follows = λ seen us. x_follow (is_past seen) seen us ∙ sym (x_follow (is_past []) [] us);
     marked = λ t us e. x_follow (is_past []) [] (t ∷ us) ∙ h.comma t us ((symbol_mark 3).only t.face e);
@@ -285,4 +285,4 @@ module _ {A : Type 0} (limit : ℕ) (begun : Lexeme → Flaw) (p : List A → Ru
   }
 
   pub commas_good : Good (commas limit begun p)
-  commas_good = chain_good (p []) (is_symbol 3) never (behind_comma limit begun p) (record { good = h.good []; marked = λ t us e. h.comma t us ((symbol_mark 3).only t.face e); bares = λ a. sym (x_bares (is_past []) [] a) }) comma_alike
+  commas_good = series_good comma_alike (record { good = h.good []; marked = λ t us e. h.comma t us ((symbol_mark 3).only t.face e); bares = λ a. sym (x_bares (is_past []) [] a) })

@@ -191,18 +191,18 @@ many goes shut p = record {
 }
 
 -- a first item, and further ones
-abbrev pub chain_spelled : {A : Type 0} → (A → List Mark) → (A → List Mark) → List A → List Mark
-chain_spelled first item [] = []
-chain_spelled first item (a ∷ rest) = first a ++ items_spelled item rest
+abbrev pub series_spelled : {A : Type 0} → (A → List Mark) → (A → List Mark) → List A → List Mark
+series_spelled first item [] = []
+series_spelled first item (a ∷ rest) = first a ++ items_spelled item rest
 
-abbrev pub chain_fits : {A : Type 0} → Rule A → (List A → Option Flaw) → (List A → Rule A) → Limits → List A → Type 0
-chain_fits first shut p l [] = ⊥
-chain_fits first shut p l (a ∷ rest) = first.fits l a × fit_from shut p l (a ∷ []) rest
+abbrev pub series_fits : {A : Type 0} → Rule A → (List A → Option Flaw) → (List A → Rule A) → Limits → List A → Type 0
+series_fits first shut p l [] = ⊥
+series_fits first shut p l (a ∷ rest) = first.fits l a × fit_from shut p l (a ∷ []) rest
 
-abbrev pub chain : {A : Type 0} → Rule A → (Lexeme → Bool) → (List A → Option Flaw) → (List A → Rule A) → Rule (List A)
-chain first goes shut p = record {
-  spell = chain_spelled first.spell (p []).spell;
-  fits = chain_fits first shut p;
+abbrev pub series : {A : Type 0} → Rule A → (Lexeme → Bool) → (List A → Option Flaw) → (List A → Rule A) → Rule (List A)
+series first goes shut p = record {
+  spell = series_spelled first.spell (p []).spell;
+  fits = series_fits first shut p;
   read = λ l ts. bind (first.read l ts) (λ a us. links goes shut p l (a ∷ []) us);
   follow = λ us. if no_more goes us then (if first.follow us then (p []).follow us else false) else false;
   bare = map (p []).bare;

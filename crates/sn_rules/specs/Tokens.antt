@@ -1,5 +1,5 @@
 -- Tokens as a grammar sees them, the marks that spell a value, and what reading gives.
-use Rattle.std.specs.Prelude.{◌≡◌, ℕ, List, [], ◌∷◌, map, Option, Some, None}
+use Rattle.std.specs.Prelude.{◌≡◌, ℕ, Bool, true, false, List, [], ◌∷◌, map, Option, Some, None}
 use Rattle.sn_rules.specs.declared.Flaw.{Flaw}
 
 -- finish is the end of the text; bad stands where no token begins
@@ -9,6 +9,12 @@ pub data Lexeme : Type 0 where
   symbol : ℕ → Lexeme
   finish : Lexeme
   bad : Lexeme
+
+-- no token stands behind these
+abbrev pub is_last : Lexeme → Bool
+is_last finish = true
+is_last bad = true
+is_last _ = false
 
 -- a token, and where it stands: its line and column from 1, its first byte and the one behind it from 0
 pub record Tok : Type 0 where

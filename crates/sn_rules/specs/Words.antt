@@ -4,7 +4,7 @@ use Rattle.std.specs.Cmp.Lexicographic.{pointwise}
 use Rattle.sn_rules.specs.declared.Flaw.{Flaw}
 use Rattle.sn_rules.specs.declared.Flaw.TheVariants.{Lex, Expected}
 use Rattle.sn_rules.specs.Tokens.{Lexeme, word, number, symbol, finish, bad, lined}
-use Rattle.sn_rules.specs.Rules.{Limits, Rule, one, token, pair, renamed, closed, chain, past, either_rule}
+use Rattle.sn_rules.specs.Rules.{Limits, Rule, one, token, pair, renamed, closed, series, past, either_rule}
 
 abbrev pub same : List ℕ → List ℕ → Bool
 same a b = pointwise nat_eq a b
@@ -132,4 +132,4 @@ abbrev pub behind_comma : {A : Type 0} → ℕ → (Lexeme → Flaw) → (List A
 behind_comma limit begun p seen = sign 3 ▸ next_item limit begun p seen
 
 abbrev pub commas : {A : Type 0} → ℕ → (Lexeme → Flaw) → (List A → Rule A) → Rule (List A)
-commas limit begun p = chain (p []) (is_symbol 3) never (behind_comma limit begun p)
+commas limit begun p = series (p []) (is_symbol 3) never (behind_comma limit begun p)

@@ -19,7 +19,7 @@ use Rattle.sn_query_rules.specs.declared.ast.Refine.{Refine}
 use Rattle.sn_query_rules.specs.declared.ast.What.{What}
 use Rattle.sn_query_rules.specs.declared.ast.What.TheVariants as what
 use Rattle.sn_walk.specs.Columns.{columns_after}
-use Rattle.sn_walk.specs.Limits.{AreJoined, PostOp}
+use Rattle.sn_query_rules.specs.Limits.{AreJoined, PostOp}
 use Rattle.sn_types.specs.declared.typed_op.JoinKey.{JoinKey}
 use Rattle.sn_types.specs.declared.typed_query.TypedQuery.{TypedQuery}
 use Rattle.sn_types.specs.Typed.{IsTyped, HasWidths, query_at, branch_at}

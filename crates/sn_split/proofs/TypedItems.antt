@@ -15,7 +15,7 @@ use Rattle.sn_query_rules.specs.declared.ast.Reduce.{Reduce}
 use Rattle.sn_query_rules.specs.declared.ast.What.{What}
 use Rattle.sn_query_rules.specs.declared.ast.What.TheVariants as what
 use Rattle.sn_walk.specs.Columns.{column_named, columns_after, folded_column, place_of}
-use Rattle.sn_walk.specs.Limits.{Within}
+use Rattle.sn_query_rules.specs.Limits.{Within}
 use Rattle.sn_walk.specs.Widths.{lawful, fold_of}
 use Rattle.sn_types.specs.Typed.{schema_at}
 use Rattle.sn_types.specs.Typing.{schemas_along, typed_op, typed_ops}

@@ -1,12 +1,15 @@
 -- The switch of the items of a whole text.
-use Rattle.std.proofs.Common.{◌≡◌, ℕ, List, [], ◌∷◌, refl, sym, ap, subst, ◌∙◌}
+use Rattle.std.proofs.Common.{◌≡◌, ℕ, true, List, [], ◌∷◌, refl, sym, ap, subst, ◌∙◌}
 use Rattle.std.specs.List.{All, AllByRecursion, filter}
 use Rattle.std.proofs.lemmas.List.Elements.{All-nil, All-cons}
 use Rattle.sn_rules.specs.declared.Flaw.{Flaw}
-use Rattle.sn_rules.specs.declared.Flaw.TheVariants as flaws
+use Rattle.sn_rules.specs.declared.Flaw.TheVariants as kinds
 use Rattle.sn_rules.specs.Tokens.{Tok, Read, got, fails}
-use Rattle.sn_rules.specs.Rules.{kept}
+use Rattle.sn_rules.specs.Rules.{kept, FirstFault}
 use Rattle.sn_rules.proofs.Faults.{found_of, only_of, none_of, fault_of as first_fault}
+use Rattle.sn_rules.proofs.Bounded.{whole_ok}
+use Rattle.sn_text.specs.Cutting.{tokens_of}
+use Rattle.sn_text.proofs.Ends.{tokens_ended}
 use Rattle.sn_text.specs.Lexing.{left}
 use Rattle.sn_read.specs.declared.stop.Stop.{Stop}
 use Rattle.sn_read.specs.declared.stop.Stop.TheVariants as stops
@@ -19,7 +22,7 @@ use Rattle.sn_switch_rules.specs.Grammar.{switch_rule}
 use Rattle.sn_switch_rules.specs.Wholes.{numbers_in, first_of, IsIn, IsSizes}
 use Rattle.sn_switch_rules.proofs.Goods.{switch_good, ends}
 use Rattle.sn_switch_rules.proofs.Wholes.{each_one, one_of, sizes_of}
-use Rattle.sn_switch_rules.proofs.Says.{switch_says}
+use Rattle.sn_switch_rules.proofs.Bounded.{flaws, switch_whole}
 use Rattle.sn_switch.specs.declared.switch.Switch.{Switch}
 use Rattle.sn_switch.specs.declared.fault.SwitchFault.{SwitchFault}
 use Rattle.sn_switch.specs.declared.fault.SwitchFault.TheVariants as faults
@@ -112,13 +115,14 @@ only_one ts items r s e f h =
 no_switch : (ts us : List Tok) (x : Flaw) (s : Switch) → switch_rule.read kept ts ≡ fails x us → StandsFor ts s → ⊥
 no_switch ts us x s e h = none_of switch_rule switch_good ends ts us x h.items e h.accepted
 
-is_fault : (ts us l : List Tok) (t : Tok) (x : Flaw) → switch_rule.read kept ts ≡ fails x us → us ≡ t ∷ l → IsFault ts (fault_of x t.line)
-is_fault ts us l t flaws.Lex e h = (t.column, first_fault switch_rule switch_good ends ts us l t flaws.Lex e h)
-is_fault ts us l t flaws.Expected e h = (t.column, first_fault switch_rule switch_good ends ts us l t flaws.Expected e h)
-is_fault ts us l t flaws.TooMany e h = (let k = switch_says.says ts us flaws.TooMany e in absurd cc)
-is_fault ts us l t flaws.Range e h = (t.column, first_fault switch_rule switch_good ends ts us l t flaws.Range e h)
-is_fault ts us l t flaws.Twice e h = (t.column, first_fault switch_rule switch_good ends ts us l t flaws.Twice e h)
-is_fault ts us l t flaws.Missing e h = (t.column, first_fault switch_rule switch_good ends ts us l t flaws.Missing e h)
+-- a first fault of the format is the text's, under its name
+pub shown : (ts : List Tok) (x : Flaw) (line column : ℕ) → flaws.ok x ≡ true → FirstFault switch_rule ts x line column → IsFault ts (fault_of x line)
+shown ts kinds.Lex line column o f = (column, f)
+shown ts kinds.Expected line column o f = (column, f)
+shown ts kinds.TooMany line column o f = absurd cc
+shown ts kinds.Range line column o f = (column, f)
+shown ts kinds.Twice line column o f = (column, f)
+shown ts kinds.Missing line column o f = (column, f)
 
 -- ---- the same of what the code knows
 
@@ -138,12 +142,14 @@ pub only_so : (ts ls : List Tok) (items xs : List Item) (s r : Switch) → ls �
 only_so ts ls items xs s r g e h k f = only_one ts items s r (here ts ls (got items []) g e) (set_by ls items xs s e h k) f
 
 -- where reading stops, the answer is the first fault, and the text stands for no switch, unless memory ran out
-pub fault_so : (ts ls : List Tok) (e : Stop) (f : SwitchFault) → ls ≡ ts → Halts e (switch_rule.read kept ls) → Answers e f → IsFault ts f
-fault_so ts ls stops.NoMemory f g h k = subst (λ (s : SwitchFault). IsFault ts s) (sym k) tt
-fault_so ts ls (stops.Fault x l) f g h k =
+pub fault_so : (text : List ℕ) (ls : List Tok) (e : Stop) (f : SwitchFault) → ls ≡ tokens_of text → Halts e (switch_rule.read kept ls) → Answers e f → IsFault (tokens_of text) f
+fault_so text ls stops.NoMemory f g h k = subst (λ (s : SwitchFault). IsFault (tokens_of text) s) (sym k) tt
+fault_so text ls (stops.Fault x l) f g h k =
+    let ts : List Tok = tokens_of text in
     let e = here ts ls (fails x (left l)) g h in
     let s = switch_good.stands kept ts (left l) x e in
-    subst (λ (r : SwitchFault). IsFault ts r) (sym (k ∙ ap (λ (us : List Tok). fault_of x (line_of us)) s.head)) (is_fault ts (left l) s.rest s.at x e s.head)
+    let ok = whole_ok switch_whole ts (left l) x (tokens_ended text) e in
+    subst (λ (r : SwitchFault). IsFault ts r) (sym (k ∙ ap (λ (us : List Tok). fault_of x (line_of us)) s.head)) (shown ts x s.at.line s.at.column ok (first_fault switch_rule switch_good ends ts (left l) s.rest s.at x e s.head))
 
 pub none_so : (ts ls : List Tok) (e : Stop) (f : SwitchFault) (s : Switch) → ls ≡ ts → Halts e (switch_rule.read kept ls) → Answers e f → StandsFor ts s → f ≡ faults.Memory
 none_so ts ls stops.NoMemory f s g h k j = k

@@ -1,10 +1,11 @@
 -- Which texts stand for which switches, and what the fault of another is.
-use Rattle.std.specs.Prelude.{◌≡◌, ℕ, List, [], ◌∷◌, Result, Ok, Err}
+use Rattle.std.specs.Prelude.{◌≡◌, ◌≢◌, ℕ, List, [], ◌∷◌, Result, Ok, Err}
 use Rattle.std.specs.List.{filter}
 use Rattle.sn_rules.specs.declared.Flaw.{Flaw}
 use Rattle.sn_rules.specs.declared.Flaw.TheVariants as flaws
 use Rattle.sn_rules.specs.Tokens.{Tok}
 use Rattle.sn_rules.specs.Rules.{Accepts, FirstFault}
+use Rattle.sn_text.specs.Cutting.{tokens_of}
 use Rattle.sn_text.specs.Lexing.{left}
 use Rattle.sn_read.specs.declared.stop.Stop.{Stop}
 use Rattle.sn_read.specs.declared.stop.Stop.TheVariants as stops
@@ -90,3 +91,14 @@ line_of (t ∷ ts) = t.line
 abbrev pub Answers : Stop → SwitchFault → Type 0
 Answers stops.NoMemory e = e ≡ faults.Memory
 Answers (stops.Fault x l) e = e ≡ fault_of x (line_of (left l))
+
+-- ---- the one reading of a text
+
+abbrev pub IsRead : List ℕ → Result Switch SwitchFault → Type 0
+IsRead text (Ok s) = StandsFor (tokens_of text) s
+IsRead text (Err e) = IsFault (tokens_of text) e × (e ≢ faults.Memory)
+
+-- a text is read as something
+pub record HasReading (text : List ℕ) : Type 0 where
+  pub reading : Result Switch SwitchFault
+  pub is : IsRead text reading

@@ -2,6 +2,7 @@
 #![tactic(auto)]
 
 pub mod fault;
+pub mod law;
 mod numbers;
 mod read;
 mod settings;

@@ -39,23 +39,24 @@ struct SwitchItems;
 impl Items for SwitchItems {
     type Item = Item;
 
-    ghost goes = { begins };
+    ghost goes = { λ items. begins };
 
-    ghost shut = { never };
+    ghost shut = { λ items. never };
 
-    ghost rule = { item_rule };
+    ghost rule = { λ items. item_rule };
 
-    ghost laws = { items_alike };
+    ghost laws = { λ items. items_alike };
 
-    fn begins(at: Lexer<'_>) -> bool {
+    fn begins(&self, at: Lexer<'_>) -> bool {
         begins(at)
     }
 
-    fn shut_by(_seen: &[Item]) -> Option<Flaw> {
+    fn shut_by(&self, _seen: &[Item]) -> Option<Flaw> {
         None
     }
 
     fn item<'a>(
+        &self,
         alloc: Global,
         seen: &[Item],
         at: Lexer<'a>,
@@ -68,7 +69,7 @@ impl Items for SwitchItems {
 fn items<'a>(alloc: Global, at: Lexer<'a>) -> Result<(Seq<Item>, Lexer<'a>), Stop<'a>>
     ensures { Reads result (items_rule.read kept (left at.entry)) }
 {
-    further::<SwitchItems>(alloc, Seq::new(alloc), at)
+    further(alloc, &SwitchItems, Seq::new(alloc), at)
 }
 
 /// Whether each setting has its item.

@@ -14,8 +14,8 @@ use sn_switch_rules::item::{Item, Setting};
 use sn_text::place::{Lexer, Piece};
 use sn_text::scan::scan;
 
-/// Its place in the list of settings.
-fn place_of(setting: Setting) -> u8
+/// Its number in the list of settings, from 0.
+fn order_of(setting: Setting) -> u8
     ensures { result ≡ place setting }
 {
     match setting {
@@ -31,7 +31,7 @@ fn place_of(setting: Setting) -> u8
 pub(crate) fn is(a: Setting, b: Setting) -> bool
     ensures { result ≡ is a b }
 {
-    place_of(a) == place_of(b)
+    order_of(a) == order_of(b)
 }
 
 /// Whether one of these items is of the setting.

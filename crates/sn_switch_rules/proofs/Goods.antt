@@ -11,8 +11,8 @@ use Rattle.sn_rules.specs.Words.{same, number_by, is_symbol, sign, first, with_s
 use Rattle.sn_rules.proofs.Common.{bearers, bearers_spelled}
 use Rattle.sn_rules.proofs.Laws.{Good, pair_on_good}
 use Rattle.sn_rules.proofs.Choices.{Undoes, embedded_good, renamed_good, Past}
-use Rattle.sn_rules.proofs.Chains.{Alike, many_good}
-use Rattle.sn_rules.proofs.Words.{leaf_good, number_by_good, before_sign, Listed, commas_good}
+use Rattle.sn_rules.proofs.Series.{Alike, many_good}
+use Rattle.sn_rules.proofs.Words.{Stands_for, leaf_good, number_by_good, before_sign, Listed, commas_good}
 use Rattle.sn_rules.proofs.Lists.{unmapped, commas_sign}
 use Rattle.sn_switch_rules.specs.declared.item.Setting.{Setting}
 use Rattle.sn_switch_rules.specs.declared.item.Setting.TheVariants as settings
@@ -64,8 +64,11 @@ twice_aside : (b : Bool) → closed aside (cond b (some_flaw Twice) no_flaw) ≡
 twice_aside true = refl
 twice_aside false = refl
 
+pub settings_stand : Stands_for word_of setting_in
+settings_stand = record { undone = word_undone; only = word_only }
+
 pub setting_good : (seen : List Item) → Good (setting_rule seen)
-setting_good seen = leaf_good word_of setting_in (record { undone = word_undone; only = word_only }) (once seen) (settings.Stages, twice_aside (has settings.Stages seen))
+setting_good seen = leaf_good word_of setting_in settings_stand (once seen) (settings.Stages, twice_aside (has settings.Stages seen))
 
 -- ---- its numbers
 
@@ -88,7 +91,7 @@ alone_undone low high = record { back = λ a f. refl; forth = forth }
     forth (n ∷ m ∷ ns) a e = absurd cc
 
 one_number_good : (low high : ℕ) → Good (one_number low high)
-one_number_good low high = embedded_good alone lone (number_by (within low high)) (alone_undone low high) (within_good low high)
+one_number_good low high = embedded_good alone lone (alone_undone low high) (within_good low high)
 
 abbrev fits_size : List ℕ → ℕ → Bool
 fits_size seen n = nat_le 1 n && nat_le n 65536 && list_all (below n) seen
@@ -128,7 +131,7 @@ size_listed = record {
 }
 
 sizes_good : Good sizes
-sizes_good = commas_good 4 past_size size_rule size_listed
+sizes_good = commas_good 4 size_listed
 
 sizes_end : (t : Tok) (us : List Tok) → t.face ≡ symbol 2 → sizes.follow (t ∷ us) ≡ true
 sizes_end t us e = commas_sign 4 past_size size_rule t us (ap (is_symbol 3) e) refl
@@ -138,12 +141,12 @@ abbrev ended : Setting → Rule (List ℕ)
 ended k = numbers k ◂ sign 2
 
 ended_good : (k : Setting) → Good (ended k)
-ended_good settings.Stages = before_sign (one_number 1 32) 2 (one_number_good 1 32) (λ t us e. refl)
-ended_good settings.Actions = before_sign (one_number 1 64) 2 (one_number_good 1 64) (λ t us e. refl)
-ended_good settings.Bits = before_sign (one_number 1 4294967296) 2 (one_number_good 1 4294967296) (λ t us e. refl)
-ended_good settings.Meta = before_sign (one_number 0 65535) 2 (one_number_good 0 65535) (λ t us e. refl)
-ended_good settings.Chain = before_sign (one_number 1 4) 2 (one_number_good 1 4) (λ t us e. refl)
-ended_good settings.Slots = before_sign sizes 2 sizes_good sizes_end
+ended_good settings.Stages = before_sign 2 (one_number_good 1 32) (λ t us e. refl)
+ended_good settings.Actions = before_sign 2 (one_number_good 1 64) (λ t us e. refl)
+ended_good settings.Bits = before_sign 2 (one_number_good 1 4294967296) (λ t us e. refl)
+ended_good settings.Meta = before_sign 2 (one_number_good 0 65535) (λ t us e. refl)
+ended_good settings.Chain = before_sign 2 (one_number_good 1 4) (λ t us e. refl)
+ended_good settings.Slots = before_sign 2 sizes_good sizes_end
 
 -- ---- items
 
@@ -154,7 +157,7 @@ abbrev parts : List Item → Rule Parts
 parts seen = pair_on (setting_rule seen) ended anything
 
 parts_good : (seen : List Item) → Good (parts seen)
-parts_good seen = pair_on_good (setting_rule seen) ended anything (setting_good seen) ended_good (record {
+parts_good seen = pair_on_good (setting_good seen) ended_good (record {
   meets = λ a front us b f s e. refl;
   ends = λ a us e. refl;
   steady = λ a c b e. (ap (λ k. (ended k).spell b) e, λ f. subst (λ k. (ended k).fits kept b) e f, ap (λ k. (ended k).bare b) e);
@@ -162,7 +165,7 @@ parts_good seen = pair_on_good (setting_rule seen) ended anything (setting_good 
 
 pub item_good : (seen : List Item) → Good (item_rule seen)
 unfolding item_rule
-item_good seen = renamed_good to_item from_item (parts seen) (λ a. refl) (λ b. refl) (parts_good seen)
+item_good seen = renamed_good to_item from_item (λ a. refl) (λ b. refl) (parts_good seen)
 
 -- lines don't matter to the settings of items
 has_steady : (f : Item → Item) → ((a : Item) → (f a).setting ≡ a.setting) → (k : Setting) (seen other : List Item) → map f seen ≡ map f other → has k seen ≡ has k other
@@ -199,7 +202,7 @@ items_alike = record {
 
 pub items_good : Good items_rule
 unfolding items_rule
-items_good = many_good begins never item_rule items_alike
+items_good = many_good items_alike
 
 end_only : (x : Lexeme) (u : Unit {0}) → end_in x ≡ Some u → x ≡ end_face u
 end_only (word w) u e = absurd cc
@@ -212,8 +215,11 @@ missing_aside : (b : Bool) → closed aside (cond b no_flaw (some_flaw Missing))
 missing_aside true = refl
 missing_aside false = refl
 
+pub ends_stand : Stands_for end_face end_in
+ends_stand = record { undone = λ u. refl; only = end_only }
+
 pub end_good : (items : List Item) → Good (end_rule items)
-end_good items = leaf_good end_face end_in (record { undone = λ u. refl; only = end_only }) (complete items) (tt, missing_aside (is_whole items))
+end_good items = leaf_good end_face end_in ends_stand (complete items) (tt, missing_aside (is_whole items))
 
 abbrev item_bare : Item → Item
 item_bare = (item_rule []).bare
@@ -246,7 +252,7 @@ items_meet (t ∷ ts) us b s = items_end t (ts ++ us) s.0.0
 
 pub switch_good : Good switch_rule
 unfolding switch_rule
-switch_good = renamed_good first with_second (pair_on items_rule end_rule anything) (λ a. refl) (λ b. refl) (pair_on_good items_rule end_rule anything items_good end_good (record {
+switch_good = renamed_good first with_second (λ a. refl) (λ b. refl) (pair_on_good items_good end_good (record {
   meets = λ a front us b f s e. items_meet front us b s;
   ends = λ a us e. refl;
   steady = λ a c b e. (refl, λ f. subst (λ (w : Bool). closed kept (cond w no_flaw (some_flaw Missing)) ≡ None) (whole_steady a c (items_bare a c e)) f, refl);

@@ -1,3 +1,3 @@
 pub mod Goods
 pub mod Wholes
-pub mod Says
+pub mod Bounded

@@ -1,6 +1,7 @@
 -- The cutting of a text into tokens.
 use Rattle.std.specs.Prelude.{ℕ, zero, suc, ◌+◌, ◌-◌, ◌*◌, ◌^◌, Bool, true, false, List, [], ◌∷◌, length, take, drop, Option, Some, None, nat_lt, nat_le, ◌==◌, ◌&&◌, ◌||◌, if◌then◌else◌}
 use Rattle.sn_rules.specs.Tokens.{Lexeme, word, number, symbol, finish, bad, Tok}
+pub use Rattle.sn_rules.specs.Tokens.{is_last}
 
 abbrev pub is_digit : ℕ → Bool
 is_digit b = nat_le 48 b && nat_le b 57
@@ -150,11 +151,6 @@ abbrev pub after_at : Place → Place
 after_at p = record { rest = drop (lexeme_at p.rest).1 p.rest; start = p.start + (lexeme_at p.rest).1; line = p.line; column = p.column + (lexeme_at p.rest).1 }
 
 -- no token comes behind it
-abbrev pub is_last : Lexeme → Bool
-is_last finish = true
-is_last bad = true
-is_last _ = false
-
 abbrev pub tokens_at : ℕ → Place → List Tok
 tokens_at zero p = tok_at (skip p) ∷ []
 tokens_at (suc n) p = tok_at (skip p) ∷ (if is_last (tok_at (skip p)).face then [] else tokens_at n (after_at (skip p)))

@@ -1,3 +1,4 @@
 pub mod Cutting
 pub mod Lexing
 pub mod Answers
+pub mod Writing

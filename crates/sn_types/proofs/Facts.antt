@@ -21,7 +21,7 @@ use Rattle.sn_walk.specs.Names.{fields_among, packet_fields, names_read, names_t
 use Rattle.sn_walk.specs.declared.fault.TypeFault.TheVariants.{UnknownField, UnknownColumn, TooWide, NoMap, RefineLost, RefineFilter, Levels}
 use Rattle.sn_walk.specs.Columns.{columns_after, packet_columns}
 use Rattle.sn_walk.specs.Faults.{unknown_field, unknown_column, too_wide, no_map, refine_lost, refine_filter, wrong_levels, narrow_sum, are_rising, wrong_refine, wrong_field_levels, out_of_range, refine_fault}
-use Rattle.sn_walk.specs.Limits.{BranchLimits, BranchOp, AreJoined, Within}
+use Rattle.sn_query_rules.specs.Limits.{BranchLimits, BranchOp, AreJoined, Within}
 use Rattle.sn_walk.specs.Walk.Place.{Operator}
 use Rattle.sn_walk.specs.Walk.{Place, is_end, first_fault, fault_at, refine_places, branch_places, join_places, query_places, operator_places, scope_after, scope_before, refine_levels}
 use Rattle.sn_types.specs.declared.typed_query.TypedBranch.{TypedBranch}

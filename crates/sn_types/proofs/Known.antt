@@ -19,7 +19,7 @@ use Rattle.sn_query_rules.specs.declared.ast.What.{What}
 use Rattle.sn_query_rules.specs.declared.ast.What.TheVariants as what
 use Rattle.sn_walk.specs.Names.{Name, same_name, is_in, names_in, names_read, names_to_map, fields_among, packet_fields}
 use Rattle.sn_walk.specs.Columns.{has_column, place_of, field_column, packet_columns, as_schema}
-use Rattle.sn_walk.specs.Limits.{IsPostExpr}
+use Rattle.sn_query_rules.specs.Limits.{IsPostExpr}
 use Rattle.sn_types.specs.declared.typed_op.TCond.{TCond}
 use Rattle.sn_types.specs.Typing.{typed_cond, typed_expr, typed_op}
 use Rattle.sn_types.specs.Values.{ReadsWithin}

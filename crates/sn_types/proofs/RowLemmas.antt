@@ -15,7 +15,7 @@ use Rattle.sn_query_rules.specs.declared.ast.MapCol.{MapCol}
 use Rattle.sn_walk.specs.Names.{Name, same_name, names_in}
 use Rattle.sn_walk.specs.Widths.{constant_width}
 use Rattle.sn_walk.specs.Columns.{place_of, column_named, expr_width, mapped_column}
-use Rattle.sn_walk.specs.Limits.{IsPostExpr}
+use Rattle.sn_query_rules.specs.Limits.{IsPostExpr}
 use Rattle.sn_types.specs.Values.{value_of, ratio, greatest}
 use Rattle.sn_types.specs.Typing.{typed_expr}
 use Rattle.sn_types.proofs.Known.{IsKnown}

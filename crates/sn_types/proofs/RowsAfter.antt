@@ -25,7 +25,7 @@ use Rattle.sn_query_rules.specs.declared.ast.Reduce.{Reduce}
 use Rattle.sn_query_rules.specs.declared.ast.What.{What}
 use Rattle.sn_query_rules.specs.declared.ast.What.TheVariants as what
 use Rattle.sn_walk.specs.Columns.{place_of, column_named, folded_column, mapped_column, field_column, columns_after}
-use Rattle.sn_walk.specs.Limits.{Within, IsPostExpr}
+use Rattle.sn_query_rules.specs.Limits.{Within, IsPostExpr}
 use Rattle.sn_walk.specs.Names.{Name, names_in}
 use Rattle.sn_walk.specs.Widths.{lawful, fold_of}
 use Rattle.sn_types.specs.Typed.{HasWidths, read_at, packet_row, is_field}

@@ -23,7 +23,7 @@ use Rattle.sn_walk.specs.Names.{Name, same_name, packet_fields}
 use Rattle.sn_walk.specs.Widths.{folded_width}
 use Rattle.sn_walk.specs.Columns.{has_column, column_named, expr_width, mapped_column, folded_column, field_column, as_schema, columns_after, packet_columns}
 use Rattle.sn_walk.specs.Faults.{is_sum}
-use Rattle.sn_walk.specs.Limits.{Within, FoldWidth}
+use Rattle.sn_query_rules.specs.Limits.{Within, FoldWidth}
 use Rattle.sn_types.proofs.Known.{IsKnown, whole_schema, fails_for_each, all_front, all_back}
 use Rattle.sn_types.proofs.Sound.{IsSound, AreSound}
 

@@ -20,7 +20,7 @@ use Rattle.sn_walk.specs.declared.scope.Scope.{Scope}
 use Rattle.sn_walk.specs.Names.{Name, names_read, names_to_map, is_map, needs_map}
 use Rattle.sn_walk.specs.Columns.{has_column, columns_after, packet_columns}
 use Rattle.sn_walk.specs.Faults.{unknown_field, unknown_column, ninth_field, narrow_sum, too_wide, no_map, refine_lost, refine_filter, wrong_levels}
-use Rattle.sn_walk.specs.Limits.{AreJoined, BranchOp, PostOp, IsBranchExpr, IsPostExpr, ReduceLimits}
+use Rattle.sn_query_rules.specs.Limits.{AreJoined, BranchOp, PostOp, IsBranchExpr, IsPostExpr, ReduceLimits}
 use Rattle.sn_walk.specs.Walk.Place.{Operator, JoinLine}
 use Rattle.sn_walk.specs.Walk.{is_end, ops_at, first_fault, fault_at, branch_places, branch_end, join_places, operator_places, scope_after, scope_before, scope_joined, refine_levels}
 use Rattle.sn_types.specs.Typing.{behind_branches, posts_of}

@@ -4,7 +4,7 @@ use Rattle.std.proofs.Common.{◌≡◌, ℕ, zero, suc, ◌<◌, List, [], ◌�
 use Rattle.std.specs.List.{AllByRecursion, flat_map}
 use Rattle.sn_query_rules.specs.declared.ast.Query.{Query}
 use Rattle.sn_walk.specs.declared.fault.TypeFault.{TypeFault}
-use Rattle.sn_walk.specs.Limits.{QueryLimits}
+use Rattle.sn_query_rules.specs.Limits.{QueryLimits}
 use Rattle.sn_walk.specs.Walk.{Place, first_fault, or_later, query_places}
 use Rattle.sn_walk.proofs.WalkLemmas.{first_fault-append}
 use Rattle.sn_types.specs.declared.typed_query.TypedQuery.{TypedQuery}

@@ -10,7 +10,7 @@ use Rattle.sn_query_rules.specs.declared.ast.Op.{Op}
 use Rattle.sn_query_rules.specs.declared.ast.What.{What}
 use Rattle.sn_query_rules.specs.declared.ast.What.TheVariants as what
 use Rattle.sn_walk.specs.Columns.{columns_after}
-use Rattle.sn_walk.specs.Limits.{QueryLimits, BranchLimits}
+use Rattle.sn_query_rules.specs.Limits.{QueryLimits, BranchLimits}
 use Rattle.sn_walk.specs.Walk.{Place, first_fault, refine_places, branch_places, join_places, query_places}
 use Rattle.sn_types.specs.declared.typed_query.TypedQuery.{TypedQuery}
 use Rattle.sn_types.specs.Typing.{typed_ops, schemas_along, behind_branches, typed_branch, typed_query, posts_of}

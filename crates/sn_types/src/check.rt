@@ -1,6 +1,6 @@
 //! The check of types.
 ghost use Rattle.std.specs.Prelude.{◌≡◌, ◌≢◌, Some, IfOk, IfErr};
-ghost use Rattle.sn_walk.specs.Limits.{KeepsLimits};
+ghost use Rattle.sn_query_rules.specs.Limits.{KeepsLimits};
 ghost use Rattle.sn_walk.specs.Walk.{walk, first_fault};
 ghost use Rattle.sn_types.specs.Typed.{IsTypingOf};
 

@@ -7,7 +7,7 @@ ghost use Rattle.sn_base.specs.declared.column.Column.{Column};
 ghost use Rattle.sn_base.specs.Columns.{IsOf};
 ghost use Rattle.sn_query_rules.specs.declared.ast.Expr.{Expr};
 ghost use Rattle.sn_walk.specs.Columns.{expr_width, has_column};
-ghost use Rattle.sn_walk.specs.Limits.{IsPostExpr};
+ghost use Rattle.sn_query_rules.specs.Limits.{IsPostExpr};
 ghost use Rattle.sn_walk.specs.Names.{names_in};
 ghost use Rattle.sn_types.specs.declared.typed_query.TypedQuery.{TypedQuery};
 ghost use Rattle.sn_types.specs.Typed.{IsTyped};

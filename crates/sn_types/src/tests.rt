@@ -1,7 +1,7 @@
 //! Checked files, made by hand.
 ghost use Rattle.std.specs.Prelude.{◌≡◌, ◌<◌, ◌≤◌, [], ◌∷◌, length, IfOk, IfSome};
 ghost use Rattle.std.specs.List.{AllByRecursion};
-ghost use Rattle.sn_walk.specs.Limits.{BranchOp, IsBranchExpr, RefineLimits, KeepsLimits, Within};
+ghost use Rattle.sn_query_rules.specs.Limits.{BranchOp, IsBranchExpr, RefineLimits, KeepsLimits, Within};
 
 use crate::check::check;
 use crate::evaluate::expr;

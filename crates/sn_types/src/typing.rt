@@ -1,7 +1,7 @@
 //! Well typed queries with their names resolved.
 ghost use Rattle.std.specs.Prelude.{◌≡◌, ◌≤◌, IfOk, length, map};
 ghost use Rattle.std.specs.List.{AllByRecursion};
-ghost use Rattle.sn_walk.specs.Limits.{BranchLimits, QueryLimits};
+ghost use Rattle.sn_query_rules.specs.Limits.{BranchLimits, QueryLimits};
 ghost use Rattle.sn_walk.specs.Walk.{scope_end};
 ghost use Rattle.sn_types.specs.Typing.{typed_ops, schemas_along, typed_branch, behind_branches, join_keys, posts_of, field_of, levels_of, carried_place, typed_query};
 

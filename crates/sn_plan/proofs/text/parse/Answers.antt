@@ -11,4 +11,4 @@ pub returns-in-Err-clause-only : goal.returns-in-Err-clause-only
 returns-in-Err-clause-only c plan byte f = none_so _ _ _ _ plan byte c.new.ensures c.in-Err.ensures c.answer.ensures f
 
 pub returns-in-Err-clause-fault : goal.returns-in-Err-clause-fault
-returns-in-Err-clause-fault c = fault_so _ _ _ _ c.new.ensures c.in-Err.ensures c.answer.ensures
+returns-in-Err-clause-fault c = fault_so c.args.text.now _ _ _ c.new.ensures c.in-Err.ensures c.answer.ensures

@@ -2,16 +2,22 @@ use Rattle.std.proofs.Common.{◌≡◌, ap, sym, ◌∙◌}
 use Rattle.sn_rules.specs.Tokens.{fails}
 use Rattle.sn_rules.specs.Rules.{kept}
 use Rattle.sn_rules.proofs.Faults.{found_of, only_of, none_of, fault_of}
+use Rattle.sn_rules.proofs.Bounded.{whole_ok}
+use Rattle.sn_text.proofs.Ends.{tokens_ended}
 use Rattle.sn_text.specs.Lexing.{left, token_of}
 use Rattle.sn_text.specs.Cutting.{tokens_of}
 use Rattle.sn_query_rules.specs.Grammar.{file_rule}
 use Rattle.sn_query_rules.proofs.Queries.{file_good, file_ends}
+use Rattle.sn_query_rules.proofs.Bounded.{file_whole}
+use Rattle.sn_query_rules.proofs.FileLimits.{accepted_keeps_limits}
 use Rattle.sn_query.proofs.Files.{fault_is}
-use Rattle.sn_query.proofs.OnlyOurs.{file_only}
 use Rattle.sn_query.proofs.parse.parse.Goals as goal
 
 pub returns-in-Ok-clause-found : goal.returns-in-Ok-clause-found
 returns-in-Ok-clause-found c = found_of file_rule file_good (tokens_of c.args.text.now) c.in-Ok.file (ap (file_rule.read kept) (sym c.new.ensures) ∙ c.in-Ok.ensures)
+
+pub returns-in-Ok-clause-limits : goal.returns-in-Ok-clause-limits
+returns-in-Ok-clause-limits c = accepted_keeps_limits (tokens_of c.args.text.now) c.in-Ok.file (found_of file_rule file_good (tokens_of c.args.text.now) c.in-Ok.file (ap (file_rule.read kept) (sym c.new.ensures) ∙ c.in-Ok.ensures))
 
 pub returns-in-Ok-clause-only : goal.returns-in-Ok-clause-only
 returns-in-Ok-clause-only c = λ file h. only_of file_rule file_good file_ends (tokens_of c.args.text.now) c.in-Ok.file file (ap (file_rule.read kept) (sym c.new.ensures) ∙ c.in-Ok.ensures) h
@@ -24,5 +30,5 @@ returns-in-Err-Fault-clause-only c = λ file h.
 pub returns-in-Err-Fault-clause-fault : goal.returns-in-Err-Fault-clause-fault
 returns-in-Err-Fault-clause-fault c =
     let e : file_rule.read kept (left c.new.result) ≡ fails c.in-Err-Fault.flaw (left c.in-Err-Fault.at) = rw c.in-Err-Fault.field-0-is at c.in-Err-Fault.ensures in
-    fault_is (tokens_of c.args.text.now) c.fault_of.result c.in-Err-Fault.flaw c.scan.result.0.line c.scan.result.0.column c.fault_of.ensures (file_only.only (tokens_of c.args.text.now) (left c.in-Err-Fault.at) c.in-Err-Fault.flaw (ap (file_rule.read kept) (sym c.new.ensures) ∙ e))
+    fault_is (tokens_of c.args.text.now) c.fault_of.result c.in-Err-Fault.flaw c.scan.result.0.line c.scan.result.0.column c.fault_of.ensures (whole_ok file_whole (tokens_of c.args.text.now) (left c.in-Err-Fault.at) c.in-Err-Fault.flaw (tokens_ended c.args.text.now) (ap (file_rule.read kept) (sym c.new.ensures) ∙ e))
     (fault_of file_rule file_good file_ends (tokens_of c.args.text.now) (left c.in-Err-Fault.at) _ (token_of c.scan.result.0) c.in-Err-Fault.flaw (ap (file_rule.read kept) (sym c.new.ensures) ∙ e) c.scan.ensures)

@@ -14,4 +14,4 @@ pub returns-clause-only : goal.returns-clause-only
 returns-clause-only c s f = none_so _ _ _ _ s c.new.ensures c.in-Err.ensures c.answer.ensures f
 
 pub returns-clause-fault : goal.returns-clause-fault
-returns-clause-fault c = fault_so _ _ _ _ c.new.ensures c.in-Err.ensures c.answer.ensures
+returns-clause-fault c = fault_so c.args.text.now _ _ _ c.new.ensures c.in-Err.ensures c.answer.ensures

@@ -8,7 +8,7 @@ use Rattle.sn_rules.specs.declared.Flaw.TheVariants.{Expected, TooMany, Twice}
 use Rattle.sn_rules.specs.Rules.{kept}
 use Rattle.sn_rules.specs.Words.{number_in}
 use Rattle.sn_query_rules.specs.Names.{is_keyword, name_not}
-use Rattle.sn_walk.specs.Limits.{Within}
+use Rattle.sn_query_rules.specs.Limits.{Within}
 
 both : (a b : Bool) → (if a && b then None else Some Expected) ≡ None → (a ≡ true) × (b ≡ true)
 both true true h = (refl, refl)

@@ -3,7 +3,7 @@ use Rattle.std.proofs.Common.{◌≡◌, ℕ, zero, suc, ◌≤◌, Bool, true, 
 use Rattle.std.proofs.lemmas.List.{append-nil, map_push}
 use Rattle.sn_rules.specs.declared.Flaw.{Flaw}
 use Rattle.sn_rules.specs.Tokens.{Lexeme, Tok, Mark, Spelled, faces, mark_faces, Read, got, fails, short, bind}
-use Rattle.sn_rules.specs.Rules.{Limits, kept, aside, is_limit, Rule, Begins, no_more, closed, links_at, links, items_spelled, fit_from, many, chain}
+use Rattle.sn_rules.specs.Rules.{Limits, kept, aside, is_limit, Rule, Begins, no_more, closed, links_at, links, items_spelled, fit_from, many, series}
 use Rattle.sn_rules.proofs.Common.{either_way, both_true, same_value, same_rest, fails_same, bind_got, bind_fails, bind_short, left, left_bind, respelled, remarked, spelled_append, split_spelled, split_faces, mark_faces_append, Heads, head_is, no_head, heads_append}
 use Rattle.sn_rules.proofs.Laws.{Takes, Stands, Reaches, Relined, Good, within, loosened, stands_behind, takes_as}
 
@@ -41,7 +41,7 @@ some_front : (goes : Lexeme → Bool) (front : List Tok) (ms : List Mark) → Sp
 some_front goes [] ms s h = absurd (no_head goes ms s h)
 some_front goes (t ∷ front) ms s h = omega arith
 
-module _ {A : Type 0} (goes : Lexeme → Bool) (shut : List A → Option Flaw) (p : List A → Rule A) (alike : Alike goes shut p) where
+module _ {A : Type 0} {goes : Lexeme → Bool} {shut : List A → Option Flaw} {p : List A → Rule A} (alike : Alike goes shut p) where
   abbrev L : Limits → ℕ → List A → List Tok → Read (List A)
   L l n seen ts = links_at goes shut p l n seen ts
 
@@ -454,9 +454,9 @@ pub record Leads {A : Type 0} (first : Rule A) (goes : Lexeme → Bool) (p : Lis
   pub marked : (t : Tok) (us : List Tok) → goes t.face ≡ true → first.follow (t ∷ us) ≡ true
   pub bares : (a : A) → first.bare a ≡ (p []).bare a
 
-module _ {A : Type 0} (first : Rule A) (goes : Lexeme → Bool) (shut : List A → Option Flaw) (p : List A → Rule A) (leads : Leads first goes p) (alike : Alike goes shut p) where
+module _ {A : Type 0} {first : Rule A} {goes : Lexeme → Bool} {shut : List A → Option Flaw} {p : List A → Rule A} (alike : Alike goes shut p) (leads : Leads first goes p) where
   abbrev C : Rule (List A)
-  C = chain first goes shut p
+  C = series first goes shut p
 
   abbrev J : List A → List Mark
   J x = items_spelled (p []).spell x
@@ -467,19 +467,19 @@ module _ {A : Type 0} (first : Rule A) (goes : Lexeme → Bool) (shut : List A �
   first_ends : (l : Limits) (a : A) (front us : List Tok) (x : List A) → fit_from shut p l (a ∷ []) x → Spelled front (J x) → C.follow us ≡ true → first.follow (front ++ us) ≡ true
   first_ends l a [] us x f s e = (both_true (first.follow us) ((p []).follow us) (both_true (no_more goes us) (cond (first.follow us) ((p []).follow us) false) e).1).0
   first_ends l a (t ∷ ts) us [] f s e = absurd s
-  first_ends l a (t ∷ ts) us (b ∷ x) f s e = leads.marked t (ts ++ us) (head_is goes t ts (J (b ∷ x)) s (heads_append goes ((p []).spell b) (J x) (item_heads goes shut p alike l (a ∷ []) b f.1)))
+  first_ends l a (t ∷ ts) us (b ∷ x) f s e = leads.marked t (ts ++ us) (head_is goes t ts (J (b ∷ x)) s (heads_append goes ((p []).spell b) (J x) (item_heads alike l (a ∷ []) b f.1)))
 
   both_follow : (us : List Tok) → C.follow us ≡ true → cond (no_more goes us) ((p []).follow us) false ≡ true
   both_follow us e =
       let k = both_true (no_more goes us) (cond (first.follow us) ((p []).follow us) false) e in
       rw k.0 (both_true (first.follow us) ((p []).follow us) k.1).1
 
-  chain_takes : (l : Limits) (ts us : List Tok) (x : List A) → bind (first.read l ts) (then_more l) ≡ got x us → Takes C.spell ts x us × C.fits l x
+  series_takes : (l : Limits) (ts us : List Tok) (x : List A) → bind (first.read l ts) (then_more l) ≡ got x us → Takes C.spell ts x us × C.fits l x
   unfolding links
-  chain_takes l ts us x e =
+  series_takes l ts us x e =
       let b = bind_got (first.read l ts) (then_more l) x us e in
       let k = leads.good.takes l ts b.1 b.0 b.2 in
-      let h = takes_at goes shut p alike l (length b.1) (b.0 ∷ []) b.1 us x (omega arith) b.3 in
+      let h = takes_at alike l (length b.1) (b.0 ∷ []) b.1 us x (omega arith) b.3 in
       let made : List A = b.0 ∷ h.new in
       let whole : Takes C.spell ts made us = record {
         front = k.front ++ h.taken.front;
@@ -490,13 +490,13 @@ module _ {A : Type 0} (first : Rule A) (goes : Lexeme → Bool) (shut : List A �
         subst (C.fits l) (sym h.all) (leads.good.fitting l ts b.1 b.0 b.2, h.fit),
       )
 
-  chain_begins : (l : Limits) (ts : List Tok) → bind (first.read l ts) (then_more l) ≡ short → Begins C ts
+  series_begins : (l : Limits) (ts : List Tok) → bind (first.read l ts) (then_more l) ≡ short → Begins C ts
   unfolding links
-  chain_begins l ts e = elim (bind_short (first.read l ts) (then_more l) e) [
+  series_begins l ts e = elim (bind_short (first.read l ts) (then_more l) e) [
     | inl b ↦ (let k = leads.good.begins l ts b in
         record { value = k.value ∷ []; more = k.more; fits = (k.fits, tt); spelled = remarked (ts ++ k.more) (first.spell k.value) (first.spell k.value ++ []) (sym (append-nil (first.spell k.value))) k.spelled })
     | inr b ↦ (let k = leads.good.takes l ts b.1 b.0 b.2 in
-        let h = begins_at goes shut p alike l (length b.1) (b.0 ∷ []) b.1 (omega arith) b.3 in
+        let h = begins_at alike l (length b.1) (b.0 ∷ []) b.1 (omega arith) b.3 in
         record {
           value = b.0 ∷ h.new;
           more = h.more;
@@ -506,62 +506,62 @@ module _ {A : Type 0} (first : Rule A) (goes : Lexeme → Bool) (shut : List A �
         })
   ]
 
-  chain_again : (l : Limits) (front us : List Tok) (x : List A) → C.fits l x → Spelled front (C.spell x) → C.follow us ≡ true → bind (first.read l (front ++ us)) (then_more l) ≡ got x us
+  series_again : (l : Limits) (front us : List Tok) (x : List A) → C.fits l x → Spelled front (C.spell x) → C.follow us ≡ true → bind (first.read l (front ++ us)) (then_more l) ≡ got x us
   unfolding links
-  chain_again l front us [] f s e = absurd f
-  chain_again l front us (a ∷ x) f s e =
+  series_again l front us [] f s e = absurd f
+  series_again l front us (a ∷ x) f s e =
       let k = split_spelled front (first.spell a) (J x) s in
       let regrouped : front ++ us ≡ k.0 ++ (k.1 ++ us) = ap (λ (r : List Tok). r ++ us) k.2 ∙ append_assoc k.0 k.1 us in
       let one : first.read l (k.0 ++ (k.1 ++ us)) ≡ got a (k.1 ++ us) = leads.good.again l k.0 (k.1 ++ us) a f.0 k.3 (first_ends l a k.1 us x f.1 k.4 e) in
-      ap (λ (r : List Tok). bind (first.read l r) (then_more l)) regrouped ∙ rw one (again_at goes shut p alike l (length (k.1 ++ us)) (a ∷ []) k.1 us x f.1 k.4 (both_follow us e) (omega arith))
+      ap (λ (r : List Tok). bind (first.read l r) (then_more l)) regrouped ∙ rw one (again_at alike l (length (k.1 ++ us)) (a ∷ []) k.1 us x f.1 k.4 (both_follow us e) (omega arith))
 
-  chain_got_more : (l : Limits) (ts more us : List Tok) (x : List A) → bind (first.read l ts) (then_more l) ≡ got x us → bind (first.read l (ts ++ more)) (then_more l) ≡ got x (us ++ more)
+  series_got_more : (l : Limits) (ts more us : List Tok) (x : List A) → bind (first.read l ts) (then_more l) ≡ got x us → bind (first.read l (ts ++ more)) (then_more l) ≡ got x (us ++ more)
   unfolding links
-  chain_got_more l ts more us x e =
+  series_got_more l ts more us x e =
       let b = bind_got (first.read l ts) (then_more l) x us e in
-      rw (leads.good.got_more l ts more b.1 b.0 b.2) (got_more_at goes shut p alike l (length b.1) (length (b.1 ++ more)) (b.0 ∷ []) b.1 more us x (omega arith) (omega arith) b.3)
+      rw (leads.good.got_more l ts more b.1 b.0 b.2) (got_more_at alike l (length b.1) (length (b.1 ++ more)) (b.0 ∷ []) b.1 more us x (omega arith) (omega arith) b.3)
 
-  chain_fails_more : (l : Limits) (ts more us : List Tok) (x : Flaw) → bind (first.read l ts) (then_more l) ≡ fails x us → bind (first.read l (ts ++ more)) (then_more l) ≡ fails x (us ++ more)
+  series_fails_more : (l : Limits) (ts more us : List Tok) (x : Flaw) → bind (first.read l ts) (then_more l) ≡ fails x us → bind (first.read l (ts ++ more)) (then_more l) ≡ fails x (us ++ more)
   unfolding links
-  chain_fails_more l ts more us x e = elim (bind_fails (first.read l ts) (then_more l) x us e) [
+  series_fails_more l ts more us x e = elim (bind_fails (first.read l ts) (then_more l) x us e) [
     | inl b ↦ rw (leads.good.fails_more l ts more us x b) refl
-    | inr b ↦ rw (leads.good.got_more l ts more b.1 b.0 b.2) (fails_more_at goes shut p alike l (length b.1) (length (b.1 ++ more)) (b.0 ∷ []) b.1 more us x (omega arith) (omega arith) b.3)
+    | inr b ↦ rw (leads.good.got_more l ts more b.1 b.0 b.2) (fails_more_at alike l (length b.1) (length (b.1 ++ more)) (b.0 ∷ []) b.1 more us x (omega arith) (omega arith) b.3)
   ]
 
-  chain_later : (l : Limits) (ts more : List Tok) → bind (first.read l ts) (then_more l) ≡ short → left (bind (first.read l (ts ++ more)) (then_more l)) ≤ length more
+  series_later : (l : Limits) (ts more : List Tok) → bind (first.read l ts) (then_more l) ≡ short → left (bind (first.read l (ts ++ more)) (then_more l)) ≤ length more
   unfolding links
-  chain_later l ts more e = elim (bind_short (first.read l ts) (then_more l) e) [
-    | inl b ↦ left_bind (first.read l (ts ++ more)) (then_more l) (length more) (leads.good.later l ts more b) (λ a us _. within_at goes shut p alike l (length us) (a ∷ []) us)
-    | inr b ↦ rw (leads.good.got_more l ts more b.1 b.0 b.2) (later_at goes shut p alike l (length b.1) (length (b.1 ++ more)) (b.0 ∷ []) b.1 more (omega arith) (omega arith) b.3)
+  series_later l ts more e = elim (bind_short (first.read l ts) (then_more l) e) [
+    | inl b ↦ left_bind (first.read l (ts ++ more)) (then_more l) (length more) (leads.good.later l ts more b) (λ a us _. within_at alike l (length us) (a ∷ []) us)
+    | inr b ↦ rw (leads.good.got_more l ts more b.1 b.0 b.2) (later_at alike l (length b.1) (length (b.1 ++ more)) (b.0 ∷ []) b.1 more (omega arith) (omega arith) b.3)
   ]
 
-  chain_stands : (l : Limits) (ts us : List Tok) (x : Flaw) → bind (first.read l ts) (then_more l) ≡ fails x us → Stands ts us
+  series_stands : (l : Limits) (ts us : List Tok) (x : Flaw) → bind (first.read l ts) (then_more l) ≡ fails x us → Stands ts us
   unfolding links
-  chain_stands l ts us x e = elim (bind_fails (first.read l ts) (then_more l) x us e) [
+  series_stands l ts us x e = elim (bind_fails (first.read l ts) (then_more l) x us e) [
     | inl b ↦ leads.good.stands l ts us x b
-    | inr b ↦ (let k = leads.good.takes l ts b.1 b.0 b.2 in stands_behind ts k.front b.1 us k.parts (stands_at goes shut p alike l (length b.1) (b.0 ∷ []) b.1 us x (omega arith) b.3))
+    | inr b ↦ (let k = leads.good.takes l ts b.1 b.0 b.2 in stands_behind ts k.front b.1 us k.parts (stands_at alike l (length b.1) (b.0 ∷ []) b.1 us x (omega arith) b.3))
   ]
 
-  chain_looser : (x : List A) → C.fits kept x → C.fits aside x
-  chain_looser [] h = absurd h
-  chain_looser (a ∷ x) h = (leads.good.looser a h.0, looser_from goes shut p alike (a ∷ []) x h.1)
+  series_looser : (x : List A) → C.fits kept x → C.fits aside x
+  series_looser [] h = absurd h
+  series_looser (a ∷ x) h = (leads.good.looser a h.0, looser_from alike (a ∷ []) x h.1)
 
-  chain_gets : (ts us : List Tok) (x : List A) → bind (first.read kept ts) (then_more kept) ≡ got x us → bind (first.read aside ts) (then_more aside) ≡ got x us
+  series_gets : (ts us : List Tok) (x : List A) → bind (first.read kept ts) (then_more kept) ≡ got x us → bind (first.read aside ts) (then_more aside) ≡ got x us
   unfolding links
-  chain_gets ts us x e =
+  series_gets ts us x e =
       let b = bind_got (first.read kept ts) (then_more kept) x us e in
-      rw (leads.good.gets ts b.1 b.0 b.2) (gets_at goes shut p alike (length b.1) (b.0 ∷ []) b.1 us x b.3)
+      rw (leads.good.gets ts b.1 b.0 b.2) (gets_at alike (length b.1) (b.0 ∷ []) b.1 us x b.3)
 
-  chain_refuses : (ts us : List Tok) (x : Flaw) → is_limit x ≡ false → bind (first.read kept ts) (then_more kept) ≡ fails x us → bind (first.read aside ts) (then_more aside) ≡ fails x us
+  series_refuses : (ts us : List Tok) (x : Flaw) → is_limit x ≡ false → bind (first.read kept ts) (then_more kept) ≡ fails x us → bind (first.read aside ts) (then_more aside) ≡ fails x us
   unfolding links
-  chain_refuses ts us x n e = elim (bind_fails (first.read kept ts) (then_more kept) x us e) [
+  series_refuses ts us x n e = elim (bind_fails (first.read kept ts) (then_more kept) x us e) [
     | inl b ↦ rw (leads.good.refuses ts us x n b) refl
-    | inr b ↦ rw (leads.good.gets ts b.1 b.0 b.2) (refuses_at goes shut p alike (length b.1) (b.0 ∷ []) b.1 us x n b.3)
+    | inr b ↦ rw (leads.good.gets ts b.1 b.0 b.2) (refuses_at alike (length b.1) (b.0 ∷ []) b.1 us x n b.3)
   ]
 
-  chain_tells : (ts us : List Tok) (x : Flaw) → is_limit x ≡ true → bind (first.read kept ts) (then_more kept) ≡ fails x us → Reaches C ts us
+  series_tells : (ts us : List Tok) (x : Flaw) → is_limit x ≡ true → bind (first.read kept ts) (then_more kept) ≡ fails x us → Reaches C ts us
   unfolding links
-  chain_tells ts us x n e = elim (bind_fails (first.read kept ts) (then_more kept) x us e) [
+  series_tells ts us x n e = elim (bind_fails (first.read kept ts) (then_more kept) x us e) [
     | inl b ↦ (let k = leads.good.tells ts us x n b in
         record {
           upto = k.upto;
@@ -574,7 +574,7 @@ module _ {A : Type 0} (first : Rule A) (goes : Lexeme → Bool) (shut : List A �
           fits = (k.fits, tt);
           spelled = remarked (k.upto ++ k.more) (first.spell k.value) (first.spell k.value ++ []) (sym (append-nil (first.spell k.value))) k.spelled;
         })
-    | inr b ↦ (let k = tells_at goes shut p alike (length b.1) (b.0 ∷ []) b.1 us x n b.3 in
+    | inr b ↦ (let k = tells_at alike (length b.1) (b.0 ∷ []) b.1 us x n b.3 in
         let h = leads.good.takes kept ts b.1 b.0 b.2 in
         record {
           upto = h.front ++ k.upto;
@@ -589,34 +589,34 @@ module _ {A : Type 0} (first : Rule A) (goes : Lexeme → Bool) (shut : List A �
         })
   ]
 
-  chain_relines : (x : List A) (ts : List Tok) → C.fits kept x → faces ts ≡ mark_faces (C.spell x) → Relined C x ts
-  chain_relines [] ts f e = absurd f
-  chain_relines (a ∷ x) ts f e =
+  series_relines : (x : List A) (ts : List Tok) → C.fits kept x → faces ts ≡ mark_faces (C.spell x) → Relined C x ts
+  series_relines [] ts f e = absurd f
+  series_relines (a ∷ x) ts f e =
       let s = split_faces ts (mark_faces (first.spell a)) (mark_faces (J x)) (e ∙ mark_faces_append (first.spell a) (J x)) in
       let k = leads.good.relines a s.0 f.0 s.3 in
       let same : (p []).bare k.value ≡ (p []).bare a = sym (leads.bares k.value) ∙ k.same ∙ leads.bares a in
-      let r = relines_at goes shut p alike (a ∷ []) (k.value ∷ []) x s.1 (ap (λ (y : A). y ∷ []) (sym same)) f.1 s.4 in
+      let r = relines_at alike (a ∷ []) (k.value ∷ []) x s.1 (ap (λ (y : A). y ∷ []) (sym same)) f.1 s.4 in
       record {
         value = k.value ∷ r.new;
         spelled = respelled (s.0 ++ s.1) ts (first.spell k.value ++ J r.new) (sym s.2) (spelled_append s.0 s.1 (first.spell k.value) (J r.new) k.spelled r.spelled);
         fits = (k.fits, r.fits);
-        same = headed goes shut p alike ((p []).bare k.value) ((p []).bare a) (map (p []).bare r.new) (map (p []).bare x) same r.same;
+        same = headed alike ((p []).bare k.value) ((p []).bare a) (map (p []).bare r.new) (map (p []).bare x) same r.same;
       }
 
-  pub chain_good : Good (chain first goes shut p)
-  chain_good = record {
-    got_more = chain_got_more;
-    fails_more = chain_fails_more;
-    later = chain_later;
-    takes = λ l ts us x e. (chain_takes l ts us x e).0;
-    fitting = λ l ts us x e. (chain_takes l ts us x e).1;
-    stands = chain_stands;
-    again = chain_again;
-    begins = chain_begins;
+  pub series_good : Good (series first goes shut p)
+  series_good = record {
+    got_more = series_got_more;
+    fails_more = series_fails_more;
+    later = series_later;
+    takes = λ l ts us x e. (series_takes l ts us x e).0;
+    fitting = λ l ts us x e. (series_takes l ts us x e).1;
+    stands = series_stands;
+    again = series_again;
+    begins = series_begins;
     some = (leads.good.some.0 ∷ [], (leads.good.some.1, tt));
-    looser = chain_looser;
-    gets = chain_gets;
-    refuses = chain_refuses;
-    tells = chain_tells;
-    relines = chain_relines;
+    looser = series_looser;
+    gets = series_gets;
+    refuses = series_refuses;
+    tells = series_tells;
+    relines = series_relines;
   }

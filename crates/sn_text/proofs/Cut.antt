@@ -2,10 +2,10 @@
 use Rattle.std.proofs.Common.{◌≡◌, ℕ, zero, suc, ◌+◌, ◌*◌, ◌^◌, ◌<◌, ◌≤◌, Bool, true, false, cond, List, [], ◌∷◌, ◌++◌, length, take, drop, Option, Some, None, refl, sym, ◌∙◌, subst, arith}
 use Rattle.std.specs.Prelude.{nat_le, nat_lt, ◌==◌, ◌&&◌, ◌||◌}
 use Rattle.std.proofs.lemmas.Bool.{ltb-true, leb-true}
-use Rattle.sn_rules.specs.Tokens.{Lexeme, word, finish, Tok, Mark, plain, Spelled, faces, mark_faces}
+use Rattle.sn_rules.specs.Tokens.{Lexeme, word, Tok, faces}
 use Rattle.sn_text.specs.Cutting.{is_digit, is_name_start, is_word_byte, run, digit, with_digit, or_none, digits_behind, digits, part_of, part, dot_part, address, has_dot, is_hex, number_of, number_lexeme, long_symbol, short_symbol, short_lexeme, long_lexeme, symbol_at, lexeme_at, Place, skip, tok_at, after_at, is_last, tokens}
 use Rattle.sn_text.proofs.Next.{tokens_next}
-use Rattle.sn_print.proofs.Written.{AllWord, Fine, Each}
+use Rattle.sn_text.proofs.Lexemes.{AllWord, Fine, AllFine}
 
 -- ---- numbers
 
@@ -120,31 +120,38 @@ word_fine b bs (suc n) r d s = (d, s, subst (λ (m : ℕ). AllWord (take m (b �
 
 -- ---- symbols
 
-pick : (t : Bool) (j : ℕ) (o : Option ℕ) (k : ℕ) → j ≤ 18 → (o ≡ Some k → k ≤ 18) → cond t (some_number j) o ≡ Some k → k ≤ 18
-pick true j o k h f e = let i : j ≡ k = cc in subst (λ (x : ℕ). x ≤ 18) i h
-pick false j o k h f e = f e
+abbrev Low : Option ℕ → Type 0
+Low None = Unit {0}
+Low (Some k) = nat_le k 18 ≡ true
 
-no_symbol : (k : ℕ) → None ≡ some_number k → k ≤ 18
-no_symbol k e = absurd cc
+if_low : (t : Bool) (j : ℕ) (o : Option ℕ) → nat_le j 18 ≡ true → Low o → Low (cond t (some_number j) o)
+if_low true j o h k = h
+if_low false j o h k = k
 
-short_bound : (b k : ℕ) → short_symbol b ≡ Some k → k ≤ 18
-short_bound b k e = pick (b == 123) 0 (cond (b == 125) (some_number 1) (cond (b == 59) (some_number 2) (cond (b == 44) (some_number 3) (cond (b == 124) (some_number 4) (cond (b == 40) (some_number 5) (cond (b == 41) (some_number 6) (cond (b == 58) (some_number 7) (cond (b == 38) (some_number 8) (cond (b == 43) (some_number 9) (cond (b == 42) (some_number 10) (cond (b == 47) (some_number 11) (cond (b == 60) (some_number 14) (cond (b == 62) (some_number 16) None))))))))))))) k (omega arith) (λ e. pick (b == 125) 1 (cond (b == 59) (some_number 2) (cond (b == 44) (some_number 3) (cond (b == 124) (some_number 4) (cond (b == 40) (some_number 5) (cond (b == 41) (some_number 6) (cond (b == 58) (some_number 7) (cond (b == 38) (some_number 8) (cond (b == 43) (some_number 9) (cond (b == 42) (some_number 10) (cond (b == 47) (some_number 11) (cond (b == 60) (some_number 14) (cond (b == 62) (some_number 16) None)))))))))))) k (omega arith) (λ e. pick (b == 59) 2 (cond (b == 44) (some_number 3) (cond (b == 124) (some_number 4) (cond (b == 40) (some_number 5) (cond (b == 41) (some_number 6) (cond (b == 58) (some_number 7) (cond (b == 38) (some_number 8) (cond (b == 43) (some_number 9) (cond (b == 42) (some_number 10) (cond (b == 47) (some_number 11) (cond (b == 60) (some_number 14) (cond (b == 62) (some_number 16) None))))))))))) k (omega arith) (λ e. pick (b == 44) 3 (cond (b == 124) (some_number 4) (cond (b == 40) (some_number 5) (cond (b == 41) (some_number 6) (cond (b == 58) (some_number 7) (cond (b == 38) (some_number 8) (cond (b == 43) (some_number 9) (cond (b == 42) (some_number 10) (cond (b == 47) (some_number 11) (cond (b == 60) (some_number 14) (cond (b == 62) (some_number 16) None)))))))))) k (omega arith) (λ e. pick (b == 124) 4 (cond (b == 40) (some_number 5) (cond (b == 41) (some_number 6) (cond (b == 58) (some_number 7) (cond (b == 38) (some_number 8) (cond (b == 43) (some_number 9) (cond (b == 42) (some_number 10) (cond (b == 47) (some_number 11) (cond (b == 60) (some_number 14) (cond (b == 62) (some_number 16) None))))))))) k (omega arith) (λ e. pick (b == 40) 5 (cond (b == 41) (some_number 6) (cond (b == 58) (some_number 7) (cond (b == 38) (some_number 8) (cond (b == 43) (some_number 9) (cond (b == 42) (some_number 10) (cond (b == 47) (some_number 11) (cond (b == 60) (some_number 14) (cond (b == 62) (some_number 16) None)))))))) k (omega arith) (λ e. pick (b == 41) 6 (cond (b == 58) (some_number 7) (cond (b == 38) (some_number 8) (cond (b == 43) (some_number 9) (cond (b == 42) (some_number 10) (cond (b == 47) (some_number 11) (cond (b == 60) (some_number 14) (cond (b == 62) (some_number 16) None))))))) k (omega arith) (λ e. pick (b == 58) 7 (cond (b == 38) (some_number 8) (cond (b == 43) (some_number 9) (cond (b == 42) (some_number 10) (cond (b == 47) (some_number 11) (cond (b == 60) (some_number 14) (cond (b == 62) (some_number 16) None)))))) k (omega arith) (λ e. pick (b == 38) 8 (cond (b == 43) (some_number 9) (cond (b == 42) (some_number 10) (cond (b == 47) (some_number 11) (cond (b == 60) (some_number 14) (cond (b == 62) (some_number 16) None))))) k (omega arith) (λ e. pick (b == 43) 9 (cond (b == 42) (some_number 10) (cond (b == 47) (some_number 11) (cond (b == 60) (some_number 14) (cond (b == 62) (some_number 16) None)))) k (omega arith) (λ e. pick (b == 42) 10 (cond (b == 47) (some_number 11) (cond (b == 60) (some_number 14) (cond (b == 62) (some_number 16) None))) k (omega arith) (λ e. pick (b == 47) 11 (cond (b == 60) (some_number 14) (cond (b == 62) (some_number 16) None)) k (omega arith) (λ e. pick (b == 60) 14 (cond (b == 62) (some_number 16) None) k (omega arith) (λ e. pick (b == 62) 16 None k (omega arith) (λ e. no_symbol k e) e) e) e) e) e) e) e) e) e) e) e) e) e) e
+short_low : (b : ℕ) → Low (short_symbol b)
+short_low b =
+    if_low (b == 123) 0 _ refl (if_low (b == 125) 1 _ refl (if_low (b == 59) 2 _ refl (if_low (b == 44) 3 _ refl
+    (if_low (b == 124) 4 _ refl (if_low (b == 40) 5 _ refl (if_low (b == 41) 6 _ refl (if_low (b == 58) 7 _ refl
+    (if_low (b == 38) 8 _ refl (if_low (b == 43) 9 _ refl (if_low (b == 42) 10 _ refl (if_low (b == 47) 11 _ refl
+    (if_low (b == 60) 14 _ refl (if_low (b == 62) 16 None refl tt)))))))))))))
 
-long_bound : (b c k : ℕ) → long_symbol b c ≡ Some k → k ≤ 18
-long_bound b c k e = pick ((b == 61) && (c == 61)) 12 (cond ((b == 33) && (c == 61)) (some_number 13) (cond ((b == 60) && (c == 61)) (some_number 15) (cond ((b == 62) && (c == 61)) (some_number 17) (cond ((b == 62) && (c == 62)) (some_number 18) None)))) k (omega arith) (λ e. pick ((b == 33) && (c == 61)) 13 (cond ((b == 60) && (c == 61)) (some_number 15) (cond ((b == 62) && (c == 61)) (some_number 17) (cond ((b == 62) && (c == 62)) (some_number 18) None))) k (omega arith) (λ e. pick ((b == 60) && (c == 61)) 15 (cond ((b == 62) && (c == 61)) (some_number 17) (cond ((b == 62) && (c == 62)) (some_number 18) None)) k (omega arith) (λ e. pick ((b == 62) && (c == 61)) 17 (cond ((b == 62) && (c == 62)) (some_number 18) None) k (omega arith) (λ e. pick ((b == 62) && (c == 62)) 18 None k (omega arith) (λ e. no_symbol k e) e) e) e) e) e
+long_low : (b c : ℕ) → Low (long_symbol b c)
+long_low b c =
+    if_low ((b == 61) && (c == 61)) 12 _ refl (if_low ((b == 33) && (c == 61)) 13 _ refl (if_low ((b == 60) && (c == 61)) 15 _ refl
+    (if_low ((b == 62) && (c == 61)) 17 _ refl (if_low ((b == 62) && (c == 62)) 18 None refl tt))))
 
-short_fine : (o : Option ℕ) → ((k : ℕ) → o ≡ Some k → k ≤ 18) → is_last (short_lexeme o).0 ≡ false → Fine (short_lexeme o).0
+short_fine : (o : Option ℕ) → Low o → is_last (short_lexeme o).0 ≡ false → Fine (short_lexeme o).0
 short_fine None h e = absurd cc
-short_fine (Some k) h e = h k refl
+short_fine (Some k) h e = leb-true k 18 h
 
-long_fine : (o : Option ℕ) (b : ℕ) → ((k : ℕ) → o ≡ Some k → k ≤ 18) → is_last (long_lexeme o b).0 ≡ false → Fine (long_lexeme o b).0
-long_fine None b h e = short_fine (short_symbol b) (short_bound b) e
-long_fine (Some k) b h e = h k refl
+long_fine : (o : Option ℕ) (b : ℕ) → Low o → is_last (long_lexeme o b).0 ≡ false → Fine (long_lexeme o b).0
+long_fine None b h e = short_fine (short_symbol b) (short_low b) e
+long_fine (Some k) b h e = leb-true k 18 h
 
 symbol_fine : (r : List ℕ) → is_last (symbol_at r).0 ≡ false → Fine (symbol_at r).0
 symbol_fine [] e = absurd cc
-symbol_fine (b ∷ []) e = short_fine (short_symbol b) (short_bound b) e
-symbol_fine (b ∷ c ∷ bs) e = long_fine (long_symbol b c) b (long_bound b c) e
+symbol_fine (b ∷ []) e = short_fine (short_symbol b) (short_low b) e
+symbol_fine (b ∷ c ∷ bs) e = long_fine (long_symbol b c) b (long_low b c) e
 
 -- ---- all tokens
 
@@ -161,33 +168,25 @@ lexeme_fine (b ∷ bs) e = one_of (is_digit b) (is_name_start b) (number_lexeme 
     (λ d s l. word_fine b bs (run is_word_byte (b ∷ bs)) refl d s)
     (symbol_fine (b ∷ bs)) e
 
-abbrev pub Ended : List Lexeme → Type 0
-Ended [] = ⊥
-Ended (x ∷ []) = Unit {0}
-Ended (x ∷ y ∷ xs) = Fine x × Ended (y ∷ xs)
+-- all but the last can be written
+abbrev pub Closed : List Lexeme → Type 0
+Closed [] = ⊥
+Closed (x ∷ []) = Unit {0}
+Closed (x ∷ y ∷ xs) = Fine x × Closed (y ∷ xs)
 
-pub cut_fine : (ts : List Tok) (p : Place) → tokens p ≡ ts → Ended (faces ts)
+pub cut_fine : (ts : List Tok) (p : Place) → tokens p ≡ ts → Closed (faces ts)
 cut_fine [] p e = (let k : [] ≡ tok_at (skip p) ∷ cond (is_last (tok_at (skip p)).face) [] (tokens (after_at (skip p))) = sym e ∙ tokens_next p in absurd cc)
 cut_fine (t ∷ []) p e = tt
 cut_fine (t ∷ u ∷ us) p e = go (is_last (tok_at (skip p)).face) refl (sym (tokens_next p) ∙ e) (cut_fine (u ∷ us) (after_at (skip p)))
   where
-    go : (l : Bool) → is_last (tok_at (skip p)).face ≡ l → tok_at (skip p) ∷ cond l [] (tokens (after_at (skip p))) ≡ t ∷ u ∷ us → (tokens (after_at (skip p)) ≡ u ∷ us → Ended (u.face ∷ faces us)) → Fine t.face × Ended (u.face ∷ faces us)
+    go : (l : Bool) → is_last (tok_at (skip p)).face ≡ l → tok_at (skip p) ∷ cond l [] (tokens (after_at (skip p))) ≡ t ∷ u ∷ us → (tokens (after_at (skip p)) ≡ u ∷ us → Closed (u.face ∷ faces us)) → Fine t.face × Closed (u.face ∷ faces us)
     go true l k h = (let j : [] ≡ u ∷ us = cc in absurd cc)
     go false l k h =
         let head : tok_at (skip p) ≡ t = cc in
         let tail : tokens (after_at (skip p)) ≡ u ∷ us = cc in
         (subst (λ (x : Tok). Fine x.face) head (lexeme_fine (skip p).rest l), h tail)
 
-pub each_of : (front : List Mark) → Ended (mark_faces (front ++ plain finish ∷ [])) → Each front
-each_of [] e = tt
-each_of (m ∷ []) e = (e.0, tt)
-each_of (m ∷ n ∷ front) e = (e.0, each_of (n ∷ front) e.1)
-
-pub spelled_faces : (ts : List Tok) (ms : List Mark) → Spelled ts ms → faces ts ≡ mark_faces ms
-spelled_faces [] [] s = refl
-spelled_faces [] (m ∷ ms) s = absurd s
-spelled_faces (t ∷ ts) [] s = absurd s
-spelled_faces (t ∷ ts) (m ∷ ms) s = both t.face m.face (faces ts) (mark_faces ms) s.0.0 (spelled_faces ts ms s.1)
-  where
-    both : (x y : Lexeme) (xs ys : List Lexeme) → x ≡ y → xs ≡ ys → x ∷ xs ≡ y ∷ ys
-    both x y xs ys e f = cc
+pub front_fine : (xs : List Lexeme) (y : Lexeme) (ys : List Lexeme) → Closed (xs ++ y ∷ ys) → AllFine xs
+front_fine [] y ys e = tt
+front_fine (x ∷ []) y ys e = (e.0, tt)
+front_fine (x ∷ z ∷ xs) y ys e = (e.0, front_fine (z ∷ xs) y ys e.1)

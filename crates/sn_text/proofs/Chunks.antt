@@ -1,13 +1,17 @@
--- Lexemes that are written with blanks behind them are cut out again.
-use Rattle.std.proofs.Common.{◌≡◌, ℕ, Bool, true, false, cond, List, [], ◌∷◌, ◌++◌, map, length, drop, Option, Some, None, refl, sym, ap, ◌∙◌, append_assoc, inl, inr, ◌⊎◌}
+-- Lexemes that are written with blanks behind them are cut out again, and a text that is written so stands for the same value.
+use Rattle.std.proofs.Common.{◌≡◌, ℕ, false, cond, List, [], ◌∷◌, ◌++◌, map, length, drop, Some, None, refl, sym, ap, subst, ◌∙◌, inl, inr, ◌⊎◌}
 use Rattle.std.proofs.Math.Seq.{drop-append_seam}
 use Rattle.std.proofs.lemmas.List.{append-nil}
-use Rattle.sn_rules.specs.Tokens.{Lexeme, word, number, symbol, finish, bad, Tok, faces}
+use Rattle.sn_rules.specs.Tokens.{Lexeme, symbol, finish, Tok, faces, mark_faces}
+use Rattle.sn_rules.specs.Rules.{Rule, kept, Accepts}
+use Rattle.sn_rules.proofs.Common.{spelled_faces}
+use Rattle.sn_rules.proofs.Laws.{Good}
 use Rattle.sn_text.specs.Cutting.{lexeme_at, Place, gap, behind, skip_from, skip, tok_at, after_at, is_last, tokens, tokens_of}
 use Rattle.sn_text.proofs.Next.{tokens_next}
-use Rattle.sn_print.specs.Layout.{lexeme_text}
-use Rattle.sn_print.proofs.Symbols.{HeadOk}
-use Rattle.sn_print.proofs.Written.{Fine, fine_reads}
+use Rattle.sn_text.specs.Writing.{lexeme_text}
+use Rattle.sn_text.proofs.Symbols.{HeadOk, open_read}
+use Rattle.sn_text.proofs.Lexemes.{Fine, AllFine, fine_ahead, fine_reads}
+use Rattle.sn_text.proofs.Cut.{Closed, cut_fine, front_fine}
 
 -- ---- blanks
 
@@ -55,26 +59,23 @@ text_of (c ∷ cs) = lexeme_text c.face ++ (c.gap ++ text_of cs)
 abbrev pub face_of : Chunk → Lexeme
 face_of c = c.face
 
-abbrev pub AllFine : List Lexeme → Type 0
-AllFine [] = Unit {0}
-AllFine (x ∷ xs) = Fine x × AllFine xs
+-- what follows a lexeme makes it no longer; `(` stands alone whatever follows
+abbrev pub Parts : Lexeme → List ℕ → Type 0
+Parts x t = HeadOk t ⊎ (x ≡ symbol 5)
 
--- behind each lexeme stand blanks, and what follows makes it no longer
+-- behind each lexeme stand blanks
 abbrev pub Spaced : List Chunk → Type 0
 Spaced [] = Unit {0}
-Spaced (c ∷ cs) = Blank c.gap × HeadOk (c.gap ++ text_of cs) × Spaced cs
+Spaced (c ∷ cs) = Blank c.gap × Parts c.face (c.gap ++ text_of cs) × Spaced cs
 
 -- ---- one token
 
 abbrev pairs : Lexeme → ℕ → Lexeme × ℕ
 pairs x n = (x, n)
 
-not_last : (x : Lexeme) → Fine x → is_last x ≡ false
-not_last (word w) f = refl
-not_last (number n) f = refl
-not_last (symbol k) f = refl
-not_last finish f = absurd f
-not_last bad f = absurd f
+parted : (x : Lexeme) (t : List ℕ) → Fine x → Parts x t → lexeme_at (lexeme_text x ++ t) ≡ pairs x (length (lexeme_text x))
+parted x t f (inl h) = let r = fine_reads x f in rw r.text (r.read t h)
+parted x t f (inr e) = subst (λ (y : Lexeme). lexeme_at (lexeme_text y ++ t) ≡ pairs y (length (lexeme_text y))) (sym e) (open_read t)
 
 empty_is : (lexeme_at []).0 ≡ finish
 unfolding lexeme_at
@@ -108,9 +109,32 @@ chunks_cut (c ∷ cs) g p f s b e =
     let r = fine_reads x f.0 in
     let whole : p.rest ≡ g ++ (r.head ∷ (r.tail ++ t)) = e ∙ ap (λ (w : List ℕ). g ++ (w ++ t)) r.text in
     let rest : (skip p).rest ≡ lexeme_text x ++ t = skip_to p g (r.tail ++ t) r.head whole b r.no_gap ∙ ap (λ (w : List ℕ). w ++ t) (sym r.text) in
-    let reads : lexeme_at (lexeme_text x ++ t) ≡ pairs x (length (lexeme_text x)) = rw r.text (r.read t s.1) in
-    one_more p x (map face_of cs ++ finish ∷ []) (face_of_token (skip p) (lexeme_text x) t x rest reads) (not_last x f.0)
+    let reads = parted x t f.0 s.1 in
+    one_more p x (map face_of cs ++ finish ∷ []) (face_of_token (skip p) (lexeme_text x) t x rest reads) (fine_ahead x f.0)
     (chunks_cut cs c.gap (after_at (skip p)) f.1 s.2 s.0 (after_token (skip p) (lexeme_text x) t x rest reads))
 
-pub chunks_read : (cs : List Chunk) → AllFine (map face_of cs) → Spaced cs → faces (tokens_of (text_of cs)) ≡ map face_of cs ++ finish ∷ []
+chunks_read : (cs : List Chunk) → AllFine (map face_of cs) → Spaced cs → faces (tokens_of (text_of cs)) ≡ map face_of cs ++ finish ∷ []
 chunks_read cs f s = chunks_cut cs [] (record { rest = text_of cs; start = 0; line = 1; column = 1 }) f s tt refl
+
+-- ---- the value
+
+-- what is written of a value stands for it, up to lines
+pub record Again {A : Type 0} (r : Rule A) (a : A) (text : List ℕ) : Type 0 where
+  pub value : A
+  pub accepted : Accepts r (tokens_of text) value
+  pub same : r.bare value ≡ r.bare a
+
+abbrev pub closed_by : List Chunk → List Lexeme
+closed_by cs = map face_of cs ++ finish ∷ []
+
+pub read_again : {A : Type 0} {r : Rule A} → Good r → (a : A) (cs : List Chunk) → r.fits kept a → mark_faces (r.spell a) ≡ closed_by cs → AllFine (map face_of cs) → Spaced cs → Again r a (text_of cs)
+read_again g a cs f e fine s =
+    let k = g.relines a (tokens_of (text_of cs)) f (chunks_read cs fine s ∙ sym e) in
+    record { value = k.value; accepted = record { spelled = k.spelled; fits = k.fits }; same = k.same }
+
+-- the value of a text can be written
+pub rewritten : {A : Type 0} {r : Rule A} → Good r → (text : List ℕ) (a : A) (cs : List Chunk) → Accepts r (tokens_of text) a → mark_faces (r.spell a) ≡ closed_by cs → (AllFine (map face_of cs) → Spaced cs) → Again r a (text_of cs)
+rewritten {r = r} g text a cs h e s =
+    let closed = cut_fine (tokens_of text) (record { rest = text; start = 0; line = 1; column = 1 }) refl in
+    let fine = front_fine (map face_of cs) finish [] (subst Closed (spelled_faces (tokens_of text) (r.spell a) h.spelled ∙ e) closed) in
+    read_again g a cs h.fits e fine (s fine)

@@ -14,16 +14,17 @@ use Rattle.sn_query_rules.specs.declared.ast.Branch.{Branch}
 use Rattle.sn_query_rules.specs.declared.ast.Join.{Join}
 use Rattle.sn_query_rules.specs.Names.{past_number}
 use Rattle.sn_query_rules.specs.Grammar.{Name, op_rule, post_op_rule, levels_rule, refine_rule, branch_rule, join_rule, body_rule, query_rule, query_names, file_rule}
-use Rattle.sn_walk.specs.Limits.{Within, BranchOp, PostOp, RefineLimits, BranchLimits, JoinLimits, QueryLimits, KeepsLimits}
-use Rattle.sn_limits.proofs.Items.{IsListOf, from_full, commas_list, chain_list, many_count, items_are, items_apart}
-use Rattle.sn_limits.proofs.Leaves.{number_within, name_unseen}
-use Rattle.sn_limits.proofs.OpLemmas.{keys_keep, op_keeps, post_op_keeps}
+use Rattle.sn_query_rules.specs.Limits.{Within, BranchOp, PostOp, RefineLimits, BranchLimits, JoinLimits, QueryLimits, KeepsLimits}
+use Rattle.sn_rules.proofs.Items.{IsListOf, from_full, commas_list, series_list, many_count, items_are}
+use Rattle.sn_query_rules.proofs.ItemLimits.{counted, items_apart}
+use Rattle.sn_query_rules.proofs.TokenLimits.{number_within, name_unseen}
+use Rattle.sn_query_rules.proofs.OpLimits.{keys_keep, op_keeps, post_op_keeps}
 
 levels_keep : (levels : List ℕ) → levels_rule.fits kept levels → Within 1 4 (length levels) × AllByRecursion (λ l. l ≤ 64) levels
 unfolding levels_rule
 levels_keep levels h =
     let items : IsListOf 4 (λ seen. number_in 0 64) levels = commas_list 4 (past_number 0 64) (λ seen. number_in 0 64) levels (omega arith) h in
-    (items.count, items_are 4 (λ seen. number_in 0 64) (λ l. l ≤ 64) levels (λ seen a f. (number_within 0 64 a f).to_most) items.items)
+    (counted items, items_are 4 (λ seen. number_in 0 64) (λ l. l ≤ 64) levels (λ seen a f. (number_within 0 64 a f).to_most) items.items)
 
 refine_keeps : (r : Refine) → refine_rule.fits kept r → RefineLimits r
 unfolding refine_rule
@@ -32,8 +33,8 @@ refine_keeps r h = let k = levels_keep r.levels h.1.1.1.0 in record { count = k.
 branch_keeps : (b : Branch) → branch_rule.fits kept b → BranchLimits b
 unfolding branch_rule
 branch_keeps b h =
-    let items : IsListOf 12 (λ seen. op_rule) b.ops = chain_list 12 TooMany (λ seen. op_rule) b.ops (omega arith) h.1.0 in
-    record { count = items.count; each = items_are 12 (λ seen. op_rule) (λ op. BranchOp op.what) b.ops (λ seen a f. op_keeps a f) items.items }
+    let items : IsListOf 12 (λ seen. op_rule) b.ops = series_list 12 TooMany (λ seen. op_rule) b.ops (omega arith) h.1.0 in
+    record { count = counted items; each = items_are 12 (λ seen. op_rule) (λ op. BranchOp op.what) b.ops (λ seen a f. op_keeps a f) items.items }
 
 join_keeps : (j : Join) → join_rule.fits kept j → JoinLimits j
 unfolding join_rule
@@ -80,10 +81,10 @@ query_keeps names q h = query_parts names q.name q.refine q.branches q.join h
 file_keeps : (file : QueryFile) → file_rule.fits kept file → KeepsLimits file
 unfolding file_rule
 file_keeps file h =
-    let items : IsListOf 8 (λ seen. query_rule (query_names seen)) file.queries = chain_list 8 TooMany (λ seen. query_rule (query_names seen)) file.queries (omega arith) h.1.1.0 in
+    let items : IsListOf 8 (λ seen. query_rule (query_names seen)) file.queries = series_list 8 TooMany (λ seen. query_rule (query_names seen)) file.queries (omega arith) h.1.1.0 in
     record {
       window = number_within 1 3600000000 file.window_us h.1.0;
-      count = items.count;
+      count = counted items;
       names = items_apart 8 (λ seen. query_rule (query_names seen)) (λ q. q.name) file.queries (λ seen a f. (query_keeps (query_names seen) a f).1) items.items;
       each = items_are 8 (λ seen. query_rule (query_names seen)) QueryLimits file.queries (λ seen a f. (query_keeps (query_names seen) a f).0) items.items;
     }

@@ -17,9 +17,10 @@ use Rattle.sn_query_rules.specs.declared.ast.Expr.{Expr}
 use Rattle.sn_query_rules.specs.declared.ast.Expr.TheVariants.{Const, Copy, Mask, Shift, Sum, Ratio}
 use Rattle.sn_query_rules.specs.Names.{past_name, past_number, name_not}
 use Rattle.sn_query_rules.specs.Grammar.{Name, relax_rule, relaxes_rule, cond_rule, filter_rule, expr_rule, past_col, col_names, col_rule, map_rule, post_expr_rule, post_col_rule, post_map_rule, keys_rule, fold_rule, reduce_rule, what_rule, op_rule, post_what_rule, post_op_rule}
-use Rattle.sn_walk.specs.Limits.{Within, CondLimits, IsBranchExpr, IsPostExpr, FoldWidth, ReduceLimits, BranchOp, PostOp}
-use Rattle.sn_limits.proofs.Items.{IsListOf, commas_list, items_are, items_apart}
-use Rattle.sn_limits.proofs.Leaves.{number_within, name_unseen}
+use Rattle.sn_query_rules.specs.Limits.{Within, CondLimits, IsBranchExpr, IsPostExpr, FoldWidth, ReduceLimits, BranchOp, PostOp}
+use Rattle.sn_rules.proofs.Items.{IsListOf, commas_list, items_are}
+use Rattle.sn_query_rules.proofs.ItemLimits.{counted, items_apart}
+use Rattle.sn_query_rules.proofs.TokenLimits.{number_within, name_unseen}
 
 -- ---- filters
 
@@ -32,7 +33,7 @@ unfolding relaxes_rule
 relaxes_keep [] h = (omega arith, tt)
 relaxes_keep (r ∷ rs) h =
     let items : IsListOf 4 (λ seen. relax_rule) (r ∷ rs) = commas_list 4 (past_number 0 64) (λ seen. relax_rule) (r ∷ rs) (omega arith) h.1.1.0 in
-    (items.count.to_most, items_are 4 (λ seen. relax_rule) (λ r. r.level ≤ 64) (r ∷ rs) (λ seen a f. relax_keeps a f) items.items)
+    (items.count.1, items_are 4 (λ seen. relax_rule) (λ r. r.level ≤ 64) (r ∷ rs) (λ seen a f. relax_keeps a f) items.items)
 
 cond_keeps : (c : Cond) → cond_rule.fits kept c → CondLimits c
 unfolding cond_rule
@@ -42,7 +43,7 @@ filter_keeps : (conds : List Cond) → filter_rule.fits kept conds → Within 1 
 unfolding filter_rule
 filter_keeps conds h =
     let items : IsListOf 8 (λ seen. cond_rule) conds = commas_list 8 past_name (λ seen. cond_rule) conds (omega arith) h.1 in
-    (items.count, items_are 8 (λ seen. cond_rule) CondLimits conds (λ seen a f. cond_keeps a f) items.items)
+    (counted items, items_are 8 (λ seen. cond_rule) CondLimits conds (λ seen a f. cond_keeps a f) items.items)
 
 -- ---- maps
 
@@ -82,7 +83,7 @@ map_keeps : (cols : List MapCol) → map_rule.fits kept cols → Within 1 8 (len
 unfolding map_rule
 map_keeps cols h =
     let items : IsListOf 8 (λ seen. col_rule (col_names seen)) cols = commas_list 8 past_col (λ seen. col_rule (col_names seen)) cols (omega arith) h.1 in (
-      items.count,
+      counted items,
       items_apart 8 (λ seen. col_rule (col_names seen)) (λ c. c.name) cols (λ seen a f. (col_keeps (col_names seen) a f).1) items.items,
       items_are 8 (λ seen. col_rule (col_names seen)) (λ c. IsBranchExpr c.expr) cols (λ seen a f. (col_keeps (col_names seen) a f).0) items.items,
     )
@@ -91,7 +92,7 @@ post_map_keeps : (cols : List MapCol) → post_map_rule.fits kept cols → Withi
 unfolding post_map_rule
 post_map_keeps cols h =
     let items : IsListOf 8 (λ seen. post_col_rule (col_names seen)) cols = commas_list 8 past_col (λ seen. post_col_rule (col_names seen)) cols (omega arith) h.1 in (
-      items.count,
+      counted items,
       items_apart 8 (λ seen. post_col_rule (col_names seen)) (λ c. c.name) cols (λ seen a f. (post_col_keeps (col_names seen) a f).1) items.items,
       items_are 8 (λ seen. post_col_rule (col_names seen)) (λ c. IsPostExpr c.expr) cols (λ seen a f. (post_col_keeps (col_names seen) a f).0) items.items,
     )
@@ -108,7 +109,7 @@ keys_keep keys h =
     let items : IsListOf 8 (λ seen. name_not seen) keys = commas_list 8 past_name (λ seen. name_not seen) keys (omega arith) h in
     let fresh : (seen : List Name) (a : Name) → (name_not seen).fits kept a → list_any (same_row a) (map (λ n. n) seen) ≡ false =
     λ seen a f. subst (λ ns. list_any (same_row a) ns ≡ false) (sym (unmapped seen)) (name_unseen seen a f) in
-    (items.count, subst (λ ns. Apart same_row ns) (unmapped keys) (items_apart 8 (λ seen. name_not seen) (λ n. n) keys fresh items.items))
+    (counted items, subst (λ ns. Apart same_row ns) (unmapped keys) (items_apart 8 (λ seen. name_not seen) (λ n. n) keys fresh items.items))
 
 -- the value's name is none of the keys
 sum_keeps : (keys : List Name) (value : Name) (width : ℕ) → (fold_rule keys).fits kept (inl (value, width)) → (list_any (same_row value) keys ≡ false) × Within 1 64 width

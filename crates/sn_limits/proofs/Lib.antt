@@ -1,4 +1,0 @@
-pub mod Items
-pub mod Leaves
-pub mod OpLemmas
-pub mod FileLemmas
