@@ -58,10 +58,10 @@ abbrev pub AreTaken : List TypedQuery → Option ℕ → List Intake → List Fr
 AreTaken queries closed lanes [] = Unit {0}
 AreTaken queries closed lanes (frame ∷ frames) = (take_fault queries lanes closed frame ≡ None) × AreTaken queries closed (after_frame lanes frame) frames
 
--- a frame is answered by the first refusal, if any; want of memory may come in its place
+-- a frame is answered by the first refusal, if any; want of memory is answered only where there is none
 abbrev pub Refuses : {A : Type 0} → Result A TakeFault → Option TakeFault → Type 0
 Refuses (Ok a) fault = fault ≡ None
-Refuses (Err f) fault = (f ≡ Memory) ⊎ (fault ≡ Some f)
+Refuses (Err f) fault = ((f ≡ Memory) × (fault ≡ None)) ⊎ (fault ≡ Some f)
 
 -- the place of the lane that takes a frame, or the first refusal
 abbrev pub Places : Result ℕ TakeFault → Option ℕ → Option TakeFault → Type 0
