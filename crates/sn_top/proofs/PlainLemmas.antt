@@ -1,5 +1,5 @@
 -- The stages of `plain` have one outcome each.
-use Rattle.std.proofs.Common.{◌≡◌, ℕ, List, Result, Ok, Err, refl, ap, sym, ◌∙◌}
+use Rattle.std.proofs.Common.{◌≡◌, ℕ, List, Result, Ok, Err, refl, ap}
 use Rattle.sn_pcap.specs.declared.header.Header.{Header}
 use Rattle.sn_pcap.specs.declared.packet.Packet.{Packet}
 use Rattle.sn_pcap.specs.declared.packet.Ending.{Ending}
@@ -11,7 +11,7 @@ use Rattle.sn_stage.specs.Stages.{HasVerdict}
 use Rattle.sn_stage.proofs.OneLemmas.{one_does, one_bytes, one_judges, one_then, one_text}
 use Rattle.sn_top.specs.Answers.{window_text}
 use Rattle.sn_top.specs.Capture.{most_capture, Found, RecordsIn, LastLines, Answered}
-use Rattle.sn_top.specs.Plain.{AfterHead, AfterCapture, Plain}
+use Rattle.sn_top.specs.Plain.{AfterCapture, Plain}
 use Rattle.sn_top.specs.Texts.{QueriesIn}
 use Rattle.sn_top.proofs.TextLemmas.{one_queries}
 

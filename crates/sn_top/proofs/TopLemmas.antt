@@ -1,5 +1,5 @@
 -- The words and the work of a command, over plain values.
-use Rattle.std.proofs.Common.{◌≡◌, ◌⊎◌, ℕ, ◌+◌, ◌<◌, List, Bool, true, false, Option, Some, None, Result, Err, length, inl, inr, refl, ap, sym, ◌∙◌, arith, length-append}
+use Rattle.std.proofs.Common.{◌≡◌, ◌⊎◌, ℕ, ◌+◌, ◌<◌, List, true, false, Option, Some, None, Result, Err, length, inl, inr, refl, ap, sym, ◌∙◌, arith, length-append}
 use Rattle.std.specs.Prelude.{String}
 use Rattle.std.specs.String.{string_bytes}
 use Rattle.std.specs.declared.alloc.Global.{Global}
