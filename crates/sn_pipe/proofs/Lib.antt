@@ -1,5 +1,6 @@
 pub mod Flows
 pub mod Fronts
+pub mod ItemLaw
 pub mod KeptLaw
 pub mod Makings
 pub mod ReadOuts

@@ -1,6 +1,6 @@
 //! What a pipe gives over a whole window. A program never calls these functions; each states a fact about the definitions
 //! that the contracts of `Pipe` cite.
-ghost use Rattle.std.specs.Prelude.{◌≡◌, ℕ, ◌<◌, ◌≤◌, ◌++◌, ◌∷◌, List, Option, None, Some, false, length, map, take};
+ghost use Rattle.std.specs.Prelude.{◌≡◌, ℕ, ◌<◌, ◌≤◌, ◌++◌, ◌∷◌, List, Option, None, Some, false, true, length, map, take};
 ghost use Rattle.std.specs.FinSet as set;
 ghost use Rattle.std.specs.List.{AllByRecursion};
 ghost use Rattle.std.specs.Ordering.{nat_cmp};
@@ -9,6 +9,7 @@ ghost use Rattle.sn_types.specs.Cuts.{size_at};
 ghost use Rattle.sn_pipe.specs.Prefixes.{left_in};
 ghost use Rattle.sn_ops.specs.Packets.{packet_rows};
 ghost use Rattle.sn_ops.specs.declared.packets.Kept.{Kept};
+ghost use Rattle.sn_split.specs.Branches.{IsItemOf, branch_items, is_tag_of};
 ghost use Rattle.sn_types.specs.Typed.{HasWidths, IsTyped, branch_at, query_at};
 ghost use Rattle.sn_types.specs.Values.{op_at};
 ghost use Rattle.sn_types.specs.declared.typed_query.TypedQuery.{TypedQuery};
@@ -71,4 +72,12 @@ pub fn pipes_let_in_the_kept()
         rows_let_in query b level None members tuples ≡ packet_rows query b level None tuples }
     ensures kept { (query : TypedQuery) (b level : ℕ) (kept : Kept) (tuples : List (List ℕ)) →
         rows_let_in query b level (Some kept.bits) kept.members.now tuples ≡ packet_rows query b level (Some kept) tuples }
+{}
+
+/// The items of the prefix of a branch have the columns of their tags, and tags of that prefix: an engine that knows the
+/// cut takes each of them.
+pub fn items_are_of_their_branch()
+    ensures { (window q b level cut depth : ℕ) (queries : List TypedQuery) (kept : Option Kept) (sizes : List ℕ) (tuples : List (List ℕ)) →
+        ∥ IsTyped window queries ∥₁ → q < length queries → b < length (query_at queries q).branches → cut ≤ (branch_at queries q b).max_cut → AllByRecursion HasWidths tuples →
+        AllByRecursion (λ item. IsItemOf (branch_at queries q b) item × (is_tag_of (branch_at queries q b).ops cut item.tag ≡ true)) (branch_items (query_at queries q) b level kept cut depth sizes tuples) }
 {}
