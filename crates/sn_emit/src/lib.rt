@@ -3,7 +3,7 @@
 
 pub mod lanes;
 pub mod law;
-mod making;
+pub mod making;
 pub mod sender;
 #[cfg(test)]
 mod tests;

@@ -14,7 +14,7 @@ use sn_plan_rules::plan::Piece;
 use sn_types::typed::Typed;
 
 /// The level before a level on a path. `None` exactly where it is the first.
-fn level_before(path: &[u32], level: u32) -> Option<u32>
+pub fn level_before(path: &[u32], level: u32) -> Option<u32>
     requires { length path.now ≤ 8 }
     ensures { result ≡ level_before path.now level }
 {

@@ -25,17 +25,17 @@ none_below n (given ∷ rest) v h le =
     ap (λ b. cond b (Some given.1) (windows_of rest v)) (apart v given.0 (omega (arith, le, above)))
     ∙ none_below given.0 rest v h.1 (omega (arith, le, above))
 
-here : (given : Given) (rest : List Given) → windows_of (given ∷ rest) given.0 ≡ Some given.1
+pub here : (given : Given) (rest : List Given) → windows_of (given ∷ rest) given.0 ≡ Some given.1
 here given rest = ap (λ b. cond b (Some given.1) (windows_of rest given.0)) (same given.0)
   where
     same : (n : ℕ) → (n == n) ≡ true
     same n = eq-eqb n n refl
 
-earlier : (given : Given) (rest : List Given) (v : ℕ) → Rises (Some given.0) rest → v < given.0 → windows_of (given ∷ rest) v ≡ None
+pub earlier : (given : Given) (rest : List Given) (v : ℕ) → Rises (Some given.0) rest → v < given.0 → windows_of (given ∷ rest) v ≡ None
 earlier given rest v h lt =
     ap (λ b. cond b (Some given.1) (windows_of rest v)) (apart v given.0 lt) ∙ none_below given.0 rest v h (omega (arith, lt))
 
-later : (given : Given) (rest : List Given) (v : ℕ) → given.0 < v → windows_of (given ∷ rest) v ≡ windows_of rest v
+pub later : (given : Given) (rest : List Given) (v : ℕ) → given.0 < v → windows_of (given ∷ rest) v ≡ windows_of rest v
 later given rest v lt = ap (λ b. cond b (Some given.1) (windows_of rest v)) (not_true (given.0 == v) (λ same. let e = nat_same given.0 v same in absurd (omega (arith, e, lt))))
 
 -- ---- what is kept of the windows so far
@@ -108,7 +108,7 @@ remembered q query windows path w = λ j within.
 
 -- ---- all windows
 
-above_last : (last : Option ℕ) (w v : ℕ) → IsAbove last w → w < v → IsAbove last v
+pub above_last : (last : Option ℕ) (w v : ℕ) → IsAbove last w → w < v → IsAbove last v
 above_last None w v above lt = tt
 above_last (Some last) w v above lt = omega (arith, above, lt)
 

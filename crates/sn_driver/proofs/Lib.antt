@@ -1,0 +1,11 @@
+pub mod Draining
+pub mod Changes
+pub mod OneLane
+pub mod Giving
+pub mod Apart
+pub mod Finding
+pub mod Seeing
+pub mod Parts
+pub mod Beginning
+pub mod Along
+pub mod Laws
