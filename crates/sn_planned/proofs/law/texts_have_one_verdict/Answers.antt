@@ -1,0 +1,8 @@
+use Rattle.sn_planned.proofs.Verdicts.{one_plan, one_switch}
+use Rattle.sn_planned.proofs.law.texts_have_one_verdict.Goals as goal
+
+pub returns-clause-switch : goal.returns-clause-switch
+returns-clause-switch c = one_switch
+
+pub returns-clause-plan : goal.returns-clause-plan
+returns-clause-plan c = one_plan
