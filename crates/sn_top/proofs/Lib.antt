@@ -1,7 +1,9 @@
-pub mod RunSteps
 pub mod TypedLemmas
 pub mod PartLemmas
 pub mod WindowLemmas
+pub mod GatherLemmas
+pub mod StreamLemmas
+pub mod TurnLemmas
 pub mod TextLemmas
 pub mod PlainLemmas
 pub mod TopLemmas

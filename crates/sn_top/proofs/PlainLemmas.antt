@@ -1,5 +1,5 @@
 -- The stages of `plain` have one outcome each.
-use Rattle.std.proofs.Common.{◌≡◌, ℕ, List, Result, Ok, Err, refl, ap}
+use Rattle.std.proofs.Common.{◌≡◌, ℕ, List, Result, Ok, Err, refl, ap, sym, ◌∙◌}
 use Rattle.sn_pcap.specs.declared.header.Header.{Header}
 use Rattle.sn_pcap.specs.declared.packet.Packet.{Packet}
 use Rattle.sn_pcap.specs.declared.packet.Ending.{Ending}
@@ -8,10 +8,10 @@ use Rattle.sn_read_queries.specs.Texts.{Queries}
 use Rattle.sn_stage.specs.declared.fault.Fault.{Fault}
 use Rattle.sn_stage.specs.Outcomes.{HasOne}
 use Rattle.sn_stage.specs.Stages.{HasVerdict}
-use Rattle.sn_stage.proofs.OneLemmas.{one_does, one_bytes, one_judges, one_then, one_text}
-use Rattle.sn_top.specs.Answers.{window_text}
-use Rattle.sn_top.specs.Capture.{most_capture, Found, RecordsIn, LastLines, Answered}
-use Rattle.sn_top.specs.Plain.{AfterCapture, Plain}
+use Rattle.sn_stage.proofs.OneLemmas.{one_does, one_judges, one_then, one_text}
+use Rattle.sn_pcap.specs.Reading.{within}
+use Rattle.sn_top.specs.Capture.{Whole, Found, RecordsIn, WindowsOf, LastLines, Answered}
+use Rattle.sn_top.specs.Plain.{Plain}
 use Rattle.sn_top.specs.Texts.{QueriesIn}
 use Rattle.sn_top.proofs.TextLemmas.{one_queries}
 
@@ -33,11 +33,14 @@ module _ (header : Header) (file : List ℕ) where
 one_last : (ending : Ending) (windows : ℕ) → HasOne (LastLines ending windows)
 one_last ending windows = one_then (one_does _) (λ _. one_then (one_does _) (λ _. one_does _))
 
-one_answered : (read : Queries) (block : ℕ → List Packet → List ℕ) (found : Found) → HasOne (Answered read block found)
-one_answered read block found = one_then (one_does _) (one_last found.ending)
+one_whole : (name : List ℕ) → HasOne (Whole name)
+one_whole name = record { some = λ files. record { outcome = _; is = refl }; once = λ files first second a b. a ∙ sym b }
 
-one_capture : (read : Queries) (file : List ℕ) → HasOne (AfterCapture read file)
-one_capture read file = one_then (one_does _) (λ header. one_then (one_judges (one_found header file)) (one_answered read (window_text read.queries header.link file)))
+one_windows : (read : Queries) (capture : List ℕ) (header : Header) → HasOne (WindowsOf read capture header)
+one_windows read capture header = one_then (one_whole capture) (λ file. one_then (one_judges (one_found header (within file))) (λ found. one_does _))
+
+one_answered : (capture : List ℕ) (read : Queries) → HasOne (Answered capture read)
+one_answered capture read = one_then (one_then (one_whole capture) (λ file. one_does _)) (λ header. one_then (one_windows read capture header) (λ closed. one_last closed.1 closed.0))
 
 pub one_plain : (queries capture : List ℕ) → HasOne (Plain queries capture)
-one_plain queries capture = one_then (one_text queries QueriesIn one_queries) (λ read. one_then (one_bytes most_capture capture) (one_capture read))
+one_plain queries capture = one_then (one_text queries QueriesIn one_queries) (one_answered capture)

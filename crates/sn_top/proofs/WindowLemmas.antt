@@ -1,14 +1,13 @@
 -- What is left of the windows, over plain values.
-use Rattle.std.proofs.Common.{◌≡◌, ℕ, ◌+◌, ◌≤◌, ◌<◌, List, [], ◌∷◌, ◌++◌, Bool, true, false, cond, ◌&&◌, map, Result, Ok, Err, length, take, drop, refl, ap, sym, ◌∙◌, arith}
+use Rattle.std.proofs.Common.{◌≡◌, ℕ, ◌+◌, ◌≤◌, ◌<◌, List, [], ◌∷◌, ◌++◌, Bool, true, false, cond, ◌&&◌, map, Ok, Err, length, take, drop, refl, ap, sym, ◌∙◌, arith}
 use Rattle.std.specs.Prelude.{nat_le, ◌==◌}
 use Rattle.sn_base.proofs.Lists.{by_test}
-use Rattle.std.proofs.lemmas.Bool.{lt-leb, le-leb, eqb-false}
+use Rattle.std.proofs.lemmas.Bool.{lt-leb, le-leb}
 use Rattle.std.proofs.lemmas.List.{length-map, length-take-le}
 use Rattle.sn_pcap.specs.declared.packet.Packet.{Packet}
 use Rattle.sn_stage.specs.declared.fault.Fault.TheVariants.{TooLarge}
 use Rattle.sn_stage.specs.declared.refusal.Refusal.TheVariants.{Refused}
 use Rattle.sn_stage.specs.Outcomes.{Outcome, silent}
-use Rattle.sn_top.specs.Capture.{windows_outcome}
 use Rattle.sn_windows.specs.Windows.{record_at, windows_of, run_of, first_run, first_number}
 use Rattle.sn_windows.specs.Blocks.{most_records, is_few, all_few, blocks}
 use Rattle.sn_windows.proofs.RunLemmas.{Rises, windows_step, few_here, few_step, blocks_step}
@@ -29,9 +28,6 @@ module _ (block : ℕ → List Packet → List ℕ) where
   -- the blocks of the windows that are left, and how many windows there are with those that are closed
   abbrev pub left_outcome : ℕ → List (ℕ × Packet) → Outcome ℕ
   left_outcome closed ys = record { text = blocks block ys; end = cond (all_few ys) (Ok (closed + length (windows_of ys))) (Err (Refused TooLarge)) }
-
-  pub left_begin : (xs : List (ℕ × Packet)) → left_outcome 0 xs ≡ windows_outcome block xs
-  left_begin xs = let e : 0 + length (windows_of xs) ≡ length (windows_of xs) = omega arith in ap (λ (n : ℕ). record { text = blocks block xs; end = cond (all_few xs) (Ok n) (Err (Refused TooLarge)) }) e
 
   pub left_none : (closed : ℕ) → left_outcome closed [] ≡ silent (Ok closed)
   left_none closed = let e : closed + 0 ≡ closed = omega arith in ap (λ (n : ℕ). silent (Ok n)) e
@@ -64,6 +60,3 @@ module _ (block : ℕ → List Packet → List ℕ) where
     where
       made : {s t : List ℕ} {a b : Bool} {m n : ℕ} → s ≡ t → a ≡ b → m ≡ n → ◌≡◌ {A = Outcome ℕ} (record { text = s; end = cond a (Ok m) (Err (Refused TooLarge)) }) (record { text = t; end = cond b (Ok n) (Err (Refused TooLarge)) })
       made e f g = rw (e, f, g) refl
-
-pub is_some_left : (n : ℕ) → (n == 0) ≡ false → 0 < n
-is_some_left n e = let ne = eqb-false n 0 e in omega arith

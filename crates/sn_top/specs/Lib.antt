@@ -4,3 +4,4 @@ pub mod Answers
 pub mod Capture
 pub mod Plain
 pub mod Top
+pub mod Gathering

@@ -3,9 +3,9 @@
 
 pub mod answers;
 pub mod capture;
+pub mod gathered;
 pub mod law;
 pub mod plain;
-pub mod runs;
 #[cfg(test)]
 mod tests;
 pub mod texts;

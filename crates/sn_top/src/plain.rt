@@ -4,12 +4,11 @@ ghost use Rattle.sn_stage.specs.Desks.{world};
 ghost use Rattle.sn_stage.specs.Runs.{Works};
 ghost use Rattle.sn_top.specs.Plain.{Plain};
 
-use crate::capture::{MOST_CAPTURE, answer_capture};
+use crate::capture::answer_capture;
 use crate::texts::read_queries;
 use sn_io::inputs::Inputs;
 use sn_io::sink::Sink;
 use sn_stage::desk::Desk;
-use sn_stage::files::read_file;
 use sn_stage::refusal::Refusal;
 use std::alloc::Global;
 
@@ -23,6 +22,5 @@ pub fn plain<I: Inputs, O: Sink>(
     ensures { Works (queries.now ∷ capture.now ∷ []) (Plain queries.now capture.now) (world I.Inputs O.Sink desk.old) result (world I.Inputs O.Sink desk.new) }
 {
     let typed = read_queries(alloc, desk, queries)?;
-    let file = read_file(alloc, desk, capture, MOST_CAPTURE)?;
-    answer_capture(alloc, &typed, file.as_slice(), desk)
+    answer_capture(alloc, &typed, capture, desk)
 }

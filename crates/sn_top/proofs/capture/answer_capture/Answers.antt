@@ -1,14 +1,10 @@
-use Rattle.std.proofs.Common.{Result, ap, sym, ◌∙◌}
-use Rattle.sn_pcap.specs.declared.header.Header.{Header}
-use Rattle.sn_pcap.specs.declared.header.HeadFault.{HeadFault}
-use Rattle.sn_stage.specs.declared.fault.Fault.TheVariants as faults
-use Rattle.sn_stage.specs.Refusals.{refusing}
-use Rattle.sn_stage.specs.Stages.{named}
-use Rattle.sn_stage.proofs.StageLemmas.{gives_as, stage_stops, stage_then}
+use Rattle.std.proofs.lemmas.Result.{err_from_is_err_and}
+use Rattle.sn_stage.proofs.StageLemmas.{file_stops, file_then}
+use Rattle.sn_top.proofs.StreamLemmas.{same_name}
 use Rattle.sn_top.proofs.capture.answer_capture.Goals as goal
 
-pub returns-in-Ok : goal.returns-in-Ok
-returns-in-Ok g c = stage_then (gives_as _ (ap (λ (r : Result Header HeadFault). refusing (named faults.Head r)) (sym c.in-Ok.is ∙ c.head.ensures.first))) c.answer_records.ensures
+pub returns-in_err-header : goal.returns-in_err-header
+returns-in_err-header g c = let p = err_from_is_err_and c.from_residual.result c.from_residual.ensures.1 in rw (p.1, p.2) (file_stops c.in_err-header.ensures.runs)
 
-pub returns-in-Err : goal.returns-in-Err
-returns-in-Err g c = stage_stops (gives_as _ (ap (λ (r : Result Header HeadFault). refusing (named faults.Head r)) (sym c.in-Err.is ∙ c.head.ensures.first)))
+pub returns : goal.returns
+returns g c = same_name (file_then c.in_ok-header.ensures.runs c.answer_records.ensures)
