@@ -1,6 +1,8 @@
 """Runs `sonata plain` on a query text and reads its answer, and the command line that the checks share."""
 
 import argparse
+import collections
+import functools
 import os
 import shutil
 import subprocess
@@ -64,6 +66,29 @@ def command_line(description):
     words = argparse.ArgumentParser(description=description, formatter_class=argparse.RawDescriptionHelpFormatter)
     words.add_argument('--sonata', default=USUAL, help='the program (default: the one that this clone built)')
     return words
+
+
+def random_cases(description, case, alone=None):
+    """Run cases of random files, each from its seed, and tell how they came out. A case gives its statuses, None where two answers differ; `alone` is
+    a case that needs no program, where there is one. The status is 0 where no answers differ."""
+    words = command_line(description)
+    words.add_argument('--cases', type=int, default=1000)
+    words.add_argument('--first', type=int, default=0, help='the first seed')
+    if alone:
+        words.add_argument('--alone', action='store_true', help='compare the reference with itself')
+    given = words.parse_args()
+    tried = alone if alone and given.alone else functools.partial(case, given.sonata)
+    counts, differing = collections.Counter(), 0
+    with tempfile.TemporaryDirectory() as folder:
+        for seed in range(given.first, given.first + given.cases):
+            found = tried(seed, folder)
+            if None in found:
+                differing += 1
+                print('seed %d: they differ: %s' % (seed, found))
+            counts[tuple(found)] += 1
+    for statuses, count in counts.most_common():
+        print('%6d cases with the statuses %s' % (count, ', '.join(map(str, statuses))))
+    return 1 if differing else 0
 
 
 def check_captures(description, tool, show):

@@ -6,7 +6,6 @@ With --alone the reference is compared with itself: its search with all plans of
 
 import random
 import sys
-import tempfile
 
 import planned
 import program
@@ -16,11 +15,11 @@ from reference import costs, plans
 
 
 def small(draw):
-    """Queries whose space of plans is small: one or two queries, with at most four paths."""
+    """A query text whose space of plans is small: at most two branches in all, and two levels a query."""
     while True:
-        text, window, queries = random_plans.typed(draw)
-        if sum(len(query.levels) > 2 for query in queries) == 0 and sum(len(query.branches) for query in queries) <= 2:
-            return text, window, queries
+        text, _, queries = random_plans.typed(draw)
+        if all(len(query.levels) <= 2 for query in queries) and sum(len(query.branches) for query in queries) <= 2:
+            return text
 
 
 def switch_text(draw):
@@ -30,9 +29,8 @@ def switch_text(draw):
 
 
 def files(draw):
-    text, window, queries = small(draw)
-    held = {'switch': switch_text(draw).encode(), 'queries': text.encode(), 'plan': random_queries.capture(draw), 'capture': random_queries.capture(draw)}
-    return held
+    """The bytes of each file of a case. The training capture stands in the place of the plan."""
+    return {'switch': switch_text(draw).encode(), 'queries': small(draw).encode(), 'plan': random_queries.capture(draw), 'capture': random_queries.capture(draw)}
 
 
 def spoilt(draw, certificate):
@@ -91,24 +89,5 @@ def alone(seed, folder):
     return [0 if same and (exact or expanded == 0) and costs.choices_of(table, plan.plan()) == plan.choices else None]
 
 
-def main():
-    words = program.command_line(__doc__)
-    words.add_argument('--cases', type=int, default=1000)
-    words.add_argument('--first', type=int, default=0, help='the first seed')
-    words.add_argument('--alone', action='store_true', help='compare the reference with itself')
-    given = words.parse_args()
-    counts, differing = {}, 0
-    with tempfile.TemporaryDirectory() as folder:
-        for seed in range(given.first, given.first + given.cases):
-            found = alone(seed, folder) if given.alone else case(given.sonata, seed, folder)
-            if None in found:
-                differing += 1
-                print('seed %d: they differ: %s' % (seed, found))
-            counts[tuple(found)] = counts.get(tuple(found), 0) + 1
-    for statuses, count in sorted(counts.items(), key=lambda one: -one[1]):
-        print('%6d cases with the statuses %s' % (count, ', '.join(map(str, statuses))))
-    return 1 if differing else 0
-
-
 if __name__ == '__main__':
-    sys.exit(main())
+    sys.exit(program.random_cases(__doc__, case, alone))

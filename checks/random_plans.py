@@ -8,12 +8,11 @@ import os
 import random
 import subprocess
 import sys
-import tempfile
 
 import planned
 import program
 import random_queries
-from reference import grammar, pipes, plans, split, switches, tokens, typing_rules
+from reference import engines, grammar, pipes, plans, switches, tokens, typing_rules
 
 FILES = ('switch', 'queries', 'plan', 'capture', 'reports')
 
@@ -63,18 +62,15 @@ def piece_of(draw, switch, query, entry, level, branch):
     return piece
 
 
+def entry_of(draw, switch, query):
+    levels = plans.levels_of(query)
+    entry = plans.Entry(query.name, [level for level in levels[:-1] if draw.random() < 0.7] + levels[-1:])
+    entry.pieces = [piece_of(draw, switch, query, entry, level, branch) for level in entry.path for branch in range(len(query.branches))]
+    return entry
+
+
 def plan_text(draw, switch, queries):
-    lines = ['plan']
-    for query in queries:
-        levels = plans.levels_of(query)
-        entry = plans.Entry(query.name, [level for level in levels[:-1] if draw.random() < 0.7] + levels[-1:])
-        lines.append('query %s path %s;' % (entry.name, ', '.join(map(str, entry.path))))
-        for level in entry.path:
-            for branch in range(len(query.branches)):
-                piece = piece_of(draw, switch, query, entry, level, branch)
-                registers = ' slots %s stages %s' % (', '.join(map(str, piece.sizes)), ', '.join(map(str, piece.stages))) if piece.sizes else ''
-                lines.append('piece %d %d cut %d%s;' % (level, branch, piece.cut, registers))
-    return '\n'.join(lines) + '\n'
+    return '\n'.join(plans.lines([entry_of(draw, switch, query) for query in queries])) + '\n'
 
 
 def spoilt_reports(draw, reports):
@@ -93,7 +89,6 @@ def spoilt_reports(draw, reports):
 def shuffled(draw, reports):
     """The same frames, those of each window in another order between the lanes."""
     frames, at = [], 0
-    from reference import engines
     while at < len(reports):
         lane, content, end = engines.decode(reports, at)
         frames.append((lane, reports[at:end], isinstance(content, int)))
@@ -138,7 +133,7 @@ def ran(executable, command, *names):
 
 
 def differs(executable, command, *names):
-    """The two answers where they differ, or the status that both have."""
+    """The status that both answers have, or None where they differ."""
     wanted = planned.answer(command, *names)
     return wanted[0] if ran(executable, command, *names) == wanted else None
 
@@ -169,24 +164,5 @@ def alone(seed, folder):
     return [status if done == (0, b''.join(lines), '') else None]
 
 
-def main():
-    words = program.command_line(__doc__)
-    words.add_argument('--cases', type=int, default=1000)
-    words.add_argument('--first', type=int, default=0, help='the first seed')
-    words.add_argument('--alone', action='store_true', help='compare the reference with itself')
-    given = words.parse_args()
-    counts, differing = {}, 0
-    with tempfile.TemporaryDirectory() as folder:
-        for seed in range(given.first, given.first + given.cases):
-            found = alone(seed, folder) if given.alone else case(given.sonata, seed, folder)
-            if None in found:
-                differing += 1
-                print('seed %d: they differ: %s' % (seed, found))
-            counts[tuple(found)] = counts.get(tuple(found), 0) + 1
-    for statuses, count in sorted(counts.items(), key=lambda one: -one[1]):
-        print('%6d cases with the statuses %s' % (count, ', '.join(map(str, statuses))))
-    return 1 if differing else 0
-
-
 if __name__ == '__main__':
-    sys.exit(main())
+    sys.exit(program.random_cases(__doc__, case, alone))

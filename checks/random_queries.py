@@ -7,7 +7,6 @@ import os
 import random
 import struct
 import sys
-import tempfile
 
 import plain
 import program
@@ -131,29 +130,15 @@ def queries(draw):
 
 
 def case(executable, seed, folder):
-    """The status, where both answer alike, else None."""
+    """The status, None where the two answer otherwise."""
     draw = random.Random(seed)
     names = [os.path.join(folder, name) for name in ('queries', 'capture')]
     for name, held in zip(names, (queries(draw).encode(), capture(draw))):
         with open(name, 'wb') as file:
             file.write(held)
     wanted = plain.plain(*names)
-    return wanted[0] if program.run(executable, *names) == wanted else None
-
-
-def main():
-    words = program.command_line(__doc__)
-    words.add_argument('--cases', type=int, default=1000)
-    words.add_argument('--first', type=int, default=0, help='the first seed')
-    given = words.parse_args()
-    with tempfile.TemporaryDirectory() as folder:
-        found = [case(given.sonata, seed, folder) for seed in range(given.first, given.first + given.cases)]
-    for seed, status in enumerate(found, given.first):
-        if status is None:
-            print('seed %d: they differ' % seed)
-    print('%d cases alike: %s' % (len(found) - found.count(None), ', '.join('%d of status %d' % (found.count(s), s) for s in sorted(set(found) - {None}))))
-    return 1 if None in found else 0
+    return [wanted[0] if program.run(executable, *names) == wanted else None]
 
 
 if __name__ == '__main__':
-    sys.exit(main())
+    sys.exit(program.random_cases(__doc__, case))

@@ -261,20 +261,10 @@ def check_tree(costs, plan, number, nodes):
 
 # ---- texts
 
-def plan_lines(entries):
-    lines = ['plan']
-    for entry in entries:
-        lines.append('query %s path %s;' % (entry.name, ', '.join(map(str, entry.path))))
-        for piece in entry.pieces:
-            registers = ' slots %s stages %s' % (', '.join(map(str, piece.sizes)), ', '.join(map(str, piece.stages))) if piece.sizes else ''
-            lines.append('piece %d %d cut %d%s;' % (piece.level, piece.branch, piece.cut, registers))
-    return lines
-
-
 def certificate(costs, plan):
     """The text of `plan`."""
     nodes = [letter if number is None else '%s %d' % (letter, number) for letter, number in tree(costs, plan)]
-    return ('\n'.join(plan_lines(plan.plan()) + ['cost %d;' % plan.lower(), 'tree'] + nodes + ['done']) + '\n').encode()
+    return ('\n'.join(plans.lines(plan.plan()) + ['cost %d;' % plan.lower(), 'tree'] + nodes + ['done']) + '\n').encode()
 
 
 class TreeReader(plans.PlanReader):

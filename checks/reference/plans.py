@@ -77,6 +77,17 @@ def parse(text):
     return PlanReader(text).plan()
 
 
+def lines(entries):
+    """The lines of a plan's text."""
+    found = ['plan']
+    for entry in entries:
+        found.append('query %s path %s;' % (entry.name, ', '.join(map(str, entry.path))))
+        for piece in entry.pieces:
+            registers = ' slots %s stages %s' % (', '.join(map(str, piece.sizes)), ', '.join(map(str, piece.stages))) if piece.sizes else ''
+            found.append('piece %d %d cut %d%s;' % (piece.level, piece.branch, piece.cut, registers))
+    return found
+
+
 # ---- what fits
 
 def levels_of(query):
