@@ -35,7 +35,7 @@ held_kept : (field : Option Field) (kept : Kept) (tuple : List ℕ) → is_kept 
 held_kept None kept tuple = refl
 held_kept (Some f) kept tuple = refl
 
-packets_held : (query : TypedQuery) (b level : ℕ) (kept : Kept) (tuples : List (List ℕ))
+pub packets_held : (query : TypedQuery) (b level : ℕ) (kept : Kept) (tuples : List (List ℕ))
     → packet_rows query b level (Some kept) tuples ≡ packet_rows query b level None (filter (is_held query.field kept.bits kept.members.now) tuples)
 packets_held query b level kept tuples =
     let row : List ℕ → Row = packet_row query.field level (branch_of query b).fields in

@@ -41,19 +41,19 @@ later given rest v lt = ap (λ b. cond b (Some given.1) (windows_of rest v)) (no
 -- ---- what is kept of the windows so far
 
 -- of the last window the prefixes of its refined answers are kept, level by level
-abbrev Remembers : TypedQuery → Windows → List ℕ → Option ℕ → List Set → Type 0
+abbrev pub Remembers : TypedQuery → Windows → List ℕ → Option ℕ → List Set → Type 0
 Remembers query windows path None kept = Unit {0}
 Remembers query windows path (Some last) kept = (j : ℕ) → suc j < length path → unwrap_or (slice_get kept j) set.empty ≡ prefixes_of query (refined_rows query windows path j last)
 
 -- no window was left out that holds a record
-abbrev NoneBetween : Windows → Option ℕ → ℕ → Type 0
+abbrev pub NoneBetween : Windows → Option ℕ → ℕ → Type 0
 NoneBetween windows last w = (v : ℕ) → IsAbove last v → v < w → windows v ≡ None
 
 no_prefixes : (query : TypedQuery) (rows : List Row) → rows ≡ [] → set.empty ≡ prefixes_of query rows
 no_prefixes query rows none = sym (ap (prefixes_of query) none)
 
 -- the prefixes that a level sees are those of the window before
-seen_from : (query : TypedQuery) (windows : Windows) (path : List ℕ) (last : Option ℕ) (kept : List Set) (w j : ℕ) → suc j < length path → IsAbove last w → NoneBetween windows last w
+pub seen_from : (query : TypedQuery) (windows : Windows) (path : List ℕ) (last : Option ℕ) (kept : List Set) (w j : ℕ) → suc j < length path → IsAbove last w → NoneBetween windows last w
     → Remembers query windows path last kept → kept_at last kept w j ≡ prefixes_of query (before (refined_rows query windows path j) w)
 seen_from query windows path None kept zero j within above between remembers = no_prefixes query [] refl
 seen_from query windows path None kept (suc v) j within above between remembers =
@@ -93,7 +93,7 @@ row_refined query windows path last kept w tuples (suc j) within is above betwee
     (held_answered query (slice_index path j) (before (refined_rows query windows path j) w) (kept_at last kept w j) tuples (seen_from query windows path last kept w j within above between remembers))
     ∙ sym (next_sees query windows path j w tuples is)
 
-parts_refined : (q : ℕ) (query : TypedQuery) (windows : Windows) (path : List ℕ) (last : Option ℕ) (kept : List Set) (w : ℕ) (tuples : List (List ℕ)) → windows w ≡ Some tuples
+pub parts_refined : (q : ℕ) (query : TypedQuery) (windows : Windows) (path : List ℕ) (last : Option ℕ) (kept : List Set) (w : ℕ) (tuples : List (List ℕ)) → windows w ≡ Some tuples
     → IsAbove last w → NoneBetween windows last w → Remembers query windows path last kept → parts_in q query path (kept_at last kept w) tuples ≡ refined_parts q query windows path w
 parts_refined q query windows path last kept w tuples is above between remembers =
     map_below (part_at q path (rows_at query path (kept_at last kept w) tuples)) (part_at q path (λ j. refined_rows query windows path j w)) 0 (length path)
@@ -102,7 +102,7 @@ parts_refined q query windows path last kept w tuples is above between remembers
     one : ℕ → List Row → Part
     one j rows = record { query = q; level = slice_index path j; rows = rows }
 
-remembered : (q : ℕ) (query : TypedQuery) (windows : Windows) (path : List ℕ) (w : ℕ) → Remembers query windows path (Some w) (kept_of query path (refined_parts q query windows path w))
+pub remembered : (q : ℕ) (query : TypedQuery) (windows : Windows) (path : List ℕ) (w : ℕ) → Remembers query windows path (Some w) (kept_of query path (refined_parts q query windows path w))
 remembered q query windows path w = λ j within.
     at_place (λ (part : Part). prefixes_of query part.rows) (part_at q path (λ i. refined_rows query windows path i w)) (length path) (length path - 1) j set.empty (omega (arith, within)) (omega arith)
 

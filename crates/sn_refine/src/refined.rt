@@ -123,7 +123,7 @@ impl Refined {
     }
 
     /// The prefixes that the level at a place answered in the window before this one.
-    fn kept_at<'a>(&'a self, w: u64, place: usize, none: &'a Members) -> &'a Members
+    pub fn kept_at<'a>(&'a self, w: u64, place: usize, none: &'a Members) -> &'a Members
         requires above { IsAbove self.now.last w }
         requires none { none.now ≡ set.empty }
         ensures { result.now ≡ kept_at self.now.last self.now.kept w place }

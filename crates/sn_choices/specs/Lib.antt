@@ -1,0 +1,6 @@
+pub mod Costs
+pub mod Options
+pub mod Places
+pub mod Planning
+pub mod Settings
+pub mod Within

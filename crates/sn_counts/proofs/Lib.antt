@@ -1,0 +1,6 @@
+pub mod Offering
+pub mod Holding
+pub mod Going
+pub mod Orders
+pub mod Counting
+pub mod Branching

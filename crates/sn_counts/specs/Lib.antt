@@ -1,0 +1,5 @@
+pub mod Flows
+pub mod Fitting
+pub mod Settings
+pub mod Overs
+pub mod Counts

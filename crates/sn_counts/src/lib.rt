@@ -1,0 +1,12 @@
+//! Counts the items that a branch sends of a window's rows, for every cut and all sizes of its registers.
+#![tactic(auto)]
+
+pub mod branch;
+mod counts;
+pub mod flow;
+mod held;
+mod offers;
+mod sizes;
+mod stateless;
+#[cfg(test)]
+mod tests;
