@@ -1,0 +1,6 @@
+pub mod Picks
+pub mod Places
+pub mod Trees
+pub mod Readings
+pub mod Chunks
+pub mod Rewritten

@@ -1,0 +1,15 @@
+//! The text of trees of bounds: `parse`, which reads a cost and a tree, and `print`, which writes a tree.
+#![tactic(auto)]
+
+mod canonical;
+pub mod fault;
+pub mod law;
+mod nodes;
+mod place;
+#[cfg(test)]
+mod tests;
+mod text;
+pub mod tree;
+
+pub use canonical::print;
+pub use text::parse;

@@ -1,0 +1,117 @@
+//! The nodes of a tree text, and all that stands around them.
+ghost use Rattle.std.specs.Prelude.{◌≡◌, ℕ, List, codes};
+ghost use Rattle.sn_rules.specs.Rules.{kept};
+ghost use Rattle.sn_rules.specs.Words.{keyword, never, ◌▸◌};
+ghost use Rattle.sn_text.specs.Lexing.{left};
+ghost use Rattle.sn_read.specs.Reading.{Reads, ReadsAll, Peeked};
+ghost use Rattle.sn_tree_rules.specs.Grammar.{any_number, node_rule, begins, nodes_rule, tree_rule};
+ghost use Rattle.sn_tree_rules.proofs.Goods.{nodes_alike};
+
+use crate::tree::Tree;
+use sn_base::seq::Seq;
+use sn_read::list::{Items, further};
+use sn_read::stop::Stop;
+use sn_read::words::{end, is_the_word, next_is_word, number, symbol, word};
+use sn_rules::Flaw;
+use sn_space::node::Node;
+use sn_text::place::Lexer;
+use sn_text::scan::scan;
+use std::alloc::Global;
+
+/// The semicolon among the symbols.
+const SEMICOLON: u8 = 2;
+
+/// A number behind a letter.
+fn lettered<'a>(at: Lexer<'a>, letter: &[u8]) -> Result<(u64, Lexer<'a>), Stop<'a>>
+    ensures { Reads result ((keyword letter.now ▸ any_number).read kept (left at.entry)) }
+{
+    let rest = word(at, letter)?;
+    let (number, rest) = number(rest, 0, u64::MAX)?;
+    Ok((number, rest))
+}
+
+#[tactic(auto, using(crate::proofs::Picks::broken_value, crate::proofs::Picks::broken_halt, crate::proofs::Picks::expand_value, crate::proofs::Picks::expand_halt, crate::proofs::Picks::bound_value, crate::proofs::Picks::bound_halt, crate::proofs::Picks::chosen_value, crate::proofs::Picks::chosen_halt))]
+fn node<'a>(at: Lexer<'a>) -> Result<(Node, Lexer<'a>), Stop<'a>>
+    ensures { Reads result (node_rule.read kept (left at.entry)) }
+{
+    if next_is_word(at, b"X") {
+        let rest = word(at, b"X")?;
+        return Ok((Node::Broken, rest));
+    }
+    if next_is_word(at, b"E") {
+        let (bound, rest) = lettered(at, b"E")?;
+        return Ok((Node::Expand(bound), rest));
+    }
+    if next_is_word(at, b"B") {
+        let (bound, rest) = lettered(at, b"B")?;
+        return Ok((Node::Bound(bound), rest));
+    }
+    let (cost, rest) = lettered(at, b"P")?;
+    Ok((Node::Chosen(cost), rest))
+}
+
+/// Whether a node begins here.
+#[tactic(auto, using(sn_read::proofs::Tokens::peeked))]
+fn node_begins(at: Lexer<'_>) -> bool
+    ensures { Peeked result begins (left at.entry) }
+{
+    let (found, _) = scan(at);
+    is_the_word(found.piece, b"X")
+        || is_the_word(found.piece, b"E")
+        || is_the_word(found.piece, b"B")
+        || is_the_word(found.piece, b"P")
+}
+
+/// The nodes of a tree, without a limit.
+struct TreeNodes;
+
+impl Items for TreeNodes {
+    type Item = Node;
+
+    ghost goes = { λ items. begins };
+
+    ghost shut = { λ items. never };
+
+    ghost rule = { λ items seen. node_rule };
+
+    ghost laws = { λ items. nodes_alike };
+
+    fn begins(&self, at: Lexer<'_>) -> bool {
+        node_begins(at)
+    }
+
+    fn shut_by(&self, _seen: &[Node]) -> Option<Flaw> {
+        None
+    }
+
+    fn item<'a>(
+        &self,
+        _alloc: Global,
+        _seen: &[Node],
+        at: Lexer<'a>,
+    ) -> Result<(Node, Lexer<'a>), Stop<'a>> {
+        node(at)
+    }
+}
+
+#[tactic(auto, unfolding(sn_tree_rules::specs::Grammar::nodes_rule))]
+fn nodes<'a>(alloc: Global, at: Lexer<'a>) -> Result<(Tree, Lexer<'a>), Stop<'a>>
+    ensures { Reads result (nodes_rule.read kept (left at.entry)) }
+{
+    further(alloc, &TreeNodes, Seq::new(alloc), at)
+}
+
+/// The cost and the tree, and nothing behind them.
+#[tactic(auto, unfolding(sn_tree_rules::specs::Grammar::tree_rule))]
+pub(crate) fn read<'a>(alloc: Global, at: Lexer<'a>) -> Result<(u64, Tree), Stop<'a>>
+    ensures { ReadsAll result (tree_rule.read kept (left at.entry)) }
+{
+    let rest = word(at, b"cost")?;
+    let (cost, rest) = number(rest, 0, u64::MAX)?;
+    let rest = symbol(rest, SEMICOLON)?;
+    let rest = word(rest, b"tree")?;
+    let (tree, rest) = nodes(alloc, rest)?;
+    let rest = word(rest, b"done")?;
+    end(rest)?;
+    Ok((cost, tree))
+}

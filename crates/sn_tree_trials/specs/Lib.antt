@@ -1,0 +1,2 @@
+pub mod TwoQueries
+pub mod Laws
