@@ -1,0 +1,13 @@
+pub mod Bits
+pub mod Counts
+pub mod NamedPieces
+pub mod OptionNumbers
+pub mod PathNumbers
+pub mod Pieces
+pub mod Places
+pub mod Readings
+pub mod Runs
+pub mod Seats
+pub mod Slots
+pub mod TypedBounds
+pub mod Wholes

@@ -1,0 +1,9 @@
+pub mod Bounds
+pub mod Following
+pub mod Making
+pub mod Nexts
+pub mod Reaching
+pub mod Steps
+pub mod Sums
+pub mod Tables
+pub mod Typing
