@@ -2,6 +2,8 @@
 #![tactic(auto)]
 
 pub mod block;
+pub mod csv_rows;
+mod fields;
 pub mod lines;
 mod pieces;
 mod rows;

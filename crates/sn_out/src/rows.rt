@@ -9,7 +9,8 @@ use sn_base::column::Column;
 use sn_base::memory::Memory;
 use sn_base::row::Row;
 
-fn push_value(text: &mut Vec<u8>, column: &Column, number: u64) -> Result<(), Memory>
+/// Adds a number of a column: an address dotted, another number in decimal.
+pub fn push_value(text: &mut Vec<u8>, column: &Column, number: u64) -> Result<(), Memory>
     ensures { OnOk result (text.new.items ≡ text.old.items ++ number_text column.now number) }
 {
     if column.address {

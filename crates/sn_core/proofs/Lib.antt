@@ -1,0 +1,14 @@
+pub mod Tests
+pub mod Windows
+pub mod Starts
+pub mod Items
+pub mod DueKept
+pub mod StandingKept
+pub mod Calling
+pub mod Sums
+pub mod GoesOn
+pub mod Falls
+pub mod Bounds
+pub mod Counting
+pub mod Numbered
+pub mod Rising

@@ -1,0 +1,5 @@
+pub mod ReadOuts
+pub mod Adds
+pub mod Lawful
+pub mod PlanAnswers
+pub mod PlanSchedules
