@@ -1,4 +1,4 @@
--- Each switch and plan text is judged in one way.
+-- Each query, switch and plan text is judged in one way.
 use Rattle.std.proofs.Common.{◌≡◌, ℕ, List, [], ◌∷◌, Result, Ok, Err, refl, sym, subst}
 use Rattle.sn_text.specs.Cutting.{tokens_of}
 use Rattle.sn_plan.specs.Texts as plans
@@ -6,19 +6,33 @@ use Rattle.sn_plan.specs.declared.fault.PlanFault.{PlanFault}
 use Rattle.sn_plan.specs.declared.fault.PlanFault.TheVariants as plan_faults
 use Rattle.sn_plan.proofs.Readings as plan_readings
 use Rattle.sn_plan_rules.specs.declared.plan.Plan.{Plan}
+use Rattle.sn_read_queries.specs.Texts as query_texts
+use Rattle.sn_read_queries.specs.Texts.{Queries}
+use Rattle.sn_read_queries.proofs.OneReading.{reading_once}
+use Rattle.sn_read_queries.proofs.SomeReading.{reading_some}
 use Rattle.sn_switch.specs.Texts as switches
 use Rattle.sn_switch.specs.declared.fault.SwitchFault.{SwitchFault}
 use Rattle.sn_switch.specs.declared.fault.SwitchFault.TheVariants as switch_faults
 use Rattle.sn_switch.proofs.Readings as switch_readings
 use Rattle.sn_switch.specs.declared.switch.Switch.{Switch}
 use Rattle.sn_stage.specs.declared.fault.Fault.{Fault}
+use Rattle.sn_stage.specs.declared.fault.Fault.TheVariants as faults
 use Rattle.sn_stage.specs.declared.refusal.Refusal.{Refusal}
 use Rattle.sn_stage.specs.Runs.{Answers, Works}
 use Rattle.sn_stage.specs.Stages.{Bytes, HasVerdict, Text, most_text}
 use Rattle.sn_stage.specs.Worlds.{World}
 use Rattle.sn_stage.proofs.OneLemmas.{one_reading, read_once}
 use Rattle.sn_stage.proofs.StageLemmas.{text_judged}
+use Rattle.sn_planned.specs.Queries.{QueriesIn}
 use Rattle.sn_planned.specs.Texts.{IsPlanRead, PlanIn, SwitchIn, plan_fault, plan_refusal, switch_fault, switch_refusal}
+
+-- ---- query texts
+
+pub queries_once : (text : List ℕ) (first second : Result Queries Fault) → QueriesIn text first → QueriesIn text second → first ≡ second
+queries_once text = read_once faults.Queries (query_texts.IsRead text) (reading_once text)
+
+pub one_queries : (text : List ℕ) → HasVerdict (QueriesIn text)
+one_queries text = let h : query_texts.HasReading text = reading_some text in one_reading faults.Queries (query_texts.IsRead text) (reading_once text) h.reading h.is
 
 -- ---- switch texts
 

@@ -100,9 +100,12 @@ module _ (R W : Type 0) (answer : Result (Unit {0}) Refusal) (r : answer ≡ Err
       switch = comes 4 (λ h. omega arith) (λ h. omega arith) (λ h. omega arith);
       capture = comes 5 (λ h. omega arith) (λ h. omega arith) (λ h. omega arith);
       plan = comes 6 (λ h. omega arith) (λ h. omega arith) (λ h. omega arith);
+      tree = comes 7 (λ h. omega arith) (λ h. omega arith) (λ h. omega arith);
+      budget = comes 8 (λ h. omega arith) (λ h. omega arith) (λ h. omega arith);
       read_fault = nine;
       missing = missing;
       write_fault = λ is. w (ten_is answer is);
+      reports = comes 11 (λ h. omega arith) (λ h. omega arith) (λ h. omega arith);
       too_large = comes 12 (λ h. omega arith) (λ h. omega arith) (λ h. omega arith);
       front = k.front;
       whole = whole;

@@ -39,11 +39,17 @@ pub record IsRun (outcome : Outcome (Unit {0})) (read_rose write_rose : Type 0) 
   pub capture : Comes 5 (end_status outcome.end) status (Excused read_rose write_rose status)
   -- 6: the plan text is refused, or the plan doesn't fit.
   pub plan : Comes 6 (end_status outcome.end) status (Excused read_rose write_rose status)
+  -- 7: the cost and the tree aren't accepted, or they don't show that the plan costs least.
+  pub tree : Comes 7 (end_status outcome.end) status (Excused read_rose write_rose status)
+  -- 8: the search used up its nodes.
+  pub budget : Comes 8 (end_status outcome.end) status (Excused read_rose write_rose status)
   -- 9: only where the count of a file word rose in this call, or exactly where a file word isn't known in its turn.
   pub read_fault : status ≡ 9 → read_rose ⊎ (end_status outcome.end ≡ 9)
   pub missing : end_status outcome.end ≡ 9 → (status ≡ 9) ⊎ Excused read_rose write_rose status
   -- 10: only where a count of the output rose in this call.
   pub write_fault : status ≡ 10 → write_rose
+  -- 11: the reports aren't whole windows of the plan's frames.
+  pub reports : Comes 11 (end_status outcome.end) status (Excused read_rose write_rose status)
   -- 12: a file has too many bytes, or a window too many records.
   pub too_large : Comes 12 (end_status outcome.end) status (Excused read_rose write_rose status)
   -- What was written is always a front of the text, and all of it unless the run is excused.

@@ -7,10 +7,14 @@ use Rattle.sn_pcap.specs.declared.header.HeadFault.{HeadFault}
 use Rattle.sn_pcap.specs.declared.header.HeadFault.TheVariants as heads
 use Rattle.sn_read_queries.specs.declared.fault.Kind.{Kind}
 use Rattle.sn_read_queries.specs.declared.fault.Kind.TheVariants as kinds
+use Rattle.sn_stage.specs.declared.fault.ReportKind.{ReportKind}
+use Rattle.sn_stage.specs.declared.fault.ReportKind.TheVariants as reports
 use Rattle.sn_stage.specs.declared.fault.TextKind.{TextKind}
 use Rattle.sn_stage.specs.declared.fault.TextKind.TheVariants as texts
+use Rattle.sn_stage.specs.declared.fault.TreeKind.{TreeKind}
+use Rattle.sn_stage.specs.declared.fault.TreeKind.TheVariants as trees
 use Rattle.sn_stage.specs.declared.fault.Fault.{Fault}
-use Rattle.sn_stage.specs.declared.fault.Fault.TheVariants.{Queries, Switch, Head, Cut, Bad, Plan, Misfit, TooLarge}
+use Rattle.sn_stage.specs.declared.fault.Fault.TheVariants.{Queries, Switch, Head, Cut, Bad, Plan, Misfit, Tree, Unshown, Budget, Reports, TooLarge}
 use Rattle.sn_stage.specs.declared.refusal.Refusal.{Refusal}
 use Rattle.sn_stage.specs.declared.refusal.Refusal.TheVariants.{Memory, Usage, Missing, ReadFault, WriteFault, Refused}
 
@@ -29,7 +33,7 @@ query_kind kinds.RefineFilter = codes "RefineFilter"
 query_kind kinds.Levels = codes "Levels"
 query_kind kinds.JoinKeys = codes "JoinKeys"
 
--- the name of what is wrong with a switch or plan text
+-- the name of what is wrong with a switch, plan or tree text
 abbrev pub text_kind : TextKind → List ℕ
 text_kind texts.Lex = codes "Lex"
 text_kind texts.Expected = codes "Expected"
@@ -48,6 +52,24 @@ misfit_kind misfits.Actions = codes "Actions"
 misfit_kind misfits.Bits = codes "Bits"
 misfit_kind misfits.Meta = codes "Meta"
 
+-- the name of what a tree lacks
+abbrev pub tree_kind : TreeKind → List ℕ
+tree_kind trees.Cost = codes "Cost"
+tree_kind trees.Shape = codes "Shape"
+tree_kind trees.Bound = codes "Bound"
+tree_kind trees.NotBroken = codes "NotBroken"
+tree_kind trees.NoPlan = codes "NoPlan"
+
+-- the name of what is wrong with report frames
+abbrev pub report_kind : ReportKind → List ℕ
+report_kind reports.Bad = codes "Bad"
+report_kind reports.Cut = codes "Cut"
+report_kind reports.Stranger = codes "Stranger"
+report_kind reports.Width = codes "Width"
+report_kind reports.AfterEnd = codes "AfterEnd"
+report_kind reports.Window = codes "Window"
+report_kind reports.Unfinished = codes "Unfinished"
+
 abbrev pub head_line : HeadFault → List ℕ
 head_line heads.Short = codes "sonata: capture Short byte 0\n"
 head_line heads.Magic = codes "sonata: capture Magic byte 0\n"
@@ -62,6 +84,10 @@ fault_line (Cut at) = codes "sonata: capture Cut byte " ++ decimal at ++ 10 ∷ 
 fault_line (Bad at) = codes "sonata: capture Bad byte " ++ decimal at ++ 10 ∷ []
 fault_line (Plan fault) = codes "sonata: plan " ++ text_kind fault.kind ++ codes " line " ++ decimal fault.line ++ 10 ∷ []
 fault_line (Misfit misfit) = (codes "sonata: plan " ++ misfit_kind misfit.kind ++ codes " want ") ++ (decimal misfit.want ++ codes " got " ++ decimal misfit.got ++ 10 ∷ [])
+fault_line (Tree fault) = codes "sonata: tree " ++ text_kind fault.kind ++ codes " line " ++ decimal fault.line ++ 10 ∷ []
+fault_line (Unshown flaw) = (codes "sonata: tree " ++ tree_kind flaw.kind ++ codes " node " ++ decimal flaw.node ++ codes " want ") ++ (decimal flaw.want ++ codes " got " ++ decimal flaw.got ++ 10 ∷ [])
+fault_line (Budget spent) = codes "sonata: budget " ++ decimal spent.nodes ++ codes " bound " ++ decimal spent.bound ++ 10 ∷ []
+fault_line (Reports fault) = codes "sonata: reports " ++ report_kind fault.kind ++ codes " byte " ++ decimal fault.at ++ 10 ∷ []
 fault_line TooLarge = codes "sonata: too large\n"
 
 abbrev pub line_of : Refusal → List ℕ

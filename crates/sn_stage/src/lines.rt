@@ -3,10 +3,10 @@ ghost use Rattle.std.specs.Prelude.{◌≡◌, List, [], ◌∷◌, ◌++◌, co
 ghost use Rattle.std.specs.Fmt.{decimal};
 ghost use Rattle.sn_stage.specs.Desks.{sunk};
 ghost use Rattle.sn_stage.specs.Ends.{end_line, IsTold};
-ghost use Rattle.sn_stage.specs.Lines.{query_kind, text_kind, misfit_kind, head_line, fault_line, line_of};
+ghost use Rattle.sn_stage.specs.Lines.{query_kind, text_kind, misfit_kind, tree_kind, report_kind, head_line, fault_line, line_of};
 ghost use Rattle.sn_stage.specs.Told.{Tells};
 
-use crate::fault::{Fault, TextKind};
+use crate::fault::{Fault, ReportKind, TextKind, TreeFlaw, TreeKind};
 use crate::pieces::{Piece, tell_pieces, tell_text};
 use crate::refusal::Refusal;
 use sn_fit::misfit::MisfitKind;
@@ -34,7 +34,7 @@ fn query_kind(kind: Kind) -> &'static [u8]
     }
 }
 
-/// The name of what is wrong with a switch or plan text.
+/// The name of what is wrong with a switch, plan or tree text.
 fn text_kind(kind: TextKind) -> &'static [u8]
     ensures { result.now ≡ text_kind kind }
 {
@@ -63,6 +63,34 @@ fn misfit_kind(kind: MisfitKind) -> &'static [u8]
     }
 }
 
+/// The name of what a tree lacks.
+fn tree_kind(kind: TreeKind) -> &'static [u8]
+    ensures { result.now ≡ tree_kind kind }
+{
+    match kind {
+        TreeKind::Cost => b"Cost",
+        TreeKind::Shape => b"Shape",
+        TreeKind::Bound => b"Bound",
+        TreeKind::NotBroken => b"NotBroken",
+        TreeKind::NoPlan => b"NoPlan",
+    }
+}
+
+/// The name of what is wrong with report frames.
+fn report_kind(kind: ReportKind) -> &'static [u8]
+    ensures { result.now ≡ report_kind kind }
+{
+    match kind {
+        ReportKind::Bad => b"Bad",
+        ReportKind::Cut => b"Cut",
+        ReportKind::Stranger => b"Stranger",
+        ReportKind::Width => b"Width",
+        ReportKind::AfterEnd => b"AfterEnd",
+        ReportKind::Window => b"Window",
+        ReportKind::Unfinished => b"Unfinished",
+    }
+}
+
 fn head_line(fault: HeadFault) -> &'static [u8]
     ensures { result.now ≡ head_line fault }
 {
@@ -74,16 +102,51 @@ fn head_line(fault: HeadFault) -> &'static [u8]
     }
 }
 
-/// Tells a word for what is refused, its kind, and the line.
-fn tell_line<'x, E: Sink>(words: &'x [u8], kind: &'x [u8], line: u32, err: &mut E) -> bool
-    ensures { Tells (words.now ++ kind.now ++ codes " line " ++ decimal line ++ 10 ∷ []) result (sunk E.Sink err.old) (sunk E.Sink err.new) }
+/// Tells words for what is refused, its kind, and the place.
+fn tell_place<'x, E: Sink>(
+    words: &'x [u8],
+    kind: &'x [u8],
+    place: &'x [u8],
+    number: u64,
+    err: &mut E,
+) -> bool
+    ensures { Tells (words.now ++ kind.now ++ place.now ++ decimal number ++ 10 ∷ []) result (sunk E.Sink err.old) (sunk E.Sink err.new) }
 {
     tell_pieces(
         &[
             Piece::Text(words),
             Piece::Text(kind),
-            Piece::Text(b" line "),
-            Piece::Number(u64::from(line)),
+            Piece::Text(place),
+            Piece::Number(number),
+            Piece::Text(b"\n"),
+        ],
+        err,
+    )
+}
+
+/// Tells a word for what is refused, its kind, and the line.
+fn tell_line<'x, E: Sink>(words: &'x [u8], kind: &'x [u8], line: u32, err: &mut E) -> bool
+    ensures { Tells (words.now ++ kind.now ++ codes " line " ++ decimal line ++ 10 ∷ []) result (sunk E.Sink err.old) (sunk E.Sink err.new) }
+{
+    tell_place(words, kind, b" line ", u64::from(line), err)
+}
+
+/// Tells words, two numbers with words between them, and the end of the line.
+fn tell_two<'x, E: Sink>(
+    words: &'x [u8],
+    first: u32,
+    between: &'x [u8],
+    second: u64,
+    err: &mut E,
+) -> bool
+    ensures { Tells (words.now ++ decimal first ++ between.now ++ decimal second ++ 10 ∷ []) result (sunk E.Sink err.old) (sunk E.Sink err.new) }
+{
+    tell_pieces(
+        &[
+            Piece::Text(words),
+            Piece::Number(u64::from(first)),
+            Piece::Text(between),
+            Piece::Number(second),
             Piece::Text(b"\n"),
         ],
         err,
@@ -137,6 +200,39 @@ fn tell_misfit<E: Sink>(kind: &[u8], want: u64, got: u64, err: &mut E) -> bool
     tell_numbers(want, got, err)
 }
 
+/// Tells words for what is refused, its kind, a number with words before it, and words.
+fn tell_number<'x, E: Sink>(
+    words: &'x [u8],
+    kind: &'x [u8],
+    before: &'x [u8],
+    number: u64,
+    behind: &'x [u8],
+    err: &mut E,
+) -> bool
+    ensures { Tells (words.now ++ kind.now ++ before.now ++ decimal number ++ behind.now) result (sunk E.Sink err.old) (sunk E.Sink err.new) }
+{
+    tell_pieces(
+        &[
+            Piece::Text(words),
+            Piece::Text(kind),
+            Piece::Text(before),
+            Piece::Number(number),
+            Piece::Text(behind),
+        ],
+        err,
+    )
+}
+
+/// Tells what a tree lacks, the node, and the two numbers.
+fn tell_flaw<E: Sink>(kind: &[u8], flaw: TreeFlaw, err: &mut E) -> bool
+    ensures { Tells ((codes "sonata: tree " ++ kind.now ++ codes " node " ++ decimal flaw.node ++ codes " want ") ++ (decimal flaw.want ++ codes " got " ++ decimal flaw.got ++ 10 ∷ [])) result (sunk E.Sink err.old) (sunk E.Sink err.new) }
+{
+    if !tell_number(b"sonata: tree ", kind, b" node ", flaw.node, b" want ", err) {
+        return false;
+    }
+    tell_numbers(flaw.want, flaw.got, err)
+}
+
 fn tell_fault<E: Sink>(fault: Fault, err: &mut E) -> bool
     ensures { Tells (fault_line fault) result (sunk E.Sink err.old) (sunk E.Sink err.new) }
 {
@@ -155,6 +251,22 @@ fn tell_fault<E: Sink>(fault: Fault, err: &mut E) -> bool
             misfit_kind(misfit.kind),
             misfit.want,
             misfit.got,
+            err,
+        ),
+        Fault::Tree(fault) => tell_line(b"sonata: tree ", text_kind(fault.kind), fault.line, err),
+        Fault::Unshown(flaw) => tell_flaw(tree_kind(flaw.kind), flaw, err),
+        Fault::Budget(spent) => tell_two(
+            b"sonata: budget ",
+            spent.nodes,
+            b" bound ",
+            spent.bound,
+            err,
+        ),
+        Fault::Reports(fault) => tell_place(
+            b"sonata: reports ",
+            report_kind(fault.kind),
+            b" byte ",
+            fault.at,
             err,
         ),
         Fault::TooLarge => tell_text(b"sonata: too large\n", err),

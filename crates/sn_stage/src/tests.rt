@@ -1,5 +1,7 @@
 use crate::desk::Desk;
-use crate::fault::{Fault, TextFault, TextKind};
+use crate::fault::{
+    Fault, ReportFault, ReportKind, Spent, TextFault, TextKind, TreeFlaw, TreeKind,
+};
 use crate::files::read_file;
 use crate::lines::tell;
 use crate::refusal::Refusal;
@@ -117,6 +119,122 @@ fn tells_faults(rt: HostRuntime) -> Result<(), Fail> {
             Refusal::Refused(Fault::TooLarge),
             12,
             b"sonata: too large\n"
+        )?
+    );
+    Ok(())
+}
+
+/// Whether a flaw of a tree has status 7 and this line.
+fn tells_flaw(alloc: Global, kind: TreeKind, line: &[u8]) -> Result<bool, Fail> {
+    let flaw = TreeFlaw {
+        kind,
+        node: 2,
+        want: 8,
+        got: 9,
+    };
+    tells(alloc, Refusal::Refused(Fault::Unshown(flaw)), 7, line)
+}
+
+#[test]
+fn tells_faults_of_trees(rt: HostRuntime) -> Result<(), Fail> {
+    let alloc = rt.alloc();
+    let text = Fault::Tree(TextFault {
+        kind: TextKind::Expected,
+        line: 3,
+    });
+    assert!(rt;
+        tells(
+            alloc,
+            Refusal::Refused(text),
+            7,
+            b"sonata: tree Expected line 3\n"
+        )?
+    );
+    assert!(rt;
+        tells_flaw(
+            alloc,
+            TreeKind::Cost,
+            b"sonata: tree Cost node 2 want 8 got 9\n"
+        )?
+    );
+    assert!(rt;
+        tells_flaw(
+            alloc,
+            TreeKind::Shape,
+            b"sonata: tree Shape node 2 want 8 got 9\n"
+        )?
+    );
+    assert!(rt;
+        tells_flaw(
+            alloc,
+            TreeKind::Bound,
+            b"sonata: tree Bound node 2 want 8 got 9\n"
+        )?
+    );
+    assert!(rt;
+        tells_flaw(
+            alloc,
+            TreeKind::NotBroken,
+            b"sonata: tree NotBroken node 2 want 8 got 9\n"
+        )?
+    );
+    assert!(rt;
+        tells_flaw(
+            alloc,
+            TreeKind::NoPlan,
+            b"sonata: tree NoPlan node 2 want 8 got 9\n"
+        )?
+    );
+    let spent = Fault::Budget(Spent { nodes: 5, bound: 4 });
+    assert!(rt;
+        tells(
+            alloc,
+            Refusal::Refused(spent),
+            8,
+            b"sonata: budget 5 bound 4\n"
+        )?
+    );
+    Ok(())
+}
+
+/// Whether this fault of reports, at byte 48, has status 11 and this line.
+fn tells_report(alloc: Global, kind: ReportKind, line: &[u8]) -> Result<bool, Fail> {
+    let fault = ReportFault { kind, at: 48 };
+    tells(alloc, Refusal::Refused(Fault::Reports(fault)), 11, line)
+}
+
+#[test]
+fn tells_faults_of_reports(rt: HostRuntime) -> Result<(), Fail> {
+    let alloc = rt.alloc();
+    assert!(rt; tells_report(alloc, ReportKind::Bad, b"sonata: reports Bad byte 48\n")?);
+    assert!(rt; tells_report(alloc, ReportKind::Cut, b"sonata: reports Cut byte 48\n")?);
+    assert!(rt;
+        tells_report(
+            alloc,
+            ReportKind::Stranger,
+            b"sonata: reports Stranger byte 48\n"
+        )?
+    );
+    assert!(rt; tells_report(alloc, ReportKind::Width, b"sonata: reports Width byte 48\n")?);
+    assert!(rt;
+        tells_report(
+            alloc,
+            ReportKind::AfterEnd,
+            b"sonata: reports AfterEnd byte 48\n"
+        )?
+    );
+    assert!(rt;
+        tells_report(
+            alloc,
+            ReportKind::Window,
+            b"sonata: reports Window byte 48\n"
+        )?
+    );
+    assert!(rt;
+        tells_report(
+            alloc,
+            ReportKind::Unfinished,
+            b"sonata: reports Unfinished byte 48\n"
         )?
     );
     Ok(())

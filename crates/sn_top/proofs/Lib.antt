@@ -1,9 +1,3 @@
-pub mod TypedLemmas
 pub mod PartLemmas
-pub mod WindowLemmas
-pub mod GatherLemmas
-pub mod StreamLemmas
-pub mod TurnLemmas
-pub mod TextLemmas
 pub mod PlainLemmas
 pub mod TopLemmas

@@ -24,6 +24,12 @@ use Rattle.sn_top.specs.Top.{is_built, IsUsage, IsWork}
 pub of_two : (P : List ℕ → List ℕ → Type 0) {a b x y : List ℕ} → a ≡ x → b ≡ y → P a b → P x y
 of_two P e f h = rw (← e, ← f) h
 
+pub of_four : (P : List ℕ → List ℕ → List ℕ → List ℕ → Type 0) {a b c d x y z v : List ℕ} → a ≡ x → b ≡ y → c ≡ z → d ≡ v → P a b c d → P x y z v
+of_four P e f g h here = rw (← e, ← f, ← g, ← h) here
+
+pub of_three : (P : List ℕ → List ℕ → List ℕ → Type 0) {a b c x y z : List ℕ} → a ≡ x → b ≡ y → c ≡ z → P a b c → P x y z
+of_three P e f g h = rw (← e, ← f, ← g) h
+
 -- the words spell a command or none
 pub by_command : {G : Type 0} (words : List (List ℕ)) → ((command : Command) → Spells words command → G) → (((command : Command) → Spells words command → ⊥) → G) → G
 by_command {G} words some none = of (command_of words) refl
@@ -53,9 +59,10 @@ pub by_work : (command : Command) (words : List (List ℕ)) {before now : World}
     → ((is_built command ≡ true) × Begun before answer now) ⊎ ((is_built command ≡ false) × IsUsage before answer now)
 by_work commands.Plain words w = inl (refl, begun w)
 by_work (commands.Plan nodes) words w = inr (refl, w)
-by_work (commands.Run csv) words w = inr (refl, w)
+by_work (commands.Run true) words w = inr (refl, w)
+by_work (commands.Run false) words w = inl (refl, begun w)
 by_work commands.Emit words w = inr (refl, w)
-by_work commands.Finish words w = inr (refl, w)
+by_work commands.Finish words w = inl (refl, begun w)
 by_work commands.Check words w = inr (refl, w)
 by_work (commands.Live nodes schedule trace) words w = inr (refl, w)
 by_work (commands.Gen number) words w = inr (refl, w)

@@ -1,10 +1,12 @@
 -- What `plain` does.
 use Rattle.std.specs.Prelude.{ℕ, List}
+use Rattle.sn_answered.specs.Capture.{Answered}
+use Rattle.sn_planned.specs.Queries.{QueriesIn}
+use Rattle.sn_run.specs.Run.{window_ns}
 use Rattle.sn_stage.specs.Outcomes.{Stage}
 use Rattle.sn_stage.specs.Stages.{Text, Then}
-use Rattle.sn_top.specs.Capture.{Answered}
-use Rattle.sn_top.specs.Texts.{QueriesIn}
+use Rattle.sn_top.specs.Answers.{plain_wording}
 
 -- `plain QUERIES CAPTURE`: the queries are read, and then the capture is read and answered.
 abbrev pub Plain : List ℕ → List ℕ → Stage (Unit {0})
-Plain queries capture = Then (Text queries QueriesIn) (Answered capture)
+Plain queries capture = Then (Text queries QueriesIn) (λ read. Answered (plain_wording read.queries) (window_ns read) capture)

@@ -1,12 +1,15 @@
 //! The top call.
 #![tactic(auto)]
 
+pub mod answering;
 pub mod answers;
-pub mod capture;
-pub mod gathered;
 pub mod law;
 pub mod plain;
 #[cfg(test)]
+mod run_tests;
+#[cfg(test)]
+mod slow_tests;
+#[cfg(test)]
 mod tests;
-pub mod texts;
 pub mod top;
+pub mod unsplit;

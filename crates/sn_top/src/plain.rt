@@ -4,10 +4,12 @@ ghost use Rattle.sn_stage.specs.Desks.{world};
 ghost use Rattle.sn_stage.specs.Runs.{Works};
 ghost use Rattle.sn_top.specs.Plain.{Plain};
 
-use crate::capture::answer_capture;
-use crate::texts::read_queries;
+use crate::unsplit::Unsplit;
+use sn_answered::capture::answer_capture;
+use sn_base::seq::Seq;
 use sn_io::inputs::Inputs;
 use sn_io::sink::Sink;
+use sn_planned::queries::read_queries;
 use sn_stage::desk::Desk;
 use sn_stage::refusal::Refusal;
 use std::alloc::Global;
@@ -22,5 +24,11 @@ pub fn plain<I: Inputs, O: Sink>(
     ensures { Works (queries.now ∷ capture.now ∷ []) (Plain queries.now capture.now) (world I.Inputs O.Sink desk.old) result (world I.Inputs O.Sink desk.new) }
 {
     let typed = read_queries(alloc, desk, queries)?;
-    answer_capture(alloc, &typed, capture, desk)
+    let window_ns = typed.window_ns();
+    let mut unsplit = Unsplit {
+        alloc,
+        typed,
+        tuples: Seq::new(alloc),
+    };
+    answer_capture(alloc, window_ns, capture, &mut unsplit, desk)
 }

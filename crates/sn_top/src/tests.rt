@@ -16,7 +16,7 @@ const FRAME: [u8; 54] = [
     4, 0, 0, 0x50, 0, 0, 0, 0, 0, 0, 0, 0, 0x50, 2, 0, 0, 0, 0, 0, 0,
 ];
 
-const SYN: &[u8] = b"window 1000000\nquery q { packets | filter tcp.flags == 2; }\n";
+pub(crate) const SYN: &[u8] = b"window 1000000\nquery q { packets | filter tcp.flags == 2; }\n";
 
 #[derive(Drop)]
 struct Ran {
@@ -86,7 +86,7 @@ fn one_packet(alloc: Global) -> Result<Vec<u8>, Fail> {
 }
 
 /// Three packets, at 0, 1 and 2 microseconds after one second.
-fn three_packets(alloc: Global) -> Result<Vec<u8>, Fail> {
+pub(crate) fn three_packets(alloc: Global) -> Result<Vec<u8>, Fail> {
     let records = [
         record([0, 0, 0, 0]),
         record([1, 0, 0, 0]),
@@ -369,5 +369,50 @@ fn refuses_words_and_faults(rt: HostRuntime) -> Result<(), Fail> {
     let failed = run(alloc, &["plain", "q", "c"], SYN, file.as_slice(), Some(0))?;
     assert_eq!(rt; failed.status, 10);
     assert_eq!(rt; failed.out.bytes(), b"".as_slice());
+    Ok(())
+}
+
+/// Reports of one window of a query by its plan: an item, a partial row, and the End.
+const REPORTS: [u8; 64] = [
+    1, 0, 0, 0, 0, 1, 2, 0, 0, 0, 0, 0, 10, 0, 0, 9, 0, 0, 0, 0, 10, 0, 0, 2, 1, 1, 0, 0, 0, 3, 2,
+    0, 0, 0, 0, 0, 10, 0, 0, 9, 0, 0, 0, 0, 0, 0, 0, 1, 1, 2, 0, 0, 0, 0, 1, 0, 0, 0, 0, 0, 0, 0,
+    0, 0,
+];
+
+fn finish(alloc: Global, reports: &[u8]) -> Result<Ran, Fail> {
+    let mut words = Vec::new(alloc);
+    for word in ["finish", "q", "p", "r"] {
+        words.push(String::from_str(alloc, word)?)?;
+    }
+    let queries =
+        b"window 1000000 query q { packets | map ip.dst as d, ip.src as s | distinct | map d as d, 1 as n | reduce d: sum(n) width 16 | filter n > 1; }";
+    let plan = b"plan query q path 0; piece 0 0 cut 5 slots 1, 1 stages 1, 3;";
+    let mut files = MemInputs::new(alloc);
+    files.put("q", file_of(alloc, queries)?)?;
+    files.put("p", file_of(alloc, plan)?)?;
+    files.put("r", file_of(alloc, reports)?)?;
+    let mut out = MemSink::new(alloc, 1000)?;
+    let mut err = MemSink::new(alloc, 1000)?;
+    let status = top(alloc, &words, &mut files, &mut out, &mut err);
+    Ok(Ran { status, out, err })
+}
+
+#[test]
+fn finishes_reports(rt: HostRuntime) -> Result<(), Fail> {
+    let alloc = rt.alloc();
+    let whole = finish(alloc, &REPORTS)?;
+    assert_eq!(rt; whole.status, 0);
+    assert_eq!(rt;
+        whole.out.bytes(),
+        b"window 0 emitted 2\nquery q level 0 rows 1\n10.0.0.9 2\ntotal windows 1 emitted 2\n".as_slice()
+    );
+    assert_eq!(rt; whole.err.bytes(), b"".as_slice());
+    let cut = finish(alloc, &REPORTS[..63])?;
+    assert_eq!(rt; cut.status, 11);
+    assert_eq!(rt; cut.out.bytes(), b"".as_slice());
+    assert_eq!(rt;
+        cut.err.bytes(),
+        b"sonata: reports Cut byte 48\n".as_slice()
+    );
     Ok(())
 }

@@ -3,17 +3,21 @@ ghost use Rattle.std.specs.Prelude.{◌≡◌, ◌↔◌, ◌<◌, [], ◌∷◌
 ghost use Rattle.sn_cli.specs.declared.command.Command.{Command};
 ghost use Rattle.sn_cli.specs.Grammar.{Spells};
 ghost use Rattle.sn_cli.specs.Words.{texts, word_at};
+ghost use Rattle.sn_finished.specs.Finish.{Finish};
 ghost use Rattle.sn_stage.specs.Desks.{sunk, world};
 ghost use Rattle.sn_stage.specs.Ends.{end_status, IsCommandRun, IsStatusTold};
 ghost use Rattle.sn_stage.specs.Worlds.{OutRose};
 ghost use Rattle.sn_top.specs.Plain.{Plain};
-ghost use Rattle.sn_top.specs.Top.{is_built, IsUsage, IsWork, around};
+ghost use Rattle.sn_run.specs.Run.{Run};
+ghost use Rattle.sn_top.specs.Top.{is_built, IsRunWork, IsUsage, IsWork, around};
 
 use crate::plain::plain;
 use sn_cli::command::Command;
 use sn_cli::words::words;
+use sn_finished::finish::finish;
 use sn_io::inputs::Inputs;
 use sn_io::sink::Sink;
+use sn_run::run::run as answer_along;
 use sn_stage::desk::Desk;
 use sn_stage::lines::tell;
 use sn_stage::refusal::Refusal;
@@ -36,6 +40,26 @@ fn word(given: &[String], place: usize) -> &str
     given[place].as_str()
 }
 
+/// Does the work of `run`, whose files are these words. With `--csv` it isn't built.
+fn work_run<I: Inputs, O: Sink>(
+    alloc: Global,
+    csv: bool,
+    given: &[String],
+    desk: &mut Desk<'_, I, O>,
+) -> Result<(), Refusal>
+    requires { 4 < length given.now }
+    ensures { IsRunWork csv (texts given.now) (world I.Inputs O.Sink desk.old) result (world I.Inputs O.Sink desk.new) }
+{
+    if csv {
+        return Err(Refusal::Usage);
+    }
+    let switch = word(given, 1);
+    let queries = word(given, 2);
+    let plan = word(given, 3);
+    let capture = word(given, 4);
+    answer_along(alloc, switch, queries, plan, capture, desk)
+}
+
 /// Does the work of a command.
 fn work<I: Inputs, O: Sink>(
     alloc: Global,
@@ -48,10 +72,10 @@ fn work<I: Inputs, O: Sink>(
 {
     match command {
         Command::Plain => plain(alloc, word(given, 1), word(given, 2), desk),
+        Command::Run { csv } => work_run(alloc, csv, given, desk),
+        Command::Finish => finish(alloc, word(given, 1), word(given, 2), word(given, 3), desk),
         Command::Plan { .. }
-        | Command::Run { .. }
         | Command::Emit
-        | Command::Finish
         | Command::Check
         | Command::Live { .. }
         | Command::Gen { .. }
@@ -78,7 +102,7 @@ fn run<I: Inputs, O: Sink>(
 
 /// Runs a command: its text goes to `out`, a line on its status to `err`, and the status is the answer.
 ///
-/// The words are those after the program's name. `plain QUERIES CAPTURE` is the one command that is built. A fault in
+/// The words are those after the program's name. `plain`, `run` without `--csv` and `finish` are the commands that are built. A fault in
 /// writing the line to `err` is dropped, and the status stays.
 pub fn top<I: Inputs, O: Sink, E: Sink>(
     alloc: Global,
@@ -98,6 +122,15 @@ pub fn top<I: Inputs, O: Sink, E: Sink>(
     // `plain QUERIES CAPTURE`: the run is that of its stages.
     ensures plain { Spells (texts words.now) Command.Plain →
         IsCommandRun (word_at (texts words.now) 1 ∷ word_at (texts words.now) 2 ∷ []) (Plain (word_at (texts words.now) 1) (word_at (texts words.now) 2)) (around I.Inputs O.Sink E.Sink files.old out.old err.old) result (around I.Inputs O.Sink E.Sink files.new out.new err.new) }
+
+    // `run SWITCH QUERIES PLAN CAPTURE`: the run is that of its stages.
+    ensures run { Spells (texts words.now) (Command.Run false) →
+        IsCommandRun (word_at (texts words.now) 2 ∷ word_at (texts words.now) 1 ∷ word_at (texts words.now) 3 ∷ word_at (texts words.now) 4 ∷ [])
+        (Run (word_at (texts words.now) 1) (word_at (texts words.now) 2) (word_at (texts words.now) 3) (word_at (texts words.now) 4)) (around I.Inputs O.Sink E.Sink files.old out.old err.old) result (around I.Inputs O.Sink E.Sink files.new out.new err.new) }
+
+    // `finish QUERIES PLAN REPORTS`: the run is that of its stages.
+    ensures finish { Spells (texts words.now) Command.Finish →
+        IsCommandRun (word_at (texts words.now) 1 ∷ word_at (texts words.now) 2 ∷ word_at (texts words.now) 3 ∷ []) (Finish (word_at (texts words.now) 1) (word_at (texts words.now) 2) (word_at (texts words.now) 3)) (around I.Inputs O.Sink E.Sink files.old out.old err.old) result (around I.Inputs O.Sink E.Sink files.new out.new err.new) }
 {
     let mut desk = Desk { files, out };
     let answer = run(alloc, words, &mut desk);

@@ -1,5 +1,8 @@
-use Rattle.sn_planned.proofs.Verdicts.{one_plan, one_switch}
+use Rattle.sn_planned.proofs.Verdicts.{one_plan, one_queries, one_switch}
 use Rattle.sn_planned.proofs.law.texts_have_one_verdict.Goals as goal
+
+pub returns-clause-queries : goal.returns-clause-queries
+returns-clause-queries c = one_queries
 
 pub returns-clause-switch : goal.returns-clause-switch
 returns-clause-switch c = one_switch

@@ -1,4 +1,4 @@
-use Rattle.std.proofs.Common.{◌≡◌, Err, ap, sym, ◌∙◌, rules}
+use Rattle.std.proofs.Common.{◌≡◌, Err, ap, false, sym, ◌∙◌, rules}
 use Rattle.sn_cli.specs.declared.command.Command.TheVariants as commands
 use Rattle.sn_cli.specs.Words.{texts}
 use Rattle.sn_stage.specs.declared.refusal.Refusal.TheVariants.{Usage}
@@ -37,6 +37,18 @@ returns-clause-plain g c = λ spells.
     let files : c.files-1.given.0 ≡ c.run-answer.new.desk.files.now = search rules in
     let out : c.out-1.given.0 ≡ c.run-answer.new.desk.out.now = search rules in
     rw (c.status_of.ensures, files, out) (command_run _ _ c.run-answer.result _ _ _ _ (c.run-answer.ensures.works commands.Plain spells) c.tell.ensures)
+
+pub returns-clause-run : goal.returns-clause-run
+returns-clause-run g c = λ spells.
+    let files : c.files-1.given.0 ≡ c.run-answer.new.desk.files.now = search rules in
+    let out : c.out-1.given.0 ≡ c.run-answer.new.desk.out.now = search rules in
+    rw (c.status_of.ensures, files, out) (command_run _ _ c.run-answer.result _ _ _ _ (c.run-answer.ensures.works (commands.Run false) spells) c.tell.ensures)
+
+pub returns-clause-finish : goal.returns-clause-finish
+returns-clause-finish g c = λ spells.
+    let files : c.files-1.given.0 ≡ c.run-answer.new.desk.files.now = search rules in
+    let out : c.out-1.given.0 ≡ c.run-answer.new.desk.out.now = search rules in
+    rw (c.status_of.ensures, files, out) (command_run _ _ c.run-answer.result _ _ _ _ (c.run-answer.ensures.works commands.Finish spells) c.tell.ensures)
 
 pub returns-clause-line : goal.returns-clause-line
 returns-clause-line g c = rw c.status_of.ensures (status_told c.run-answer.result _ _ c.tell.ensures)

@@ -1,0 +1,5 @@
+pub mod Taken
+pub mod Standings
+pub mod Reported
+pub mod Finish
+pub mod Whole

@@ -1,0 +1,76 @@
+-- The frames of whole windows.
+use Rattle.std.specs.Prelude.{◌≡◌, ℕ, List, [], ◌∷◌, ◌++◌, map, filter, length, sum_by, true, false, Option, None, Some}
+use Rattle.std.specs.List.{AllByRecursion, flat_map, list_any}
+use Rattle.sn_base.specs.declared.lane.Lane.{Lane}
+use Rattle.sn_engine.specs.declared.intake.Intake.{Intake}
+use Rattle.sn_engine.specs.Answers.{parts_of}
+use Rattle.sn_engine.specs.Intakes.{is_lane, lane_at, total}
+use Rattle.sn_engine.specs.Taking.{is_above, row_fault}
+use Rattle.sn_out.specs.Text.{block_text, total_line}
+use Rattle.sn_report.specs.declared.frame.Frame.{Frame}
+use Rattle.sn_report.specs.declared.frame.Frame.TheVariants.{Row, End}
+use Rattle.sn_report.specs.declared.frame.Item.{Item}
+use Rattle.sn_report.specs.Frames.{lane_of}
+use Rattle.sn_types.specs.declared.answers.Answers.{Answers}
+use Rattle.sn_types.specs.declared.typed_query.TypedQuery.{TypedQuery}
+
+-- the name of a lane
+abbrev pub name_of : Intake → Lane
+name_of x = lane_at x.query x.place x.branch
+
+-- no lane has the name of one before it
+abbrev pub HaveNames : List Intake → Type 0
+HaveNames [] = Unit {0}
+HaveNames (x ∷ xs) = AllByRecursion (λ y. is_lane (name_of x) y ≡ false) xs × HaveNames xs
+
+-- nothing has come of a lane
+pub record IsIdle (x : Intake) : Type 0 where
+  pub items : x.items ≡ []
+  pub end : x.end ≡ None
+
+-- the frames of a lane among others
+abbrev pub frames_of : Intake → List Frame → List Frame
+frames_of x frames = filter (λ frame. is_lane (lane_of frame) x) frames
+
+-- what lanes send in a window: its number, the items of each lane, and the frames of all lanes
+pub record Sent : Type 0 where
+  pub window : ℕ
+  pub items : Intake → List Item
+  pub frames : List Frame
+
+-- The frames of a window, in whatever order between the lanes: of each lane those of its items in their order, and then one
+-- End; and none besides. Each lane takes its items.
+pub record IsWindow (queries : List TypedQuery) (lanes : List Intake) (sent : Sent) : Type 0 where
+  pub each : AllByRecursion (λ x. frames_of x sent.frames ≡ map (Row (name_of x)) (sent.items x) ++ End (name_of x) sent.window ∷ []) lanes
+  pub known : AllByRecursion (λ frame. list_any (is_lane (lane_of frame)) lanes ≡ true) sent.frames
+  pub lawful : AllByRecursion (λ x. AllByRecursion (λ item. row_fault queries x item ≡ None) (sent.items x)) lanes
+
+-- windows come by rising number
+abbrev pub Rise : Option ℕ → List Sent → Type 0
+Rise closed [] = Unit {0}
+Rise closed (sent ∷ later) = (is_above closed sent.window ≡ true) × Rise (Some sent.window) later
+
+-- what came of a lane at the end of a window
+abbrev pub filled : Sent → Intake → Intake
+filled sent x = record x { items = sent.items x; end = Some sent.window }
+
+-- the answers of a window: the value of the items of all lanes, and their number
+abbrev pub answers_to : List TypedQuery → List Intake → Sent → Answers
+answers_to queries lanes sent = record {
+  window = sent.window;
+  emitted = total (map (filled sent) lanes);
+  parts = parts_of queries (map (filled sent) lanes);
+}
+
+-- the frames of windows, one window behind another
+abbrev pub frames_in : List Sent → List Frame
+frames_in windows = flat_map (λ sent. sent.frames) windows
+
+-- the block of a window, with the number of its items
+abbrev pub block_of : List TypedQuery → List Intake → Sent → List ℕ
+block_of queries lanes sent = block_text queries (answers_to queries lanes sent) true
+
+-- the blocks of windows, and the total
+abbrev pub answered_text : List TypedQuery → List Intake → List Sent → List ℕ
+answered_text queries lanes windows =
+    flat_map (block_of queries lanes) windows ++ total_line (length windows) (Some (sum_by (λ sent. (answers_to queries lanes sent).emitted) windows))

@@ -1,0 +1,42 @@
+//! The queries of a file.
+ghost use Rattle.std.specs.Prelude.{◌≤◌, ◌^◌, [], ◌∷◌, length};
+ghost use Rattle.sn_stage.specs.Desks.{world};
+ghost use Rattle.sn_stage.specs.Refusals.{seen_as};
+ghost use Rattle.sn_stage.specs.Runs.{Works, Answers};
+ghost use Rattle.sn_stage.specs.Stages.{Text};
+ghost use Rattle.sn_planned.specs.Queries.{queries_of, QueriesIn};
+
+use sn_io::inputs::Inputs;
+use sn_io::sink::Sink;
+use sn_read_queries::fault::Refused;
+use sn_read_queries::read::read;
+use sn_stage::desk::Desk;
+use sn_stage::fault::Fault;
+use sn_stage::files::{MOST_TEXT, read_file};
+use sn_stage::refusal::Refusal;
+use sn_types::typed::Typed;
+use std::alloc::Global;
+
+/// The queries of a text.
+fn judge_queries(alloc: Global, text: &[u8]) -> Result<Typed, Refusal>
+    requires { length text.now ≤ 2 ^ 30 }
+    ensures { Answers (QueriesIn text.now) (seen_as queries_of result) }
+{
+    match read(alloc, text) {
+        Ok(typed) => Ok(typed),
+        Err(Refused::Fault(fault)) => Err(Refusal::Refused(Fault::Queries(fault))),
+        Err(Refused::Memory) => Err(Refusal::Memory),
+    }
+}
+
+/// Reads the queries of a file.
+pub fn read_queries<I: Inputs, O: Sink>(
+    alloc: Global,
+    desk: &mut Desk<'_, I, O>,
+    name: &str,
+) -> Result<Typed, Refusal>
+    ensures { Works (name.now ∷ []) (Text name.now QueriesIn) (world I.Inputs O.Sink desk.old) (seen_as queries_of result) (world I.Inputs O.Sink desk.new) }
+{
+    let text = read_file(alloc, desk, name, MOST_TEXT)?;
+    judge_queries(alloc, text.as_slice())
+}

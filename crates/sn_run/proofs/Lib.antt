@@ -1,0 +1,4 @@
+pub mod PartLemmas
+pub mod AlongLemmas
+pub mod StateLemmas
+pub mod RunLemmas

@@ -1,0 +1,4 @@
+pub mod Planned
+pub mod Along
+pub mod Causal
+pub mod Run

@@ -1,0 +1,37 @@
+//! The command `run`.
+ghost use Rattle.std.specs.Prelude.{[], ◌∷◌};
+ghost use Rattle.sn_run.specs.Run.{Run};
+ghost use Rattle.sn_stage.specs.Desks.{world};
+ghost use Rattle.sn_stage.specs.Runs.{Works};
+
+use crate::along::Along;
+use sn_answered::capture::answer_capture;
+use sn_io::inputs::Inputs;
+use sn_io::sink::Sink;
+use sn_planned::fit::test_fit;
+use sn_planned::queries::read_queries;
+use sn_planned::texts::{read_plan, read_switch};
+use sn_stage::desk::Desk;
+use sn_stage::refusal::Refusal;
+use std::alloc::Global;
+
+/// `run SWITCH QUERIES PLAN CAPTURE`: reads the queries, the switch and the plan, tests the plan, and answers the capture along
+/// it, window by window.
+pub fn run<I: Inputs, O: Sink>(
+    alloc: Global,
+    switch: &str,
+    queries: &str,
+    plan: &str,
+    capture: &str,
+    desk: &mut Desk<'_, I, O>,
+) -> Result<(), Refusal>
+    ensures { Works (queries.now ∷ switch.now ∷ plan.now ∷ capture.now ∷ []) (Run switch.now queries.now plan.now capture.now) (world I.Inputs O.Sink desk.old) result (world I.Inputs O.Sink desk.new) }
+{
+    let typed = read_queries(alloc, desk, queries)?;
+    let limits = read_switch(alloc, desk, switch)?;
+    let entries = read_plan(alloc, desk, plan)?;
+    test_fit(&typed, &limits, &entries)?;
+    let window_ns = typed.window_ns();
+    let mut along = Along::make(typed, &limits, entries)?;
+    answer_capture(alloc, window_ns, capture, &mut along, desk)
+}

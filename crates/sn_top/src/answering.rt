@@ -1,0 +1,41 @@
+//! Unsplit queries answer the windows of a capture, each by itself.
+
+use crate::answers::window_text;
+use crate::unsplit::Unsplit;
+use sn_answered::answering::Answering;
+use sn_answered::lines::last_lines;
+use sn_base::memory::Memory;
+use sn_base::seq::Seq;
+use sn_fields::tuple::Tuple;
+use sn_pcap::packet::Ending;
+
+impl Answering for Unsplit {
+    ghost use Rattle.std.specs.Prelude.{◌≡◌, [], refl};
+    ghost use Rattle.sn_top.specs.Answers.{plain_wording};
+
+    ghost wording = { λ a. plain_wording a.typed.queries };
+
+    ghost idle = { λ a closed. a.tuples ≡ [] };
+
+    ghost hand = { λ a closed number tuples. a.tuples ≡ tuples };
+
+    fn begin(&mut self, _: u64) -> Result<(), Memory> {
+        Ok(())
+    }
+
+    fn packet(&mut self, tuple: &Tuple) -> Result<(), Memory> {
+        self.tuples.push(*tuple)
+    }
+
+    fn close(&mut self, number: u64) -> Result<Seq<u8>, Memory> {
+        let text = window_text(self.alloc, &self.typed, number, self.tuples.as_slice())?;
+        self.tuples = Seq::new(self.alloc);
+        Ok(text)
+    }
+
+    fn last(&self, windows: u64, ending: Ending) -> Result<Seq<u8>, Memory> {
+        last_lines(self.alloc, ending, windows, None)
+    }
+
+    ghost causal = { λ a closed number tuples more rising. refl };
+}
