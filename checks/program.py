@@ -40,6 +40,11 @@ def answer(executable, text, capture):
     return found
 
 
+def has_plans(executable):
+    """Whether the program has the commands around plans. One without them answers their words with status 2."""
+    return subprocess.run([executable, 'run', *['no such file'] * 4], capture_output=True).returncode != 2
+
+
 def rows(text):
     """The rows of an answer as a list of window, query and columns."""
     found, window, query = [], None, None

@@ -2,7 +2,10 @@
 """Tries each query of the library on a capture of the attack that it looks for, and on a capture of peace.
 
 Each recipe makes its capture in network namespaces of its own (it needs root, tcpdump, hping3, nmap, ncat and tcpreplay). An attack counts as found
-where a row of the query begins with the addresses of the attack and ends with a number that the recipe allows. In peace no query may have a row."""
+where a row of the query begins with the addresses of the attack and ends with a number that the recipe allows. In peace no query may have a row.
+
+Then the refined queries of refined/, on captures that recipes/written.py writes: the program must find the plans that stand there, check them, and find
+each attack by them, no later than a window for each further level. Where the program has no plans yet, these are skipped. --only-refined needs no root."""
 
 import argparse
 import os
@@ -11,6 +14,8 @@ import sys
 import tempfile
 
 HERE = os.path.dirname(os.path.abspath(__file__))
+REFINED = os.path.join(HERE, 'refined')
+SWITCH = os.path.join(REFINED, 'small.switch')
 USUAL = os.path.join(HERE, '..', 'crates', 'sonata', 'out', 'sonata')
 
 # Query file, query, the columns with which the row of the attack begins, and the place, least and greatest value of a further column.
@@ -39,32 +44,42 @@ def make(recipe, folder):
     return capture
 
 
+def output(program, *words):
+    return subprocess.run([program, *words], capture_output=True, text=True, check=True).stdout
+
+
 def answer(program, name, capture):
-    done = subprocess.run([program, 'plain', os.path.join(HERE, 'queries', name + '.query'), capture], capture_output=True, text=True, check=True)
-    return done.stdout
+    return output(program, 'plain', os.path.join(HERE, 'queries', name + '.query'), capture)
 
 
 def rows(text):
-    """The rows of each query over all windows."""
-    found, query = {}, None
+    """The rows of each query at the finest level that is printed, each with its window."""
+    found, finest, window, query, level = {}, {}, None, None, None
     for words in (line.split(' ') for line in text.splitlines()):
-        if words[0] == 'query':
-            query = words[1]
-            found.setdefault(query, [])
-        elif words[0] not in ('window', 'total', 'capture'):
-            found[query].append(words)
-    return found
+        if words[0] == 'window':
+            window = int(words[1])
+        elif words[0] == 'query':
+            query, level = words[1], int(words[3])
+            found.setdefault((query, level), [])
+            finest[query] = max(level, finest.get(query, 0))
+        elif words[0] not in ('total', 'capture'):
+            found[query, level].append((window, words))
+    return {query: found[query, level] for query, level in finest.items()}
 
 
-def finding(found, query, key, place, least, greatest):
+def lawful(found, query, key, place, least, greatest):
+    """The rows of the attack as the recipe allows them, each with its window."""
+    return [(window, row) for window, row in found[query] if row[:len(key)] == key and least <= int(row[place]) <= greatest]
+
+
+def finding(found, attack):
     """The row of the attack with the greatest number, or None where no row is as the recipe allows."""
-    lawful = [row for row in found[query] if row[:len(key)] == key and least <= int(row[place]) <= greatest]
-    return max(lawful, key=lambda row: int(row[place]), default=None)
+    return max((row for _, row in lawful(found, *attack[1:])), key=lambda row: int(row[attack[3]]), default=None)
 
 
 def try_attack(program, attack, folder):
     name, query = attack[:2]
-    row = finding(rows(answer(program, name, make(name, folder))), *attack[1:])
+    row = finding(rows(answer(program, name, make(name, folder))), attack)
     print('%-17s %-17s %s' % (name, query, 'found: ' + ' '.join(row) if row else 'NOT FOUND'))
     return row is not None
 
@@ -76,16 +91,70 @@ def try_peace(program, name, folder):
     return not loud
 
 
+def has_plans(program):
+    """Whether the program has the commands around plans. One without them answers their words with status 2."""
+    return subprocess.run([program, 'run', *['no such file'] * 4], capture_output=True).returncode != 2
+
+
+def refined(name, kind):
+    """The refined query file of a name, and its plan on a capture of its attack or of peace."""
+    return os.path.join(REFINED, name + '.query'), os.path.join(REFINED, '%s.%s.plan' % (name, kind))
+
+
+def try_plan(program, name, kind, capture):
+    """Whether the program finds the plan that stands there, and says yes to it."""
+    queries, plan = refined(name, kind)
+    with open(plan) as file:
+        same = file.read() == output(program, 'plan', SWITCH, queries, capture)
+    said = output(program, 'check', SWITCH, queries, capture, plan).strip()
+    good = same and said.startswith('yes')
+    print('%-17s %-17s %s' % (name, kind + ' plan', said if good else 'NOT AS IT STANDS'))
+    return good
+
+
+def delay(plan, query):
+    """The windows that a plan may cost a query: one for each level of its path but the first."""
+    with open(plan) as file:
+        path = next(line for line in file if line.startswith('query %s path' % query))
+    return path.count(',')
+
+
+def try_planned_attack(program, attack, kind, capture):
+    """Whether an attack is found by a plan, no later than its levels cost."""
+    name, query = attack[:2]
+    queries, plan = refined(name, kind)
+    first = lawful(rows(output(program, 'plain', queries, capture)), *attack[1:])[0][0]
+    windows = [window for window, _ in lawful(rows(output(program, 'run', SWITCH, queries, plan, capture)), *attack[1:])]
+    good = bool(windows) and windows[0] <= first + delay(plan, query)
+    print('%-17s %-17s %s' % (name, query, 'by the %s plan from window %s' % (kind, windows[0]) if good else 'NOT FOUND by the %s plan' % kind))
+    return good
+
+
+def try_refined(program, folder):
+    """Try the refined queries, one after another, on captures that are written into a folder."""
+    if not has_plans(program):
+        print('refined queries: skipped, the program has no command for plans')
+        return []
+    subprocess.run([sys.executable, os.path.join(HERE, 'recipes', 'written.py'), folder], check=True)
+    captures = {name: os.path.join(folder, name + '.pcap') for name in [attack[0] for attack in ATTACKS] + ['quiet']}
+    good = [try_plan(program, name, kind, captures[name if kind == 'attack' else 'quiet'])
+            for name in dict.fromkeys(attack[0] for attack in ATTACKS) for kind in ('quiet', 'attack')]
+    return good + [try_planned_attack(program, attack, kind, captures[attack[0]]) for attack in ATTACKS for kind in ('quiet', 'attack')]
+
+
 def main():
     words = argparse.ArgumentParser(description=__doc__, formatter_class=argparse.RawDescriptionHelpFormatter)
     words.add_argument('--sonata', default=USUAL, help='the program (default: the one that this clone built)')
     words.add_argument('--captures', metavar='FOLDER', help='use the captures there, and leave those that are made')
+    words.add_argument('--only-refined', action='store_true', help='try the refined queries alone')
     given = words.parse_args()
     with tempfile.TemporaryDirectory(prefix='sonata-examples-') as passing:
-        folder = given.captures or passing
-        os.makedirs(folder, exist_ok=True)
-        good = [try_attack(given.sonata, attack, folder) for attack in ATTACKS]
-        good += [try_peace(given.sonata, name, folder) for name in dict.fromkeys(attack[0] for attack in ATTACKS)]
+        folder, good = given.captures or passing, []
+        if not given.only_refined:
+            os.makedirs(folder, exist_ok=True)
+            good += [try_attack(given.sonata, attack, folder) for attack in ATTACKS]
+            good += [try_peace(given.sonata, name, folder) for name in dict.fromkeys(attack[0] for attack in ATTACKS)]
+        good += try_refined(given.sonata, os.path.join(passing, 'written'))
     print('%d of %d as they should be' % (sum(good), len(good)))
     return 0 if all(good) else 1
 

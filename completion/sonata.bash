@@ -1,0 +1,22 @@
+# Completion of sonata for bash: source this file, or install it as sonata in bash-completion's folder of completions.
+
+# How many file words a command takes, and the options behind them.
+declare -gA _sonata_files=([plain]=2 [plan]=3 [run]=4 [emit]=4 [finish]=3 [check]=4 [live]=4 [gen]=0 [job]=0)
+declare -gA _sonata_options=([plan]='--nodes' [run]='--csv' [live]='--nodes --schedule --trace')
+
+_sonata() {
+    local word=${COMP_WORDS[COMP_CWORD]} command=${COMP_WORDS[1]} option
+    COMPREPLY=()
+    if ((COMP_CWORD == 1)); then
+        mapfile -t COMPREPLY < <(compgen -W "${!_sonata_files[*]}" -- "$word")
+    elif ((COMP_CWORD <= 1 + ${_sonata_files[$command]:-0})); then
+        compopt -o filenames 2> /dev/null
+        mapfile -t COMPREPLY < <(compgen -f -- "$word")
+    elif [[ ${COMP_WORDS[COMP_CWORD - 1]} != @(--nodes|--schedule) ]]; then
+        for option in ${_sonata_options[$command]}; do
+            [[ " ${COMP_WORDS[*]:2:COMP_CWORD-2} " == *" $option "* ]] || mapfile -t -O "${#COMPREPLY[@]}" COMPREPLY < <(compgen -W "$option" -- "$word")
+        done
+    fi
+}
+
+complete -F _sonata sonata

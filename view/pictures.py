@@ -1,0 +1,60 @@
+"""What the pictures share: their command line, the package that draws them, colours, and the file that is written."""
+
+import argparse
+import colorsys
+import os
+import sys
+
+PACKAGE = 'Needs matplotlib: on Debian `apt-get install python3-matplotlib`, and the distribution\'s own /usr/bin/python3.'
+COLOURS = ['#3b6fb6', '#d9822b', '#3d9157', '#b5403f', '#7d5ba6', '#8a6a4f', '#c4649f', '#5f7f8c']
+
+
+def command_line(description, package=PACKAGE):
+    """The parser of a command, with the picture that it writes."""
+    words = argparse.ArgumentParser(description=description + '\n\n' + package, formatter_class=argparse.RawDescriptionHelpFormatter)
+    words.add_argument('-o', '--output', metavar='PICTURE', required=True, help='the picture to write: .svg or .png')
+    return words
+
+
+def form_of(name):
+    """The form that a picture's name asks for."""
+    form = os.path.splitext(name)[1].lower().lstrip('.')
+    if form not in ('svg', 'png'):
+        sys.exit('%s: a picture ends in .svg or .png' % name)
+    return form
+
+
+def drawing():
+    """The module that draws, made ready to write files that are the same each time."""
+    try:
+        import matplotlib
+    except ImportError:
+        sys.exit(PACKAGE)
+    matplotlib.use('Agg')
+    matplotlib.rcParams.update({'font.size': 8, 'svg.fonttype': 'none', 'svg.hashsalt': 'sonata', 'axes.spines.top': False, 'axes.spines.right': False})
+    from matplotlib import pyplot
+    return pyplot
+
+
+def save(figure, name):
+    form = form_of(name)
+    figure.savefig(name, format=form, dpi=110, bbox_inches='tight', metadata={'Date': None} if form == 'svg' else None)
+
+
+def colour(number):
+    """The colour of a query."""
+    return COLOURS[number % len(COLOURS)]
+
+
+def shade(number, place, count):
+    """The colour of a query at one of the levels of its path: the coarsest is the lightest."""
+    red, green, blue = (int(colour(number)[i:i + 2], 16) / 255 for i in (1, 3, 5))
+    hue, light, full = colorsys.rgb_to_hls(red, green, blue)
+    share = (count - 1 - place) / max(1, count)
+    return colorsys.hls_to_rgb(hue, light + (0.93 - light) * share, full)
+
+
+def whole_ticks(axis):
+    """Ticks at whole numbers alone."""
+    from matplotlib.ticker import MaxNLocator
+    axis.set_major_locator(MaxNLocator(integer=True, nbins='auto'))
