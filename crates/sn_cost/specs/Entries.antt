@@ -1,0 +1,64 @@
+-- The entries of a cost table that is made of training windows.
+use Rattle.std.specs.Prelude.{ℕ, zero, suc, ◌-◌, ◌<◌, ◌^◌, ◌/◌, ◌%◌, ◌==◌, List, [], ◌∷◌, map, length, slice_index, Option, None, Some, if◌then◌else◌}
+use Rattle.std.specs.List.{sum_by}
+use Rattle.std.specs.Option.{option_map}
+use Rattle.sn_switch.specs.declared.switch.Switch.{Switch}
+use Rattle.sn_types.specs.declared.typed_query.TypedQuery.{TypedQuery}
+use Rattle.sn_types.specs.Typed.{branch_at, query_at}
+use Rattle.sn_choices.specs.Options.{Setting, options}
+use Rattle.sn_refine.specs.Refined.{Windows, answered, before, refined_rows}
+use Rattle.sn_refine.specs.Steps.{Given, windows_of}
+use Rattle.sn_split.specs.Branches.{branch_items}
+use Rattle.sn_windows.specs.Windows as numbered
+
+-- ---- training windows
+
+-- tuples beside the numbers of their windows
+abbrev pub records : List ℕ → List (List ℕ) → List (ℕ × List ℕ)
+records [] tuples = []
+records (n ∷ ns) [] = []
+records (n ∷ ns) (tuple ∷ tuples) = (n, tuple) ∷ records ns tuples
+
+-- the windows that hold a record, by number, each with its tuples
+abbrev pub windows_in : List (ℕ × List ℕ) → List Given
+windows_in found = map (λ w. (w, numbered.in_window w found)) (numbered.windows_of found)
+
+abbrev pub trained : List ℕ → List (List ℕ) → List Given
+trained numbers tuples = windows_in (records numbers tuples)
+
+-- ---- the front of a path
+
+-- of these levels, rising, those whose bit is set: bit i for level i
+abbrev pub front_of : ℕ → List ℕ → List ℕ
+front_of m [] = []
+front_of m (level ∷ levels) = if m % 2 == 1 then level ∷ front_of (m / 2) levels else front_of (m / 2) levels
+
+-- the tuples of a window that the level at a place of a front sees: all where it is the first, or else those whose prefix the
+-- level before it answered in the window before
+abbrev pub seen_at : TypedQuery → Windows → List ℕ → ℕ → ℕ → Option (List (List ℕ))
+seen_at query windows front zero w = windows w
+seen_at query windows front (suc j) w = option_map (answered query (slice_index front j) (before (refined_rows query windows front j) w)) (windows w)
+
+-- how many items a piece of an option sends of the tuples that its level sees
+abbrev pub sent_of : TypedQuery → ℕ → ℕ → ℕ → Setting → Option (List (List ℕ)) → ℕ
+sent_of query b level depth o None = 0
+sent_of query b level depth o (Some seen) = length (branch_items query b level None o.0 depth o.1 seen)
+
+-- how many items it sends of a window, at the last level of a front
+abbrev pub sent_in : TypedQuery → Windows → List ℕ → ℕ → ℕ → Setting → ℕ → ℕ
+sent_in query windows front b depth o w = sent_of query b (slice_index front (length front - 1)) depth o (seen_at query windows front (length front - 1) w)
+
+-- ---- entries
+
+-- The entry of a query, a front of a path, a branch and an option: the sum over the training windows of the number of items that
+-- the piece sends, on the tuples that the level before on the front lets in.
+abbrev pub entry_count : ℕ → TypedQuery → List Given → ℕ → ℕ → Setting → ℕ
+entry_count depth query given prefix b o = sum_by (λ g. sent_in query (windows_of given) (front_of prefix query.levels) b depth o g.0) given
+
+-- a query, the front of a path with at least one level, a branch and an option of it
+pub record IsPiece (s : Switch) (queries : List TypedQuery) (q prefix b n : ℕ) : Type 0 where
+  pub of_query : q < length queries
+  pub of_levels : prefix < 2 ^ length (query_at queries q).levels
+  pub some_level : 0 < length (front_of prefix (query_at queries q).levels)
+  pub of_branch : b < length (query_at queries q).branches
+  pub of_option : n < length (options s (branch_at queries q b))

@@ -1,0 +1,4 @@
+pub mod Entries
+pub mod Adding
+pub mod Runs
+pub mod Training

@@ -1,0 +1,67 @@
+//! The cost table of training windows.
+ghost use Rattle.std.specs.Prelude.{◌≡◌, ◌≤◌, ◌<◌, ◌+◌, ◌^◌, ℕ, length, IfOk, OnOk};
+ghost use Rattle.sn_choices.specs.Costs.{HasPlaces, entry_in};
+ghost use Rattle.sn_choices.specs.Options.{option_at};
+ghost use Rattle.sn_cost.specs.Adding.{Adds};
+ghost use Rattle.sn_cost.specs.Entries.{IsPiece, entry_count, trained};
+ghost use Rattle.sn_cost.specs.Training.{IsFresh, NeverFall, of_fronts};
+ghost use Rattle.sn_switch.specs.Texts.{IsSwitch};
+ghost use Rattle.sn_types.specs.Typed.{branch_at, query_at};
+
+use crate::front::front_of;
+use crate::train::add_front;
+use sn_base::memory::Memory;
+use sn_choices::costs::CostTable;
+use sn_fields::tuple::Tuple;
+use sn_switch::switch::Switch;
+use sn_types::typed::Typed;
+
+/// Adds the counts of all training windows at all fronts of a query.
+fn add_query(
+    t: &Typed,
+    s: &Switch,
+    q: u32,
+    tuples: &[Tuple],
+    numbers: &[u64],
+    table: &mut CostTable,
+) -> Result<(), Memory>
+    requires switch { IsSwitch s.now }
+    requires query { q < length t.now.queries }
+    requires same { length tuples.now ≡ length numbers.now }
+    requires few { length numbers.now ≤ 4194304 }
+    requires never_fall { NeverFall numbers.now }
+    requires places { HasPlaces table.old (q + 1) }
+    requires fresh { (prefix : ℕ) → IsFresh table.old q prefix }
+    ensures { let query = query_at t.now.queries q in OnOk result (Adds table.old table.new (of_fronts s.now q query (2 ^ length query.levels) (trained numbers.now tuples.now))) }
+{
+    let levels = t.levels(q);
+    for prefix in 0..1u32 << levels.len() {
+        let front = front_of(t.alloc, prefix, levels)?;
+        if !front.as_slice().is_empty() {
+            add_front(t, s, q, prefix, front.as_slice(), tuples, numbers, table)?;
+        }
+    }
+    Ok(())
+}
+
+/// The cost table of training windows. Each entry, of a query, a front of a path, a branch and an option, is the number of
+/// items that the piece sends over all windows, on the tuples that the level before on the front lets in. `numbers` has
+/// the number of each tuple's window: as many as there are tuples, at most 4194304, and never falling. A window without a
+/// tuple answers nothing, so a level behind the first sees nothing in the window behind it.
+///
+/// # Errors
+/// Want of memory.
+pub fn build(t: &Typed, s: &Switch, tuples: &[Tuple], numbers: &[u64]) -> Result<CostTable, Memory>
+    requires switch { IsSwitch s.now }
+    requires same { length tuples.now ≡ length numbers.now }
+    requires few { length numbers.now ≤ 4194304 }
+    requires never_fall { NeverFall numbers.now }
+    ensures places { IfOk result (λ table. HasPlaces table (length t.now.queries)) }
+    ensures entries { IfOk result (λ table. (q prefix b n : ℕ) → IsPiece s.now t.now.queries q prefix b n → entry_in table q prefix b n ≡ entry_count s.now.chain (query_at t.now.queries q) (trained numbers.now tuples.now) prefix b (option_at s.now (branch_at t.now.queries q b) n)) }
+{
+    let mut table = CostTable::make(t, s)?;
+    for q in 0..t.queries() {
+        add_query(t, s, q, tuples, numbers, &mut table)?;
+    }
+    Ok(table)
+}

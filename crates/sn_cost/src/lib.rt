@@ -1,0 +1,11 @@
+//! What each piece costs, by the tuples of training windows.
+#![tactic(auto)]
+
+mod adding;
+mod branches;
+pub mod build;
+mod front;
+mod run;
+#[cfg(test)]
+mod tests;
+mod train;
