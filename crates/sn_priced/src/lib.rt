@@ -1,0 +1,2 @@
+//! What plans cost by the tables of training windows.
+#![tactic(auto)]
