@@ -1,0 +1,4 @@
+pub mod Plans
+pub mod Trees
+pub mod Covering
+pub mod Faults

@@ -1,0 +1,4 @@
+//! Spaces of plans that say the same of their partial plans.
+#![tactic(auto)]
+
+pub mod law;
