@@ -37,4 +37,4 @@ one_windows : (wording : Wording) (window : ℕ) (capture : List ℕ) (header : 
 one_windows wording window capture header = one_then (one_whole capture) (λ file. one_then (one_judges (one_found header (within file))) (λ found. one_does _))
 
 pub one_answered : (wording : Wording) (window : ℕ) (capture : List ℕ) → HasOne (Answered wording window capture)
-one_answered wording window capture = one_then (one_then (one_whole capture) (λ file. one_does _)) (λ header. one_then (one_windows wording window capture header) (λ closed. one_last wording closed.0 closed.1))
+one_answered wording window capture = one_then (one_then (one_whole capture) (λ file. one_does _)) (λ header. one_then (one_does _) (λ _. one_then (one_windows wording window capture header) (λ closed. one_last wording closed.0 closed.1)))

@@ -16,7 +16,7 @@ use Rattle.sn_stage.specs.declared.fault.Fault.TheVariants.{TooLarge}
 use Rattle.sn_stage.specs.declared.refusal.Refusal.{Refusal}
 use Rattle.sn_stage.specs.declared.refusal.Refusal.TheVariants.{Refused}
 use Rattle.sn_stage.specs.Outcomes.{Outcome, silent}
-use Rattle.sn_windows.specs.Windows.{record_at, windows_of, run_of, first_run, numbered}
+use Rattle.sn_windows.specs.Windows.{record_at, run_of, first_run, numbered}
 use Rattle.sn_windows.specs.Numbering.{Numbering, next_first, next_number, next_count, stepped, numbered_from}
 use Rattle.sn_windows.specs.Blocks.{blocks, all_few}
 use Rattle.sn_windows.proofs.RunLemmas.{Rises, AtLeast}

@@ -1,6 +1,6 @@
 -- Windows with rising numbers, over plain values.
-use Rattle.std.proofs.Common.{◌≡◌, ℕ, ◌<◌, List, [], ◌∷◌, ◌++◌, Option, Some, None, arith}
-use Rattle.sn_answered.specs.Wording.{AreRising, IsAbove, Window}
+use Rattle.std.proofs.Common.{ℕ, ◌<◌, List, [], ◌∷◌, ◌++◌, Option, Some, None}
+use Rattle.sn_answered.specs.Wording.{AreRising, Window}
 
 -- windows behind a window rise from it on
 pub rising_join : (before : Option ℕ) (closed : List Window) (number : ℕ) (tuples other : List (List ℕ)) (more : List Window) → AreRising before (closed ++ (number, tuples) ∷ []) → AreRising (Some number) more → AreRising before (closed ++ (number, other) ∷ more)

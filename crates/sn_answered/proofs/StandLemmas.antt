@@ -1,6 +1,6 @@
 -- What is kept in code stands for what is gathered, over plain values.
-use Rattle.std.proofs.Common.{◌≡◌, ℕ, ◌+◌, ◌<◌, ◌≤◌, List, [], ◌∷◌, ◌++◌, Bool, true, false, None, Result, Ok, Err, IfOk, length, refl, ap, sym, subst, ◌∙◌, arith, length-append}
-use Rattle.std.proofs.lemmas.Bool.{false≢true, true≢false}
+use Rattle.std.proofs.Common.{◌≡◌, ℕ, ◌+◌, ◌<◌, ◌≤◌, List, [], ◌∷◌, ◌++◌, true, None, Result, Ok, Err, IfOk, length, refl, ap, sym, subst, ◌∙◌, arith, length-append}
+use Rattle.std.proofs.lemmas.Bool.{true≢false}
 use Rattle.sn_pcap.specs.declared.packet.Ending.{Ending}
 use Rattle.sn_stage.specs.declared.refusal.Refusal.{Refusal}
 use Rattle.sn_stage.specs.Refusals.{seen_as}
@@ -11,7 +11,7 @@ use Rattle.sn_windows.specs.declared.windows.Windows.{Windows}
 use Rattle.sn_windows.specs.Numbering.{next_count, next_number, stepped}
 use Rattle.sn_windows.specs.NumberingOf.{numbering}
 use Rattle.sn_answered.specs.declared.gathered.Gathered.{Gathered}
-use Rattle.sn_answered.specs.Gathering.{Gathering, after, begins, hand_text, joined, Stands, with_hand}
+use Rattle.sn_answered.specs.Gathering.{Gathering, after, hand_text, Stands, with_hand}
 use Rattle.sn_answered.specs.Wording.{AreRising, Window, Wording}
 use Rattle.sn_answered.proofs.RisingLemmas.{rising_next, rising_other}
 use Rattle.sn_answered.proofs.StreamLemmas.{after_here, after_next}
@@ -63,7 +63,7 @@ module _ (hand : List Window → ℕ → List (List ℕ) → Type 0) (kept : Gat
   stands_joined now windows time shown stepped_is same hand_is =
       let here : next_number g.numbering time ≡ g.numbering.number = same_here time same in
       let long : length (g.tuples ++ shown ∷ []) ≡ length g.tuples + 1 = length-append g.tuples (shown ∷ []) in
-      subst (Stands now (record { windows = windows; closed = kept.closed; some = true })) (sym (after_here (record { block = λ ws n ts. []; last = λ ws e. [] }) g time shown here)) (record {
+      subst (Stands now (record { windows = windows; closed = kept.closed; some = true })) (sym (after_here (record { first = []; block = λ ws n ts. []; last = λ ws e. [] }) g time shown here)) (record {
         numbering = ap (λ n. stepped n time) s.numbering ∙ sym stepped_is;
         closed = s.closed;
         some = λ _. omega arith;
@@ -81,7 +81,7 @@ module _ (hand : List Window → ℕ → List (List ℕ) → Type 0) (kept : Gat
       let next_is : number ≡ next_number g.numbering time = f ∙ sym (ap (λ n. next_number n time) s.numbering) in
       let long : length (with_hand g) ≡ length g.closed + 1 = length-append g.closed ((g.numbering.number, g.tuples) ∷ []) in
       let many = s.closed in
-      subst (Stands now (record { windows = windows; closed = kept.closed + 1; some = true })) (sym (after_next (record { block = λ ws n ts. []; last = λ ws e. [] }) g time shown other)) (record {
+      subst (Stands now (record { windows = windows; closed = kept.closed + 1; some = true })) (sym (after_next (record { first = []; block = λ ws n ts. []; last = λ ws e. [] }) g time shown other)) (record {
         numbering = ap (λ n. stepped n time) s.numbering ∙ sym stepped_is;
         closed = omega arith;
         some = λ _. omega arith;

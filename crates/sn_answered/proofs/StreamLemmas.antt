@@ -1,5 +1,5 @@
 -- A capture that is read while its windows are written, over plain values.
-use Rattle.std.proofs.Common.{◌≡◌, ◌≢◌, ℕ, ◌+◌, ◌<◌, ◌≤◌, List, [], ◌∷◌, ◌++◌, Bool, true, false, min, Option, Some, None, Result, Ok, Err, is_some, length, take, drop, IfSome, inl, inr, refl, ap, sym, subst, ◌∙◌, arith, append-nil, length-take}
+use Rattle.std.proofs.Common.{◌≡◌, ◌≢◌, ℕ, ◌<◌, ◌≤◌, List, [], ◌∷◌, ◌++◌, Bool, true, false, min, Option, Some, None, Result, Ok, Err, is_some, length, take, drop, IfSome, inl, inr, refl, ap, sym, subst, ◌∙◌, arith, append-nil, length-take}
 use Rattle.std.specs.FinMap.{get}
 use Rattle.std.proofs.lemmas.List.{take_all}
 use Rattle.std.specs.Prelude.{◌==◌, if◌then◌else◌}
@@ -35,11 +35,11 @@ use Rattle.sn_stage.specs.Worlds.{World, Sunk, AnyUnknown, AnyRose, Follows}
 use Rattle.sn_stage.proofs.OutcomeLemmas.{silent_keeps, chance_keeps}
 use Rattle.sn_stage.proofs.StageLemmas.{runs_chance, runs_gives, runs_stops, runs_then, runs_earlier, text_stops, text_then}
 use Rattle.sn_stage.proofs.WorldLemmas.{follows_self}
-use Rattle.sn_windows.specs.Numbering.{Numbering, next_number, next_count, stepped}
+use Rattle.sn_windows.specs.Numbering.{next_number, next_count}
 use Rattle.sn_windows.specs.Windows.{numbered}
-use Rattle.sn_answered.specs.Wording.{AreRising, IsCausal, Window, Wording}
+use Rattle.sn_answered.specs.Wording.{IsCausal, Window, Wording}
 use Rattle.sn_answered.specs.Capture.{known_bytes, Whole, Head, Found, RecordsIn, packet_tuple, time_of, windows_outcome, WindowsIn, WindowsOf}
-use Rattle.sn_answered.specs.Gathering.{Gathering, after, all_closed, all_of, begins, closing, closing_of, hand_text, joined, none_gathered, taken}
+use Rattle.sn_answered.specs.Gathering.{Gathering, after, all_of, begins, closing, closing_of, hand_text, joined, none_gathered, taken}
 use Rattle.sn_pcap.proofs.OneCapture.{below_or_not}
 use Rattle.sn_pcap.proofs.ToldLemmas.{at_told}
 use Rattle.sn_answered.proofs.GatherLemmas.{left_of, put_before, text_end, followed_by, gathered_all}

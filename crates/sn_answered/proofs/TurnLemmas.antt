@@ -24,7 +24,7 @@ use Rattle.sn_stage.specs.Stages.{Does}
 use Rattle.sn_stage.specs.Worlds.{Files, World, Follows}
 use Rattle.sn_stage.proofs.OutcomeLemmas.{chance_keeps}
 use Rattle.sn_stage.proofs.StageLemmas.{runs_gives}
-use Rattle.sn_answered.specs.Wording.{AreRising, IsCausal, Window, Wording}
+use Rattle.sn_answered.specs.Wording.{IsCausal, Window, Wording}
 use Rattle.sn_answered.specs.Capture.{read_refusal, WindowsOf}
 use Rattle.sn_answered.specs.declared.gathered.Gathered.{Gathered}
 use Rattle.sn_answered.specs.Gathering.{Gathering, none_gathered, Stands, taken, closing}

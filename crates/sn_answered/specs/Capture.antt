@@ -116,9 +116,12 @@ ending_verdict (endings.Bad at) = Err (faults.Bad at)
 abbrev pub LastLines : Wording → List Window → Ending → Stage (Unit {0})
 LastLines wording windows ending = Then (Adds (wording.last windows ending)) (λ _. Gives (ending_verdict ending))
 
--- a capture behind its header: the blocks of its windows, and the last lines where no limit is passed
+-- a capture behind its header: what stands first, the blocks of its windows, and the last lines where no limit is passed
 abbrev pub AfterHead : Wording → ℕ → List ℕ → Header → Stage (Unit {0})
-AfterHead wording window capture header = Then (WindowsOf wording window capture header) (λ closed. LastLines wording closed.0 closed.1)
+AfterHead wording window capture header =
+    Then (Adds wording.first) (λ _.
+    Then (WindowsOf wording window capture header) (λ closed.
+    LastLines wording closed.0 closed.1))
 
 -- a capture is answered, in windows of so many nanoseconds
 abbrev pub Answered : Wording → ℕ → List ℕ → Stage (Unit {0})

@@ -16,9 +16,10 @@ abbrev pub AreRising : Option ℕ → List Window → Type 0
 AreRising before [] = Unit {0}
 AreRising before (w ∷ ws) = IsAbove before w.0 × AreRising (Some w.0) ws
 
--- The block of a window with this number and these tuples, in a capture that has these windows; and what stands behind the
--- blocks of a capture with these windows, whose records end so.
+-- What stands before the blocks of a capture; the block of a window with this number and these tuples, in a capture that has
+-- these windows; and what stands behind the blocks of a capture with these windows, whose records end so.
 pub record Wording : Type 0 where
+  pub first : List ℕ
   pub block : List Window → ℕ → List (List ℕ) → List ℕ
   pub last : List Window → Ending → List ℕ
 

@@ -19,6 +19,10 @@ pub trait Answering {
     /// These windows were closed, and of the one with this number these tuples came.
     ghost hand: { Self → List Window → ℕ → List (List ℕ) → Type 0 };
 
+    /// What stands before the blocks of all windows.
+    fn first(&self) -> Result<Seq<u8>, Memory>
+        ensures { IfOk result (λ text. text ≡ (wording self.now).first) };
+
     /// Begins a window, whose number is above those before.
     fn begin(&mut self, number: u64) -> Result<(), Memory>
         requires { Rests (idle self.old) }

@@ -181,6 +181,17 @@ fn end_of(ending: Ending) -> Result<(), Refusal>
     }
 }
 
+/// Writes what stands before the blocks.
+fn write_first_lines<A: Answering, I: Inputs, O: Sink>(
+    answering: &A,
+    desk: &mut Desk<'_, I, O>,
+) -> Result<(), Refusal>
+    ensures { Runs [] (Adds (A.wording answering.now).first) (world I.Inputs O.Sink desk.old) result (world I.Inputs O.Sink desk.new) }
+{
+    let lines = answering.first()?;
+    write_text(lines.as_slice(), desk)
+}
+
 /// Writes what stands behind the blocks.
 fn write_last_lines<A: Answering, I: Inputs, O: Sink>(
     answering: &A,
@@ -212,7 +223,7 @@ fn read_header<I: Inputs, O: Sink>(
     }
 }
 
-/// Answers the records of a capture.
+/// Answers the records of a capture, behind what stands before all blocks.
 fn answer_records<A: Answering, I: Inputs, O: Sink>(
     alloc: Global,
     window_ns: u64,
@@ -226,6 +237,7 @@ fn answer_records<A: Answering, I: Inputs, O: Sink>(
     requires idle { A.idle answering.old [] }
     ensures { Runs (capture.now ∷ []) (AfterHead (A.wording answering.old) window_ns capture.now header.now) (world I.Inputs O.Sink desk.old) result (world I.Inputs O.Sink desk.new) }
 {
+    write_first_lines(answering, desk)?;
     let (windows, ending) = write_windows(alloc, window_ns, header, capture, answering, desk)?;
     write_last_lines(answering, windows, ending, desk)
 }

@@ -1,5 +1,5 @@
 -- What is written of the windows of a capture that is answered along a plan.
-use Rattle.std.specs.Prelude.{ℕ, List, ◌++◌, map, sum, length, true, Some}
+use Rattle.std.specs.Prelude.{ℕ, List, [], ◌++◌, map, sum, length, true, Some}
 use Rattle.sn_answered.specs.Wording.{Window, Wording}
 use Rattle.sn_driver.specs.Windows.{plan_answers}
 use Rattle.sn_out.specs.Text.{block_text, damage_line, total_line}
@@ -36,4 +36,4 @@ abbrev pub plan_lines : Planned → List Window → Ending → List ℕ
 plan_lines p windows ending = damage_line ending ++ total_line (length windows) (Some (emitted_in p windows))
 
 abbrev pub plan_wording : Planned → Wording
-plan_wording p = record { block = plan_block p; last = plan_lines p }
+plan_wording p = record { first = []; block = plan_block p; last = plan_lines p }

@@ -19,6 +19,10 @@ impl Answering for Unsplit {
 
     ghost hand = { λ a closed number tuples. a.tuples ≡ tuples };
 
+    fn first(&self) -> Result<Seq<u8>, Memory> {
+        Ok(Seq::new(self.alloc))
+    }
+
     fn begin(&mut self, _: u64) -> Result<(), Memory> {
         Ok(())
     }
