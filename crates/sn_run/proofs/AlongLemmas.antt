@@ -1,5 +1,5 @@
 -- The answers of windows that come one after another are those along the plan.
-use Rattle.std.proofs.Common.{◌≡◌, ℕ, ◌+◌, ◌<◌, List, [], ◌∷◌, ◌++◌, map, sum, Option, None, Some, refl, ap, sym, ◌∙◌, subst, arith}
+use Rattle.std.proofs.Common.{◌≡◌, ℕ, ◌+◌, List, [], ◌∷◌, ◌++◌, map, sum, Option, None, Some, refl, ap, sym, ◌∙◌, arith}
 use Rattle.std.proofs.lemmas.List.{map-append}
 use Rattle.std.proofs.lemmas.List.Sums.{sum_by-append, sum_by-cons}
 use Rattle.sn_base.proofs.Lists.{map_both}
@@ -11,7 +11,7 @@ use Rattle.sn_fit.specs.Fits.{AreEntriesOf}
 use Rattle.sn_refine.specs.Steps.{IsAbove as IsAboveIt, Rises, windows_of}
 use Rattle.sn_types.specs.declared.answers.Answers.{Answers}
 use Rattle.sn_run.specs.Along.{answers_of, last_from, last_of, sent_in}
-use Rattle.sn_run.specs.Planned.{Planned, answers_at, emitted_at, emitted_in}
+use Rattle.sn_run.specs.Planned.{Planned, answers_at, emitted_in}
 
 -- windows rise in either way of saying it
 above_it : (before : Option ℕ) (w : ℕ) → IsAbove before w → IsAboveIt before w

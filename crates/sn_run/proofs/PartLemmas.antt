@@ -1,5 +1,5 @@
 -- The answers of a plan can be printed.
-use Rattle.std.proofs.Common.{◌≡◌, ℕ, zero, suc, ◌+◌, ◌<◌, ◌≤◌, List, [], ◌∷◌, ◌++◌, map, filter, length, true, false, Bool, cond, Option, None, Some, ap, sym, ◌∙◌, subst, arith}
+use Rattle.std.proofs.Common.{◌≡◌, ℕ, zero, suc, ◌+◌, ◌<◌, ◌≤◌, List, [], ◌∷◌, map, filter, length, Bool, cond, None, Some, sym, subst, arith}
 use Rattle.std.specs.Prelude.{◌==◌, slice_index}
 use Rattle.std.specs.List.{AllByRecursion, range_with_len}
 use Rattle.std.specs.Ordering.{nat_cmp, is_gt}
@@ -22,7 +22,6 @@ use Rattle.sn_out.specs.Text.{IsPartOf}
 use Rattle.sn_plan_rules.specs.declared.plan.Entry.{Entry}
 use Rattle.sn_refine.specs.Refined.{level_rows, part_at}
 use Rattle.sn_refine.specs.Steps.{Set, is_held, parts_in, rows_at}
-use Rattle.sn_types.specs.declared.answers.Part.{Part}
 use Rattle.sn_types.specs.declared.typed_query.TypedQuery.{TypedQuery}
 use Rattle.sn_types.specs.Typed.{HasWidths, IsTyped, branch_at, end_columns, final_columns, query_at}
 use Rattle.sn_types.specs.Values.{op_at}

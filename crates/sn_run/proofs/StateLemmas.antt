@@ -1,5 +1,5 @@
 -- A plan at work, from one window to the next, over plain values.
-use Rattle.std.proofs.Common.{◌≡◌, ℕ, ◌+◌, ◌<◌, List, [], ◌∷◌, ◌++◌, map, length, Option, None, Some, Result, Ok, Err, true, inl, inr, refl, ap, sym, ◌∙◌, subst, arith}
+use Rattle.std.proofs.Common.{◌≡◌, ℕ, ◌+◌, ◌<◌, List, [], ◌∷◌, ◌++◌, map, length, Option, None, Some, Result, Ok, Err, inl, inr, ap, sym, ◌∙◌, subst}
 use Rattle.std.specs.List.{AllByRecursion}
 use Rattle.std.specs.Result.{OnOk}
 use Rattle.sn_base.proofs.Lists.{all_append}
@@ -19,14 +19,13 @@ use Rattle.sn_emit.specs.declared.sender.Sender.{Sender}
 use Rattle.sn_emit.specs.Plans.{AreLanesOf, AreNewLanes, Placed, pieces_from}
 use Rattle.sn_engine.specs.declared.intake.Intake.{Intake}
 use Rattle.sn_engine.specs.Intakes.{intakes_of}
-use Rattle.sn_out.specs.Text.{IsPartOf, block_text}
+use Rattle.sn_out.specs.Text.{IsPartOf}
 use Rattle.sn_types.specs.declared.answers.Answers.{Answers}
-use Rattle.sn_types.specs.declared.answers.Part.{Part}
 use Rattle.sn_types.specs.declared.typed_query.TypedQuery.{TypedQuery}
 use Rattle.sn_types.specs.Typed.{HasWidths}
 use Rattle.sn_run.specs.declared.along.Along.{Along}
-use Rattle.sn_run.specs.Along.{IsAtHand, IsDriverOf, IsIdle, Recalls, plan_of, sent_in}
-use Rattle.sn_run.specs.Planned.{Planned, emitted_in, plan_block}
+use Rattle.sn_run.specs.Along.{IsAtHand, IsDriverOf, IsIdle, plan_of, sent_in}
+use Rattle.sn_run.specs.Planned.{Planned, answers_at, emitted_in}
 use Rattle.sn_run.proofs.AlongLemmas.{last_more, next_answers, next_right, rising_again, rising_front, sent_more, sent_right}
 use Rattle.sn_run.proofs.PartLemmas.{parts_fit}
 
@@ -86,12 +85,12 @@ module _ (a : Along) (closed : List Window) (number : ℕ) (tuples : List (List 
   pub next_is : answers ≡ window_answers p.queries p.depth p.entries (kept_in p.queries a.last number) number tuples → answers ≡ next_answers p closed number tuples
   next_is is = is ∙ ap (λ (last : Option Answers). window_answers p.queries p.depth p.entries (kept_in p.queries last number) number tuples) h.recalls.last
 
-  -- its block is that of the plan
-  pub block_is : answers ≡ window_answers p.queries p.depth p.entries (kept_in p.queries a.last number) number tuples → block_text p.queries answers true ≡ plan_block p (closed ++ (number, tuples) ∷ []) number tuples
-  block_is is = ap (λ (b : Answers). block_text p.queries b true) (next_is is ∙ next_right p closed number tuples h.driver.entries rising)
+  -- its answers are those along the plan
+  pub closed_answers : answers ≡ window_answers p.queries p.depth p.entries (kept_in p.queries a.last number) number tuples → answers ≡ answers_at p (closed ++ (number, tuples) ∷ []) number
+  closed_answers is = next_is is ∙ next_right p closed number tuples h.driver.entries rising
 
   pub closed_idle : (d : Driver) (emitted : ℕ) → answers ≡ window_answers p.queries p.depth p.entries (kept_in p.queries a.last number) number tuples → emitted ≡ a.emitted + answers.emitted → IsDriverOf p d → AreIdle p.queries p.depth (pieces_from 0 p.entries) d.emitter d.engine.lanes.items
-      → IsIdle (record { alloc = a.alloc; typed = a.typed; plan = a.plan; depth = a.depth; driver = d; last = Some answers; emitted = emitted }) (closed ++ (number, tuples) ∷ [])
+      → IsIdle (record { alloc = a.alloc; typed = a.typed; plan = a.plan; depth = a.depth; driver = d; form = a.form; last = Some answers; emitted = emitted }) (closed ++ (number, tuples) ∷ [])
   closed_idle d emitted is sum_is driver lanes = record {
     driver = driver;
     lanes = lanes;
@@ -109,13 +108,20 @@ all_emitted a closed (inr at) = let h = at.1 in h.recalls.emitted ∙ sent_right
 
 -- ---- where all went well
 
+pub on_ok : {X Y : Type 0} {P : Type 0} (r : Result X Y) → P → OnOk r P
+on_ok (Ok x) h = h
+on_ok (Err e) h = tt
+
+pub same_some : {X : Type 0} (a b : X) → Some a ≡ Some b → a ≡ b
+same_some a b e = cc
+
 module _ {X Y : Type 0} {P Q R S T : Type 0} where
   pub on_four : (r : Result X Y) → OnOk r P → OnOk r Q → OnOk r R → OnOk r S → (P → Q → R → S → T) → OnOk r T
   on_four (Ok x) one two three four f = f one two three four
   on_four (Err e) one two three four f = tt
 
 abbrev pub with_driver : Along → Driver → Along
-with_driver a d = record { alloc = a.alloc; typed = a.typed; plan = a.plan; depth = a.depth; driver = d; last = a.last; emitted = a.emitted }
+with_driver a d = record { alloc = a.alloc; typed = a.typed; plan = a.plan; depth = a.depth; driver = d; form = a.form; last = a.last; emitted = a.emitted }
 
 -- a window is begun
 pub begin_hand : (a : Along) (d : Driver) (number : ℕ) (closed : List Window) → IsIdle a closed → AreRising None (closed ++ (number, []) ∷ [])

@@ -1,9 +1,8 @@
 -- What is kept of a plan between two windows, and while a window is at hand.
-use Rattle.std.specs.Prelude.{◌≡◌, ℕ, ◌<◌, List, [], ◌∷◌, ◌++◌, map, sum, length, Option, None, Some}
+use Rattle.std.specs.Prelude.{◌≡◌, ℕ, List, [], ◌∷◌, ◌++◌, map, sum, length, Option, None, Some}
 use Rattle.std.specs.List.{AllByRecursion}
 use Rattle.sn_answered.specs.Wording.{AreRising, Window}
 use Rattle.sn_driver.specs.declared.driver.Driver.{Driver}
-use Rattle.sn_driver.specs.declared.source.Source.{Source}
 use Rattle.sn_driver.specs.Sources.{kept_in, sources_of}
 use Rattle.sn_driver.specs.Windows.{answers_from}
 use Rattle.sn_driver.specs.Work.{AreAtWork, AreIdle, AreUnread}

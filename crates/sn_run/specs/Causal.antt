@@ -2,7 +2,7 @@
 use Rattle.std.specs.Prelude.{◌≡◌, ℕ, zero, suc, ◌<◌, ◌≤◌, List, [], ◌∷◌, ◌++◌, map, sum, true, false, ◌==◌, slice_index, length, Option, None, Some}
 use Rattle.std.specs.List.{range_with_len}
 use Rattle.std.specs.Option.{option_map}
-use Rattle.std.proofs.Common.{refl, ap, sym, ◌∙◌, subst, arith}
+use Rattle.std.proofs.Common.{refl, ap, ◌∙◌, arith}
 use Rattle.std.proofs.lemmas.Bool.{ne_eqb}
 use Rattle.sn_base.specs.Groups.{Row}
 use Rattle.sn_base.proofs.Lists.{by_test}
@@ -10,6 +10,7 @@ use Rattle.sn_answered.specs.Wording.{AreRising, IsCausal, Window}
 use Rattle.sn_driver.specs.Windows.{count_of, piece_count, plan_answers, refined_from, seen_at}
 use Rattle.sn_emit.specs.Plans.{Placed, pieces_from}
 use Rattle.sn_fit.specs.Paths.{place_in}
+use Rattle.sn_out.specs.Records.{window_records}
 use Rattle.sn_out.specs.Text.{block_text}
 use Rattle.sn_plan_rules.specs.declared.plan.Entry.{Entry}
 use Rattle.sn_refine.specs.Refined.{Windows, answered, before, level_rows, part_at, refined_parts, refined_rows}
@@ -18,7 +19,9 @@ use Rattle.sn_types.specs.declared.answers.Answers.{Answers}
 use Rattle.sn_types.specs.declared.answers.Part.{Part}
 use Rattle.sn_types.specs.declared.typed_query.TypedQuery.{TypedQuery}
 use Rattle.sn_types.specs.Typed.{query_at}
-use Rattle.sn_run.specs.Planned.{Planned, plan_wording}
+use Rattle.sn_run.specs.declared.form.Form.{Form}
+use Rattle.sn_run.specs.declared.form.Form.TheVariants as forms
+use Rattle.sn_run.specs.Planned.{Planned, answers_at, wording_in}
 
 map_same : {X Y : Type 0} (f g : X → Y) → ((x : X) → f x ≡ g x) → (xs : List X) → map f xs ≡ map g xs
 map_same f g same [] = refl
@@ -90,7 +93,12 @@ up_to : (last : Option ℕ) (closed : List Window) (number : ℕ) (tuples : List
 up_to last [] number tuples more v r le = by_test (number == v) (λ is. rw is refl) (λ isnt. rw isnt (none_above number more v r.1 le))
 up_to last (w ∷ closed) number tuples more v r le = by_test (w.0 == v) (λ is. rw is refl) (λ isnt. rw isnt (up_to (Some w.0) closed number tuples more v r.1 le))
 
-pub plan_is_causal : (p : Planned) → IsCausal (plan_wording p)
-plan_is_causal p closed number tuples more rising =
-    ap (λ (a : Answers). block_text p.queries a true)
-    (same_answers (windows_of (closed ++ (number, tuples) ∷ more)) (windows_of (closed ++ (number, tuples) ∷ [])) p.queries p.depth p.entries number (λ v le. up_to None closed number tuples more v rising le))
+-- nor do they for its answers
+answers_stand : (p : Planned) (closed : List Window) (number : ℕ) (tuples : List (List ℕ)) (more : List Window) → AreRising None (closed ++ (number, tuples) ∷ more)
+    → answers_at p (closed ++ (number, tuples) ∷ more) number ≡ answers_at p (closed ++ (number, tuples) ∷ []) number
+answers_stand p closed number tuples more rising =
+    same_answers (windows_of (closed ++ (number, tuples) ∷ more)) (windows_of (closed ++ (number, tuples) ∷ [])) p.queries p.depth p.entries number (λ v le. up_to None closed number tuples more v rising le)
+
+pub plan_is_causal : (form : Form) (p : Planned) → IsCausal (wording_in form p)
+plan_is_causal forms.Blocks p closed number tuples more rising = ap (λ (a : Answers). block_text p.queries a true) (answers_stand p closed number tuples more rising)
+plan_is_causal forms.Records p closed number tuples more rising = ap (window_records p.queries) (answers_stand p closed number tuples more rising)

@@ -1,5 +1,5 @@
 -- What `run` does.
-use Rattle.std.specs.Prelude.{ℕ, ◌*◌, List}
+use Rattle.std.specs.Prelude.{ℕ, ◌*◌, List, Bool}
 use Rattle.sn_answered.specs.Capture.{Answered}
 use Rattle.sn_plan_rules.specs.declared.plan.Plan.{Plan}
 use Rattle.sn_planned.specs.Fitting.{Fitting}
@@ -9,7 +9,9 @@ use Rattle.sn_read_queries.specs.Texts.{Queries}
 use Rattle.sn_stage.specs.Outcomes.{Stage}
 use Rattle.sn_stage.specs.Stages.{Text, Then}
 use Rattle.sn_switch.specs.declared.switch.Switch.{Switch}
-use Rattle.sn_run.specs.Planned.{Planned, plan_wording}
+use Rattle.sn_run.specs.declared.form.Form.{Form}
+use Rattle.sn_run.specs.declared.form.Form.TheVariants as forms
+use Rattle.sn_run.specs.Planned.{Planned, form_of, wording_in}
 
 -- a plan of the queries that were read, on the switch that was read
 abbrev pub planned : Queries → Switch → Plan → Planned
@@ -19,16 +21,19 @@ planned read limits plan = record { queries = read.queries; depth = limits.chain
 abbrev pub window_ns : Queries → ℕ
 window_ns read = read.window_us * 1000
 
--- the capture is answered along the plan
+-- the capture is answered along the plan, in either form, or in blocks
+abbrev pub AlongIn : Form → List ℕ → Queries → Switch → Plan → Stage (Unit {0})
+AlongIn form capture read limits plan = Answered (wording_in form (planned read limits plan)) (window_ns read) capture
+
 abbrev pub AlongPlan : List ℕ → Queries → Switch → Plan → Stage (Unit {0})
-AlongPlan capture read limits plan = Answered (plan_wording (planned read limits plan)) (window_ns read) capture
+AlongPlan capture read limits plan = AlongIn forms.Blocks capture read limits plan
 
 -- `run SWITCH QUERIES PLAN CAPTURE`: the queries are read, then the switch, then the plan, which is tested, and then the capture
--- is read and answered along the plan.
-abbrev pub Run : List ℕ → List ℕ → List ℕ → List ℕ → Stage (Unit {0})
-Run switch queries plan capture =
+-- is read and answered along the plan. With `--csv` the answers are comma-separated values.
+abbrev pub Run : Bool → List ℕ → List ℕ → List ℕ → List ℕ → Stage (Unit {0})
+Run csv switch queries plan capture =
     Then (Text queries QueriesIn) (λ read.
     Then (Text switch SwitchIn) (λ limits.
     Then (Text plan PlanIn) (λ entries.
     Then (Fitting read.queries limits entries) (λ _.
-    AlongPlan capture read limits entries))))
+    AlongIn (form_of csv) capture read limits entries))))

@@ -1,5 +1,6 @@
 //! A plan at work over the windows of a capture.
 
+use crate::form::Form;
 use sn_driver::driver::Driver;
 use sn_plan_rules::plan::Plan;
 use sn_types::answers::Answers;
@@ -15,6 +16,8 @@ pub struct Along {
     /// Registers in the chain of a stateful operator.
     pub depth: u32,
     pub driver: Driver,
+    /// How its answers are written.
+    pub form: Form,
     /// The answers of the last window.
     pub last: Option<Answers>,
     /// How many items were sent in all windows.

@@ -1,10 +1,10 @@
 //! A law on `run`, with nothing to run.
-ghost use Rattle.std.specs.Prelude.{ℕ, List};
+ghost use Rattle.std.specs.Prelude.{ℕ, List, Bool};
 ghost use Rattle.sn_run.specs.Run.{Run};
 ghost use Rattle.sn_stage.specs.Outcomes.{HasOne};
 
 /// Over each set of files `run` has exactly one outcome.
 #[tactic(auto, using(crate::proofs::RunLemmas::one_run))]
 pub fn run_has_one_outcome()
-    ensures { (switch queries plan capture : List ℕ) → HasOne (Run switch queries plan capture) }
+    ensures { (csv : Bool) (switch queries plan capture : List ℕ) → HasOne (Run csv switch queries plan capture) }
 {}

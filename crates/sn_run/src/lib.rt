@@ -3,6 +3,9 @@
 
 pub mod along;
 pub mod answering;
+pub mod form;
 pub mod law;
 pub mod run;
+mod texts;
 pub mod widths;
+pub mod windows;

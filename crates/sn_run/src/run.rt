@@ -5,6 +5,7 @@ ghost use Rattle.sn_stage.specs.Desks.{world};
 ghost use Rattle.sn_stage.specs.Runs.{Works};
 
 use crate::along::Along;
+use crate::form::Form;
 use sn_answered::capture::answer_capture;
 use sn_io::inputs::Inputs;
 use sn_io::sink::Sink;
@@ -15,23 +16,24 @@ use sn_stage::desk::Desk;
 use sn_stage::refusal::Refusal;
 use std::alloc::Global;
 
-/// `run SWITCH QUERIES PLAN CAPTURE`: reads the queries, the switch and the plan, tests the plan, and answers the capture along
-/// it, window by window.
+/// `run SWITCH QUERIES PLAN CAPTURE [--csv]`: reads the queries, the switch and the plan, tests the plan, and answers the capture
+/// along it, window by window. With `csv` the answers are comma-separated values, and else blocks.
 pub fn run<I: Inputs, O: Sink>(
     alloc: Global,
+    csv: bool,
     switch: &str,
     queries: &str,
     plan: &str,
     capture: &str,
     desk: &mut Desk<'_, I, O>,
 ) -> Result<(), Refusal>
-    ensures { Works (queries.now ∷ switch.now ∷ plan.now ∷ capture.now ∷ []) (Run switch.now queries.now plan.now capture.now) (world I.Inputs O.Sink desk.old) result (world I.Inputs O.Sink desk.new) }
+    ensures { Works (queries.now ∷ switch.now ∷ plan.now ∷ capture.now ∷ []) (Run csv switch.now queries.now plan.now capture.now) (world I.Inputs O.Sink desk.old) result (world I.Inputs O.Sink desk.new) }
 {
     let typed = read_queries(alloc, desk, queries)?;
     let limits = read_switch(alloc, desk, switch)?;
     let entries = read_plan(alloc, desk, plan)?;
     test_fit(&typed, &limits, &entries)?;
     let window_ns = typed.window_ns();
-    let mut along = Along::make(typed, &limits, entries)?;
+    let mut along = Along::make(Form::of_csv(csv), typed, &limits, entries)?;
     answer_capture(alloc, window_ns, capture, &mut along, desk)
 }

@@ -1,5 +1,5 @@
 use Rattle.sn_run.proofs.StateLemmas.{given_hand, on_four}
-use Rattle.sn_run.proofs.answering.AlongAnswering.packet.Goals as goal
+use Rattle.sn_run.proofs.along.Along.take_tuple.Goals as goal
 
 pub returns-clause-given : goal.returns-clause-given
 returns-clause-given c =

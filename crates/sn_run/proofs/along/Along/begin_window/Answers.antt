@@ -1,6 +1,6 @@
 use Rattle.sn_run.specs.Along.{plan_of}
 use Rattle.sn_run.proofs.StateLemmas.{begin_hand, known_of, on_four}
-use Rattle.sn_run.proofs.answering.AlongAnswering.begin.Goals as goal
+use Rattle.sn_run.proofs.along.Along.begin_window.Goals as goal
 
 pub begin-requires-clause-known : goal.begin-requires-clause-known
 begin-requires-clause-known c = known_of (plan_of c.args.self.now) c.args.self.now.driver c.requires.1.driver
