@@ -44,7 +44,7 @@ fn push_sources(
 }
 
 /// The sources of a plan: one for each piece.
-pub(crate) fn sources(alloc: Global, entries: &[Entry]) -> Result<Seq<Source>, Memory>
+pub fn sources(alloc: Global, entries: &[Entry]) -> Result<Seq<Source>, Memory>
     requires { length entries.now ≤ 8 }
     ensures { IfOk result (λ sources. sources ≡ sources_of 0 entries.now) }
 {
@@ -71,7 +71,12 @@ fn rows_found(parts: &[Part], query: u32, level: u32) -> &[Row]
 }
 
 /// The prefixes that these answers have at the level of a source.
-fn prefixes_in(alloc: Global, t: &Typed, parts: &[Part], source: Source) -> Result<Members, Memory>
+pub fn prefixes_in(
+    alloc: Global,
+    t: &Typed,
+    parts: &[Part],
+    source: Source,
+) -> Result<Members, Memory>
     requires { source.query < length t.now.queries }
     ensures { IfOk result (λ kept. kept ≡ prefixes_in t.now.queries parts.now source) }
 {

@@ -3,3 +3,4 @@ pub mod Adds
 pub mod Lawful
 pub mod PlanAnswers
 pub mod PlanSchedules
+pub mod Settling

@@ -2,7 +2,7 @@
 use Rattle.std.proofs.Common.{◌≡◌, ℕ, suc, ◌+◌, ◌<◌, List, [], ◌∷◌, ◌++◌, ◌==◌, map, length, nat_eq, Bool, true, false, cond, Option, Some, None, refl, ap, sym, ◌∙◌, arith}
 use Rattle.std.specs.FinSet as set
 use Rattle.std.specs.List.{AllByRecursion}
-use Rattle.sn_base.proofs.Lists.{by_test, nat_same, nat_self, not_true}
+use Rattle.sn_base.proofs.Lists.{by_test, map_both, nat_same, nat_self, not_true}
 use Rattle.sn_core.specs.Due.{Tuples, answers_in, answers_of, items_from_start, kept_from}
 use Rattle.sn_core.specs.Nets.{Lane}
 use Rattle.sn_core.specs.Workings.{after_all, gives, items_of, option_list}
@@ -24,7 +24,7 @@ use Rattle.sn_driver.proofs.Laws.{window_is}
 use Rattle.sn_driver.specs.declared.source.Source.{Source}
 use Rattle.sn_driver.specs.Sources.{kept_in, prefixes_in, source_of}
 use Rattle.sn_driver.specs.Windows.{answers_from, window_answers}
-use Rattle.sn_driver.specs.Work.{done}
+use Rattle.sn_driver.specs.Work.{done, intake_of}
 use Rattle.sn_net.specs.PlanWorkings.{AreLanesFor, HaveWidths, all_ended, given_of, workings}
 
 -- a number is the next one: the same test, said twice
@@ -40,7 +40,7 @@ next_test last number =
     false_true e = cc e
 
 ended_done : (queries : List TypedQuery) (depth window : ℕ) (kept : Source → Set) (tuples : List (List ℕ)) (xs : List Placed) →
-    all_ended window xs (map (λ x. piece_items queries depth x (kept (source_of x)) tuples) xs) ≡ map (done queries depth kept tuples window) xs
+    all_ended window (map intake_of xs) (map (λ x. piece_items queries depth x (kept (source_of x)) tuples) xs) ≡ map (done queries depth kept tuples window) xs
 ended_done queries depth window kept tuples [] = refl
 ended_done queries depth window kept tuples (x ∷ xs) = ap (λ ls. done queries depth kept tuples window x ∷ ls) (ended_done queries depth window kept tuples xs)
 
@@ -98,7 +98,7 @@ module _ (typed_for depth : ℕ) (queries : List TypedQuery) (entries : List Ent
     Matches None None = Unit {0}
     Matches None (Some answers) = ⊥
     Matches (Some before) None = ⊥
-    Matches (Some before) (Some answers) = (before.0 ≡ answers.window) × (before.1 ≡ map (λ x. prefixes_in queries answers.parts (source_of x)) (pieces_from 0 entries))
+    Matches (Some before) (Some answers) = (before.0 ≡ answers.window) × (before.1 ≡ map (prefixes_in queries answers.parts) (map source_of (pieces_from 0 entries)))
 
     abbrev wanted_items : (Source → Set) → List (List ℕ) → List (List Item)
     wanted_items kept tuples = map (λ x. piece_items queries depth x (kept (source_of x)) tuples) (pieces_from 0 entries)
@@ -115,7 +115,7 @@ module _ (typed_for depth : ℕ) (queries : List TypedQuery) (entries : List Ent
     same_items (Some before) None number tuples m widths = absurd m
     same_items (Some before) (Some answers) number tuples m widths =
         ap (λ n. items_from_start (workings queries entries) tuples lanes (cond (nat_eq number (suc n)) before.1 [])) m.0
-        ∙ ap (λ sets. items_from_start (workings queries entries) tuples lanes (cond (nat_eq number (suc answers.window)) sets [])) m.1
+        ∙ ap (λ sets. items_from_start (workings queries entries) tuples lanes (cond (nat_eq number (suc answers.window)) sets [])) (m.1 ∙ map_both source_of (prefixes_in queries answers.parts) (pieces_from 0 entries))
         ∙ ap (λ b. items_from_start (workings queries entries) tuples lanes (cond b (map (λ x. prefixes_in queries answers.parts (source_of x)) (pieces_from 0 entries)) [])) (next_test answers.window number)
         ∙ by_bool (answers.window + 1 == number) (prefixes_in queries answers.parts) tuples widths
 
@@ -123,7 +123,7 @@ module _ (typed_for depth : ℕ) (queries : List TypedQuery) (entries : List Ent
         answers_in (workings queries entries) lanes before x ≡ window_answers queries depth entries (kept_in queries last x.number) x.number x.tuples
     one_window before last x m widths =
         let kept : Source → Set = kept_in queries last x.number in
-        ap (λ is. engine_answers queries (all_ended x.number (pieces_from 0 entries) is)) (same_items before last x.number x.tuples m widths)
+        ap (λ is. engine_answers queries (all_ended x.number (map intake_of (pieces_from 0 entries)) is)) (same_items before last x.number x.tuples m widths)
         ∙ ap (engine_answers queries) (ended_done queries depth x.number kept x.tuples (pieces_from 0 entries))
         ∙ window_is typed_for depth x.number queries entries kept x.tuples (engine_answers queries (map (done queries depth kept x.tuples x.number) (pieces_from 0 entries))) t h can widths
         (some_window queries depth x.number kept x.tuples (pieces_from 0 entries) lanes are some) refl refl
@@ -133,9 +133,9 @@ module _ (typed_for depth : ℕ) (queries : List TypedQuery) (entries : List Ent
     each_window [] before last m widths = refl
     each_window (x ∷ xs) before last m widths =
         let wanted : Answers = window_answers queries depth entries (kept_in queries last x.number) x.number x.tuples in
-        ap (λ (a : Answers). a ∷ answers_of (workings queries entries) lanes (Some (x.number, map (λ y. prefixes_in queries a.parts (source_of y)) (pieces_from 0 entries))) xs) (one_window before last x m widths.0)
+        ap (λ (a : Answers). a ∷ answers_of (workings queries entries) lanes (Some (x.number, map (prefixes_in queries a.parts) (map source_of (pieces_from 0 entries)))) xs) (one_window before last x m widths.0)
         ∙ ap (λ rest. wanted ∷ rest)
-        (each_window xs (Some (x.number, map (λ y. prefixes_in queries wanted.parts (source_of y)) (pieces_from 0 entries))) (Some wanted) (refl, refl) widths.1)
+        (each_window xs (Some (x.number, map (prefixes_in queries wanted.parts) (map source_of (pieces_from 0 entries)))) (Some wanted) (refl, refl) widths.1)
 
     pub plan_windows : (windows : List (Tuples (List ℕ))) → HaveWidths windows →
         answers_of (workings queries entries) lanes None windows ≡ answers_from queries depth entries None (map given_of windows)

@@ -1,5 +1,5 @@
 -- The read-out takes the first item that is left, and walks a held row.
-use Rattle.std.proofs.Common.{◌≡◌, ℕ, suc, ◌+◌, ◌<◌, ◌≤◌, List, [], ◌∷◌, map, filter, drop, length, Bool, true, false, ◌||◌, cond, Option, Some, None, refl, ap, sym, subst, ◌∙◌, arith}
+use Rattle.std.proofs.Common.{◌≡◌, ℕ, suc, ◌+◌, ◌<◌, ◌≤◌, List, [], ◌∷◌, drop, length, Bool, true, false, ◌||◌, cond, Option, Some, None, refl, ap, sym, subst, ◌∙◌, arith}
 use Rattle.std.proofs.lemmas.List.{drop-drop}
 use Rattle.sn_base.specs.Groups.{Row}
 use Rattle.sn_chain.specs.Homes.{held_in_order}
@@ -11,10 +11,7 @@ use Rattle.sn_pipe.specs.declared.stage.Stage.TheVariants.{Filter, Map, Distinct
 use Rattle.sn_pipe.specs.Windows.{goes_up, held_row, left_from, rows_left, tag_up}
 use Rattle.sn_pipe.proofs.ReadOuts.{left_up_is, reduce_behind}
 use Rattle.sn_net.specs.ReadOut.{held_from, place_behind, walked}
-
--- the rows of cells that go up
-abbrev pub ups : (Row → Bool) → List (Option (Row × ℕ)) → List Row
-ups up cells = filter up (map held_row (held_in_order cells))
+use Rattle.sn_net.specs.Settled.{ups}
 
 -- behind the cells that are walked all rows go up but the first
 behind_if : (up : Row → Bool) (row : Row) (cells : List (Option (Row × ℕ))) (o : Option (Row × ℕ)) (b : Bool) →

@@ -1,2 +1,3 @@
 pub mod ReadOut
 pub mod PlanWorkings
+pub mod Settled

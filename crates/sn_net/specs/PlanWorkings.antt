@@ -17,24 +17,25 @@ use Rattle.sn_report.specs.declared.frame.Item.{Item}
 use Rattle.sn_types.specs.declared.answers.Answers.{Answers}
 use Rattle.sn_types.specs.declared.typed_query.TypedQuery.{TypedQuery}
 use Rattle.sn_types.specs.Typed.{HasWidths}
+use Rattle.sn_driver.specs.declared.source.Source.{Source}
 use Rattle.sn_driver.specs.Sources.{prefixes_in, source_of}
 use Rattle.sn_driver.specs.Work.{intake_of}
 use Rattle.sn_net.specs.ReadOut.{after_read_out, is_unread, unwalked}
 
--- the engine's lane of a piece that has ended a window, of which these items came
-abbrev pub ended : ℕ → List Item → Placed → Intake
-ended window items x = record (intake_of x) { items = items; end = Some window }
+-- a lane of the engine that has ended a window, of which these items came
+abbrev pub ended : ℕ → List Item → Intake → Intake
+ended window items x = record x { items = items; end = Some window }
 
--- the engine's lanes of all pieces at the end of a window, where these items came of each
-abbrev pub all_ended : ℕ → List Placed → List (List Item) → List Intake
+-- the engine's lanes at the end of a window, where these items came of each
+abbrev pub all_ended : ℕ → List Intake → List (List Item) → List Intake
 all_ended window [] items = []
 all_ended window (x ∷ xs) [] = ended window [] x ∷ all_ended window xs []
 all_ended window (x ∷ xs) (items ∷ rest) = ended window items x ∷ all_ended window xs rest
 
--- A net of a plan: its pipes are those of a switch, its answers are an engine's, and the prefixes that they keep for a piece are
--- those of the level before its own.
-abbrev pub workings : List TypedQuery → List Entry → Workings PipeState (List ℕ) Item (set.FinSet nat_cmp) Answers
-workings queries entries = record {
+-- A net over the pipes of a switch and these lanes of an engine: its answers are those of the engine, and the prefixes that they
+-- keep for a lane are those of the lane's source.
+abbrev pub workings_of : List TypedQuery → List Intake → List Source → Workings PipeState (List ℕ) Item (set.FinSet nat_cmp) Answers
+workings_of queries intakes sources = record {
   item_of = item_of;
   after = after_packet;
   left = λ pipe. left_in pipe.prefix;
@@ -43,9 +44,13 @@ workings queries entries = record {
   unwalked = unwalked;
   start = at_start;
   nothing = set.empty;
-  answers = λ window items. answers_of queries (all_ended window (pieces_from 0 entries) items);
-  kept_of = λ answers. map (λ x. prefixes_in queries answers.parts (source_of x)) (pieces_from 0 entries);
+  answers = λ window items. answers_of queries (all_ended window intakes items);
+  kept_of = λ answers. map (prefixes_in queries answers.parts) sources;
 }
+
+-- A net of a plan: it has a lane for each piece, and the source of a piece's prefixes is the level before its own.
+abbrev pub workings : List TypedQuery → List Entry → Workings PipeState (List ℕ) Item (set.FinSet nat_cmp) Answers
+workings queries entries = workings_of queries (map intake_of (pieces_from 0 entries)) (map source_of (pieces_from 0 entries))
 
 -- ---- the lanes of a net of a plan
 

@@ -1,20 +1,16 @@
-use Rattle.std.proofs.Common.{◌≡◌, ℕ, List, [], map, length, sym, subst, ap, ◌∙◌, IfOk, OnOk}
+use Rattle.std.proofs.Common.{◌≡◌, ℕ, List, [], length, subst, ◌∙◌, IfOk, OnOk}
 use Rattle.std.specs.List.{AllByRecursion}
 use Rattle.sn_emit.specs.Making.{CanMake}
-use Rattle.sn_emit.specs.Plans.{AreLanesOf, Placed, pieces_from}
+use Rattle.sn_emit.specs.Plans.{pieces_from}
 use Rattle.sn_engine.proofs.Firsts.{ok_then}
-use Rattle.sn_engine.specs.Answers.{parts_of}
-use Rattle.sn_engine.specs.Intakes.{total}
 use Rattle.sn_fit.specs.Fits.{AreEntriesOf}
 use Rattle.sn_plan_rules.specs.declared.plan.Entry.{Entry}
-use Rattle.sn_refine.specs.Steps.{Set}
 use Rattle.sn_types.specs.declared.answers.Answers.{Answers}
 use Rattle.sn_types.specs.declared.typed_query.TypedQuery.{TypedQuery}
 use Rattle.sn_types.specs.Typed.{HasWidths, IsTyped}
-use Rattle.sn_driver.specs.declared.source.Source.{Source}
 use Rattle.sn_driver.specs.Sources.{kept_in, sources_of}
 use Rattle.sn_driver.specs.Windows.{window_answers}
-use Rattle.sn_driver.specs.Work.{AreAtWork, AreIdle, done}
+use Rattle.sn_driver.specs.Work.{AreIdle}
 use Rattle.sn_driver.proofs.Beginning.{sources_are}
 use Rattle.sn_driver.proofs.Laws.{Closed, Emptied, ok_both, window_is}
 use Rattle.sn_driver.proofs.window.answer.Goals as goal

@@ -1,9 +1,5 @@
-use Rattle.std.proofs.Common.{◌≡◌, ◌+◌, ◌++◌, ◌≤◌, ◌∷◌, [], ℕ, List, length, take, refl, sym, subst, ap, ◌∙◌, append-nil, append_assoc}
+use Rattle.std.proofs.Common.{◌≡◌, ◌+◌, ◌++◌, ◌∷◌, [], ℕ, List, take, refl, sym, subst, ap, ◌∙◌, append-nil, append_assoc}
 use Rattle.std.proofs.lemmas.List.{take_all, take_more}
-use Rattle.sn_emit.specs.Plans.{AreLanesOf, Placed}
-use Rattle.sn_refine.specs.Steps.{Set}
-use Rattle.sn_types.specs.declared.typed_query.TypedQuery.{TypedQuery}
-use Rattle.sn_driver.specs.declared.source.Source.{Source}
 use Rattle.sn_driver.specs.Work.{AreAtWork}
 use Rattle.sn_driver.proofs.window.give_all.Goals as goal
 
