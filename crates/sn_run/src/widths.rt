@@ -5,7 +5,7 @@ use sn_fields::field::Field;
 use sn_fields::tuple::Tuple;
 
 /// Each number of a tuple has the width of its field: each is looked at, and nothing is done with it.
-pub(crate) fn look_at_widths(tuple: &Tuple)
+pub fn look_at_widths(tuple: &Tuple)
     ensures { HasWidths tuple.now }
 {
     tuple.get(Field::PacketLength);

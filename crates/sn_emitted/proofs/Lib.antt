@@ -1,0 +1,7 @@
+pub mod FlowLemmas
+pub mod PieceLemmas
+pub mod KeptLemmas
+pub mod LanesLemmas
+pub mod SendingLemmas
+pub mod StateLemmas
+pub mod EmitLemmas

@@ -1,0 +1,37 @@
+//! The command `emit`.
+ghost use Rattle.std.specs.Prelude.{[], ◌∷◌};
+ghost use Rattle.sn_emitted.specs.Emit.{Emit};
+ghost use Rattle.sn_stage.specs.Desks.{world};
+ghost use Rattle.sn_stage.specs.Runs.{Works};
+
+use crate::reporter::Reporter;
+use sn_answered::capture::answer_capture;
+use sn_io::inputs::Inputs;
+use sn_io::sink::Sink;
+use sn_planned::fit::test_fit;
+use sn_planned::queries::read_queries;
+use sn_planned::texts::{read_plan, read_switch};
+use sn_stage::desk::Desk;
+use sn_stage::refusal::Refusal;
+use std::alloc::Global;
+
+/// `emit SWITCH QUERIES PLAN CAPTURE`: reads the queries, the switch and the plan, tests the plan, and writes the frames that its
+/// lanes send over the capture, window by window.
+pub fn emit<I: Inputs, O: Sink>(
+    alloc: Global,
+    switch: &str,
+    queries: &str,
+    plan: &str,
+    capture: &str,
+    desk: &mut Desk<'_, I, O>,
+) -> Result<(), Refusal>
+    ensures { Works (queries.now ∷ switch.now ∷ plan.now ∷ capture.now ∷ []) (Emit switch.now queries.now plan.now capture.now) (world I.Inputs O.Sink desk.old) result (world I.Inputs O.Sink desk.new) }
+{
+    let typed = read_queries(alloc, desk, queries)?;
+    let limits = read_switch(alloc, desk, switch)?;
+    let entries = read_plan(alloc, desk, plan)?;
+    test_fit(&typed, &limits, &entries)?;
+    let window_ns = typed.window_ns();
+    let mut reporter = Reporter::make(typed, &limits, entries)?;
+    answer_capture(alloc, window_ns, capture, &mut reporter, desk)
+}
