@@ -1,5 +1,5 @@
 -- What the top call is called with and leaves, and the work of each command.
-use Rattle.std.specs.Prelude.{◌≡◌, ℕ, List, [], ◌∷◌, Bool, true, false, not, Result, Err}
+use Rattle.std.specs.Prelude.{◌≡◌, ℕ, List, [], ◌∷◌, Bool, true, false, Result, Err}
 use Rattle.sn_io.specs.declared.inputs.Inputs.{Ghosts as InputsOf}
 use Rattle.sn_io.specs.declared.sink.Sink.{Ghosts as SinkOf}
 use Rattle.sn_cli.specs.declared.command.Command.{Command}
@@ -18,7 +18,7 @@ use Rattle.sn_top.specs.Plain.{Plain}
 -- The commands that are built. Words that spell another one are refused like words that spell none.
 abbrev pub is_built : Command → Bool
 is_built commands.Plain = true
-is_built (commands.Run csv) = not csv
+is_built (commands.Run csv) = true
 is_built commands.Finish = true
 is_built command = false
 
@@ -26,16 +26,11 @@ is_built command = false
 abbrev pub IsUsage : World → Result (Unit {0}) Refusal → World → Type 0
 IsUsage before answer now = (answer ≡ Err Usage) × (now ≡ before)
 
--- `run` with answers as comma-separated values isn't built
-abbrev pub IsRunWork : Bool → List (List ℕ) → World → Result (Unit {0}) Refusal → World → Type 0
-IsRunWork true words before answer now = IsUsage before answer now
-IsRunWork false words before answer now =
-    Works (word_at words 2 ∷ word_at words 1 ∷ word_at words 3 ∷ word_at words 4 ∷ []) (Run (word_at words 1) (word_at words 2) (word_at words 3) (word_at words 4)) before answer now
-
 -- the work of a command: its stages over the files that its words name, where it is built
 abbrev pub IsWork : Command → List (List ℕ) → World → Result (Unit {0}) Refusal → World → Type 0
 IsWork commands.Plain words before answer now = Works (word_at words 1 ∷ word_at words 2 ∷ []) (Plain (word_at words 1) (word_at words 2)) before answer now
-IsWork (commands.Run csv) words before answer now = IsRunWork csv words before answer now
+IsWork (commands.Run csv) words before answer now =
+    Works (word_at words 2 ∷ word_at words 1 ∷ word_at words 3 ∷ word_at words 4 ∷ []) (Run csv (word_at words 1) (word_at words 2) (word_at words 3) (word_at words 4)) before answer now
 IsWork commands.Finish words before answer now = Works (word_at words 1 ∷ word_at words 2 ∷ word_at words 3 ∷ []) (Finish (word_at words 1) (word_at words 2) (word_at words 3)) before answer now
 IsWork command words before answer now = IsUsage before answer now
 

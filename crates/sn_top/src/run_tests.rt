@@ -82,15 +82,29 @@ fn run(
     plan: &[u8],
     packets: &[Sent],
 ) -> Result<Ran, Fail> {
+    let capture = capture_of(alloc, packets)?;
+    let words = ["run", "s", "q", "p", "c"];
+    run_words(alloc, &words, switch, queries, plan, &capture)
+}
+
+/// Runs these words over the files `s`, `q`, `p` and `c`.
+fn run_words(
+    alloc: Global,
+    given: &[&str],
+    switch: &[u8],
+    queries: &[u8],
+    plan: &[u8],
+    capture: &[u8],
+) -> Result<Ran, Fail> {
     let mut words = Vec::new(alloc);
-    for word in ["run", "s", "q", "p", "c"] {
+    for word in given {
         words.push(String::from_str(alloc, word)?)?;
     }
     let mut files = MemInputs::new(alloc);
     files.put("s", file_of(alloc, switch)?)?;
     files.put("q", file_of(alloc, queries)?)?;
     files.put("p", file_of(alloc, plan)?)?;
-    files.put("c", Seq::from_vec(capture_of(alloc, packets)?))?;
+    files.put("c", file_of(alloc, capture)?)?;
     let mut out = MemSink::new(alloc, 1000)?;
     let mut err = MemSink::new(alloc, 1000)?;
     let status = top(alloc, &words, &mut files, &mut out, &mut err);
@@ -266,5 +280,61 @@ fn refuses_plans_and_switches(rt: HostRuntime) -> Result<(), Fail> {
     let plan = run(alloc, SMALL, COUNTS, b"plan", &FEW)?;
     assert_eq!(rt; plan.status, 6);
     assert!(rt; plan.err.bytes().starts_with(b"sonata: plan Expected line "));
+    Ok(())
+}
+
+const HEADING: &[u8] = b"window,query,level,c1,c2,c3,c4,c5,c6,c7,c8\n";
+
+/// Runs a plan of two levels over a capture, for comma-separated values.
+fn table(alloc: Global, capture: &[u8]) -> Result<Ran, Fail> {
+    let queries =
+        b"window 1000000 query q { refine ip.dst: 8, 32; packets | map ip.dst as d, 1 as n | reduce d: sum(n) width 16 | filter n > 1; }";
+    let plan = b"plan query q path 8, 32; piece 8 0 cut 0; piece 32 0 cut 0;";
+    let words = ["run", "s", "q", "p", "c", "--csv"];
+    run_words(alloc, &words, SMALL, queries, plan, capture)
+}
+
+#[test]
+fn writes_comma_separated_values(rt: HostRuntime) -> Result<(), Fail> {
+    let alloc = rt.alloc();
+    let packets = [
+        packet_at(0, 1, 9),
+        packet_at(100000, 1, 9),
+        packet_at(1000000, 1, 9),
+        packet_at(1100000, 1, 9),
+    ];
+    let capture = capture_of(alloc, &packets)?;
+    let whole = table(alloc, &capture)?;
+    assert_eq!(rt; whole.status, 0);
+    assert_eq!(rt;
+        whole.out.bytes(),
+        b"window,query,level,c1,c2,c3,c4,c5,c6,c7,c8\n0,q,8,10.0.0.0,2,,,,,,\n1,q,8,10.0.0.0,2,,,,,,\n1,q,32,10.0.0.9,2,,,,,,\n".as_slice()
+    );
+    let mut cut = capture;
+    cut.truncate(24 + 2 * 70 + 1);
+    let damaged = table(alloc, &cut)?;
+    assert_eq!(rt; damaged.status, 5);
+    assert_eq!(rt;
+        damaged.out.bytes(),
+        b"window,query,level,c1,c2,c3,c4,c5,c6,c7,c8\n0,q,8,10.0.0.0,2,,,,,,\n".as_slice()
+    );
+    assert_eq!(rt;
+        damaged.err.bytes(),
+        b"sonata: capture Cut byte 164\n".as_slice()
+    );
+    Ok(())
+}
+
+#[test]
+fn writes_the_heading_behind_an_accepted_header(rt: HostRuntime) -> Result<(), Fail> {
+    let alloc = rt.alloc();
+    let none = table(alloc, &HEADER)?;
+    assert_eq!(rt; none.status, 0);
+    assert_eq!(rt; none.out.bytes(), HEADING);
+    let mut other_link = HEADER;
+    other_link[20] = 105;
+    let refused = table(alloc, &other_link)?;
+    assert_eq!(rt; refused.status, 5);
+    assert_eq!(rt; refused.out.bytes(), b"".as_slice());
     Ok(())
 }

@@ -1,5 +1,5 @@
 //! The top call: words in, texts and a status out.
-ghost use Rattle.std.specs.Prelude.{◌≡◌, ◌↔◌, ◌<◌, [], ◌∷◌, length, false};
+ghost use Rattle.std.specs.Prelude.{◌≡◌, ◌↔◌, ◌<◌, [], ◌∷◌, Bool, length, false};
 ghost use Rattle.sn_cli.specs.declared.command.Command.{Command};
 ghost use Rattle.sn_cli.specs.Grammar.{Spells};
 ghost use Rattle.sn_cli.specs.Words.{texts, word_at};
@@ -9,7 +9,7 @@ ghost use Rattle.sn_stage.specs.Ends.{end_status, IsCommandRun, IsStatusTold};
 ghost use Rattle.sn_stage.specs.Worlds.{OutRose};
 ghost use Rattle.sn_top.specs.Plain.{Plain};
 ghost use Rattle.sn_run.specs.Run.{Run};
-ghost use Rattle.sn_top.specs.Top.{is_built, IsRunWork, IsUsage, IsWork, around};
+ghost use Rattle.sn_top.specs.Top.{is_built, IsUsage, IsWork, around};
 
 use crate::plain::plain;
 use sn_cli::command::Command;
@@ -40,26 +40,6 @@ fn word(given: &[String], place: usize) -> &str
     given[place].as_str()
 }
 
-/// Does the work of `run`, whose files are these words. With `--csv` it isn't built.
-fn work_run<I: Inputs, O: Sink>(
-    alloc: Global,
-    csv: bool,
-    given: &[String],
-    desk: &mut Desk<'_, I, O>,
-) -> Result<(), Refusal>
-    requires { 4 < length given.now }
-    ensures { IsRunWork csv (texts given.now) (world I.Inputs O.Sink desk.old) result (world I.Inputs O.Sink desk.new) }
-{
-    if csv {
-        return Err(Refusal::Usage);
-    }
-    let switch = word(given, 1);
-    let queries = word(given, 2);
-    let plan = word(given, 3);
-    let capture = word(given, 4);
-    answer_along(alloc, switch, queries, plan, capture, desk)
-}
-
 /// Does the work of a command.
 fn work<I: Inputs, O: Sink>(
     alloc: Global,
@@ -72,7 +52,15 @@ fn work<I: Inputs, O: Sink>(
 {
     match command {
         Command::Plain => plain(alloc, word(given, 1), word(given, 2), desk),
-        Command::Run { csv } => work_run(alloc, csv, given, desk),
+        Command::Run { csv } => answer_along(
+            alloc,
+            csv,
+            word(given, 1),
+            word(given, 2),
+            word(given, 3),
+            word(given, 4),
+            desk,
+        ),
         Command::Finish => finish(alloc, word(given, 1), word(given, 2), word(given, 3), desk),
         Command::Plan { .. }
         | Command::Emit
@@ -102,7 +90,7 @@ fn run<I: Inputs, O: Sink>(
 
 /// Runs a command: its text goes to `out`, a line on its status to `err`, and the status is the answer.
 ///
-/// The words are those after the program's name. `plain`, `run` without `--csv` and `finish` are the commands that are built. A fault in
+/// The words are those after the program's name. `plain`, `run` and `finish` are the commands that are built. A fault in
 /// writing the line to `err` is dropped, and the status stays.
 pub fn top<I: Inputs, O: Sink, E: Sink>(
     alloc: Global,
@@ -123,10 +111,10 @@ pub fn top<I: Inputs, O: Sink, E: Sink>(
     ensures plain { Spells (texts words.now) Command.Plain →
         IsCommandRun (word_at (texts words.now) 1 ∷ word_at (texts words.now) 2 ∷ []) (Plain (word_at (texts words.now) 1) (word_at (texts words.now) 2)) (around I.Inputs O.Sink E.Sink files.old out.old err.old) result (around I.Inputs O.Sink E.Sink files.new out.new err.new) }
 
-    // `run SWITCH QUERIES PLAN CAPTURE`: the run is that of its stages.
-    ensures run { Spells (texts words.now) (Command.Run false) →
+    // `run SWITCH QUERIES PLAN CAPTURE`, with `--csv` or without it: the run is that of its stages.
+    ensures run { (csv : Bool) → Spells (texts words.now) (Command.Run csv) →
         IsCommandRun (word_at (texts words.now) 2 ∷ word_at (texts words.now) 1 ∷ word_at (texts words.now) 3 ∷ word_at (texts words.now) 4 ∷ [])
-        (Run (word_at (texts words.now) 1) (word_at (texts words.now) 2) (word_at (texts words.now) 3) (word_at (texts words.now) 4)) (around I.Inputs O.Sink E.Sink files.old out.old err.old) result (around I.Inputs O.Sink E.Sink files.new out.new err.new) }
+        (Run csv (word_at (texts words.now) 1) (word_at (texts words.now) 2) (word_at (texts words.now) 3) (word_at (texts words.now) 4)) (around I.Inputs O.Sink E.Sink files.old out.old err.old) result (around I.Inputs O.Sink E.Sink files.new out.new err.new) }
 
     // `finish QUERIES PLAN REPORTS`: the run is that of its stages.
     ensures finish { Spells (texts words.now) Command.Finish →

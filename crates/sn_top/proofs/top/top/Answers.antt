@@ -39,10 +39,10 @@ returns-clause-plain g c = λ spells.
     rw (c.status_of.ensures, files, out) (command_run _ _ c.run-answer.result _ _ _ _ (c.run-answer.ensures.works commands.Plain spells) c.tell.ensures)
 
 pub returns-clause-run : goal.returns-clause-run
-returns-clause-run g c = λ spells.
+returns-clause-run g c = λ csv spells.
     let files : c.files-1.given.0 ≡ c.run-answer.new.desk.files.now = search rules in
     let out : c.out-1.given.0 ≡ c.run-answer.new.desk.out.now = search rules in
-    rw (c.status_of.ensures, files, out) (command_run _ _ c.run-answer.result _ _ _ _ (c.run-answer.ensures.works (commands.Run false) spells) c.tell.ensures)
+    rw (c.status_of.ensures, files, out) (command_run _ _ c.run-answer.result _ _ _ _ (c.run-answer.ensures.works (commands.Run csv) spells) c.tell.ensures)
 
 pub returns-clause-finish : goal.returns-clause-finish
 returns-clause-finish g c = λ spells.
