@@ -89,9 +89,9 @@ window_frames p windows w tuples =
 abbrev pub frames_block : Planned → List Window → ℕ → List (List ℕ) → List ℕ
 frames_block p windows w tuples = flat_map spelling (window_frames p windows w tuples)
 
--- nothing stands behind the blocks, whether the capture is damaged or not
+-- nothing stands before the blocks, and nothing behind them, whether the capture is damaged or not
 abbrev pub no_lines : List Window → Ending → List ℕ
 no_lines windows ending = []
 
 abbrev pub frames_wording : Planned → Wording
-frames_wording p = record { block = frames_block p; last = no_lines }
+frames_wording p = record { first = []; block = frames_block p; last = no_lines }

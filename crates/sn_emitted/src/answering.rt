@@ -50,6 +50,10 @@ impl Answering for Reporter {
 
     ghost hand = { λ a closed number tuples. IsAtHand a closed number tuples };
 
+    fn first(&self) -> Result<Seq<u8>, Memory> {
+        Ok(Seq::new(self.typed.alloc))
+    }
+
     fn begin(&mut self, number: u64) -> Result<(), Memory> {
         self.driver.begin(&self.last, number)
     }
