@@ -1,14 +1,14 @@
 -- The pieces that choices lead to are pieces of their queries.
-use Rattle.std.proofs.Common.{◌≡◌, ℕ, zero, suc, ◌+◌, ◌*◌, ◌^◌, ◌≤◌, ◌<◌, List, [], ◌∷◌, ◌++◌, drop, length, slice_get, unwrap_or, Bool, true, false, Option, None, Some, refl, ap, sym, ◌∙◌, subst, arith, pow_pos}
+use Rattle.std.proofs.Common.{◌≡◌, ℕ, zero, suc, ◌+◌, ◌*◌, ◌^◌, ◌≤◌, ◌<◌, List, [], ◌∷◌, ◌++◌, drop, length, slice_get, unwrap_or, Bool, true, false, Option, Some, refl, ap, sym, ◌∙◌, subst, arith, pow_pos}
 use Rattle.std.specs.Prelude.{◌/◌, ◌%◌, ◌==◌, if◌then◌else◌}
 use Rattle.std.specs.List.{AllByRecursion}
 use Rattle.std.proofs.Math.Nat.{pow-suc}
 use Rattle.std.proofs.Math.Pow.{pow_mono}
-use Rattle.sn_base.proofs.Lists.{all_append, all_weaker, by_test}
+use Rattle.sn_base.proofs.Lists.{all_append, by_test}
 use Rattle.sn_types.specs.declared.typed_query.TypedBranch.{TypedBranch}
 use Rattle.sn_types.specs.declared.typed_query.TypedQuery.{TypedQuery}
 use Rattle.sn_types.specs.Typed.{blank_branch, branch_of}
-use Rattle.sn_choices.specs.Planning.{PathTask, PieceTask, level_pieces, path_pieces, pieces_of}
+use Rattle.sn_choices.specs.Planning.{PieceTask, level_pieces, path_pieces, pieces_of}
 use Rattle.sn_cost.specs.Entries.{front_of}
 
 -- ---- places
@@ -54,9 +54,9 @@ front_some m [] some below = absurd (omega (arith, some, below))
 front_some m (l ∷ levels) some below =
     by_test (m % 2 == 1) (λ is. subst (λ (t : Bool). 0 < length (if t then l ∷ front_of (m / 2) levels else front_of (m / 2) levels)) (sym is) (omega arith))
     (λ isnt.
-        let even = even_or_odd m isnt in
-        let rest = front_some (m / 2) levels (some_half m even some) (half_below m (2 ^ length (l ∷ levels)) (2 ^ length levels) below (pow-suc 2 (length levels))) in
-        subst (λ (t : Bool). 0 < length (if t then l ∷ front_of (m / 2) levels else front_of (m / 2) levels)) (sym isnt) rest)
+    let even = even_or_odd m isnt in
+    let rest = front_some (m / 2) levels (some_half m even some) (half_below m (2 ^ length (l ∷ levels)) (2 ^ length levels) below (pow-suc 2 (length levels))) in
+    subst (λ (t : Bool). 0 < length (if t then l ∷ front_of (m / 2) levels else front_of (m / 2) levels)) (sym isnt) rest)
 
 -- ---- the pieces of a path
 
@@ -74,15 +74,16 @@ module _ (query : ℕ) (typed : TypedQuery) where
   level_is levels first n [] some below at = tt
   level_is levels first n (b ∷ bs) some below at =
       let here = get_ahead typed.branches n b bs at in
-      let rest = ap (λ (k : ℕ). drop k typed.branches) (next_place n) ∙ drop_more typed.branches n b bs at in
-      (record {
+      let rest = ap (λ (k : ℕ). drop k typed.branches) (next_place n) ∙ drop_more typed.branches n b bs at in (
+        record {
           of_query = refl;
           some = some;
           below = below;
           of_number = index_within typed.branches n b here;
           of_branch = sym (ap (λ (o : Option TypedBranch). unwrap_or o blank_branch) here);
         },
-        level_is levels first (n + 1) bs some below rest)
+        level_is levels first (n + 1) bs some below rest,
+      )
 
   next_bit : (i before : ℕ) → before < 2 ^ i → before + 2 ^ i < 2 ^ (i + 1)
   next_bit i before h = let two = ap (λ (k : ℕ). 2 ^ k) (next_place i) ∙ pow-suc 2 i in omega (arith, h, two)

@@ -8,7 +8,7 @@ use Rattle.sn_types.specs.declared.typed_query.TypedBranch.{TypedBranch}
 use Rattle.sn_types.specs.declared.typed_query.TypedQuery.{TypedQuery}
 use Rattle.sn_types.specs.Typed.{blank_query, branch_at, query_at}
 use Rattle.sn_choices.specs.Options.{options}
-use Rattle.sn_choices.specs.Planning.{PathTask, PieceTask, entry_of, first_tasks, settings}
+use Rattle.sn_choices.specs.Planning.{PieceTask, first_tasks}
 use Rattle.sn_chosen.specs.Theorems.{plans_of}
 use Rattle.sn_refine.specs.Steps.{Given}
 use Rattle.sn_cost.specs.Entries.{IsPiece}
@@ -41,9 +41,10 @@ module _ (s : Switch) (queries : List TypedQuery) (given : List Given) (entry : 
   firsts_same n (q ∷ qs) at =
       let here = get_ahead queries n q qs at in
       let is : query_at queries n ≡ q = ap (λ (o : Option TypedQuery). unwrap_or o blank_query) here in
-      let next : n + 1 ≡ suc n = omega arith in
-      (subst (λ (x : TypedQuery). SamePath s entry counts (record { query = n; typed = x })) is (path_same n (index_within queries n q here)),
-        firsts_same (n + 1) qs (ap (λ (k : ℕ). drop k queries) next ∙ drop_more queries n q qs at))
+      let next : n + 1 ≡ suc n = omega arith in (
+        subst (λ (x : TypedQuery). SamePath s entry counts (record { query = n; typed = x })) is (path_same n (index_within queries n q here)),
+        firsts_same (n + 1) qs (ap (λ (k : ℕ). drop k queries) next ∙ drop_more queries n q qs at),
+      )
 
   pub counted_alike : AreAlike (plans_of s entry queries) (trained_plans s queries given)
   counted_alike = tables_alike s entry counts (first_tasks 0 queries) (firsts_same 0 queries refl)
