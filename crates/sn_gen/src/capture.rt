@@ -18,8 +18,9 @@ const HEAD: [u8; 24] = [
     0xd4, 0xc3, 0xb2, 0xa1, 2, 0, 4, 0, 0, 0, 0, 0, 0, 0, 0, 0, 0, 0, 4, 0, 1, 0, 0, 0,
 ];
 
+/// How many packets a capture has.
 #[tactic(auto, unfolding(crate::specs::Generated::packet_count))]
-fn packet_count() -> u32
+pub fn packet_count() -> u32
     ensures value { result ≡ packet_count }
     ensures most { result ≤ 20000 }
 {

@@ -1,12 +1,14 @@
 //! The texts of a whole job over generated captures.
+ghost use Rattle.std.specs.Prelude.{◌≡◌};
+ghost use Rattle.sn_gen.specs.Job.{job_queries, job_switch};
 
 /// The switch of the job.
-pub const JOB_SWITCH: &[u8] =
+const JOB_SWITCH: &[u8] =
     b"stages 16; actions 8; bits 8388608; meta 4096; chain 2; slots 256, 1024, 4096;\n";
 
 /// The queries of the job: destinations that many connections are opened to, that many sources send to, and whose
 /// connections carry few bytes.
-pub const JOB_QUERIES: &[u8] = b"window 1000000
+const JOB_QUERIES: &[u8] = b"window 1000000
 query newconn {
   refine ip.dst: 8, 16, 32;
   packets
@@ -42,3 +44,19 @@ query slow {
     | filter ratio > 20000 at (8: 1000, 16: 1000);
 }
 ";
+
+/// The text of the job's switch.
+#[tactic(auto, unfolding(crate::specs::Job::job_switch))]
+pub fn job_switch() -> &'static [u8]
+    ensures { result.now ≡ job_switch }
+{
+    JOB_SWITCH
+}
+
+/// The text of the job's queries.
+#[tactic(auto, unfolding(crate::specs::Job::job_queries))]
+pub fn job_queries() -> &'static [u8]
+    ensures { result.now ≡ job_queries }
+{
+    JOB_QUERIES
+}
