@@ -64,7 +64,7 @@ by_work commands.Emit words w = inr (refl, w)
 by_work commands.Finish words w = inl (refl, begun w)
 by_work commands.Check words w = inr (refl, w)
 by_work (commands.Live nodes schedule trace) words w = inr (refl, w)
-by_work (commands.Gen number) words w = inr (refl, w)
+by_work (commands.Gen number) words w = inl (refl, begun w)
 by_work (commands.Job number) words w = inr (refl, w)
 
 -- where the answer is a usage, nothing was done, and the command isn't built

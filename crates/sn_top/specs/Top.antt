@@ -13,6 +13,7 @@ use Rattle.sn_stage.specs.Runs.{Works}
 use Rattle.sn_stage.specs.Worlds.{World}
 use Rattle.sn_run.specs.Run.{Run}
 use Rattle.sn_finished.specs.Finish.{Finish}
+use Rattle.sn_generated.specs.Gen.{Gen}
 use Rattle.sn_top.specs.Plain.{Plain}
 
 -- The commands that are built. Words that spell another one are refused like words that spell none.
@@ -20,6 +21,7 @@ abbrev pub is_built : Command → Bool
 is_built commands.Plain = true
 is_built (commands.Run csv) = true
 is_built commands.Finish = true
+is_built (commands.Gen number) = true
 is_built command = false
 
 -- refused as a usage, with nothing read or written
@@ -32,6 +34,7 @@ IsWork commands.Plain words before answer now = Works (word_at words 1 ∷ word_
 IsWork (commands.Run csv) words before answer now =
     Works (word_at words 2 ∷ word_at words 1 ∷ word_at words 3 ∷ word_at words 4 ∷ []) (Run csv (word_at words 1) (word_at words 2) (word_at words 3) (word_at words 4)) before answer now
 IsWork commands.Finish words before answer now = Works (word_at words 1 ∷ word_at words 2 ∷ word_at words 3 ∷ []) (Finish (word_at words 1) (word_at words 2) (word_at words 3)) before answer now
+IsWork (commands.Gen number) words before answer now = Works [] (Gen number) before answer now
 IsWork command words before answer now = IsUsage before answer now
 
 abbrev pub around : {I O E : Type 0} → InputsOf I → SinkOf O → SinkOf E → I → O → E → Around

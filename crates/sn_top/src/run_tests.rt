@@ -338,3 +338,19 @@ fn writes_the_heading_behind_an_accepted_header(rt: HostRuntime) -> Result<(), F
     assert_eq!(rt; refused.out.bytes(), b"".as_slice());
     Ok(())
 }
+
+#[test]
+fn generates_a_capture(rt: HostRuntime) -> Result<(), Fail> {
+    let alloc = rt.alloc();
+    let mut words = Vec::new(alloc);
+    for word in ["gen", "0000000007"] {
+        words.push(String::from_str(alloc, word)?)?;
+    }
+    let mut files = MemInputs::new(alloc);
+    let mut out = MemSink::new(alloc, 1400024)?;
+    let mut err = MemSink::new(alloc, 1000)?;
+    assert_eq!(rt; top(alloc, &words, &mut files, &mut out, &mut err), 0);
+    assert_eq!(rt; out.bytes().len(), 1400024);
+    assert_eq!(rt; err.bytes(), b"".as_slice());
+    Ok(())
+}

@@ -360,8 +360,6 @@ fn refuses_words_and_faults(rt: HostRuntime) -> Result<(), Fail> {
     let later = run(alloc, &["check", "q", "q", "c", "c"], SYN, &HEADER, None)?;
     assert_eq!(rt; later.status, 2);
     assert_eq!(rt; later.out.bytes(), b"".as_slice());
-    let made = run(alloc, &["gen", "7"], SYN, &HEADER, None)?;
-    assert_eq!(rt; made.status, 2);
     let unknown = run(alloc, &["plain", "q", "d"], SYN, &HEADER, None)?;
     assert_eq!(rt; unknown.status, 9);
     assert_eq!(rt; unknown.err.bytes(), b"sonata: read fault\n".as_slice());

@@ -1,9 +1,10 @@
 //! The top call: words in, texts and a status out.
-ghost use Rattle.std.specs.Prelude.{◌≡◌, ◌↔◌, ◌<◌, [], ◌∷◌, Bool, length, false};
+ghost use Rattle.std.specs.Prelude.{◌≡◌, ◌↔◌, ◌<◌, ℕ, [], ◌∷◌, Bool, length, false};
 ghost use Rattle.sn_cli.specs.declared.command.Command.{Command};
 ghost use Rattle.sn_cli.specs.Grammar.{Spells};
 ghost use Rattle.sn_cli.specs.Words.{texts, word_at};
 ghost use Rattle.sn_finished.specs.Finish.{Finish};
+ghost use Rattle.sn_generated.specs.Gen.{Gen};
 ghost use Rattle.sn_stage.specs.Desks.{sunk, world};
 ghost use Rattle.sn_stage.specs.Ends.{end_status, IsCommandRun, IsStatusTold};
 ghost use Rattle.sn_stage.specs.Worlds.{OutRose};
@@ -15,6 +16,7 @@ use crate::plain::plain;
 use sn_cli::command::Command;
 use sn_cli::words::words;
 use sn_finished::finish::finish;
+use sn_generated::generate::generate;
 use sn_io::inputs::Inputs;
 use sn_io::sink::Sink;
 use sn_run::run::run as answer_along;
@@ -62,11 +64,11 @@ fn work<I: Inputs, O: Sink>(
             desk,
         ),
         Command::Finish => finish(alloc, word(given, 1), word(given, 2), word(given, 3), desk),
+        Command::Gen { number } => generate(alloc, number, desk),
         Command::Plan { .. }
         | Command::Emit
         | Command::Check
         | Command::Live { .. }
-        | Command::Gen { .. }
         | Command::Job { .. } => Err(Refusal::Usage),
     }
 }
@@ -90,7 +92,7 @@ fn run<I: Inputs, O: Sink>(
 
 /// Runs a command: its text goes to `out`, a line on its status to `err`, and the status is the answer.
 ///
-/// The words are those after the program's name. `plain`, `run` and `finish` are the commands that are built. A fault in
+/// The words are those after the program's name. `plain`, `run`, `finish` and `gen` are the commands that are built. A fault in
 /// writing the line to `err` is dropped, and the status stays.
 pub fn top<I: Inputs, O: Sink, E: Sink>(
     alloc: Global,
@@ -119,6 +121,10 @@ pub fn top<I: Inputs, O: Sink, E: Sink>(
     // `finish QUERIES PLAN REPORTS`: the run is that of its stages.
     ensures finish { Spells (texts words.now) Command.Finish →
         IsCommandRun (word_at (texts words.now) 1 ∷ word_at (texts words.now) 2 ∷ word_at (texts words.now) 3 ∷ []) (Finish (word_at (texts words.now) 1) (word_at (texts words.now) 2) (word_at (texts words.now) 3)) (around I.Inputs O.Sink E.Sink files.old out.old err.old) result (around I.Inputs O.Sink E.Sink files.new out.new err.new) }
+
+    // `gen NUMBER`: the run is that of its stage, which reads no file.
+    ensures generated { (number : ℕ) → Spells (texts words.now) (Command.Gen number) →
+        IsCommandRun [] (Gen number) (around I.Inputs O.Sink E.Sink files.old out.old err.old) result (around I.Inputs O.Sink E.Sink files.new out.new err.new) }
 {
     let mut desk = Desk { files, out };
     let answer = run(alloc, words, &mut desk);

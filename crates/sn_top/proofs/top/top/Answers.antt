@@ -50,5 +50,11 @@ returns-clause-finish g c = λ spells.
     let out : c.out-1.given.0 ≡ c.run-answer.new.desk.out.now = search rules in
     rw (c.status_of.ensures, files, out) (command_run _ _ c.run-answer.result _ _ _ _ (c.run-answer.ensures.works commands.Finish spells) c.tell.ensures)
 
+pub returns-clause-generated : goal.returns-clause-generated
+returns-clause-generated g c = λ number spells.
+    let files : c.files-1.given.0 ≡ c.run-answer.new.desk.files.now = search rules in
+    let out : c.out-1.given.0 ≡ c.run-answer.new.desk.out.now = search rules in
+    rw (c.status_of.ensures, files, out) (command_run _ _ c.run-answer.result _ _ _ _ (c.run-answer.ensures.works (commands.Gen number) spells) c.tell.ensures)
+
 pub returns-clause-line : goal.returns-clause-line
 returns-clause-line g c = rw c.status_of.ensures (status_told c.run-answer.result _ _ c.tell.ensures)

@@ -59,3 +59,6 @@ pub returns-in-Finish : goal.returns-in-Finish
 returns-in-Finish g c =
     rw c.in-Finish.is (of_three (λ (queries plan reports : List ℕ). Works (queries ∷ plan ∷ reports ∷ []) (Finish queries plan reports) (world g.I.Inputs g.O.Sink c.args.desk.now) c.finish.result (world g.I.Inputs g.O.Sink c.finish.new.desk))
     c.word-in-Finish.ensures c.word-in-Finish-2.ensures c.word-in-Finish-3.ensures c.finish.ensures)
+
+pub returns-in-Gen : goal.returns-in-Gen
+returns-in-Gen g c = rw c.in-Gen.is c.generate.ensures
