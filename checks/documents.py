@@ -1,10 +1,13 @@
 #!/usr/bin/env python3
 """Runs what stands in the documents. Of docs/QUERIES.md the examples: each query with the answer that stands behind it, and each refused text with its
-error line. Of the documents around plans each `sh` block, one after another in a folder of its own, with the `shows` block that stands behind it, where
-one does; a line `...` there stands for any lines. These are skipped where the program has no command for plans yet."""
+error line. Of the documents around plans each `sh` block, one after another in a folder of its own as one shell would, with the `shows` block that stands
+behind it, where one does; a line `...` there stands for any lines. A document is left out where the program hasn't all its commands; checks/planned.py has
+them (`documents.py --sonata checks/planned.py`). Without matplotlib and graphviz pictures are left out, and without editcap and mergecap the blocks that use
+them."""
 
 import os
 import re
+import shutil
 import subprocess
 import sys
 import tempfile
@@ -16,7 +19,10 @@ TOP = os.path.dirname(HERE)
 GENERATE = os.path.join(TOP, 'bench', 'generate.py')
 PAIR = re.compile(r'```(query|refused)\n(.*?)```\n+```(answer|line)\n(.*?)```', re.S)
 BLOCK = re.compile(r'```sh\n(.*?)```(?:\n+```shows\n(.*?)```)?', re.S)
-SESSIONS = ['PLANS.md']
+SESSIONS = ['PLANS.md', 'TOUR.md', 'SCALE.md']
+COMMAND = re.compile(r'\bsonata (plain|plan|run|emit|finish|check|live|gen|job) [^-|;&>\n]+( --csv)?')
+TOOLS = re.compile(r'^(?:.*\| *)?(editcap|mergecap|reordercap|psql) ', re.M)
+PICTURE = re.compile(r'^/usr/bin/python3 \S*view/(?:layout|tree|emitted|answers)\.py .*\n', re.M)
 
 
 def document(name):
@@ -48,32 +54,69 @@ def is_shown(shown, output):
     return re.fullmatch('(?:.*\n)*'.join(parts), output) is not None
 
 
+def draws():
+    """Whether the pictures' packages are there."""
+    python = subprocess.run(['/usr/bin/python3', '-c', 'import matplotlib'], stderr=subprocess.DEVNULL)
+    return python.returncode == 0 and shutil.which('dot') is not None
+
+
+def is_missing(commands):
+    """Whether a block needs a tool that isn't there."""
+    return any(shutil.which(tool) is None for tool in TOOLS.findall(commands))
+
+
+def session_folder(executable, folder):
+    """Make a folder in which the commands of a document find what a clone has, and the program. The environment for them."""
+    for part in ('bench', 'checks', 'docs', 'examples', 'view'):
+        os.symlink(os.path.join(TOP, part), os.path.join(folder, part))
+    os.makedirs(os.path.join(folder, 'bin'))
+    os.symlink(os.path.abspath(executable), os.path.join(folder, 'bin', 'sonata'))
+    return dict(os.environ, PATH=os.path.join(folder, 'bin') + os.pathsep + os.environ['PATH'], PLACE=os.path.join(folder, '.place'))
+
+
+def spoken(commands, place):
+    """What a block of commands prints and its status, in the folder where the block before it ended."""
+    whole = 'cd "$(cat "$PLACE")"\ntrap \'pwd > "$PLACE"\' EXIT\n' + commands
+    done = subprocess.run(['bash', '-c', whole], env=place, stdout=subprocess.PIPE, stderr=subprocess.STDOUT, text=True, errors='replace')
+    return done.returncode, done.stdout
+
+
 def try_session(executable, name):
     """How many blocks of commands a document has, and how many don't do what stands behind them."""
-    blocks, bad = BLOCK.findall(document(name)), 0
+    blocks, bad, pictures = BLOCK.findall(document(name)), 0, draws()
     with tempfile.TemporaryDirectory(prefix='sonata-documents-') as folder:
-        for part in ('bench', 'checks', 'docs', 'examples', 'view'):
-            os.symlink(os.path.join(TOP, part), os.path.join(folder, part))
-        os.makedirs(os.path.join(folder, 'bin'))
-        os.symlink(os.path.abspath(executable), os.path.join(folder, 'bin', 'sonata'))
-        place = dict(os.environ, PATH=os.path.join(folder, 'bin') + os.pathsep + os.environ['PATH'])
+        place = session_folder(executable, folder)
+        with open(place['PLACE'], 'w') as file:
+            file.write(folder)
         for commands, shown in blocks:
-            done = subprocess.run(['bash', '-c', commands], cwd=folder, env=place, stdout=subprocess.PIPE, stderr=subprocess.STDOUT, text=True)
-            good = is_shown(shown, done.stdout) if shown else done.returncode == 0
-            bad += differs(commands, shown or 'status 0', shown or 'status 0' if good else done.stdout)
+            if is_missing(commands):
+                print('%s: left out, a tool is missing: %s' % (name, commands.splitlines()[0]))
+                continue
+            status, found = spoken(commands if pictures else PICTURE.sub('', commands), place)
+            good = is_shown(shown, found) if shown else status == 0
+            bad += differs(commands, shown or 'status 0', shown or 'status 0' if good else found)
     return len(blocks), bad
 
 
+def unbuilt(executable, name):
+    """The commands of a document that the program hasn't."""
+    blocks = ''.join(commands for commands, _ in BLOCK.findall(document(name)))
+    return sorted({found.group(1) + (found.group(2) or '') for found in COMMAND.finditer(blocks)} - program.built(executable))
+
+
 def main():
-    given = program.command_line(__doc__).parse_args()
-    found = [try_queries(given.sonata)]
-    if program.has_plans(given.sonata):
-        found += [try_session(given.sonata, name) for name in SESSIONS]
-    else:
-        print('skipped: %s, the program has no command for plans' % ', '.join(SESSIONS))
-    total, bad = (sum(numbers) for numbers in zip(*found))
-    print('%d of %d examples as they stand' % (total - bad, total))
-    return 1 if bad else 0
+    words = program.command_line(__doc__)
+    words.add_argument('documents', nargs='*', default=['QUERIES.md'] + SESSIONS, help='of QUERIES.md, %s (default: all)' % ', '.join(SESSIONS))
+    given = words.parse_args()
+    found = []
+    for name in given.documents:
+        missing = unbuilt(given.sonata, name) if name in SESSIONS else []
+        if missing:
+            print('%s: left out, the program has no %s' % (name, ', '.join(missing)))
+        else:
+            found.append(try_session(given.sonata, name) if name in SESSIONS else try_queries(given.sonata))
+            print('%s: %d of %d examples as they stand' % (name, found[-1][0] - found[-1][1], found[-1][0]), flush=True)
+    return 1 if any(bad for _, bad in found) else 0
 
 
 if __name__ == '__main__':

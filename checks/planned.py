@@ -1,18 +1,24 @@
 #!/usr/bin/env python3
-"""Answers the commands around plans as `sonata` should: an independent and slow reference, for comparison.
+"""Answers the words of `sonata` as it should: an independent and slow reference, for comparison. Needs nothing but Python.
 
-    planned.py run SWITCH QUERIES PLAN CAPTURE
+    planned.py plain QUERIES CAPTURE
+    planned.py plan SWITCH QUERIES TRAIN [--nodes N]
+    planned.py run SWITCH QUERIES PLAN CAPTURE [--csv]
     planned.py emit SWITCH QUERIES PLAN CAPTURE
     planned.py finish QUERIES PLAN REPORTS
-    planned.py plan SWITCH QUERIES TRAIN [--nodes N]
     planned.py check SWITCH QUERIES TRAIN PLANTREE
     planned.py live SWITCH QUERIES TRAIN CAPTURE [--nodes N]
+    planned.py gen NUMBER
+    planned.py job NUMBER
+
+It knows no limits of bytes and records, and takes --schedule and --trace of `live` as words that it hasn't.
 """
 
 import sys
 
+import plain as unsplit
 from plain import read, told
-from reference import costs, fields, grammar, plans, split, switches, tokens, typing_rules
+from reference import costs, fields, generated, grammar, plans, split, switches, tokens, typing_rules, words
 
 
 class Refused(Exception):
@@ -60,20 +66,48 @@ def read_plan(name, check):
     return entries
 
 
-def over_capture(command, switch_name, queries_name, plan_name, capture_name):
-    window, queries = read_queries(queries_name)
-    switch = read_switch(switch_name)
-    entries = read_plan(plan_name, lambda entries: plans.check_fits(queries, switch, entries))
-    try:
-        text, ending = command(window, queries, switch, entries, held(capture_name))
-    except fields.BadHeader as fault:
-        raise Refused(5, 'capture %s byte %d' % fault.args) from fault
+def whole(text, ending, front=b''):
+    """The text over an answered capture, which is refused behind it where the capture is damaged."""
     if ending:
-        raise Refused(5, 'capture %s byte %d' % ending, text)
-    return text
+        raise Refused(5, 'capture %s byte %d' % ending, front + text)
+    return front + text
 
 
-def finish(queries_name, plan_name, reports_name):
+def answered(command, window, queries, switch, entries, name, front=b''):
+    """What a command makes of an answered capture, behind a text that was written before."""
+    file = read(name)
+    if file is None:
+        raise Refused(9, 'read fault', front)
+    try:
+        return whole(*command(window, queries, switch, entries, file), front)
+    except fields.BadHeader as fault:
+        raise Refused(5, 'capture %s byte %d' % fault.args, front) from fault
+
+
+def plain(given):
+    status, text, line = unsplit.plain(*given.files)
+    if status:
+        raise Refused(status, line[len('sonata: '):-1], text.encode())
+    return text.encode()
+
+
+def over_capture(command):
+    """A command that answers a capture along a plan."""
+    def done(given):
+        switch_name, queries_name, plan_name, capture_name = given.files
+        window, queries = read_queries(queries_name)
+        switch = read_switch(switch_name)
+        entries = read_plan(plan_name, lambda entries: plans.check_fits(queries, switch, entries))
+        return answered(command, window, queries, switch, entries, capture_name)
+    return done
+
+
+def run(given):
+    return over_capture(split.run_csv if '--csv' in given.options else split.run)(given)
+
+
+def finish(given):
+    queries_name, plan_name, reports_name = given.files
     _, queries = read_queries(queries_name)
     entries = read_plan(plan_name, lambda entries: plans.check_shape(queries, entries))
     text, fault = split.finish(queries, entries, held(reports_name))
@@ -99,35 +133,27 @@ def found(table, nodes):
         raise Refused(8, 'budget %d bound %d' % (nodes, *budget.args)) from budget
 
 
-def nodes_of(words):
-    return int(words[1]) if words else 100000
+USUAL_NODES = 100000
 
 
-def plan(switch_name, queries_name, train_name, *words):
+def plan(given):
+    switch_name, queries_name, train_name = given.files
     window, queries = read_queries(queries_name)
     table = trained(window, queries, read_switch(switch_name), train_name)
-    return costs.certificate(table, found(table, nodes_of(words)))
+    return costs.certificate(table, found(table, given.options.get('--nodes', USUAL_NODES)))
 
 
-def live(switch_name, queries_name, train_name, capture_name, *words):
+def live(given):
+    switch_name, queries_name, train_name, capture_name = given.files
     window, queries = read_queries(queries_name)
     switch = read_switch(switch_name)
     table = trained(window, queries, switch, train_name)
-    chosen = found(table, nodes_of(words))
-    front = costs.certificate(table, chosen)
-    file = read(capture_name)
-    if file is None:
-        raise Refused(9, 'read fault', front)
-    try:
-        text, ending = split.run(window, queries, switch, chosen.plan(), file)
-    except fields.BadHeader as fault:
-        raise Refused(5, 'capture %s byte %d' % fault.args, front) from fault
-    if ending:
-        raise Refused(5, 'capture %s byte %d' % ending, front + text)
-    return front + text
+    chosen = found(table, given.options.get('--nodes', USUAL_NODES))
+    return answered(split.run, window, queries, switch, chosen.plan(), capture_name, costs.certificate(table, chosen))
 
 
-def check(switch_name, queries_name, train_name, certificate_name):
+def check(given):
+    switch_name, queries_name, train_name, certificate_name = given.files
     window, queries = read_queries(queries_name)
     switch = read_switch(switch_name)
     table = trained(window, queries, switch, train_name)
@@ -146,22 +172,44 @@ def check(switch_name, queries_name, train_name, certificate_name):
     return b'yes cost %d nodes %d\n' % (number, len(nodes))
 
 
-COMMANDS = {'run': lambda *names: over_capture(split.run, *names), 'emit': lambda *names: over_capture(split.emit, *names), 'finish': finish,
-            'plan': plan, 'check': check, 'live': live}
-FILES = {'run': 4, 'emit': 4, 'finish': 3, 'plan': 3, 'check': 4, 'live': 4}
+def gen(given):
+    return generated.capture(given.number)
 
 
-def answer(command, *names):
+def job(given):
+    window, queries = grammar.parse(generated.QUERIES)
+    typing_rules.check(queries)
+    switch = switches.parse(generated.SWITCH)
+    table = costs.Costs(queries, switch, split.windows_of(window, generated.capture(given.number))[0])
+    chosen = found(table, USUAL_NODES)
+    blocks, _ = split.windows_along(window, queries, switch, chosen.plan(), generated.capture(given.number + 1))
+    lines = ['job %d packets %d windows %d' % (given.number, generated.PACKETS, len(blocks)), 'cost %d' % chosen.lower(),
+             'emitted %d' % sum(emitted for _, emitted, _ in blocks), 'nodes %d' % len(costs.tree(table, chosen))]
+    for query, level, rows in next(parts for number, _, parts in blocks if number == 3):
+        if level == query.levels[-1]:
+            shown = split.part_lines(query, level, rows)
+            lines += ['query %s rows %d' % (query.name, len(rows))] + shown[1:]
+    return ('\n'.join(lines) + '\n').encode()
+
+
+COMMANDS = {'plain': plain, 'plan': plan, 'run': run, 'emit': over_capture(split.emit), 'finish': finish, 'check': check, 'live': live, 'gen': gen, 'job': job}
+
+
+def answer(*spoken):
     """The status, the bytes written, and what is told on standard error."""
+    given = words.read(spoken)
+    if given is None or '--schedule' in given.options or '--trace' in given.options:
+        return 2, b'', told('usage')
     try:
-        return 0, COMMANDS[command](*names), ''
+        return 0, COMMANDS[given.name](given), ''
     except Refused as refused:
         return refused.answer
 
 
 def main():
-    if len(sys.argv) < 2 or sys.argv[1] not in COMMANDS or len(sys.argv) < FILES[sys.argv[1]] + 2:
-        sys.exit(__doc__)
+    if sys.argv[1:] in ([], ['--help']):
+        print(__doc__, end='')
+        return 2 if len(sys.argv) == 1 else 0
     status, text, line = answer(*sys.argv[1:])
     sys.stdout.buffer.write(text)
     sys.stderr.write(line)

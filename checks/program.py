@@ -40,9 +40,25 @@ def answer(executable, text, capture):
     return found
 
 
-def has_plans(executable):
-    """Whether the program has the commands around plans. One without them answers their words with status 2."""
-    return subprocess.run([executable, 'run', *['no such file'] * 4], capture_output=True).returncode != 2
+COMMANDS = {'plain': 2, 'plan': 3, 'run': 4, 'emit': 4, 'finish': 3, 'check': 4, 'live': 4}
+
+
+def answers_words(executable, *words):
+    """Whether the program has these words as a command. One that hasn't answers them with status 2."""
+    return subprocess.run([executable, *words], capture_output=True).returncode != 2
+
+
+def built(executable):
+    """The commands that the program has; `run --csv` counts as one."""
+    nothing = 'no such file'
+    found = {name for name, files in COMMANDS.items() if answers_words(executable, name, *[nothing] * files)}
+    if answers_words(executable, 'run', *[nothing] * 4, '--csv'):
+        found.add('run --csv')
+    if answers_words(executable, 'gen', '0'):
+        found.add('gen')
+    if 'live' in found and 'gen' in found and answers_words(executable, 'job', '7'):
+        found.add('job')
+    return found
 
 
 def rows(text):

@@ -93,7 +93,7 @@ class Picture:
         for stage, total in enumerate(sums):
             if total:
                 part.annotate(shown(total, limit), (stage, total), (0, 2), textcoords='offset points', ha='center', va='bottom', fontsize=6.5,
-                              color='#b00000' if total > limit else '#333333', bbox={'facecolor': 'white', 'edgecolor': 'none', 'pad': 0.3})
+                              color='#b00000' if total > limit else '#333333', bbox={'facecolor': 'white', 'edgecolor': 'none', 'pad': 0.8})
         part.axhline(limit, color='#b00000', linewidth=0.8, linestyle='--')
         part.set_ylim(0, 1.4 * max([limit] + sums))
         part.set_xlim(-0.5, self.stages - 0.5)
@@ -105,7 +105,7 @@ class Picture:
         bits = [plans.metadata_of(query, piece) for _, query, _, piece in self.lanes]
         part.barh(range(len(bits)), bits, 0.8, color=[pictures.colour(q) for q, *_ in self.lanes])
         for row, number in enumerate(bits):
-            part.text(number, row, ' %d' % number, va='center', fontsize=6.5)
+            part.annotate('%d' % number, (number, row), (3, 0), textcoords='offset points', va='center', fontsize=6.5)
         part.set_ylim(len(bits) - 0.5, -0.5)
         part.set_xlim(0, 1.25 * max(bits + [1]))
         part.set_yticks([])

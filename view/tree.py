@@ -122,10 +122,11 @@ def span(numbers):
 
 
 def shown_choices(nodes, most=3):
-    """The first choices of nodes, one on a line, and how many more there are. Stages are told by their range."""
+    """The first choices of nodes, one on a line, and how many more there are. Stages are told on one line."""
     if all(node.kind == 'stage' for node in nodes):
-        stages = {int(node.choice.split()[1]) for node in nodes}
-        return ['stage %d' % min(stages) if len(stages) == 1 else 'stages %d to %d' % (min(stages), max(stages))]
+        stages = sorted({int(node.choice.split()[1]) for node in nodes})
+        whole = len(stages) > 2 and stages[-1] - stages[0] == len(stages) - 1
+        return ['stages %d to %d' % (stages[0], stages[-1]) if whole else 'stage%s %s' % ('s' * (len(stages) > 1), listed(stages))]
     words = [node.choice for node in nodes]
     return words[:most] + (['and %d more' % (len(words) - most)] if len(words) > most else [])
 
@@ -217,7 +218,12 @@ def main():
         sys.exit('%s: a tree without nodes' % given.certificate)
     root = built(queries, switch, nodes)
     count(root)
-    subprocess.run(['dot', '-T' + form, '-o', given.output], input=drawn(root, given.most), text=True, check=True)
+    made = subprocess.run(['dot', '-T' + form], input=drawn(root, given.most).encode(), stdout=subprocess.PIPE, check=True).stdout
+    if form == 'svg':
+        pictures.write_svg(made.decode(), given.output)
+    else:
+        with open(given.output, 'wb') as file:
+            file.write(made)
     return 0
 
 

@@ -68,19 +68,40 @@ def block(number, emitted, parts):
     return '\n'.join(lines) + '\n'
 
 
-def run(window_us, queries, switch, entries, file):
-    """The text of `run`, and how the capture ends."""
+def windows_along(window_us, queries, switch, entries, file):
+    """The number, items and parts of each window along a plan, and how the capture ends."""
     found, ending = windows_of(window_us, file)
-    levels, text, total = Levels(queries, entries), [], 0
+    levels, blocks = Levels(queries, entries), []
     for number, tuples in found:
         seen, rows = levels.window(number, tuples)
         emitted = sum(len(sent) + len(read) for _, (sent, read) in lane_items(switch, queries, entries, seen))
-        parts = [(queries[q], entry.path[j], rows[(q, j)]) for q, entry in enumerate(entries) for j in range(len(entry.path))]
-        text.append(block(number, emitted, parts))
-        total += emitted
+        blocks.append((number, emitted, [(queries[q], entry.path[j], rows[(q, j)]) for q, entry in enumerate(entries) for j in range(len(entry.path))]))
+    return blocks, ending
+
+
+def run(window_us, queries, switch, entries, file):
+    """The text of `run`, and how the capture ends."""
+    blocks, ending = windows_along(window_us, queries, switch, entries, file)
+    text = [block(*one) for one in blocks]
     if ending:
         text.append('capture %s at byte %d\n' % (ending[0].lower(), ending[1]))
-    text.append('total windows %d emitted %d\n' % (len(found), total))
+    text.append('total windows %d emitted %d\n' % (len(blocks), sum(emitted for _, emitted, _ in blocks)))
+    return ''.join(text).encode(), ending
+
+
+HEADING = 'window,query,level,c1,c2,c3,c4,c5,c6,c7,c8\n'
+
+
+def run_csv(window_us, queries, switch, entries, file):
+    """The rows of `run --csv`, and how the capture ends."""
+    blocks, ending = windows_along(window_us, queries, switch, entries, file)
+    text = [HEADING]
+    for number, _, parts in blocks:
+        for query, level, rows in parts:
+            marks = [address for _, _, address in query.columns]
+            for row in rows:
+                columns = [answers.shown(value, mark) for value, mark in zip(row, marks)]
+                text.append(','.join([str(number), query.name, str(level)] + columns + [''] * (8 - len(columns))) + '\n')
     return ''.join(text).encode(), ending
 
 
