@@ -44,8 +44,11 @@ COMMANDS = {'plain': 2, 'plan': 3, 'run': 4, 'emit': 4, 'finish': 3, 'check': 4,
 
 
 def answers_words(executable, *words):
-    """Whether the program has these words as a command. One that hasn't answers them with status 2."""
-    return subprocess.run([executable, *words], capture_output=True).returncode != 2
+    """Whether the program has these words as a command. One that hasn't answers them at once with status 2."""
+    try:
+        return subprocess.run([executable, *words], capture_output=True, timeout=2).returncode != 2
+    except subprocess.TimeoutExpired:
+        return True
 
 
 def built(executable):
@@ -56,7 +59,7 @@ def built(executable):
         found.add('run --csv')
     if answers_words(executable, 'gen', '0'):
         found.add('gen')
-    if 'live' in found and 'gen' in found and answers_words(executable, 'job', '7'):
+    if answers_words(executable, 'job', '7'):
         found.add('job')
     return found
 
@@ -89,26 +92,69 @@ def command_line(description):
     return words
 
 
-def random_cases(description, case, alone=None):
+def shown(answer):
+    """An answer of a program in a line: its status, its bytes and its line on standard error."""
+    status, text, line = answer
+    return 'status %s, %d bytes, %r' % (status, len(text), line)
+
+
+def first_difference(wanted, found):
+    """The first line in which two outputs differ, as both have it."""
+    one, other = wanted.split(b'\n'), found.split(b'\n')
+    place = next((n for n, (a, b) in enumerate(zip(one, other)) if a != b), min(len(one), len(other)))
+    return 'line %d: wanted %r, found %r' % (place + 1, one[place:place + 1], other[place:place + 1])
+
+
+def ran(executable, *words):
+    """Status, standard output as bytes and standard error of a run."""
+    done = subprocess.run([executable, *words], capture_output=True)
+    return done.returncode, done.stdout, done.stderr.decode(errors='replace')
+
+
+def alike(executable, wanted, *words):
+    """The status that an answer should have and has, or None where the program answers otherwise, which is told."""
+    found = ran(executable, *words)
+    if found == wanted:
+        return wanted[0]
+    print('  %s\n    wanted %s\n    found  %s' % (' '.join(words), shown(wanted), shown(found)))
+    if wanted[1] != found[1]:
+        print('    ' + first_difference(wanted[1], found[1]))
+    return None
+
+
+def size_of(folder):
+    return sum(os.path.getsize(os.path.join(folder, name)) for name in os.listdir(folder))
+
+
+def random_cases(description, case, alone=None, cases=1000, needs=()):
     """Run cases of random files, each from its seed, and tell how they came out. A case gives its statuses, None where two answers differ; `alone` is
-    a case that needs no program, where there is one. The status is 0 where no answers differ."""
+    a case that needs no program, where there is one. Commands that are needed and that the program hasn't end it. The status is 0 where no answers differ."""
     words = command_line(description)
-    words.add_argument('--cases', type=int, default=1000)
+    words.add_argument('--cases', type=int, default=cases, help='how many cases (default %d)' % cases)
     words.add_argument('--first', type=int, default=0, help='the first seed')
+    words.add_argument('--keep', metavar='FOLDER', help='leave the files of the last case there')
     if alone:
-        words.add_argument('--alone', action='store_true', help='compare the reference with itself')
+        words.add_argument('--alone', action='store_true', help='compare the reference with itself; it needs no program')
     given = words.parse_args()
-    tried = alone if alone and given.alone else functools.partial(case, given.sonata)
-    counts, differing = collections.Counter(), 0
-    with tempfile.TemporaryDirectory() as folder:
+    is_alone = alone and given.alone
+    missing = [] if is_alone else sorted(set(needs) - built(given.sonata))
+    if missing:
+        print('skipped: the program has no %s' % ', '.join(missing))
+        return 0
+    tried = alone if is_alone else functools.partial(case, given.sonata)
+    counts, differing = collections.Counter(), []
+    with tempfile.TemporaryDirectory() as passing:
+        folder = given.keep or passing
+        os.makedirs(folder, exist_ok=True)
         for seed in range(given.first, given.first + given.cases):
             found = tried(seed, folder)
             if None in found:
-                differing += 1
-                print('seed %d: they differ: %s' % (seed, found))
+                differing.append((size_of(folder), seed))
+                print('seed %d: they differ: %s' % (seed, found), flush=True)
             counts[tuple(found)] += 1
     for statuses, count in counts.most_common():
         print('%6d cases with the statuses %s' % (count, ', '.join(map(str, statuses))))
+    print('%d of %d cases differ%s' % (len(differing), given.cases, '; that of the fewest bytes has the seed %d' % min(differing)[1] if differing else ''))
     return 1 if differing else 0
 
 

@@ -1,9 +1,12 @@
 #!/usr/bin/env python3
 """Compares `sonata plan`, `check` and `live` with the slow reference of planned.py on small random query files, switches and captures: plans, costs, trees,
-budgets, and spoilt certificates. Prints each case on which they differ, with the seed that makes it again. The status is 0 where none does.
+budgets, spoilt certificates, and trees that cover the plans in another way than the search's. Prints each case on which they differ, with the seed that
+makes it again. The status is 0 where none does. A command that the program hasn't is left out. Needs nothing but Python.
 
 With --alone the reference is compared with itself: its search with all plans of the space, one after another, and its checker with its own trees."""
 
+import functools
+import itertools
 import random
 import sys
 
@@ -17,7 +20,7 @@ from reference import costs, plans
 def small(draw):
     """A query text whose space of plans is small: at most two branches in all, and two levels a query."""
     while True:
-        text, _, queries = random_plans.typed(draw)
+        text, queries = random_plans.typed(draw)
         if all(len(query.levels) <= 2 for query in queries) and sum(len(query.branches) for query in queries) <= 2:
             return text
 
@@ -55,15 +58,52 @@ def spoilt(draw, certificate):
     return '\n'.join(lines).encode()
 
 
+def other_tree(draw, table, plan):
+    """The nodes of another tree that covers the plans: where more than one letter is right for a partial plan, one of them is drawn."""
+    cost, waiting, found = plan.lower(), [costs.Partial(table, [])], []
+    while waiting:
+        partial = waiting.pop()
+        bound, broken = partial.lower(), partial.is_broken()
+        if partial.choices == plan.choices and not broken:
+            found.append(('P', cost))
+            continue
+        is_way = partial.choices == plan.choices[:len(partial.choices)]
+        lawful = ['X'] * broken + ['B'] * (bound >= cost and not is_way) + ['E'] * (not partial.is_complete() and len(found) < 3000)
+        letter = draw.choice(lawful or ['B'])
+        found.append((letter, None if letter == 'X' else bound))
+        if letter == 'E':
+            waiting += reversed(partial.children())
+    return found
+
+
+def other_certificate(draw, names):
+    """What another search might have printed: another plan that fits, mostly of least cost, or another tree for it. None where there is no plan."""
+    window, queries = planned.read_queries(names['queries'])
+    try:
+        table = planned.trained(window, queries, planned.read_switch(names['switch']), names['plan'])
+    except planned.Refused:
+        return None
+    every = list(itertools.islice(costs.all_plans(table), 400))
+    least = min(one.lower() for one in every)
+    plan = draw.choice([one for one in every if one.lower() == least] if draw.random() < 0.8 else every)
+    nodes = [letter if number is None else '%s %d' % (letter, number) for letter, number in other_tree(draw, table, plan)]
+    return ('\n'.join(plans.lines(plan.plan()) + ['cost %d;' % plan.lower(), 'tree'] + nodes + ['done']) + '\n').encode()
+
+
+built = functools.lru_cache(None)(program.built)
+
+
 def case(executable, seed, folder):
     draw = random.Random(seed)
     names = random_plans.write(folder, files(draw))
     three = names['switch'], names['queries'], names['plan']
     nodes = () if draw.random() < 0.6 else ('--nodes', str(draw.choice([1, 2, 5, 20])))
-    found = [random_plans.differs(executable, 'plan', *three, *nodes), random_plans.differs(executable, 'live', *three, names['capture'], *nodes)]
     _, certificate, _ = planned.answer('plan', *three)
-    random_plans.write(folder, {'reports': spoilt(draw, certificate or b'plan')})
-    return found + [random_plans.differs(executable, 'check', *three, names['reports'])]
+    held = draw.choice([lambda: certificate, lambda: spoilt(draw, certificate or b'plan'), lambda: spoilt(draw, certificate or b'plan'),
+                        lambda: other_certificate(draw, names)])()
+    random_plans.write(folder, {'reports': held or b''})
+    asked = [('plan', *three, *nodes), ('live', *three, names['capture'], *nodes), ('check', *three, names['reports'])]
+    return [random_plans.differs(executable, *words) for words in asked if words[0] in built(executable)]
 
 
 def alone(seed, folder):

@@ -1,12 +1,13 @@
 #!/usr/bin/env python3
-"""Compares `sonata run`, `emit` and `finish` with the slow reference of planned.py on random query files, switches, plans, captures and reports,
-good and spoilt. Prints each case on which they differ, with the seed that makes it again. The status is 0 where none does.
+"""Compares `sonata run`, `run --csv`, `emit` and `finish` with the slow reference of planned.py on random query files, switches, plans, captures and
+reports, good and spoilt. Prints each case on which they differ, with the seed that makes it again. The status is 0 where none does. A command that the
+program hasn't is left out. Needs nothing but Python.
 
 With --alone the reference is compared with itself: what `finish` makes of the frames of `emit` with the text of `run`. It needs no program."""
 
+import functools
 import os
 import random
-import subprocess
 import sys
 
 import planned
@@ -17,16 +18,21 @@ from reference import engines, grammar, pipes, plans, switches, tokens, typing_r
 FILES = ('switch', 'queries', 'plan', 'capture', 'reports')
 
 
+def typed_text(text):
+    """The queries of a text that is well typed."""
+    _, queries = grammar.parse(text)
+    typing_rules.check(queries)
+    return queries
+
+
 def typed(draw):
     """A query text that is well typed, and its queries."""
     while True:
         text = 'window %d\n' % draw.choice([250000, 1000000, 2000000]) + ''.join(random_queries.query(draw, n) for n in range(draw.choice([1, 1, 2])))
         try:
-            window, queries = grammar.parse(text.encode())
-            typing_rules.check(queries)
+            return text, typed_text(text.encode())
         except tokens.Fault:
             continue
-        return text, window, queries
 
 
 def switch_text(draw):
@@ -73,17 +79,55 @@ def plan_text(draw, switch, queries):
     return '\n'.join(plans.lines([entry_of(draw, switch, query) for query in queries])) + '\n'
 
 
-def spoilt_reports(draw, reports):
-    """Reports with a byte changed, cut, or with a part of them given again."""
-    form = draw.randrange(4)
-    if not reports or form == 0:
-        return reports[:draw.randrange(len(reports) + 1)]
-    place = draw.randrange(len(reports))
+def frames_of(reports):
+    """The bytes of each frame."""
+    found, at = [], 0
+    while at < len(reports):
+        _, _, end = engines.decode(reports, at)
+        found.append(reports[at:end])
+        at = end
+    return found
+
+
+def spoilt_bytes(draw, reports):
+    """Reports cut, or with a byte or eight of them changed, left out or given again."""
+    form, place = draw.randrange(5), draw.randrange(len(reports))
+    if form == 0:
+        return reports[:place]
     if form == 1:
         return reports[:place] + bytes([reports[place] ^ 1 << draw.randrange(8)]) + reports[place + 1:]
+    eight = place // 8 * 8
     if form == 2:
-        return reports + reports[place // 8 * 8:]
-    return reports[:place // 8 * 8] + reports[place // 8 * 8 + 8:]
+        return reports + reports[eight:]
+    if form == 3:
+        return reports[:eight] + reports[eight + 8:]
+    head = eight + draw.randrange(8)
+    return reports[:head] + bytes([draw.choice([0, 1, 2, 3, 255])]) + reports[head + 1:]
+
+
+def spoilt_frames(draw, reports):
+    """Reports with a frame left out, given twice, moved, of another window, of another operator or with wider columns."""
+    frames, form = frames_of(reports), draw.randrange(6)
+    place = draw.randrange(len(frames))
+    frame = frames.pop(place)
+    if form == 1:
+        frames[place:place] = [frame, frame]
+    elif form == 2:
+        frames.insert(draw.randrange(len(frames) + 1), frame)
+    elif form == 3:
+        frames.insert(place, frame[:8] + draw.choice([0, 1, 3, (1 << 64) - 1]).to_bytes(8, 'big') + frame[16:] if len(frame) > 8 else frame)
+    elif form == 4:
+        frames.insert(place, frame[:5] + bytes([draw.randrange(13)]) + frame[6:] if frame[1] < 2 else frame[:2] + bytes([draw.randrange(8)]) + frame[3:])
+    elif form == 5:
+        frames.insert(place, frame[:-8] + draw.choice([(1 << 32), (1 << 64) - 1]).to_bytes(8, 'big') if len(frame) > 8 else frame)
+    return b''.join(frames)
+
+
+def spoilt_reports(draw, reports):
+    """Reports with a fault, or with none by luck."""
+    if not reports:
+        return bytes(draw.randrange(9))
+    return draw.choice([spoilt_bytes, spoilt_frames])(draw, reports)
 
 
 def shuffled(draw, reports):
@@ -109,7 +153,7 @@ def shuffled(draw, reports):
 
 def files(draw):
     """The bytes of each file of a case."""
-    queries_text, window, queries = typed(draw)
+    queries_text, queries = typed(draw)
     switch = switch_text(draw)
     plan = plan_text(draw, switches.parse(switch.encode()), queries)
     if draw.random() < 0.15:
@@ -127,26 +171,24 @@ def write(folder, held):
     return names
 
 
-def ran(executable, command, *names):
-    done = subprocess.run([executable, command, *names], capture_output=True)
-    return done.returncode, done.stdout, done.stderr.decode()
-
-
-def differs(executable, command, *names):
+def differs(executable, *words):
     """The status that both answers have, or None where they differ."""
-    wanted = planned.answer(command, *names)
-    return wanted[0] if ran(executable, command, *names) == wanted else None
+    return program.alike(executable, planned.answer(*words), *words)
+
+
+built = functools.lru_cache(None)(program.built)
 
 
 def case(executable, seed, folder):
-    """The statuses of the three commands, None where the program answers otherwise."""
+    """The statuses of the commands, None where the program answers otherwise."""
     draw = random.Random(seed)
     names = write(folder, files(draw))
     four = names['switch'], names['queries'], names['plan'], names['capture']
-    found = [differs(executable, command, *four) for command in ('run', 'emit')]
+    asked = [('run', *four), ('run', *four, '--csv'), ('emit', *four)]
     _, reports, _ = planned.answer('emit', *four)
-    write(folder, {'reports': spoilt_reports(draw, reports) if draw.random() < 0.4 else shuffled(draw, reports)})
-    return found + [differs(executable, 'finish', names['queries'], names['plan'], names['reports'])]
+    write(folder, {'reports': spoilt_reports(draw, reports) if draw.random() < 0.5 else shuffled(draw, reports)})
+    asked.append(('finish', names['queries'], names['plan'], names['reports']))
+    return [differs(executable, *words) for words in asked if (words[0] + ' --csv' if '--csv' in words else words[0]) in built(executable)]
 
 
 def alone(seed, folder):
