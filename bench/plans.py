@@ -1,26 +1,62 @@
 #!/usr/bin/env python3
-"""Measures `sonata run`, with the queries of three.query and the plan of full.plan, against `sonata plain` on the same captures.
+"""Measures the commands around plans against `sonata plain`, all of one run of this program: processor time (user and system) and peak memory as ratios.
 
-Generates two captures into a temporary folder and prints whether `run` answers what `plain` does, the processor time (user and system) and peak
-memory of each command, and the ratios, all of one run of this program. Nothing is left behind but with --keep."""
+along     `run`, `emit` and `finish` with the queries of three.query and the plan of full.plan, on two generated captures. The answers of `run` and `finish`
+          are compared with those of `plain`.
+training  `plan` and `check` with the queries and the switch of the generated job, at several sizes of the capture. `plan --nodes 1` ends behind the cost
+          table, so it is the training alone, and what `plan` takes beyond it is the search and the printing of the tree.
+job       `job 7` against `plain` with its queries on the capture of 8.
+search    a million expanded nodes of a space in which the search doesn't end.
+reading   `plan` and `run` against planned.py, the slow reading in Python, on 20000 packets.
+
+What the program hasn't is left out. Nothing is left behind but with --keep. Needs a C compiler."""
 
 import argparse
 import os
 import shutil
+import subprocess
 import sys
 import tempfile
 
 import run
 
-COMMANDS = ('plain', 'run')
 SWITCH, PLAN = (os.path.join(run.HERE, name) for name in ('full.switch', 'full.plan'))
+CHECKS = os.path.join(run.HERE, '..', 'checks')
+JOB_SWITCH = 'stages 16; actions 8; bits 8388608; meta 4096; chain 2; slots 256, 1024, 4096;\n'
+TIGHT_SWITCH = 'stages 8; actions 2; bits 65536; meta 1024; chain 1; slots 64, 256;\n'
+GOALS = {('along', 'run'): 2, ('along', 'emit'): 2, ('training', 'training'): 15, ('job', 'job'): 40}
+
+sys.path.insert(0, CHECKS)
+import program  # noqa: E402
 
 
-def words_of(sonata, command, capture):
-    """The words of a command on a capture."""
-    if command == 'plain':
-        return [sonata, command, run.QUERIES, capture]
-    return [sonata, command, SWITCH, run.QUERIES, PLAN, capture]
+class Part:
+    """Commands that are measured in turn on one capture, and what is told of them."""
+
+    def __init__(self, given, measurer, folder, title):
+        self.given, self.measurer, self.folder, self.title = given, measurer, folder, title
+        self.words, self.outs, self.found = {}, {}, {}
+
+    def add(self, label, *words):
+        self.words[label] = [self.given.sonata, *words]
+        self.outs[label] = os.path.join(self.folder, 'out.' + label)
+        return self.outs[label]
+
+    def measure(self, runs=None):
+        new = {label: words for label, words in self.words.items() if label not in self.found}
+        self.found.update(run.measure(self.measurer, new, self.outs, runs or self.given.runs))
+
+    def tell(self, packets, over='plain'):
+        print(self.title)
+        for label, one in self.found.items():
+            run.line(label, one, packets)
+        for label, one in self.found.items():
+            if label != over:
+                self.ratio(label, one.seconds / max(1e-6, self.found[over].seconds), one.peak_bytes / self.found[over].peak_bytes, over)
+
+    def ratio(self, label, time, peak, over):
+        goal = GOALS.get((self.title.split(',')[0].split(' ')[0], label))
+        print('  %s over %s: processor time %.2f%s; peak memory %.2f' % (label, over, time, ' (goal %d)' % goal if goal else '', peak))
 
 
 def rows_of(name):
@@ -28,31 +64,114 @@ def rows_of(name):
     return [line.split(b' emitted ')[0] for line in run.bytes_of(name).splitlines()]
 
 
-def capture_figures(kind, given, measurer, folder):
-    """Measure the commands on one generated capture. True where the answers are equal."""
-    capture = run.generate(kind, given.packets, given.number, folder)
-    outs = {command: os.path.join(folder, '%s.%s' % (kind, command)) for command in COMMANDS}
-    run.read_once(capture)
-    found = run.measure(measurer, {command: words_of(given.sonata, command, capture) for command in COMMANDS}, outs, given.runs)
-    equal = rows_of(outs['plain']) == rows_of(outs['run']) and all(one.status == 0 for one in found.values())
-    print('%s: %d packets, answers of run and plain %s' % (kind, given.packets, 'equal' if equal else 'DIFFER'))
-    for command, one in found.items():
-        run.line(command, one, given.packets)
-    for command in COMMANDS[1:]:
-        print('  processor time of %s over plain: %.2f; peak memory: %.2f' % (
-            command, found[command].seconds / found['plain'].seconds, found[command].peak_bytes / found['plain'].peak_bytes))
-    return equal
+def along(given, measurer, folder):
+    """Whether `run` and `finish` answer what `plain` does."""
+    good = True
+    for kind in given.kinds:
+        capture = run.generate(kind, given.packets, given.number, folder)
+        part = Part(given, measurer, folder, 'along a plan, %s: %d packets' % (kind, given.packets))
+        four = SWITCH, run.QUERIES, PLAN, capture
+        part.add('plain', 'plain', run.QUERIES, capture)
+        part.add('run', 'run', *four)
+        reports = part.add('emit', 'emit', *four) if 'emit' in given.built else None
+        run.read_once(capture)
+        part.measure()
+        if reports:
+            part.add('finish', 'finish', run.QUERIES, PLAN, reports)
+            part.measure()
+        part.tell(given.packets)
+        equal = all(rows_of(part.outs['plain']) == rows_of(part.outs[label]) for label in ('run', 'finish') if label in part.outs)
+        print('  answers %s, statuses %s' % ('equal' if equal else 'DIFFER', sorted({one.status for one in part.found.values()})))
+        good = good and equal
+        os.remove(capture)
+    return good
+
+
+def written(folder, name, text):
+    path = os.path.join(folder, name)
+    with open(path, 'w') as file:
+        file.write(text)
+    return path
+
+
+def training(given, measurer, folder):
+    """Whether `plan` ends and `check` says yes."""
+    good, switch = True, written(folder, 'job.switch', JOB_SWITCH)
+    for packets in given.training:
+        capture = run.generate('few', packets, given.number, folder)
+        part = Part(given, measurer, folder, 'training, few: %d packets' % packets)
+        three = switch, run.QUERIES, capture
+        part.add('plain', 'plain', run.QUERIES, capture)
+        part.add('training', 'plan', *three, '--nodes', '1')
+        certificate = part.add('plan', 'plan', *three)
+        run.read_once(capture)
+        part.measure(given.runs if packets < 500000 else 1)
+        if 'check' in given.built:
+            part.add('check', 'check', *three, certificate)
+            part.measure(given.runs if packets < 500000 else 1)
+        part.tell(packets)
+        search = part.found['plan'].seconds - part.found['training'].seconds
+        print('  what plan takes beyond its training, over the training: %.2f (goal 0.20)' % (search / max(1e-6, part.found['training'].seconds)))
+        good = good and part.found['plan'].status == 0 and ('check' not in part.found or part.found['check'].status == 0)
+        os.remove(capture)
+    return good
+
+
+def job(given, measurer, folder):
+    capture = os.path.join(folder, 'generated.pcap')
+    with open(capture, 'wb') as file:
+        subprocess.run([given.sonata, 'gen', '8'], stdout=file, check=True)
+    part = Part(given, measurer, folder, 'job 7, over plain on the capture of 8')
+    part.add('plain', 'plain', run.QUERIES, capture)
+    part.add('job', 'job', '7')
+    part.measure()
+    part.tell(20000)
+    return part.found['job'].status == 0
+
+
+def search(given, measurer, folder):
+    capture = run.generate('few', 20000, given.number, folder)
+    part = Part(given, measurer, folder, 'search, a million nodes over a tight switch')
+    three = written(folder, 'tight.switch', TIGHT_SWITCH), run.QUERIES, capture
+    part.add('training', 'plan', *three, '--nodes', '1')
+    part.add('million', 'plan', *three, '--nodes', '1000000')
+    part.measure(1)
+    part.tell(20000, over='training')
+    one = part.found['million']
+    print('  the search alone: %.2f s, peak %.0f MB, status %d' % (one.seconds - part.found['training'].seconds, one.peak_bytes / 1e6, one.status))
+    return one.status in (0, 8)
+
+
+def reading(given, measurer, folder):
+    capture = run.generate('few', 20000, given.number, folder)
+    three = os.path.join(run.HERE, '..', 'examples', 'three')
+    switch, queries = os.path.join(three, 'small.switch'), os.path.join(three, 'three.query')
+    part = Part(given, measurer, folder, 'reading, few: 20000 packets')
+    part.add('plan', 'plan', switch, queries, capture)
+    part.add('reading', 'plan', switch, queries, capture)
+    part.words['reading'][0:1] = [sys.executable, os.path.join(CHECKS, 'planned.py')]
+    part.measure(1)
+    part.tell(20000, over='plan')
+    return run.bytes_of(part.outs['plan']) == run.bytes_of(part.outs['reading'])
+
+
+PARTS = {'along': (along, {'run'}), 'training': (training, {'plan'}), 'job': (job, {'job', 'gen'}), 'search': (search, {'plan'}), 'reading': (reading, {'plan'})}
 
 
 def words_given():
     words = argparse.ArgumentParser(description=__doc__, formatter_class=argparse.RawDescriptionHelpFormatter)
+    words.add_argument('parts', nargs='*', metavar='PART', default=['along', 'training', 'job'], help='of %s (default: along training job)' % ', '.join(PARTS))
     words.add_argument('--sonata', default=run.USUAL, help='the program to measure (default: the one that this clone built)')
-    words.add_argument('--packets', type=int, default=1000000, help='packets of each capture')
+    words.add_argument('--packets', type=int, default=1000000, help='packets of each capture of `along`')
+    words.add_argument('--training', type=int, nargs='+', default=[20000, 2000000], metavar='PACKETS', help='packets of training captures (default 20000 2000000)')
     words.add_argument('--number', type=int, default=7, help='the number from which the captures are drawn')
-    words.add_argument('--runs', type=int, default=5, help='runs of each command; the least processor time counts')
-    words.add_argument('--kinds', nargs='+', default=['few', 'many'], choices=['few', 'many'], help='captures')
-    words.add_argument('--keep', metavar='FOLDER', help='put captures and outputs there, and leave them')
-    return words.parse_args()
+    words.add_argument('--runs', type=int, default=5, help='runs of each command; the least processor time counts (above 500000 packets of training it is one)')
+    words.add_argument('--kinds', nargs='+', default=['few', 'many'], choices=['few', 'many'], help='captures of `along`')
+    words.add_argument('--keep', metavar='FOLDER', help='put outputs there, and leave them')
+    given = words.parse_args()
+    if set(given.parts) - set(PARTS):
+        words.error('no part: ' + ', '.join(sorted(set(given.parts) - set(PARTS))))
+    return given
 
 
 def main():
@@ -60,15 +179,22 @@ def main():
     if not os.access(given.sonata, os.X_OK):
         print('no program at %s; build it first, or name one with --sonata' % given.sonata, file=sys.stderr)
         return 2
-    folder = given.keep or tempfile.mkdtemp(prefix='sonata-bench-')
+    given.sonata = os.path.abspath(given.sonata)
+    given.built = program.built(given.sonata)
+    folder, good = given.keep or tempfile.mkdtemp(prefix='sonata-bench-'), []
     os.makedirs(folder, exist_ok=True)
     try:
         measurer = run.build('measure', folder)
-        equal = [capture_figures(kind, given, measurer, folder) for kind in given.kinds]
+        for name in given.parts:
+            measure, needed = PARTS[name]
+            if needed <= given.built:
+                good.append(measure(given, measurer, folder))
+            else:
+                print('%s: left out, the program has no %s' % (name, ', '.join(sorted(needed - given.built))))
     finally:
         if not given.keep:
             shutil.rmtree(folder)
-    return 0 if all(equal) else 1
+    return 0 if all(good) else 1
 
 
 if __name__ == '__main__':
