@@ -4,7 +4,7 @@
 few   5000 packets a second: a SYN flood, a host with many small connections, and traffic to 64 servers.
 many  200000 packets a second to about 100000 addresses in each second, drawn so that few of them get most packets.
 
-The numbers are drawn from the given number alone, so a capture can be made again."""
+The numbers are drawn from the given number alone, so a capture can be made again. Needs nothing but Python."""
 
 import argparse
 import struct

@@ -1,7 +1,8 @@
 #!/usr/bin/env python3
 """Counts the instructions that `sonata plain` and the C program take for each packet, by callgrind of valgrind.
 
-Other programs on the machine don't disturb this count. With --queries the given query files are counted on sonata alone."""
+Other programs on the machine don't disturb this count. With --queries the given query files are counted on sonata alone. Needs valgrind, a C compiler
+and libpcap-dev."""
 
 import argparse
 import os

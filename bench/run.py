@@ -2,7 +2,7 @@
 """Measures `sonata plain` with the queries of three.query against a program in C over libpcap, and against a bare count by tcpdump.
 
 Builds the C program, generates two captures into a temporary folder, runs all on both, and prints whether the answers are equal, the processor
-time (user and system), packets a second, peak memory, and the ratios. Nothing is left behind but with --keep."""
+time (user and system), packets a second, peak memory, and the ratios. Nothing is left behind but with --keep. Needs a C compiler and libpcap-dev."""
 
 import argparse
 import os

@@ -2,7 +2,7 @@
 """Compares the number of rows of queries of one filter with the packets that tcpdump counts.
 
 The expressions of tcpdump say in full what a query means: a header counts where all its bytes were captured, and at most two tags of the types
-0x8100 and 0x88A8 are walked. tcpdump runs with -O, since its optimizer drops the tests of captured bytes."""
+0x8100 and 0x88A8 are walked. tcpdump runs with -O, since its optimizer drops the tests of captured bytes. Needs tcpdump."""
 
 import subprocess
 import sys

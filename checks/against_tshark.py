@@ -3,7 +3,7 @@
 
 The packets of a capture are put a second apart, so that a window of a second holds one packet, and three queries that each read eight fields print them all.
 tshark reads more than sonata does: tags behind the second, headers inside tunnels and inside ICMP messages, IPv6, headers of which a part was captured. Where
-it does, the value that sonata should give is worked out from tshark's, and the reason is counted and printed. Any other difference is a fault."""
+it does, the value that sonata should give is worked out from tshark's, and the reason is counted and printed. Any other difference is a fault. Needs tshark."""
 
 import os
 import subprocess

@@ -1,5 +1,5 @@
 #!/usr/bin/env python3
-"""Sends frames of unusual form on an interface: tags, tunnels, fragments, padding, options, cut and wrong headers."""
+"""Sends frames of unusual form on an interface: tags, tunnels, fragments, padding, options, cut and wrong headers. Needs root, and nothing but Python."""
 
 import argparse
 import socket

@@ -1,5 +1,6 @@
 #!/usr/bin/env python3
-"""Answers `plain QUERIES CAPTURE` as `sonata` should: an independent and slow reference, for comparison."""
+"""Answers `plain QUERIES CAPTURE` as `sonata` should: an independent and slow reference, for comparison. Needs nothing
+but Python."""
 
 import argparse
 import os

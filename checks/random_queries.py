@@ -1,7 +1,7 @@
 #!/usr/bin/env python3
 """Compares `sonata plain` with the slow reference of plain.py on random query files, good and spoilt, over small random captures.
 
-Prints each case on which they differ, with the seed that makes it again. The status is 0 where none does."""
+Prints each case on which they differ, with the seed that makes it again. The status is 0 where none does. Needs nothing but Python."""
 
 import os
 import random

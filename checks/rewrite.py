@@ -3,7 +3,9 @@
 
 swap      the other byte order
 apart     packet number i at second i, so that a window of a second holds one packet
-mix       every third packet a second and a half earlier, so that times fall"""
+mix       every third packet a second and a half earlier, so that times fall
+
+Needs nothing but Python."""
 
 import argparse
 import struct

@@ -1,7 +1,8 @@
 #!/usr/bin/env python3
 """Checks `sonata plain` on captures against tools from outside: tcpdump's counts, tshark's field values, and the slow reference of plain.py.
 
-Each capture gets one line. A part whose tool isn't there is skipped and said so. The status is 0 where nothing differs."""
+Each capture gets one line. A part whose tool isn't there is skipped and said so. The status is 0 where nothing differs. Needs tcpdump and tshark for
+their parts."""
 
 import glob
 import os

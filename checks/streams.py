@@ -1,5 +1,6 @@
 #!/usr/bin/env python3
-"""Gives captures as files, on standard input and through named pipes, whole and in small pieces, and compares the answers."""
+"""Gives captures as files, on standard input and through named pipes, whole and in small pieces, and compares the answers. Needs nothing but
+Python."""
 
 import os
 import subprocess

@@ -1,5 +1,5 @@
 #!/usr/bin/env python3
-"""Opens a tun device, and reads and drops its packets for some seconds, so that a capture on it has raw IP packets."""
+"""Opens a tun device, and reads and drops its packets for some seconds, so that a capture on it has raw IP packets. Needs root."""
 
 import argparse
 import fcntl
