@@ -52,11 +52,13 @@ def answers_words(executable, *words):
 
 
 def built(executable):
-    """The commands that the program has; `run --csv` counts as one."""
+    """The commands that the program has; `run --csv` and `live --schedule` count as such."""
     nothing = 'no such file'
     found = {name for name, files in COMMANDS.items() if answers_words(executable, name, *[nothing] * files)}
     if answers_words(executable, 'run', *[nothing] * 4, '--csv'):
         found.add('run --csv')
+    if answers_words(executable, 'live', *[nothing] * 4, '--schedule', '1', '--trace'):
+        found.add('live --schedule')
     if answers_words(executable, 'gen', '0'):
         found.add('gen')
     if answers_words(executable, 'job', '7'):

@@ -33,7 +33,7 @@ def switch_text(draw):
 
 def files(draw):
     """The bytes of each file of a case. The training capture stands in the place of the plan."""
-    return {'switch': switch_text(draw).encode(), 'queries': small(draw).encode(), 'plan': random_queries.capture(draw), 'capture': random_queries.capture(draw)}
+    return {'switch': switch_text(draw).encode(), 'queries': small(draw).encode(), 'plan': random_plans.capture(draw), 'capture': random_plans.capture(draw)}
 
 
 def spoilt(draw, certificate):

@@ -8,6 +8,7 @@ With --alone the reference is compared with itself: what `finish` makes of the f
 import functools
 import os
 import random
+import struct
 import sys
 
 import planned
@@ -25,10 +26,28 @@ def typed_text(text):
     return queries
 
 
+def counting(draw, number):
+    """A query that counts something for each key: a distinct, a reduce, or both, refined or not, and sometimes joined with a count of packets."""
+    levels = sorted(draw.sample([8, 16, 24, 30, 31, 32], draw.choice([1, 2, 2, 3, 4]))) if draw.random() < 0.7 else []
+    field, other = draw.choice([('ip.src', 'ip.dst'), ('ip.dst', 'ip.src')])
+    columns = [field + ' as k', other + ' as s'] + ['tcp.dport as p'] * draw.randrange(2)
+    least = draw.choice(['0', '1', '2', '3'])
+    relaxed = ' at (%d: 0)' % levels[0] if len(levels) > 1 and draw.random() < 0.4 else ''
+    ops = draw.choice([[], ['filter ip.valid == 1'], ['filter tcp.flags & 2 == 2', 'filter tcp.valid == 1']]) + ['map ' + ', '.join(columns)]
+    ops += draw.choice([['distinct'], ['distinct'], [], ['distinct', 'filter s & 3 > 0']])
+    ops += ['map k as k, 1 as n', 'reduce k: %s width %d' % ('sum(n)', draw.choice([1, 2, 8, 64]))]
+    ops += draw.choice([[], ['filter n > ' + least + relaxed], ['filter n > %s%s' % (least, relaxed), 'filter n < 9']])
+    text = 'query c%d {\n' % number + ('  refine %s: %s;\n' % (field, ', '.join(map(str, levels))) if levels else '') + '  packets | ' + ' | '.join(ops) + ';\n'
+    if draw.random() < 0.3:
+        text += '  packets | map %s as k, ip.len as m | reduce k: %s;\n  join k | map k as k, n * 100 / m as r;\n' % (field, draw.choice(['sum(m) width 32', 'max(m)']))
+    return text + '}\n'
+
+
 def typed(draw):
     """A query text that is well typed, and its queries."""
     while True:
-        text = 'window %d\n' % draw.choice([250000, 1000000, 2000000]) + ''.join(random_queries.query(draw, n) for n in range(draw.choice([1, 1, 2])))
+        make = draw.choice([random_queries.query, counting])
+        text = 'window %d\n' % draw.choice([250000, 1000000, 2000000]) + ''.join(make(draw, n) for n in range(draw.choice([1, 1, 2])))
         try:
             return text, typed_text(text.encode())
         except tokens.Fault:
@@ -151,6 +170,21 @@ def shuffled(draw, reports):
     return b''.join(text)
 
 
+def rising(draw):
+    """A capture whose times rise, so that window follows window, sometimes with a gap or a damaged end."""
+    times = sorted(draw.randrange(draw.choice([2, 4, 5])) * 1000000 + draw.randrange(1000000) for _ in range(draw.randrange(120)))
+    file = [struct.pack('<IHHIIII', 0xA1B2C3D4, 2, 4, 0, 0, 65535, 1)]
+    for time in times:
+        bytes_of = random_queries.frame(draw)
+        file.append(struct.pack('<IIII', *divmod(time, 1000000), len(bytes_of), len(bytes_of)) + bytes_of)
+    whole = b''.join(file)
+    return whole[:draw.randrange(len(whole))] if draw.random() < 0.05 else whole
+
+
+def capture(draw):
+    return draw.choice([rising, rising, random_queries.capture])(draw)
+
+
 def files(draw):
     """The bytes of each file of a case."""
     queries_text, queries = typed(draw)
@@ -160,7 +194,7 @@ def files(draw):
         plan = random_queries.spoilt(draw, plan)
     if draw.random() < 0.05:
         switch = random_queries.spoilt(draw, switch)
-    return {'switch': switch.encode(), 'queries': queries_text.encode(), 'plan': plan.encode(), 'capture': random_queries.capture(draw)}
+    return {'switch': switch.encode(), 'queries': queries_text.encode(), 'plan': plan.encode(), 'capture': capture(draw)}
 
 
 def write(folder, held):
