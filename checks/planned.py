@@ -7,18 +7,19 @@
     planned.py emit SWITCH QUERIES PLAN CAPTURE
     planned.py finish QUERIES PLAN REPORTS
     planned.py check SWITCH QUERIES TRAIN PLANTREE
-    planned.py live SWITCH QUERIES TRAIN CAPTURE [--nodes N]
+    planned.py live SWITCH QUERIES TRAIN CAPTURE [--nodes N] [--schedule K] [--trace]
     planned.py gen NUMBER
     planned.py job NUMBER
 
-It knows no limits of bytes and records, and takes --schedule and --trace of `live` as words that it hasn't.
+It knows no limits of bytes and records. Its files are read whole.
 """
 
+import functools
 import sys
 
 import plain as unsplit
 from plain import read, told
-from reference import costs, fields, generated, grammar, plans, split, switches, tokens, typing_rules, words
+from reference import costs, fields, generated, grammar, nets, plans, split, switches, tokens, typing_rules, words
 
 
 class Refused(Exception):
@@ -149,7 +150,8 @@ def live(given):
     switch = read_switch(switch_name)
     table = trained(window, queries, switch, train_name)
     chosen = found(table, given.options.get('--nodes', USUAL_NODES))
-    return answered(split.run, window, queries, switch, chosen.plan(), capture_name, costs.certificate(table, chosen))
+    command = functools.partial(nets.traced, schedule=given.options.get('--schedule', 0)) if '--trace' in given.options else split.run
+    return answered(command, window, queries, switch, chosen.plan(), capture_name, costs.certificate(table, chosen))
 
 
 def check(given):
@@ -198,7 +200,7 @@ COMMANDS = {'plain': plain, 'plan': plan, 'run': run, 'emit': over_capture(split
 def answer(*spoken):
     """The status, the bytes written, and what is told on standard error."""
     given = words.read(spoken)
-    if given is None or '--schedule' in given.options or '--trace' in given.options:
+    if given is None:
         return 2, b'', told('usage')
     try:
         return 0, COMMANDS[given.name](given), ''

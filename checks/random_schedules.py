@@ -1,6 +1,6 @@
 #!/usr/bin/env python3
 """Compares what `sonata live` answers by twenty schedules each, on small random query files, switches and captures: all must be the text of planned.py.
-With --trace the same, where the lines of events are taken out.
+With --trace the lines of events are those of planned.py too, and without them the text is the same.
 
 Prints each case on which they differ, with the seed that makes it again. The status is 0 where none does. Needs nothing but Python."""
 
@@ -27,9 +27,11 @@ def case(executable, seed, folder):
     found = []
     for number in [0, 1, 4294967295] + [draw.randrange(1 << 32) for _ in range(SCHEDULES - 3)]:
         found.append(program.alike(executable, wanted, *words, '--schedule', str(number)))
-    status, text, line = program.ran(executable, *words, '--trace', '--schedule', str(draw.randrange(1 << 32)))
-    alike = (status, without_events(text), line) == wanted
-    return sorted(set(found), key=str) + ([] if alike else [None])
+    told = *words, '--trace', '--schedule', str(draw.randrange(1 << 32))
+    traced = planned.answer(*told)
+    if (traced[0], without_events(traced[1]), traced[2]) != wanted:
+        found.append(None)
+    return sorted(set(found + [program.alike(executable, traced, *told)]), key=str)
 
 
 if __name__ == '__main__':

@@ -51,7 +51,7 @@ def wanted(executable, said):
     given = words.read(said)
     if given is None or given.name not in built(executable) or '--csv' in given.options and 'run --csv' not in built(executable):
         return 2, b'', 'sonata: usage\n'
-    if given.number is not None or '--schedule' in given.options or '--trace' in given.options:
+    if given.number is not None or ('--schedule' in given.options or '--trace' in given.options) and 'live --schedule' not in built(executable):
         return None
     return 9, b'', 'sonata: read fault\n'
 
