@@ -1,0 +1,4 @@
+pub mod Budgets
+pub mod Verdicts
+pub mod Founds
+pub mod Showing

@@ -1,0 +1,9 @@
+//! The plan that costs least over training windows, with the tree that shows it.
+#![tactic(auto)]
+
+pub mod certificate;
+pub mod law;
+pub mod search;
+#[cfg(test)]
+mod tests;
+pub mod text;
