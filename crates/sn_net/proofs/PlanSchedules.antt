@@ -1,12 +1,13 @@
 -- Whatever the schedule, the answers of a plan's net are those of the plan.
 use Rattle.std.proofs.Common.{◌≡◌, ℕ, suc, ◌<◌, List, [], ◌∷◌, map, length, true, Option, Some, None, ◌∙◌, arith}
 use Rattle.sn_base.proofs.Lists.{map_both}
-use Rattle.sn_core.proofs.Counting.{taken_when_done}
+use Rattle.sn_core.proofs.Counting.{taken_and_due, taken_when_done}
 use Rattle.sn_core.proofs.Rising.{windows_hold}
 use Rattle.sn_core.specs.Calls.{AreAllowed, Call, after_calls, answers_taken, made, supplies_of}
-use Rattle.sn_core.specs.Due.{Tuples, windows_of}
+use Rattle.sn_core.specs.Due.{Tuples, due, windows_of}
 use Rattle.sn_core.specs.Needs.{is_done}
 use Rattle.sn_core.specs.Nets.{Lane}
+use Rattle.sn_core.specs.declared.supply.Supply.{Supply}
 use Rattle.sn_core.specs.Numbers.{DontFall, HoldWindows, look_up}
 use Rattle.sn_emit.specs.Plans.{pieces_from}
 use Rattle.sn_fit.specs.Fits.{Fits}
@@ -44,4 +45,15 @@ plan_schedules typed_for room queries s entries lanes calls t is fits are some_r
     taken_when_done (workings queries entries) (lawful queries entries) room lanes calls some_room some_lane allowed done
     ∙ plan_windows typed_for s.chain queries entries t fits.paths (plan_made typed_for queries s entries t is fits) lanes are some_lane windows widths
     ∙ all_windows queries s.chain entries (map given_of windows) fits.paths (rise (look_up windows) windows (windows_hold (supplies_of calls) dont_fall))
+    ∙ map_both given_of (λ (g : Given). plan_answers queries s.chain entries (given_windows (map given_of windows)) g.0) windows
+
+-- what is due from a net as it is made: the answers of the plan for what follows
+pub plan_due : (typed_for room : ℕ) (queries : List TypedQuery) (s : Switch) (entries : List Entry) (lanes : List (Lane PipeState Item)) (following : List (Supply (List ℕ))) →
+    ∥ IsTyped typed_for queries ∥₁ → IsSwitch s → Fits queries s entries → AreLanesFor queries s.chain (pieces_from 0 entries) lanes → 0 < room → 0 < length lanes → DontFall 0 following → HaveWidths (windows_of following) →
+    due (workings queries entries) (made (workings queries entries) room lanes) following ≡ map (λ x. plan_answers queries s.chain entries (given_windows (map given_of (windows_of following))) x.number) (windows_of following)
+plan_due typed_for room queries s entries lanes following t is fits are some_room some_lane dont_fall widths =
+    let windows : List (Tuples (List ℕ)) = windows_of following in
+    taken_and_due (workings queries entries) (lawful queries entries) room lanes [] following some_room some_lane tt
+    ∙ plan_windows typed_for s.chain queries entries t fits.paths (plan_made typed_for queries s entries t is fits) lanes are some_lane windows widths
+    ∙ all_windows queries s.chain entries (map given_of windows) fits.paths (rise (look_up windows) windows (windows_hold following dont_fall))
     ∙ map_both given_of (λ (g : Given). plan_answers queries s.chain entries (given_windows (map given_of windows)) g.0) windows

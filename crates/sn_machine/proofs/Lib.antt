@@ -1,0 +1,7 @@
+mod Zips
+mod Named
+mod Both
+mod Facts
+mod Changes
+mod Reading
+mod Makings

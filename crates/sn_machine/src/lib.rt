@@ -1,0 +1,14 @@
+//! A switch whose lanes hold frames, and an engine that takes them: one net, whose events come in any order.
+#![tactic(auto)]
+
+pub mod calls;
+pub mod fault;
+pub mod holder;
+mod lanes;
+mod making;
+mod needs;
+pub mod net;
+mod prefixes;
+mod steps;
+#[cfg(test)]
+mod tests;
