@@ -1,4 +1,4 @@
-mod Zips
+pub mod Zips
 mod Named
 mod Both
 mod Facts

@@ -1,0 +1,30 @@
+use Rattle.std.proofs.Common.{◌∙◌, sym, subst}
+use Rattle.sn_core.specs.Standing.{IsNet}
+use Rattle.sn_machine.specs.States.{Works}
+use Rattle.sn_drive.proofs.Owing.{same_due, same_work}
+use Rattle.sn_drive.proofs.driving.settle.Goals as goal
+
+pub turn-requires-clause-stands : goal.turn-requires-clause-stands
+turn-requires-clause-stands g c = subst (λ (w : Works). IsNet w (g.M.Machine.state c.events.machine)) (sym c.events.invariant.works) c.events.invariant.stands
+
+pub turn-requires-clause-going : goal.turn-requires-clause-going
+turn-requires-clause-going g c = sym c.rests.ensures ∙ c.if-rests.false
+
+pub events-preserved : goal.events-preserved
+events-preserved g c =
+    let m = c.events.machine in
+    let next = c.turn.new.machine in
+    let start = c.args.machine.now in
+    record {
+      works = c.turn.ensures.works ∙ c.events.invariant.works;
+      told = c.turn.ensures.told ∙ c.events.invariant.told;
+      lanes = sym c.in_ok-turn.ensures.lanes;
+      stands = subst (λ (w : Works). IsNet w (g.M.Machine.state next)) c.events.invariant.works c.in_ok-turn.ensures.stands;
+      taken = c.in_ok-turn.ensures.taken;
+      due = λ following. same_due (g.M.Machine.works m) (g.M.Machine.works start) (g.M.Machine.told m) (g.M.Machine.told start) (g.M.Machine.state m) (g.M.Machine.state next) c.events.found c.turn.new.found following
+          c.events.invariant.works c.events.invariant.told (c.in_ok-turn.ensures.due following)
+          ∙ c.events.invariant.due following;
+    }
+
+pub events-smaller : goal.events-smaller
+events-smaller g c = same_work (g.M.Machine.works c.turn.new.machine) (g.M.Machine.works c.events.machine) (g.M.Machine.state c.events.machine) (g.M.Machine.state c.turn.new.machine) c.turn.ensures.works c.in_ok-turn.ensures.work
