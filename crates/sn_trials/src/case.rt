@@ -1,0 +1,77 @@
+//! A case of a table: what a command is given, and what it is to write.
+use crate::packets::{HEADER, push_frame, push_hex, push_syns};
+use std::alloc::Global;
+use std::test::Fail;
+
+/// The files that a command is given, its words, and the text and line that are wanted of it.
+#[derive(Drop)]
+pub(crate) struct Case {
+    pub(crate) words: String,
+    /// The lines that begin with no word of their own: a query text, or what else the table is of.
+    pub(crate) text: String,
+    pub(crate) switch: String,
+    pub(crate) plan: String,
+    pub(crate) header: Vec<u8>,
+    pub(crate) records: Vec<u8>,
+    pub(crate) reports: Vec<u8>,
+    pub(crate) wanted: String,
+}
+
+/// Adds a line.
+fn push_line(into: &mut String, line: &str) -> Result<(), Fail> {
+    into.push_str(line)?;
+    into.push_str("\n")?;
+    Ok(())
+}
+
+impl Case {
+    fn new(alloc: Global) -> Result<Case, Fail> {
+        Ok(Case {
+            words: String::new(alloc),
+            text: String::new(alloc),
+            switch: String::new(alloc),
+            plan: String::new(alloc),
+            header: Vec::from_slice(alloc, &HEADER)?,
+            records: Vec::new(alloc),
+            reports: Vec::new(alloc),
+            wanted: String::new(alloc),
+        })
+    }
+
+    /// Takes the bytes of a capture's header in place of those that stand.
+    fn take_header(&mut self, front: &str, text: &str) -> Result<(), Fail> {
+        self.header.clear();
+        push_hex(&mut self.header, front)?;
+        push_hex(&mut self.header, text)
+    }
+
+    /// Takes a line of a case.
+    fn take(&mut self, alloc: Global, line: &str) -> Result<(), Fail> {
+        if let Some(wanted) = line.strip_prefix("= ") {
+            return push_line(&mut self.wanted, wanted);
+        }
+        match line.split_once(": ") {
+            Some(("words", words)) => Ok(self.words.push_str(words)?),
+            Some(("switch", text)) => push_line(&mut self.switch, text),
+            Some(("plan", text)) => push_line(&mut self.plan, text),
+            Some(("header", bytes)) => self.take_header("", bytes),
+            Some(("link", bytes)) => {
+                self.take_header("d4c3b2a1 0200 0400 00000000 00000000 00000400", bytes)
+            }
+            Some(("record", bytes)) => push_hex(&mut self.records, bytes),
+            Some(("syn", packets)) => push_syns(&mut self.records, packets),
+            Some(("frame", bytes)) => push_frame(alloc, &mut self.records, bytes),
+            Some(("reports", bytes)) => push_hex(&mut self.reports, bytes),
+            _ => push_line(&mut self.text, line),
+        }
+    }
+
+    /// The case that these lines tell.
+    pub(crate) fn read(alloc: Global, lines: &str) -> Result<Case, Fail> {
+        let mut case = Case::new(alloc)?;
+        for line in lines.lines() {
+            case.take(alloc, line)?;
+        }
+        Ok(case)
+    }
+}
