@@ -19,6 +19,8 @@ mod packets;
 #[cfg(test)]
 mod plans;
 #[cfg(test)]
+mod printed;
+#[cfg(test)]
 mod queries;
 #[cfg(test)]
 mod runs;

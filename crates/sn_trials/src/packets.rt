@@ -52,7 +52,7 @@ pub(crate) fn push_record(
     let seconds = 1 + after / 1_000_000;
     into.extend_from_slice(&seconds.to_le_bytes())?;
     into.extend_from_slice(&(after % 1_000_000).to_le_bytes())?;
-    into.extend_from_slice(&(bytes.len() as u32).to_le_bytes())?;
+    into.extend_from_slice(&u32::try_from(bytes.len())?.to_le_bytes())?;
     into.extend_from_slice(&wire.to_le_bytes())?;
     into.extend_from_slice(bytes)?;
     Ok(())
@@ -71,12 +71,14 @@ fn numbers(text: &str) -> Result<[u32; 4], Fail> {
 /// length of its IPv4 packet.
 pub(crate) fn push_syn(into: &mut Vec<u8>, text: &str) -> Result<(), Fail> {
     let [after, source, destination, length] = numbers(text)?;
-    let [_, _, high, low] = length.to_be_bytes();
     let mut frame = SYN;
+    let [_, _, high, low] = length.to_be_bytes();
     frame[16] = high;
     frame[17] = low;
-    frame[29] = source as u8;
-    frame[33] = destination as u8;
+    let [_, _, _, low] = source.to_be_bytes();
+    frame[29] = low;
+    let [_, _, _, low] = destination.to_be_bytes();
+    frame[33] = low;
     push_record(into, after, length.wrapping_add(14), &frame)
 }
 
@@ -92,5 +94,5 @@ pub(crate) fn push_syns(into: &mut Vec<u8>, text: &str) -> Result<(), Fail> {
 pub(crate) fn push_frame(alloc: Global, into: &mut Vec<u8>, text: &str) -> Result<(), Fail> {
     let mut bytes = Vec::new(alloc);
     push_hex(&mut bytes, text)?;
-    push_record(into, 0, bytes.len() as u32, bytes.as_slice())
+    push_record(into, 0, u32::try_from(bytes.len())?, bytes.as_slice())
 }

@@ -17,6 +17,10 @@ packets # a comment | { } @ \u{e9} \u{1}
 ;# the end
 = total windows 0
 
+packets # one\r@ two
+| filter tcp.flags == 2;
+= total windows 0
+
 packets\r| filter\r\rtcp.flags @ 2;
 = sonata: queries Lex line 2
 
