@@ -90,7 +90,7 @@ bits 1;
 = total windows 0 emitted 0
 
 stages 4; actions 2; meta 1000; chain 1; slots 1;
-bits 4294967295;
+bits 4294967296;
 = total windows 0 emitted 0
 
 stages 4; actions 2; meta 1000; chain 1; slots 1;
