@@ -1,4 +1,13 @@
 //! A case of a table: what a command is given, and what it is to write.
+//!
+//! A line that begins with one of these says what comes behind it, and each other line is of the text that the table is of:
+//! - `= `: a line that is wanted, of the text that is written and then of the line on the status;
+//! - `words: `: the command's words, whose files are `q`, `s`, `p`, `c` and `r`; else they follow from the files;
+//! - `switch: `, `plan: `: a line of a switch text or of a plan text;
+//! - `header: `, `link: `: the capture's header, or its link type, in hexadecimal digits;
+//! - `record: `: bytes behind the header; `frame: `: a record with these bytes, at one second;
+//! - `syn: `: records of SYNs, each by its microseconds after one second, s and d of 10.0.0.s and 10.0.0.d, and its length;
+//! - `reports: `: bytes of report frames.
 use crate::packets::{HEADER, push_frame, push_hex, push_syns};
 use std::alloc::Global;
 use std::test::Fail;
