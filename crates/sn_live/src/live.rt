@@ -1,0 +1,37 @@
+//! The command `live`.
+ghost use Rattle.std.specs.Prelude.{[], ◌∷◌};
+ghost use Rattle.sn_live.specs.Live.{Live};
+ghost use Rattle.sn_stage.specs.Desks.{world};
+ghost use Rattle.sn_stage.specs.Runs.{Works};
+
+use crate::along::answer_along;
+use crate::certified::Certified;
+use crate::certify::certify;
+use sn_io::inputs::Inputs;
+use sn_io::sink::Sink;
+use sn_stage::desk::Desk;
+use sn_stage::refusal::Refusal;
+use std::alloc::Global;
+
+/// `live SWITCH QUERIES TRAIN CAPTURE --nodes NODES`: does what `plan` does, and then reads the capture and answers it along the
+/// plan, window by window.
+pub fn live<I: Inputs, O: Sink>(
+    alloc: Global,
+    switch: &str,
+    queries: &str,
+    train: &str,
+    capture: &str,
+    nodes: u32,
+    desk: &mut Desk<'_, I, O>,
+) -> Result<(), Refusal>
+    ensures { Works (queries.now ∷ switch.now ∷ train.now ∷ capture.now ∷ []) (Live switch.now queries.now train.now capture.now nodes) (world I.Inputs O.Sink desk.old) result (world I.Inputs O.Sink desk.new) }
+{
+    let certified = certify(alloc, switch, queries, train, nodes, desk)?;
+    let Certified {
+        typed,
+        limits,
+        certificate,
+    } = certified;
+    let plan = certificate.plan;
+    answer_along(alloc, typed, &limits, plan, capture, desk)
+}

@@ -1,0 +1,28 @@
+//! The command `plan`.
+ghost use Rattle.std.specs.Prelude.{[], ◌∷◌};
+ghost use Rattle.sn_live.specs.Live.{Plan};
+ghost use Rattle.sn_stage.specs.Desks.{world};
+ghost use Rattle.sn_stage.specs.Runs.{Works};
+
+use crate::certify::certify;
+use sn_io::inputs::Inputs;
+use sn_io::sink::Sink;
+use sn_stage::desk::Desk;
+use sn_stage::refusal::Refusal;
+use std::alloc::Global;
+
+/// `plan SWITCH QUERIES TRAIN --nodes NODES`: reads the queries, the switch and the training capture, and writes the plan that
+/// costs least on it, its cost and its tree.
+pub fn plan<I: Inputs, O: Sink>(
+    alloc: Global,
+    switch: &str,
+    queries: &str,
+    train: &str,
+    nodes: u32,
+    desk: &mut Desk<'_, I, O>,
+) -> Result<(), Refusal>
+    ensures { Works (queries.now ∷ switch.now ∷ train.now ∷ []) (Plan switch.now queries.now train.now nodes) (world I.Inputs O.Sink desk.old) result (world I.Inputs O.Sink desk.new) }
+{
+    certify(alloc, switch, queries, train, nodes, desk)?;
+    Ok(())
+}
