@@ -1,0 +1,8 @@
+pub mod Verdicts
+pub mod CheckLemmas
+pub mod Orders
+pub mod Stopping
+pub mod Leasts
+pub mod Saying
+pub mod Judging
+pub mod Steps

@@ -1,0 +1,4 @@
+pub mod PlanTrees
+pub mod Shown
+pub mod Check
+pub mod Least

@@ -1,0 +1,10 @@
+//! The command `check`.
+#![tactic(auto)]
+
+pub mod check;
+pub mod law;
+mod plan_tree;
+mod shown;
+#[cfg(test)]
+mod tests;
+mod yes;
