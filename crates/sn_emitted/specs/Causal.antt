@@ -97,11 +97,16 @@ same_prefixes : (query : TypedQuery) (windows others : List Window) (path : List
 same_prefixes query windows others path w a zero = refl
 same_prefixes query windows others path w a (suc j) = ap (prefixes_of query) (same_before (windows_of windows) (windows_of others) query path j w a)
 
+-- nor do they for what the lanes let in
+pub kept_is_causal : (queries : List TypedQuery) (closed : List Window) (number : ℕ) (tuples : List (List ℕ)) (more : List Window) → AreRising None (closed ++ (number, tuples) ∷ more)
+    → (x : Placed) → kept_of queries (closed ++ (number, tuples) ∷ more) number x ≡ kept_of queries (closed ++ (number, tuples) ∷ []) number x
+kept_is_causal queries closed number tuples more rising x =
+    same_prefixes (query_at queries x.query) (closed ++ (number, tuples) ∷ more) (closed ++ (number, tuples) ∷ []) x.path number (λ v lt. below None closed number tuples tuples more v rising lt) (place_in x.path x.piece.level)
+
 pub frames_are_causal : (p : Planned) → IsCausal (frames_wording p)
 frames_are_causal p closed number tuples more rising =
     let all : List Window = closed ++ (number, tuples) ∷ more in
     let known : List Window = closed ++ (number, tuples) ∷ [] in
     ap (flat_map spelling)
     (same_frames p number tuples (kept_of p.queries all number) (kept_of p.queries known number)
-    (all_each (λ (x : Placed). kept_of p.queries all number x ≡ kept_of p.queries known number x)
-    (λ x. same_prefixes (query_at p.queries x.query) all known x.path number (λ v lt. below None closed number tuples tuples more v rising lt) (place_in x.path x.piece.level)) (pieces_from 0 p.entries)))
+    (all_each (λ (x : Placed). kept_of p.queries all number x ≡ kept_of p.queries known number x) (kept_is_causal p.queries closed number tuples more rising) (pieces_from 0 p.entries)))
