@@ -1,14 +1,13 @@
 -- The words and the work of a command, over plain values.
-use Rattle.std.proofs.Common.{◌≡◌, ◌⊎◌, ℕ, ◌+◌, ◌<◌, List, true, false, Option, Some, None, Result, Err, length, inl, inr, refl, ap, sym, ◌∙◌, arith, length-append}
-use Rattle.std.specs.Prelude.{String}
+use Rattle.std.proofs.Common.{◌≡◌, ◌⊎◌, ℕ, List, [], ◌∷◌, Bool, true, false, Option, Some, None, Result, Err, inl, inr, refl, ap, subst, sym, ◌∙◌}
+use Rattle.std.specs.Prelude.{String, not, ◌||◌}
 use Rattle.std.specs.String.{string_bytes}
 use Rattle.std.specs.declared.alloc.Global.{Global}
+use Rattle.std.specs.List.{list_any}
 use Rattle.std.proofs.lemmas.Bool.{true≢false}
-use Rattle.std.proofs.lemmas.List.{length-map}
 use Rattle.sn_cli.specs.declared.command.Command.{Command}
 use Rattle.sn_cli.specs.declared.command.Command.TheVariants as commands
-use Rattle.sn_cli.specs.declared.options.Options.{Options}
-use Rattle.sn_cli.specs.Grammar.{Line, Spells}
+use Rattle.sn_cli.specs.Grammar.{Spells}
 use Rattle.sn_cli.specs.Reading.{command_of}
 use Rattle.sn_cli.specs.Words.{texts}
 use Rattle.sn_cli.proofs.GrammarLemmas.{read_is_spelled, spelled_is_read}
@@ -18,7 +17,7 @@ use Rattle.sn_stage.specs.declared.refusal.Refusal.TheVariants.{Usage, WriteFaul
 use Rattle.sn_stage.specs.Outcomes.{Stage}
 use Rattle.sn_stage.specs.Runs.{Works}
 use Rattle.sn_stage.specs.Worlds.{World, OutRose, Follows}
-use Rattle.sn_top.specs.Top.{is_built, IsUsage, IsWork}
+use Rattle.sn_top.specs.Top.{is_built, is_schedule, IsLiveWork, IsUsage, IsWork}
 
 -- what holds of the words that were passed holds of the words
 pub of_two : (P : List ℕ → List ℕ → Type 0) {a b x y : List ℕ} → a ≡ x → b ≡ y → P a b → P x y
@@ -38,13 +37,6 @@ by_command {G} words some none = of (command_of words) refl
     of None e = none (λ command spells. none_some (sym e ∙ spelled_is_read words command spells))
     of (Some command) e = some command (read_is_spelled words command e)
 
--- as many words stand behind a command word as it has files
-pub has_files : (command : List ℕ) (files : ℕ) (options : Options) (given : List (String Global)) → Line command files options (texts given) → files < length given
-has_files command files options given l =
-    let all : length given ≡ 1 + (length l.names + length l.behind) = sym (length-map given string_bytes) ∙ ap length l.are ∙ rw length-append (omega arith) in
-    let many = l.as_many in
-    omega arith
-
 -- work that was begun
 pub record Begun (before : World) (answer : Result (Unit {0}) Refusal) (now : World) : Type 0 where
   pub words : answer ≡ Err Usage → ⊥
@@ -54,25 +46,41 @@ pub record Begun (before : World) (answer : Result (Unit {0}) Refusal) (now : Wo
 begun : {names : List (List ℕ)} {stage : Stage (Unit {0})} {before now : World} {answer : Result (Unit {0}) Refusal} → Works names stage before answer now → Begun before answer now
 begun w = record { words = w.runs.words; write_fault = w.runs.write_fault; follows = w.runs.follows }
 
+-- one of the words is a schedule's where one of their texts is
+pub any_of_texts : (given : List (String Global)) → list_any is_schedule (texts given) ≡ list_any (λ word. is_schedule (string_bytes word)) given
+any_of_texts [] = refl
+any_of_texts (word ∷ given) = ap (λ (later : Bool). is_schedule (string_bytes word) || later) (any_of_texts given)
+
+-- without a schedule and a trace the work of `live` is that of its stages
+pub live_work_of : (nodes schedule : ℕ) (words : List (List ℕ)) {before now : World} {answer : Result (Unit {0}) Refusal} → list_any is_schedule words ≡ false → IsWork (commands.Live nodes schedule false) words before answer now
+    → IsLiveWork true nodes words before answer now
+live_work_of nodes schedule words {before} {now} {answer} unscheduled w = subst (λ (b : Bool). IsLiveWork (not (b || false)) nodes words before answer now) unscheduled w
+
+-- the work of `live` was begun or refused
+by_live : (built : Bool) (nodes : ℕ) (words : List (List ℕ)) {before now : World} {answer : Result (Unit {0}) Refusal} → IsLiveWork built nodes words before answer now
+    → ((built ≡ true) × Begun before answer now) ⊎ ((built ≡ false) × IsUsage before answer now)
+by_live true nodes words w = inl (refl, begun w)
+by_live false nodes words w = inr (refl, w)
+
 -- the work of a command that is built was begun, and that of another is refused as a usage
 pub by_work : (command : Command) (words : List (List ℕ)) {before now : World} {answer : Result (Unit {0}) Refusal} → IsWork command words before answer now
-    → ((is_built command ≡ true) × Begun before answer now) ⊎ ((is_built command ≡ false) × IsUsage before answer now)
+    → ((is_built words command ≡ true) × Begun before answer now) ⊎ ((is_built words command ≡ false) × IsUsage before answer now)
 by_work commands.Plain words w = inl (refl, begun w)
-by_work (commands.Plan nodes) words w = inr (refl, w)
+by_work (commands.Plan nodes) words w = inl (refl, begun w)
 by_work (commands.Run csv) words w = inl (refl, begun w)
-by_work commands.Emit words w = inr (refl, w)
+by_work commands.Emit words w = inl (refl, begun w)
 by_work commands.Finish words w = inl (refl, begun w)
-by_work commands.Check words w = inr (refl, w)
-by_work (commands.Live nodes schedule trace) words w = inr (refl, w)
+by_work commands.Check words w = inl (refl, begun w)
+by_work (commands.Live nodes schedule trace) words w = by_live (is_built words (commands.Live nodes schedule trace)) nodes words w
 by_work (commands.Gen number) words w = inl (refl, begun w)
 by_work (commands.Job number) words w = inr (refl, w)
 
 -- where the answer is a usage, nothing was done, and the command isn't built
-pub usage_of : (command : Command) (words : List (List ℕ)) (before : World) (answer : Result (Unit {0}) Refusal) (now : World) → IsWork command words before answer now → answer ≡ Err Usage → (is_built command ≡ false) × (now ≡ before)
+pub usage_of : (command : Command) (words : List (List ℕ)) (before : World) (answer : Result (Unit {0}) Refusal) (now : World) → IsWork command words before answer now → answer ≡ Err Usage → (is_built words command ≡ false) × (now ≡ before)
 usage_of command words before answer now w e = elim (by_work command words w) [ inl b ↦ absurd (b.1.words e) | inr u ↦ (u.0, u.1.1) ]
 
 -- a command that isn't built is refused
-pub unbuilt_of : (command : Command) (words : List (List ℕ)) (before : World) (answer : Result (Unit {0}) Refusal) (now : World) → IsWork command words before answer now → is_built command ≡ false → answer ≡ Err Usage
+pub unbuilt_of : (command : Command) (words : List (List ℕ)) (before : World) (answer : Result (Unit {0}) Refusal) (now : World) → IsWork command words before answer now → is_built words command ≡ false → answer ≡ Err Usage
 unbuilt_of command words before answer now w e = elim (by_work command words w) [ inl b ↦ absurd (true≢false (sym b.0 ∙ e)) | inr u ↦ u.1.0 ]
 
 -- where a write failed, a count of the output rose

@@ -4,6 +4,8 @@
 pub mod answering;
 pub mod answers;
 pub mod law;
+#[cfg(test)]
+mod live_tests;
 pub mod plain;
 #[cfg(test)]
 mod run_tests;

@@ -1,5 +1,6 @@
-//! The command `run` on worked captures.
+//! The commands `run` and `emit` on worked captures.
 
+use crate::tests::REPORTS;
 use crate::top::top;
 use sn_base::seq::Seq;
 use sn_io::mem_inputs::MemInputs;
@@ -352,5 +353,51 @@ fn generates_a_capture(rt: HostRuntime) -> Result<(), Fail> {
     assert_eq!(rt; top(alloc, &words, &mut files, &mut out, &mut err), 0);
     assert_eq!(rt; out.bytes().len(), 1400024);
     assert_eq!(rt; err.bytes(), b"".as_slice());
+    Ok(())
+}
+
+#[test]
+fn emits_the_frames_of_an_overflow(rt: HostRuntime) -> Result<(), Fail> {
+    let alloc = rt.alloc();
+    let words = ["emit", "s", "q", "p", "c"];
+    let plan = b"plan query q path 0; piece 0 0 cut 5 slots 1, 1 stages 1, 3;";
+    let capture = capture_of(alloc, &[packet_at(0, 1, 9), packet_at(1, 2, 9)])?;
+    let whole = run_words(alloc, &words, FIVE, SPREAD, plan, &capture)?;
+    assert_eq!(rt; whole.status, 0);
+    assert_eq!(rt; whole.out.bytes(), &REPORTS[..]);
+    // a packet by itself is held, and what is held of it doesn't pass the last filter
+    let cut = run_words(alloc, &words, FIVE, SPREAD, plan, &capture[..163])?;
+    assert_eq!(rt; cut.status, 5);
+    assert_eq!(rt; cut.out.bytes(), &REPORTS[48..]);
+    assert_eq!(rt;
+        cut.err.bytes(),
+        b"sonata: capture Cut byte 94\n".as_slice()
+    );
+    Ok(())
+}
+
+#[test]
+fn finishes_what_was_emitted(rt: HostRuntime) -> Result<(), Fail> {
+    let alloc = rt.alloc();
+    let queries =
+        b"window 1000000 query q { refine ip.dst: 8, 32; packets | map ip.dst as d, 1 as n | reduce d: sum(n) width 16 | filter n > 1; }";
+    let plan = b"plan query q path 8, 32; piece 8 0 cut 0; piece 32 0 cut 0;";
+    let packets = [
+        packet_at(0, 1, 9),
+        packet_at(100000, 1, 9),
+        packet_at(1000000, 1, 9),
+        packet_at(1100000, 1, 9),
+    ];
+    let capture = capture_of(alloc, &packets)?;
+    let words = ["emit", "s", "q", "p", "c"];
+    let emitted = run_words(alloc, &words, SMALL, queries, plan, &capture)?;
+    assert_eq!(rt; emitted.status, 0);
+    let words = ["finish", "q", "p", "c"];
+    let finished = run_words(alloc, &words, SMALL, queries, plan, emitted.out.bytes())?;
+    assert_eq!(rt; finished.status, 0);
+    assert_eq!(rt;
+        finished.out.bytes(),
+        b"window 0 emitted 2\nquery q level 8 rows 1\n10.0.0.0 2\nquery q level 32 rows 0\nwindow 1 emitted 4\nquery q level 8 rows 1\n10.0.0.0 2\nquery q level 32 rows 1\n10.0.0.9 2\ntotal windows 2 emitted 6\n".as_slice()
+    );
     Ok(())
 }

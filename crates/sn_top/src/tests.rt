@@ -357,7 +357,7 @@ fn refuses_words_and_faults(rt: HostRuntime) -> Result<(), Fail> {
     assert_eq!(rt; usage.status, 2);
     assert_eq!(rt; usage.err.bytes(), b"sonata: usage\n".as_slice());
     // in the grammar, and not built yet
-    let later = run(alloc, &["check", "q", "q", "c", "c"], SYN, &HEADER, None)?;
+    let later = run(alloc, &["job", "7"], SYN, &HEADER, None)?;
     assert_eq!(rt; later.status, 2);
     assert_eq!(rt; later.out.bytes(), b"".as_slice());
     let unknown = run(alloc, &["plain", "q", "d"], SYN, &HEADER, None)?;
@@ -371,7 +371,7 @@ fn refuses_words_and_faults(rt: HostRuntime) -> Result<(), Fail> {
 }
 
 /// Reports of one window of a query by its plan: an item, a partial row, and the End.
-const REPORTS: [u8; 64] = [
+pub(crate) const REPORTS: [u8; 64] = [
     1, 0, 0, 0, 0, 1, 2, 0, 0, 0, 0, 0, 10, 0, 0, 9, 0, 0, 0, 0, 10, 0, 0, 2, 1, 1, 0, 0, 0, 3, 2,
     0, 0, 0, 0, 0, 10, 0, 0, 9, 0, 0, 0, 0, 0, 0, 0, 1, 1, 2, 0, 0, 0, 0, 1, 0, 0, 0, 0, 0, 0, 0,
     0, 0,

@@ -1,24 +1,35 @@
 //! The top call: words in, texts and a status out.
-ghost use Rattle.std.specs.Prelude.{◌≡◌, ◌↔◌, ◌<◌, ℕ, [], ◌∷◌, Bool, length, false};
+ghost use Rattle.std.specs.Prelude.{◌≡◌, ◌↔◌, [], ◌∷◌, ℕ, Bool, false, not, ◌||◌};
+ghost use Rattle.std.specs.List.{list_any};
+ghost use Rattle.std.specs.String.{string_bytes};
 ghost use Rattle.sn_cli.specs.declared.command.Command.{Command};
 ghost use Rattle.sn_cli.specs.Grammar.{Spells};
 ghost use Rattle.sn_cli.specs.Words.{texts, word_at};
+ghost use Rattle.sn_checked.specs.Check.{Check};
+ghost use Rattle.sn_emitted.specs.Emit.{Emit};
 ghost use Rattle.sn_finished.specs.Finish.{Finish};
+ghost use Rattle.sn_live.specs.Headline.{KeepsHeadline};
+ghost use Rattle.sn_live.specs.Live.{Live, Plan};
 ghost use Rattle.sn_generated.specs.Gen.{Gen};
 ghost use Rattle.sn_stage.specs.Desks.{sunk, world};
 ghost use Rattle.sn_stage.specs.Ends.{end_status, IsCommandRun, IsStatusTold};
 ghost use Rattle.sn_stage.specs.Worlds.{OutRose};
 ghost use Rattle.sn_top.specs.Plain.{Plain};
 ghost use Rattle.sn_run.specs.Run.{Run};
-ghost use Rattle.sn_top.specs.Top.{is_built, IsUsage, IsWork, around};
+ghost use Rattle.sn_top.specs.Top.{is_built, is_schedule, IsLiveWork, IsUsage, IsWork, around};
 
 use crate::plain::plain;
+use sn_checked::check::check;
 use sn_cli::command::Command;
 use sn_cli::words::words;
+use sn_emitted::emit::emit;
 use sn_finished::finish::finish;
 use sn_generated::generate::generate;
 use sn_io::inputs::Inputs;
 use sn_io::sink::Sink;
+use sn_live::law::runs_of_live_keep_the_headline;
+use sn_live::live::live;
+use sn_live::plan::plan;
 use sn_run::run::run as answer_along;
 use sn_stage::desk::Desk;
 use sn_stage::lines::tell;
@@ -34,12 +45,55 @@ fn status_of(answer: Result<(), Refusal>) -> u8
     }
 }
 
-/// The word at a place.
+/// The word at a place, and an empty one behind the last.
 fn word(given: &[String], place: usize) -> &str
-    requires { place < length given.now }
     ensures { result.now ≡ word_at (texts given.now) place }
 {
-    given[place].as_str()
+    match given.get(place) {
+        Some(word) => word.as_str(),
+        None => "",
+    }
+}
+
+/// Whether a word is the option `--schedule`.
+fn is_schedule(word: &String) -> bool
+    ensures { result ≡ is_schedule (string_bytes word.now) }
+{
+    word.as_bytes() == b"--schedule".as_slice()
+}
+
+/// Whether one of the words is this option.
+fn any_schedule(given: &[String]) -> bool
+    ensures { result ≡ list_any (λ word. is_schedule (string_bytes word)) given.now }
+{
+    given.iter().any(|word| is_schedule(word))
+}
+
+/// Whether the words name a schedule.
+fn names_schedule(given: &[String]) -> bool
+    ensures { result ≡ list_any is_schedule (texts given.now) }
+{
+    any_schedule(given)
+}
+
+/// Does the work of `live`. With a schedule or a trace it isn't built.
+fn work_live<I: Inputs, O: Sink>(
+    alloc: Global,
+    nodes: u32,
+    trace: bool,
+    given: &[String],
+    desk: &mut Desk<'_, I, O>,
+) -> Result<(), Refusal>
+    ensures { IsLiveWork (not (list_any is_schedule (texts given.now) || trace)) nodes (texts given.now) (world I.Inputs O.Sink desk.old) result (world I.Inputs O.Sink desk.new) }
+{
+    if names_schedule(given) || trace {
+        return Err(Refusal::Usage);
+    }
+    let switch = word(given, 1);
+    let queries = word(given, 2);
+    let train = word(given, 3);
+    let capture = word(given, 4);
+    live(alloc, switch, queries, train, capture, nodes, desk)
 }
 
 /// Does the work of a command.
@@ -49,27 +103,22 @@ fn work<I: Inputs, O: Sink>(
     given: &[String],
     desk: &mut Desk<'_, I, O>,
 ) -> Result<(), Refusal>
-    requires { Spells (texts given.now) command }
     ensures { IsWork command (texts given.now) (world I.Inputs O.Sink desk.old) result (world I.Inputs O.Sink desk.new) }
 {
+    let first = word(given, 1);
+    let second = word(given, 2);
+    let third = word(given, 3);
+    let fourth = word(given, 4);
     match command {
-        Command::Plain => plain(alloc, word(given, 1), word(given, 2), desk),
-        Command::Run { csv } => answer_along(
-            alloc,
-            csv,
-            word(given, 1),
-            word(given, 2),
-            word(given, 3),
-            word(given, 4),
-            desk,
-        ),
-        Command::Finish => finish(alloc, word(given, 1), word(given, 2), word(given, 3), desk),
+        Command::Plain => plain(alloc, first, second, desk),
+        Command::Plan { nodes } => plan(alloc, first, second, third, nodes, desk),
+        Command::Run { csv } => answer_along(alloc, csv, first, second, third, fourth, desk),
+        Command::Emit => emit(alloc, first, second, third, fourth, desk),
+        Command::Finish => finish(alloc, first, second, third, desk),
+        Command::Check => check(alloc, first, second, third, fourth, desk),
+        Command::Live { nodes, trace, .. } => work_live(alloc, nodes, trace, given, desk),
         Command::Gen { number } => generate(alloc, number, desk),
-        Command::Plan { .. }
-        | Command::Emit
-        | Command::Check
-        | Command::Live { .. }
-        | Command::Job { .. } => Err(Refusal::Usage),
+        Command::Job { .. } => Err(Refusal::Usage),
     }
 }
 
@@ -92,7 +141,7 @@ fn run<I: Inputs, O: Sink>(
 
 /// Runs a command: its text goes to `out`, a line on its status to `err`, and the status is the answer.
 ///
-/// The words are those after the program's name. `plain`, `run`, `finish` and `gen` are the commands that are built. A fault in
+/// The words are those after the program's name. all commands are built but `job`, and `live` with `--schedule` or `--trace`. A fault in
 /// writing the line to `err` is dropped, and the status stays.
 pub fn top<I: Inputs, O: Sink, E: Sink>(
     alloc: Global,
@@ -102,7 +151,7 @@ pub fn top<I: Inputs, O: Sink, E: Sink>(
     err: &mut E,
 ) -> u8
     // 2: exactly where the words spell no command that is built. Then nothing is written.
-    ensures usage { (result ≡ 2) ↔ ((command : Command) → Spells (texts words.now) command → is_built command ≡ false) }
+    ensures usage { (result ≡ 2) ↔ ((command : Command) → Spells (texts words.now) command → is_built (texts words.now) command ≡ false) }
     ensures nothing { result ≡ 2 → O.written out.new ≡ O.written out.old }
     // 10 over any sink: only where a write failed in this call, or took nothing of a rest that has bytes.
     ensures write_fault { result ≡ 10 → OutRose (sunk O.Sink out.old) (sunk O.Sink out.new) }
@@ -125,7 +174,34 @@ pub fn top<I: Inputs, O: Sink, E: Sink>(
     // `gen NUMBER`: the run is that of its stage, which reads no file.
     ensures generated { (number : ℕ) → Spells (texts words.now) (Command.Gen number) →
         IsCommandRun [] (Gen number) (around I.Inputs O.Sink E.Sink files.old out.old err.old) result (around I.Inputs O.Sink E.Sink files.new out.new err.new) }
+
+    // `emit SWITCH QUERIES PLAN CAPTURE`: the run is that of its stages.
+    ensures emit { Spells (texts words.now) Command.Emit →
+        IsCommandRun (word_at (texts words.now) 2 ∷ word_at (texts words.now) 1 ∷ word_at (texts words.now) 3 ∷ word_at (texts words.now) 4 ∷ [])
+        (Emit (word_at (texts words.now) 1) (word_at (texts words.now) 2) (word_at (texts words.now) 3) (word_at (texts words.now) 4)) (around I.Inputs O.Sink E.Sink files.old out.old err.old) result (around I.Inputs O.Sink E.Sink files.new out.new err.new) }
+
+    // `check SWITCH QUERIES TRAIN PLANTREE`: the run is that of its stages.
+    ensures check { Spells (texts words.now) Command.Check →
+        IsCommandRun (word_at (texts words.now) 2 ∷ word_at (texts words.now) 1 ∷ word_at (texts words.now) 3 ∷ word_at (texts words.now) 4 ∷ [])
+        (Check (word_at (texts words.now) 1) (word_at (texts words.now) 2) (word_at (texts words.now) 3) (word_at (texts words.now) 4)) (around I.Inputs O.Sink E.Sink files.old out.old err.old) result (around I.Inputs O.Sink E.Sink files.new out.new err.new) }
+
+    // `plan SWITCH QUERIES TRAIN`, with the number of `--nodes`: the run is that of its stages.
+    ensures planned { (nodes : ℕ) → Spells (texts words.now) (Command.Plan nodes) →
+        IsCommandRun (word_at (texts words.now) 2 ∷ word_at (texts words.now) 1 ∷ word_at (texts words.now) 3 ∷ [])
+        (Plan (word_at (texts words.now) 1) (word_at (texts words.now) 2) (word_at (texts words.now) 3) nodes) (around I.Inputs O.Sink E.Sink files.old out.old err.old) result (around I.Inputs O.Sink E.Sink files.new out.new err.new) }
+
+    // `live SWITCH QUERIES TRAIN CAPTURE`, with the number of `--nodes` and neither `--schedule` nor `--trace`: the run is that of its stages.
+    ensures live { (nodes schedule : ℕ) → Spells (texts words.now) (Command.Live nodes schedule false) → list_any is_schedule (texts words.now) ≡ false →
+        IsCommandRun (word_at (texts words.now) 2 ∷ word_at (texts words.now) 1 ∷ word_at (texts words.now) 3 ∷ word_at (texts words.now) 4 ∷ [])
+        (Live (word_at (texts words.now) 1) (word_at (texts words.now) 2) (word_at (texts words.now) 3) (word_at (texts words.now) 4) nodes) (around I.Inputs O.Sink E.Sink files.old out.old err.old) result (around I.Inputs O.Sink E.Sink files.new out.new err.new) }
+
+    // The headline. Of accepted queries, an accepted switch and two captures it prints a plan that fits every limit of the switch, a
+    // tree of bounds that shows that no plan that fits costs less on the first capture, and for each window of the second one exactly
+    // the answers of the unsplit queries refined along the plan, with the number of items that were sent.
+    ensures headline { (nodes schedule : ℕ) → Spells (texts words.now) (Command.Live nodes schedule false) → list_any is_schedule (texts words.now) ≡ false →
+        KeepsHeadline (word_at (texts words.now) 1) (word_at (texts words.now) 2) (word_at (texts words.now) 3) (word_at (texts words.now) 4) nodes (around I.Inputs O.Sink E.Sink files.old out.old err.old) result (around I.Inputs O.Sink E.Sink files.new out.new err.new) }
 {
+    runs_of_live_keep_the_headline();
     let mut desk = Desk { files, out };
     let answer = run(alloc, words, &mut desk);
     tell(answer, err);

@@ -5,7 +5,7 @@ use Rattle.sn_stage.specs.declared.refusal.Refusal.TheVariants.{Usage}
 use Rattle.sn_stage.specs.Ends.{end_status}
 use Rattle.sn_stage.specs.Worlds.{World}
 use Rattle.sn_stage.proofs.EndLemmas.{two_is, ten_is, command_run, status_told}
-use Rattle.sn_top.proofs.TopLemmas.{by_command, usage_of, unbuilt_of, write_fault_of}
+use Rattle.sn_top.proofs.TopLemmas.{by_command, live_work_of, usage_of, unbuilt_of, write_fault_of}
 use Rattle.sn_top.proofs.top.top.Goals as goal
 
 pub returns-clause-usage : goal.returns-clause-usage
@@ -55,6 +55,37 @@ returns-clause-generated g c = λ number spells.
     let files : c.files-1.given.0 ≡ c.run-answer.new.desk.files.now = search rules in
     let out : c.out-1.given.0 ≡ c.run-answer.new.desk.out.now = search rules in
     rw (c.status_of.ensures, files, out) (command_run _ _ c.run-answer.result _ _ _ _ (c.run-answer.ensures.works (commands.Gen number) spells) c.tell.ensures)
+
+pub returns-clause-emit : goal.returns-clause-emit
+returns-clause-emit g c = λ spells.
+    let files : c.files-1.given.0 ≡ c.run-answer.new.desk.files.now = search rules in
+    let out : c.out-1.given.0 ≡ c.run-answer.new.desk.out.now = search rules in
+    rw (c.status_of.ensures, files, out) (command_run _ _ c.run-answer.result _ _ _ _ (c.run-answer.ensures.works commands.Emit spells) c.tell.ensures)
+
+pub returns-clause-check : goal.returns-clause-check
+returns-clause-check g c = λ spells.
+    let files : c.files-1.given.0 ≡ c.run-answer.new.desk.files.now = search rules in
+    let out : c.out-1.given.0 ≡ c.run-answer.new.desk.out.now = search rules in
+    rw (c.status_of.ensures, files, out) (command_run _ _ c.run-answer.result _ _ _ _ (c.run-answer.ensures.works commands.Check spells) c.tell.ensures)
+
+pub returns-clause-planned : goal.returns-clause-planned
+returns-clause-planned g c = λ nodes spells.
+    let files : c.files-1.given.0 ≡ c.run-answer.new.desk.files.now = search rules in
+    let out : c.out-1.given.0 ≡ c.run-answer.new.desk.out.now = search rules in
+    rw (c.status_of.ensures, files, out) (command_run _ _ c.run-answer.result _ _ _ _ (c.run-answer.ensures.works (commands.Plan nodes) spells) c.tell.ensures)
+
+pub returns-clause-live : goal.returns-clause-live
+returns-clause-live g c = λ nodes schedule spells unscheduled.
+    let files : c.files-1.given.0 ≡ c.run-answer.new.desk.files.now = search rules in
+    let out : c.out-1.given.0 ≡ c.run-answer.new.desk.out.now = search rules in
+    rw (c.status_of.ensures, files, out) (command_run _ _ c.run-answer.result _ _ _ _ (live_work_of nodes schedule (texts c.args.words.now) unscheduled (c.run-answer.ensures.works (commands.Live nodes schedule false) spells)) c.tell.ensures)
+
+pub returns-clause-headline : goal.returns-clause-headline
+returns-clause-headline g c = λ nodes schedule spells unscheduled.
+    let files : c.files-1.given.0 ≡ c.run-answer.new.desk.files.now = search rules in
+    let out : c.out-1.given.0 ≡ c.run-answer.new.desk.out.now = search rules in
+    rw (c.status_of.ensures, files, out) (c.runs_of_live_keep_the_headline.ensures _ _ _ _ nodes _ _ _
+    (command_run _ _ c.run-answer.result _ _ _ _ (live_work_of nodes schedule (texts c.args.words.now) unscheduled (c.run-answer.ensures.works (commands.Live nodes schedule false) spells)) c.tell.ensures))
 
 pub returns-clause-line : goal.returns-clause-line
 returns-clause-line g c = rw c.status_of.ensures (status_told c.run-answer.result _ _ c.tell.ensures)
