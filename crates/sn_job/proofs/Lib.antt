@@ -1,0 +1,6 @@
+pub mod MadeLemmas
+pub mod RowLemmas
+pub mod SummingLemmas
+pub mod JobLemmas
+pub mod FileLemmas
+pub mod OverLemmas

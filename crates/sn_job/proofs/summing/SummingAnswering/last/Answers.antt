@@ -1,0 +1,19 @@
+use Rattle.std.proofs.Common.{◌≡◌, ℕ, List, length, ap, ◌∙◌}
+use Rattle.sn_answered.proofs.StandLemmas.{ok_weaker}
+use Rattle.sn_answered.specs.Wording.{Closed, Window}
+use Rattle.sn_job.specs.Summary.{summary, summary_text}
+use Rattle.sn_job.specs.Summing.{IsAtWork, IsIdle}
+use Rattle.sn_job.proofs.SummingLemmas.{all_sent, all_shown}
+use Rattle.sn_run.specs.Along.{plan_of}
+use Rattle.sn_run.specs.Planned.{emitted_in}
+use Rattle.sn_job.proofs.summing.SummingAnswering.last.Goals as goal
+
+pub returns : goal.returns
+returns c =
+    let a = c.args.self.now in
+    let lines : ℕ → ℕ → List ℕ → List ℕ = summary_text a.number a.cost a.nodes in
+    ok_weaker (λ (text : List ℕ). text ≡ lines c.args.windows a.along.emitted a.shown.items)
+    (λ (text : List ℕ). (closed : List Window) → Closed (IsIdle a) (IsAtWork a) closed → c.args.windows ≡ length closed → text ≡ summary a.number a.cost a.nodes (plan_of a.along) closed) c.summary_text.result
+    (λ text is closed h count.
+    is ∙ ap (λ (n : ℕ). lines n a.along.emitted a.shown.items) count ∙ ap (λ (n : ℕ). lines (length closed) n a.shown.items) (all_sent a closed h)
+    ∙ ap (lines (length closed) (emitted_in (plan_of a.along) closed)) (all_shown a closed h)) c.summary_text.ensures

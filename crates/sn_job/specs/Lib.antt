@@ -1,0 +1,4 @@
+pub mod Made
+pub mod Summary
+pub mod Summing
+pub mod Job
