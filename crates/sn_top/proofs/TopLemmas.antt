@@ -73,7 +73,7 @@ by_work commands.Finish words w = inl (refl, begun w)
 by_work commands.Check words w = inl (refl, begun w)
 by_work (commands.Live nodes schedule trace) words w = by_live (is_built words (commands.Live nodes schedule trace)) nodes words w
 by_work (commands.Gen number) words w = inl (refl, begun w)
-by_work (commands.Job number) words w = inr (refl, w)
+by_work (commands.Job number) words w = inl (refl, begun w)
 
 -- where the answer is a usage, nothing was done, and the command isn't built
 pub usage_of : (command : Command) (words : List (List ℕ)) (before : World) (answer : Result (Unit {0}) Refusal) (now : World) → IsWork command words before answer now → answer ≡ Err Usage → (is_built words command ≡ false) × (now ≡ before)

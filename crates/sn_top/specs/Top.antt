@@ -17,6 +17,7 @@ use Rattle.sn_checked.specs.Check.{Check}
 use Rattle.sn_emitted.specs.Emit.{Emit}
 use Rattle.sn_finished.specs.Finish.{Finish}
 use Rattle.sn_generated.specs.Gen.{Gen}
+use Rattle.sn_job.specs.Job.{Job}
 use Rattle.sn_live.specs.Live.{Live, Plan}
 use Rattle.sn_run.specs.Run.{Run}
 use Rattle.sn_top.specs.Plain.{Plain}
@@ -29,7 +30,6 @@ is_schedule word = pointwise nat_eq word (codes "--schedule")
 -- spell none.
 abbrev pub is_built : List (List ℕ) → Command → Bool
 is_built words (commands.Live nodes schedule trace) = not (list_any is_schedule words || trace)
-is_built words (commands.Job number) = false
 is_built words command = true
 
 -- refused as a usage, with nothing read or written
@@ -55,7 +55,7 @@ IsWork commands.Check words before answer now =
     Works (word_at words 2 ∷ word_at words 1 ∷ word_at words 3 ∷ word_at words 4 ∷ []) (Check (word_at words 1) (word_at words 2) (word_at words 3) (word_at words 4)) before answer now
 IsWork (commands.Live nodes schedule trace) words before answer now = IsLiveWork (is_built words (commands.Live nodes schedule trace)) nodes words before answer now
 IsWork (commands.Gen number) words before answer now = Works [] (Gen number) before answer now
-IsWork (commands.Job number) words before answer now = IsUsage before answer now
+IsWork (commands.Job number) words before answer now = Works [] (Job number) before answer now
 
 abbrev pub around : {I O E : Type 0} → InputsOf I → SinkOf O → SinkOf E → I → O → E → Around
 around inputs out_sink err_sink files out err = record { files = files_of inputs files; out = sunk out_sink out; err = sunk err_sink err }

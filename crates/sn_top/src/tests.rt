@@ -357,7 +357,13 @@ fn refuses_words_and_faults(rt: HostRuntime) -> Result<(), Fail> {
     assert_eq!(rt; usage.status, 2);
     assert_eq!(rt; usage.err.bytes(), b"sonata: usage\n".as_slice());
     // in the grammar, and not built yet
-    let later = run(alloc, &["job", "7"], SYN, &HEADER, None)?;
+    let later = run(
+        alloc,
+        &["live", "q", "q", "c", "c", "--trace"],
+        SYN,
+        &HEADER,
+        None,
+    )?;
     assert_eq!(rt; later.status, 2);
     assert_eq!(rt; later.out.bytes(), b"".as_slice());
     let unknown = run(alloc, &["plain", "q", "d"], SYN, &HEADER, None)?;

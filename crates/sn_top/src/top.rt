@@ -11,6 +11,7 @@ ghost use Rattle.sn_finished.specs.Finish.{Finish};
 ghost use Rattle.sn_live.specs.Headline.{KeepsHeadline};
 ghost use Rattle.sn_live.specs.Live.{Live, Plan};
 ghost use Rattle.sn_generated.specs.Gen.{Gen};
+ghost use Rattle.sn_job.specs.Job.{Job};
 ghost use Rattle.sn_stage.specs.Desks.{sunk, world};
 ghost use Rattle.sn_stage.specs.Ends.{end_status, IsCommandRun, IsStatusTold};
 ghost use Rattle.sn_stage.specs.Worlds.{OutRose};
@@ -27,6 +28,7 @@ use sn_finished::finish::finish;
 use sn_generated::generate::generate;
 use sn_io::inputs::Inputs;
 use sn_io::sink::Sink;
+use sn_job::job::job;
 use sn_live::law::runs_of_live_keep_the_headline;
 use sn_live::live::live;
 use sn_live::plan::plan;
@@ -118,7 +120,7 @@ fn work<I: Inputs, O: Sink>(
         Command::Check => check(alloc, first, second, third, fourth, desk),
         Command::Live { nodes, trace, .. } => work_live(alloc, nodes, trace, given, desk),
         Command::Gen { number } => generate(alloc, number, desk),
-        Command::Job { .. } => Err(Refusal::Usage),
+        Command::Job { number } => job(alloc, number, desk),
     }
 }
 
@@ -141,7 +143,7 @@ fn run<I: Inputs, O: Sink>(
 
 /// Runs a command: its text goes to `out`, a line on its status to `err`, and the status is the answer.
 ///
-/// The words are those after the program's name. all commands are built but `job`, and `live` with `--schedule` or `--trace`. A fault in
+/// The words are those after the program's name. all commands are built, but `live` with `--schedule` or `--trace`. A fault in
 /// writing the line to `err` is dropped, and the status stays.
 pub fn top<I: Inputs, O: Sink, E: Sink>(
     alloc: Global,
@@ -200,6 +202,10 @@ pub fn top<I: Inputs, O: Sink, E: Sink>(
     // the answers of the unsplit queries refined along the plan, with the number of items that were sent.
     ensures headline { (nodes schedule : ℕ) → Spells (texts words.now) (Command.Live nodes schedule false) → list_any is_schedule (texts words.now) ≡ false →
         KeepsHeadline (word_at (texts words.now) 1) (word_at (texts words.now) 2) (word_at (texts words.now) 3) (word_at (texts words.now) 4) nodes (around I.Inputs O.Sink E.Sink files.old out.old err.old) result (around I.Inputs O.Sink E.Sink files.new out.new err.new) }
+
+    // `job NUMBER`: the run is that of its stages, which read no file.
+    ensures job { (number : ℕ) → Spells (texts words.now) (Command.Job number) →
+        IsCommandRun [] (Job number) (around I.Inputs O.Sink E.Sink files.old out.old err.old) result (around I.Inputs O.Sink E.Sink files.new out.new err.new) }
 {
     runs_of_live_keep_the_headline();
     let mut desk = Desk { files, out };

@@ -87,5 +87,11 @@ returns-clause-headline g c = λ nodes schedule spells unscheduled.
     rw (c.status_of.ensures, files, out) (c.runs_of_live_keep_the_headline.ensures _ _ _ _ nodes _ _ _
     (command_run _ _ c.run-answer.result _ _ _ _ (live_work_of nodes schedule (texts c.args.words.now) unscheduled (c.run-answer.ensures.works (commands.Live nodes schedule false) spells)) c.tell.ensures))
 
+pub returns-clause-job : goal.returns-clause-job
+returns-clause-job g c = λ number spells.
+    let files : c.files-1.given.0 ≡ c.run-answer.new.desk.files.now = search rules in
+    let out : c.out-1.given.0 ≡ c.run-answer.new.desk.out.now = search rules in
+    rw (c.status_of.ensures, files, out) (command_run _ _ c.run-answer.result _ _ _ _ (c.run-answer.ensures.works (commands.Job number) spells) c.tell.ensures)
+
 pub returns-clause-line : goal.returns-clause-line
 returns-clause-line g c = rw c.status_of.ensures (status_told c.run-answer.result _ _ c.tell.ensures)

@@ -36,3 +36,6 @@ returns-in-Check g c =
 
 pub returns-in-Gen : goal.returns-in-Gen
 returns-in-Gen g c = rw c.in-Gen.is c.generate.ensures
+
+pub returns-in-Job : goal.returns-in-Job
+returns-in-Job g c = rw c.in-Job.is c.job.ensures
