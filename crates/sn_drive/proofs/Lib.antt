@@ -1,1 +1,3 @@
 mod Owing
+mod Listing
+mod Running

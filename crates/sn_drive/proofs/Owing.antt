@@ -31,25 +31,7 @@ use Rattle.sn_pipe.specs.Pipes.{PipeState}
 use Rattle.sn_report.specs.declared.frame.Item.{Item}
 use Rattle.sn_types.specs.declared.answers.Answers.{Answers}
 
--- ---- answers that are taken
-
-told_first : (told : Answers → Answers) (o : Option Answers) (rest : List Answers) → option_list (option_map told o) ++ map told rest ≡ map told (option_list o ++ rest)
-told_first told None rest = refl
-told_first told (Some answers) rest = refl
-
-none_due : (w : Works) (s : State) (following : List (Supply (List ℕ))) → due w s following ≡ option_list s.waiting ++ due w (without_answers s) following
-none_due w s following = refl
-
--- a turn takes off the front what was due
-pub turn_due : (w : Works) (law : AreLawful w) (told : Answers → Answers) (s one two : State) (before found : List Answers) (event : Event) → IsNet w s → first_need_that_fails s event ≡ None → one ≡ after_event w s event → two ≡ without_answers one →
-    found ≡ before ++ option_list (option_map told one.waiting) → (following : List (Supply (List ℕ))) → found ++ map told (due w two following) ≡ before ++ map told (due w s following)
-turn_due w law told s one two before found event net may happened taken is following =
-    ap (λ (fs : List Answers). fs ++ map told (due w two following)) is
-    ∙ ap (λ (x : State). (before ++ option_list (option_map told one.waiting)) ++ map told (due w x following)) taken
-    ∙ append_assoc before (option_list (option_map told one.waiting)) (map told (due w (without_answers one) following))
-    ∙ ap (λ (fs : List Answers). before ++ fs) (told_first told one.waiting (due w (without_answers one) following))
-    ∙ ap (λ (x : State). before ++ map told (due w x following)) happened
-    ∙ ap (λ (ds : List Answers). before ++ map told ds) (event_keeps_due w law s event following net may)
+-- ---- a turn
 
 pub turn_net : (w : Works) (law : AreLawful w) (s one two : State) (event : Event) → IsNet w s → first_need_that_fails s event ≡ None → one ≡ after_event w s event → two ≡ without_answers one → IsNet w two
 turn_net w law s one two event net may happened taken =
@@ -123,28 +105,11 @@ goes_on {G} w law s lanes many net going taken none = by (can_go_on w s net part
     by (inr (inl waits)) = absurd (false≢true (subst (λ (o : Option Answers). IsSome o) taken waits))
     by (inr (inr found)) = absurd (false≢true (sym (none found.0 (subst (λ (n : ℕ). IsOneOf n found.0) (sym many) (may_within s found.0 found.1))) ∙ ap is_none found.1))
 
--- ---- steps and supplies
+-- ---- supplies
 
 pub is_none_none : {X : Type 0} (o : Option X) → is_none o ≡ true → o ≡ None
 is_none_none None e = refl
 is_none_none (Some x) e = absurd (false≢true e)
-
-pub steps_ok : (w : Works) (before after : State) (event : Event) (r : Result (Unit {0}) StepFault) (u : Unit {0}) → r ≡ Ok u → Steps w before event after r → after ≡ after_event w before event
-steps_ok w before after event (Ok v) u e h = h.1
-steps_ok w before after event (Err fault) u e h = cc
-
-pub supplied : (w : Works) (law : AreLawful w) (told : Answers → Answers) (s one two : State) (next : Supply (List ℕ)) (found : List Answers) → IsNet w s → wants s ≡ true → one ≡ given s next →
-    ((following : List (Supply (List ℕ))) → found ++ map told (due w two following) ≡ [] ++ map told (due w one following)) → (following : List (Supply (List ℕ))) → map told (due w s (next ∷ following)) ≡ found ++ map told (due w two following)
-supplied w law told s one two next found net want is rest following =
-    ap (map told) (sym (give_keeps_due w law s next following net (is_none_none s.held want))) ∙ ap (λ (x : State). map told (due w x following)) (sym is) ∙ sym (rest following)
-
--- ---- works and what is told, over calls that leave them
-
-pub same_due : (w v : Works) (told same : Answers → Answers) (s t : State) (before found : List Answers) (following : List (Supply (List ℕ))) → w ≡ v → told ≡ same →
-    found ++ map told (due w t following) ≡ before ++ map told (due w s following) → found ++ map same (due v t following) ≡ before ++ map same (due v s following)
-same_due w v told same s t before found following works tells h =
-    subst (λ (x : Works). found ++ map same (due x t following) ≡ before ++ map same (due x s following)) works
-    (subst (λ (f : Answers → Answers). found ++ map f (due w t following) ≡ before ++ map f (due w s following)) tells h)
 
 pub same_work : (w v : Works) (s t : State) → w ≡ v → work v t [] < work v s [] → work w t [] < work v s []
 same_work w v s t works h = subst (λ (x : Works). work x t [] < work v s []) (sym works) h

@@ -2,7 +2,7 @@
 #![tactic(auto)]
 
 pub mod capture;
-mod draws;
+pub mod draws;
 mod frame;
 pub mod job;
 mod packet;

@@ -1,9 +1,9 @@
-use Rattle.std.proofs.Common.{◌≡◌, ◌∙◌, ◌++◌, ap, sym, subst, length, map, [], List, ℕ}
-use Rattle.sn_core.specs.Due.{due}
+use Rattle.std.proofs.Common.{◌≡◌, ◌∙◌, refl, ap, sym, subst, length}
+use Rattle.sn_core.specs.Events.{given}
 use Rattle.sn_core.specs.Standing.{IsNet}
 use Rattle.sn_machine.specs.States.{State, Works}
-use Rattle.sn_types.specs.declared.answers.Answers.{Answers}
-use Rattle.sn_drive.proofs.Owing.{given_net, same_due, supplied}
+use Rattle.sn_drive.proofs.Owing.{given_net}
+use Rattle.sn_drive.proofs.Running.{same_run, supplied_due}
 use Rattle.sn_drive.proofs.driving.advance.Goals as goal
 
 pub settle-requires-clause-lanes : goal.settle-requires-clause-lanes
@@ -18,15 +18,23 @@ settle-requires-clause-stands g c =
 pub settle-requires-clause-taken : goal.settle-requires-clause-taken
 settle-requires-clause-taken g c = ap (λ (s : State). s.waiting) c.give.ensures.state ∙ c.requires.taken
 
+pub returns-clause-run : goal.returns-clause-run
+returns-clause-run g c =
+    let m = c.args.machine.now in
+    let one = c.give.new.self in
+    same_run (g.M.Machine.works one) (g.M.Machine.works m) (g.M.Machine.told one) (g.M.Machine.told m) c.args.draws.now.number c.settle.new.draws.number (given (g.M.Machine.state m) c.args.next) (g.M.Machine.state one)
+    (g.M.Machine.state c.settle.new.machine) c.in_ok-notes.notes c.give.ensures.works c.give.ensures.told c.give.ensures.state c.in_ok-notes.ensures.run
+
 pub returns-clause-due : goal.returns-clause-due
 returns-clause-due g c = λ following.
     let m = c.args.machine.now in
     let one = c.give.new.self in
-    let two = c.settle.new.machine in
-    supplied (g.M.Machine.works m) (g.met.M.Machine.lawful m) (g.M.Machine.told m) (g.M.Machine.state m) (g.M.Machine.state one) (g.M.Machine.state two) c.args.next c.settle.new.found c.requires.stands c.requires.wants c.give.ensures.state
-    (λ later. subst (λ (before : List Answers). c.settle.new.found ++ map (g.M.Machine.told m) (due (g.M.Machine.works m) (g.M.Machine.state two) later) ≡ before ++ map (g.M.Machine.told m) (due (g.M.Machine.works m) (g.M.Machine.state one) later)) c.new-found.ensures
-    (same_due (g.M.Machine.works one) (g.M.Machine.works m) (g.M.Machine.told one) (g.M.Machine.told m) (g.M.Machine.state one) (g.M.Machine.state two) c.new-found.result c.settle.new.found later c.give.ensures.works c.give.ensures.told (c.in_ok-settle.ensures.due later)))
-    following
+    let s = g.M.Machine.state m in
+    let two = g.M.Machine.state c.settle.new.machine in
+    let stands : IsNet (g.M.Machine.works m) (given s c.args.next) = given_net (g.M.Machine.works m) (g.M.Machine.works m) (g.met.M.Machine.lawful m) s (given s c.args.next) c.args.next refl refl c.requires.stands c.requires.wants c.requires.rises in
+    supplied_due (g.M.Machine.works m) (g.met.M.Machine.lawful m) (g.M.Machine.told m) c.args.draws.now.number s c.args.next c.in_ok-notes.notes c.settle.new.draws.number two following c.requires.stands c.requires.wants stands
+    (same_run (g.M.Machine.works one) (g.M.Machine.works m) (g.M.Machine.told one) (g.M.Machine.told m) c.args.draws.now.number c.settle.new.draws.number (given s c.args.next) (g.M.Machine.state one) two c.in_ok-notes.notes
+    c.give.ensures.works c.give.ensures.told c.give.ensures.state c.in_ok-notes.ensures.run)
 
 pub returns-clause-stands : goal.returns-clause-stands
-returns-clause-stands g c = subst (λ (w : Works). IsNet w (g.M.Machine.state c.settle.new.machine)) c.give.ensures.works c.in_ok-settle.ensures.stands
+returns-clause-stands g c = subst (λ (w : Works). IsNet w (g.M.Machine.state c.settle.new.machine)) c.give.ensures.works c.in_ok-notes.ensures.stands

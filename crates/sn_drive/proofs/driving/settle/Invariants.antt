@@ -1,8 +1,7 @@
-use Rattle.std.proofs.Common.{◌≡◌, ◌++◌, [], ℕ, List, None, length, map}
+use Rattle.std.proofs.Common.{◌≡◌, [], None, length}
 use Rattle.sn_core.specs.Debt.{work}
-use Rattle.sn_core.specs.Due.{due}
 use Rattle.sn_core.specs.Standing.{IsNet}
-use Rattle.sn_core.specs.declared.supply.Supply.{Supply}
+use Rattle.sn_drive.specs.Schedules.{Leads}
 use Rattle.sn_drive.proofs.driving.settle.Given as goal
 
 abbrev pub invariant-events : goal.invariant-events
@@ -12,9 +11,7 @@ invariant-events g l = record {
   lanes : l.lanes ≡ length (g.M.Machine.state l.machine).lanes;
   stands : IsNet (g.M.Machine.works l.initial.machine) (g.M.Machine.state l.machine);
   taken : (g.M.Machine.state l.machine).waiting ≡ None;
-  due : (following : List (Supply (List ℕ))) →
-      l.found ++ map (g.M.Machine.told l.initial.machine) (due (g.M.Machine.works l.initial.machine) (g.M.Machine.state l.machine) following)
-      ≡ l.initial.found ++ map (g.M.Machine.told l.initial.machine) (due (g.M.Machine.works l.initial.machine) (g.M.Machine.state l.initial.machine) following);
+  leads : Leads (g.M.Machine.works l.initial.machine) (g.M.Machine.told l.initial.machine) l.initial.draws.number (g.M.Machine.state l.initial.machine) l.notes l.draws.number (g.M.Machine.state l.machine);
 }
 
 abbrev pub decreases-events : goal.decreases-events

@@ -1,7 +1,0 @@
-use Rattle.std.proofs.Common.{◌≡◌, ◌<◌, ℕ, false, is_none}
-use Rattle.sn_core.specs.Needs.{first_need_that_fails}
-use Rattle.sn_core.specs.declared.event.Event.TheVariants.{ReadOut}
-use Rattle.sn_drive.proofs.driving.readable.Given as goal
-
-abbrev pub invariant-loop-lane : goal.invariant-loop-lane
-invariant-loop-lane g l = (k : ℕ) → k < l.lane → is_none (first_need_that_fails (g.M.Machine.state l.machine) (ReadOut k)) ≡ false

@@ -1,0 +1,12 @@
+//! What a driver notes.
+use sn_core::event::Event;
+use sn_types::answers::Answers;
+
+/// What comes to pass in a machine that is driven.
+#[derive(Drop)]
+pub enum Note {
+    /// This event happened.
+    Happened(Event),
+    /// These answers were told.
+    Told(Answers),
+}
