@@ -1,3 +1,4 @@
 mod Owing
 mod Listing
 mod Running
+mod Behind

@@ -5,6 +5,9 @@ use Rattle.sn_core.specs.Events.{after_event, without_answers}
 use Rattle.sn_core.specs.Needs.{first_need_that_fails, is_done, wants}
 use Rattle.sn_core.specs.declared.event.Event.{Event}
 use Rattle.sn_core.specs.declared.event.Event.TheVariants.{Packet, ReadOut, Deliver, CloseWindow, Install}
+use Rattle.sn_core.specs.declared.supply.Supply.{Supply}
+use Rattle.sn_core.specs.declared.supply.Supply.TheVariants.{Numbered, End}
+use Rattle.sn_core.specs.declared.supply.Window.TheVariants.{Begun}
 use Rattle.sn_gen.specs.Generated.{drawn, next_number}
 use Rattle.sn_machine.specs.States.{State, Works}
 use Rattle.sn_types.specs.declared.answers.Answers.{Answers}
@@ -50,3 +53,8 @@ answers_in (Told answers ∷ notes) = answers ∷ answers_in notes
 -- these notes lead from one state to another, whatever notes are taken then
 abbrev pub Leads : Works → (Answers → Answers) → ℕ → State → List Note → ℕ → State → Type 0
 Leads w told x s notes y t = (more : List Note) (z : ℕ) (u : State) → IsRun w told y t more z u → IsRun w told x s (notes ++ more) z u
+
+-- What was given is used up: the window of the tuple is begun, and the next supply is wanted; or all is done.
+abbrev pub IsBehind : Supply (List ℕ) → State → Type 0
+IsBehind (Numbered number tuple) s = (s.held ≡ None) × (s.window ≡ Begun number)
+IsBehind End s = is_done s ≡ true

@@ -7,7 +7,7 @@ ghost use Rattle.sn_core.specs.Events.{after_event, given, without_answers};
 ghost use Rattle.sn_core.specs.Needs.{first_need_that_fails, wants};
 ghost use Rattle.sn_core.specs.Standing.{IsNet, IsNoEarlier};
 ghost use Rattle.sn_core.specs.declared.supply.Supply.{Supply as Given};
-ghost use Rattle.sn_drive.specs.Schedules.{IsRun, Leads, answers_in, is_still};
+ghost use Rattle.sn_drive.specs.Schedules.{IsBehind, IsRun, Leads, answers_in, is_still};
 ghost use Rattle.sn_drive.specs.declared.note.Note.{Note as Noted};
 ghost use Rattle.sn_drive.specs.declared.note.Note.TheVariants as Note;
 ghost use Rattle.sn_machine.specs.States.{State};
@@ -131,7 +131,7 @@ pub fn advance<M: Machine>(
     ensures due { IfOk result (λ notes. (following : List (Given (List ℕ))) →
         map (M.told machine.old) (due (M.works machine.old) (M.state machine.old) (next ∷ following)) ≡ answers_in notes ++ map (M.told machine.old) (due (M.works machine.old) (M.state machine.new) following)) }
     ensures stands { OnOk result (IsNet (M.works machine.old) (M.state machine.new)) }
-    ensures still { OnOk result (is_still (M.state machine.new) ≡ true) }
+    ensures behind { OnOk result (IsBehind next (M.state machine.new)) }
     ensures taken { OnOk result ((M.state machine.new).waiting ≡ None) }
     ensures lanes { OnOk result (length (M.state machine.new).lanes ≡ lanes) }
     ensures works { M.works machine.new ≡ M.works machine.old }

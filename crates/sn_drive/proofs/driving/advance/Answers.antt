@@ -2,6 +2,7 @@ use Rattle.std.proofs.Common.{◌≡◌, ◌∙◌, refl, ap, sym, subst, length
 use Rattle.sn_core.specs.Events.{given}
 use Rattle.sn_core.specs.Standing.{IsNet}
 use Rattle.sn_machine.specs.States.{State, Works}
+use Rattle.sn_drive.proofs.Behind.{run_behind}
 use Rattle.sn_drive.proofs.Owing.{given_net}
 use Rattle.sn_drive.proofs.Running.{same_run, supplied_due}
 use Rattle.sn_drive.proofs.driving.advance.Goals as goal
@@ -38,3 +39,11 @@ returns-clause-due g c = λ following.
 
 pub returns-clause-stands : goal.returns-clause-stands
 returns-clause-stands g c = subst (λ (w : Works). IsNet w (g.M.Machine.state c.settle.new.machine)) c.give.ensures.works c.in_ok-notes.ensures.stands
+
+pub returns-clause-behind : goal.returns-clause-behind
+returns-clause-behind g c =
+    let m = c.args.machine.now in
+    let one = c.give.new.self in
+    run_behind (g.M.Machine.works m) (g.M.Machine.told m) c.args.draws.now.number (g.M.Machine.state m) c.args.next c.in_ok-notes.notes c.settle.new.draws.number (g.M.Machine.state c.settle.new.machine)
+    (same_run (g.M.Machine.works one) (g.M.Machine.works m) (g.M.Machine.told one) (g.M.Machine.told m) c.args.draws.now.number c.settle.new.draws.number (given (g.M.Machine.state m) c.args.next) (g.M.Machine.state one)
+    (g.M.Machine.state c.settle.new.machine) c.in_ok-notes.notes c.give.ensures.works c.give.ensures.told c.give.ensures.state c.in_ok-notes.ensures.run)
