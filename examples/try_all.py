@@ -5,7 +5,7 @@ Each recipe makes its capture in network namespaces of its own (it needs root, t
 where a row of the query begins with the addresses of the attack and ends with a number that the recipe allows. In peace no query may have a row.
 
 Then the refined queries of refined/, on captures that recipes/written.py writes: the program must find the plans that stand there, check them, and find
-each attack by them, no later than a window for each further level. Where the program has no plans yet, these are skipped. --only-refined needs no root."""
+each attack by them, no later than a window for each further level. Where the program has no plans, these are skipped. --only-refined needs no root."""
 
 import argparse
 import os
@@ -93,7 +93,8 @@ def try_peace(program, name, folder):
 
 def has_plans(program):
     """Whether the program has the commands around plans. One without them answers their words with status 2."""
-    return subprocess.run([program, 'run', *['no such file'] * 4], capture_output=True).returncode != 2
+    return all(subprocess.run([program, name, *['no such file'] * files], capture_output=True).returncode != 2
+               for name, files in (('plan', 3), ('check', 4), ('run', 4)))
 
 
 def refined(name, kind):
@@ -133,7 +134,7 @@ def try_planned_attack(program, attack, kind, capture):
 def try_refined(program, folder):
     """Try the refined queries, one after another, on captures that are written into a folder."""
     if not has_plans(program):
-        print('refined queries: skipped, the program has no command for plans')
+        print('refined queries: skipped, the program has not all commands for plans')
         return []
     subprocess.run([sys.executable, os.path.join(HERE, 'recipes', 'written.py'), folder], check=True)
     captures = {name: os.path.join(folder, name + '.pcap') for name in [attack[0] for attack in ATTACKS] + ['quiet']}
