@@ -2,14 +2,14 @@
 """Measures the commands around plans against `sonata plain`, all of one run of this program: processor time (user and system) and peak memory as ratios.
 
 along     `run`, `emit` and `finish` with the queries of three.query and the plan of full.plan, on two generated captures. The answers of `run` and `finish`
-          are compared with those of `plain`.
+          are compared with those of `plain`, and the text of `run` with that of switch.c, which does by hand what this plan says.
 training  `plan` and `check` with the queries and the switch of the generated job, at several sizes of the capture. `plan --nodes 1` ends behind the cost
           table, so it is the training alone, and what `plan` takes beyond it is the search and the printing of the tree.
 job       `job 7` against `plain` with its queries on the capture of 8.
 search    a million expanded nodes of a space in which the search doesn't end.
 reading   `plan` and `run` against planned.py, the slow reading in Python, on 20000 packets.
 
-What the program hasn't is left out. Nothing is left behind but with --keep. Needs a C compiler."""
+What the program hasn't is left out. Nothing is left behind but with --keep. Needs a C compiler, and libpcap-dev for switch.c, which is left out without it."""
 
 import argparse
 import os
@@ -55,7 +55,7 @@ class Part:
                 self.ratio(label, one.seconds / max(1e-6, self.found[over].seconds), one.peak_bytes / self.found[over].peak_bytes, over)
 
     def ratio(self, label, time, peak, over):
-        goal = GOALS.get((self.title.split(',')[0].split(' ')[0], label))
+        goal = GOALS.get((self.title.split(',')[0].split(' ')[0], label)) if over == 'plain' else None
         print('  %s over %s: processor time %.2f%s; peak memory %.2f' % (label, over, time, ' (goal %d)' % goal if goal else '', peak))
 
 
@@ -64,15 +64,27 @@ def rows_of(name):
     return [line.split(b' emitted ')[0] for line in run.bytes_of(name).splitlines()]
 
 
+def by_hand(folder):
+    """The program written by hand, or None where it can't be built."""
+    try:
+        return run.build('switch', folder, '-lpcap')
+    except subprocess.CalledProcessError:
+        print('switch.c: left out, it needs libpcap-dev')
+        return None
+
+
 def along(given, measurer, folder):
     """Whether `run` and `finish` answer what `plain` does."""
-    good = True
+    good, switch = True, by_hand(folder)
     for kind in given.kinds:
         capture = run.generate(kind, given.packets, given.number, folder)
         part = Part(given, measurer, folder, 'along a plan, %s: %d packets' % (kind, given.packets))
         four = SWITCH, run.QUERIES, PLAN, capture
         part.add('plain', 'plain', run.QUERIES, capture)
         part.add('run', 'run', *four)
+        if switch:
+            part.add('C')
+            part.words['C'] = [switch, capture]
         reports = part.add('emit', 'emit', *four) if 'emit' in given.built else None
         run.read_once(capture)
         part.measure()
@@ -80,7 +92,9 @@ def along(given, measurer, folder):
             part.add('finish', 'finish', run.QUERIES, PLAN, reports)
             part.measure()
         part.tell(given.packets)
-        equal = all(rows_of(part.outs['plain']) == rows_of(part.outs[label]) for label in ('run', 'finish') if label in part.outs)
+        if switch:
+            part.ratio('run', part.found['run'].seconds / part.found['C'].seconds, part.found['run'].peak_bytes / part.found['C'].peak_bytes, 'C')
+        equal = (not switch or run.bytes_of(part.outs['C']) == run.bytes_of(part.outs['run'])) and all(rows_of(part.outs['plain']) == rows_of(part.outs[label]) for label in ('run', 'finish') if label in part.outs)
         print('  answers %s, statuses %s' % ('equal' if equal else 'DIFFER', sorted({one.status for one in part.found.values()})))
         good = good and equal
         os.remove(capture)
