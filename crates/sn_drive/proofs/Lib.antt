@@ -2,3 +2,4 @@ mod Owing
 mod Listing
 mod Running
 mod Behind
+mod Counting

@@ -1,17 +1,25 @@
 //! What drives a machine from one supply to the next.
-ghost use Rattle.std.specs.Prelude.{◌≡◌, ◌<◌, ◌++◌, ◌∷◌, [], ℕ, List, IfOk, OnOk, None, false, true, length, map};
+ghost use Rattle.std.specs.Prelude.{◌≡◌, ◌<◌, ◌≤◌, ◌++◌, ◌∷◌, [], ℕ, List, IfOk, OnOk, None, false, true, length, map};
 ghost use Rattle.std.specs.Option.{option_map};
 ghost use Rattle.sn_core.specs.Debt.{work};
-ghost use Rattle.sn_core.specs.Due.{due};
+ghost use Rattle.sn_core.specs.Calls.{made};
+ghost use Rattle.sn_core.specs.Due.{due, windows_of};
 ghost use Rattle.sn_core.specs.Events.{after_event, given, without_answers};
 ghost use Rattle.sn_core.specs.Needs.{first_need_that_fails, wants};
+ghost use Rattle.sn_core.specs.Numbers.{DontFall};
 ghost use Rattle.sn_core.specs.Standing.{IsNet, IsNoEarlier};
 ghost use Rattle.sn_core.specs.declared.supply.Supply.{Supply as Given};
 ghost use Rattle.sn_drive.specs.Schedules.{IsBehind, IsRun, Leads, answers_in, is_still};
 ghost use Rattle.sn_drive.specs.declared.note.Note.{Note as Noted};
 ghost use Rattle.sn_drive.specs.declared.note.Note.TheVariants as Note;
+ghost use Rattle.sn_driver.specs.Windows.{plan_answers};
+ghost use Rattle.sn_emit.specs.Plans.{pieces_from};
+ghost use Rattle.sn_fit.specs.Fits.{Fits};
 ghost use Rattle.sn_machine.specs.States.{State};
 ghost use Rattle.sn_machine.specs.Steps.{IsOneOf};
+ghost use Rattle.sn_net.specs.PlanWorkings.{HaveWidths, given_of, workings};
+ghost use Rattle.sn_refine.specs.Steps.{windows_of as given_windows};
+ghost use Rattle.sn_switch.specs.Texts.{IsSwitch};
 
 use crate::machine::Machine;
 use crate::note::Note;
@@ -22,6 +30,9 @@ use sn_core::event::Event;
 use sn_core::supply::Supply;
 use sn_fields::tuple::Tuple;
 use sn_gen::draws::Draws;
+use sn_plan_rules::plan::Plan;
+use sn_switch::switch::Switch;
+use sn_types::typed::Typed;
 use std::alloc::Global;
 
 /// Whether a supply is wanted, or all is done.
@@ -140,4 +151,34 @@ pub fn advance<M: Machine>(
     machine.give(next);
     let notes = settle(alloc, machine, lanes, draws)?;
     Ok(notes)
+}
+
+/// How many lanes a plan has: one for each piece.
+fn lane_count(plan: &Plan) -> u32
+    requires { length (pieces_from 0 plan.now.entries) ≤ 64 }
+    ensures { result ≡ length (pieces_from 0 plan.now.entries) }
+{
+    let mut count = 0u32;
+    for entry in plan.entries.as_slice() {
+        let pieces = entry.pieces.as_slice();
+        count += pieces.len() as u32;
+    }
+    count
+}
+
+/// The machine of a plan that fits, and how many lanes it has: it wants the first supply.
+pub fn start<M: Machine>(t: &Typed, s: &Switch, plan: &Plan, room: u32) -> Result<(M, u32), Memory>
+    requires switch { IsSwitch s.now }
+    requires fits { Fits t.now.queries s.now plan.now.entries }
+    requires some_room { 1 ≤ room }
+    ensures lanes { IfOk result (λ found. found.1 ≡ length (M.state found.0).lanes) }
+    ensures works { IfOk result (λ found. M.works found.0 ≡ workings t.now.queries plan.now.entries) }
+    ensures stands { IfOk result (λ found. IsNet (M.works found.0) (M.state found.0)) }
+    ensures new { IfOk result (λ found. M.state found.0 ≡ made (M.works found.0) room (M.state found.0).lanes) }
+    // Whatever follows, what is due are the answers of the plan for each window that is given.
+    ensures due { IfOk result (λ found. (following : List (Given (List ℕ))) → let windows = windows_of following in DontFall 0 following → HaveWidths windows →
+        due (M.works found.0) (M.state found.0) following ≡ map (λ x. plan_answers t.now.queries s.now.chain plan.now.entries (given_windows (map given_of windows)) x.number) windows) }
+{
+    let machine = M::make(t, s, plan, room)?;
+    Ok((machine, lane_count(plan)))
 }

@@ -6,3 +6,5 @@ pub mod is_machine;
 pub mod machine;
 pub mod note;
 mod picking;
+#[cfg(test)]
+mod tests;

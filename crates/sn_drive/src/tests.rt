@@ -1,5 +1,5 @@
 //! A plan at two levels, driven by draws.
-ghost use Rattle.std.specs.Prelude.{◌≡◌, ◌<◌, None, IfSome, OnOk, IfOk, length};
+ghost use Rattle.std.specs.Prelude.{IfSome, OnOk};
 ghost use Rattle.sn_core.specs.Standing.{IsNet, IsNoEarlier};
 ghost use Rattle.sn_fit.specs.Fits.{Fits};
 ghost use Rattle.sn_machine.specs.Nets.{state, works};
@@ -103,7 +103,7 @@ fn go_on(
     net: &mut Net,
     draws: &mut Draws,
     next: Supply<Tuple>,
-) -> Result<Option<Seq<Note>>, Memory>
+) -> Result<Option<Answers>, Memory>
     requires stands { IsNet (works net.old) (state net.old) }
     requires rises { IsNoEarlier next (state net.old).window }
     ensures stands { OnOk result (IsNet (works net.new) (state net.new)) }
@@ -113,5 +113,101 @@ fn go_on(
     }
     let lanes = net.lanes();
     let notes = advance(alloc, net, lanes, draws, next)?;
-    Ok(Some(notes))
+    Ok(told(notes))
+}
+
+/// The answers among notes.
+fn told(notes: Seq<Note>) -> Option<Answers> {
+    let mut notes = notes;
+    for _ in 0..1000 {
+        match notes.pop() {
+            Some(Note::Told(answers)) => return Some(answers),
+            Some(Note::Happened(_)) => (),
+            None => return None,
+        }
+    }
+    None
+}
+
+/// Gives a SYN of a window that is no earlier than the one at hand.
+fn syn(
+    alloc: Global,
+    net: &mut Net,
+    draws: &mut Draws,
+    number: u64,
+) -> Result<Option<Answers>, Memory>
+    requires stands { IsNet (works net.old) (state net.old) }
+    ensures stands { OnOk result (IsNet (works net.new) (state net.new)) }
+{
+    let tuple = tuple_of(Link::Ethernet, 54, &SYN);
+    match net.window {
+        Window::Idle => go_on(alloc, net, draws, Supply::Numbered(number, tuple)),
+        Window::Begun(begun) => {
+            if number < begun {
+                return Ok(None);
+            }
+            go_on(alloc, net, draws, Supply::Numbered(number, tuple))
+        }
+        Window::Closed(_) => go_on(alloc, net, draws, Supply::Numbered(number, tuple)),
+    }
+}
+
+fn end(alloc: Global, net: &mut Net, draws: &mut Draws) -> Result<Option<Answers>, Memory>
+    requires stands { IsNet (works net.old) (state net.old) }
+{
+    match net.window {
+        Window::Idle => go_on(alloc, net, draws, Supply::End),
+        Window::Begun(_) => go_on(alloc, net, draws, Supply::End),
+        Window::Closed(_) => go_on(alloc, net, draws, Supply::End),
+    }
+}
+
+/// The answers of two windows with two packets each, under a schedule.
+fn two_windows(
+    rt: &HostRuntime,
+    schedule: u64,
+) -> Result<(Option<Answers>, Option<Answers>), Memory> {
+    let alloc = rt.alloc();
+    let mut draws = Draws { number: schedule };
+    match net(rt) {
+        Some(mut net) => {
+            let _ = syn(alloc, &mut net, &mut draws, 0)?;
+            let _ = syn(alloc, &mut net, &mut draws, 0)?;
+            let first = syn(alloc, &mut net, &mut draws, 1)?;
+            let _ = syn(alloc, &mut net, &mut draws, 1)?;
+            let second = end(alloc, &mut net, &mut draws)?;
+            Ok((first, second))
+        }
+        None => Ok((None, None)),
+    }
+}
+
+/// The rows of an answer by its number.
+fn rows(answers: &Answers, part: usize) -> &[Row] {
+    match answers.parts.as_slice().get(part) {
+        Some(part) => part.rows.as_slice(),
+        None => &[],
+    }
+}
+
+fn row(columns: &[u64]) -> Row {
+    Row::new(columns).unwrap_or(Row::empty())
+}
+
+#[test]
+fn every_schedule_gives_the_answers(rt: HostRuntime) -> Result<(), Fail> {
+    for schedule in [0, 1, 7] {
+        let (first, second) = two_windows(&rt, schedule)?;
+        let first = first.expect(&rt, "the first window");
+        assert_eq!(rt; first.window, 0);
+        assert_eq!(rt; first.emitted, 2);
+        assert_eq!(rt; rows(&first, 0), &[row(&[NET, 2])][..]);
+        assert!(rt; rows(&first, 1).is_empty());
+        let second = second.expect(&rt, "the second window");
+        assert_eq!(rt; second.window, 1);
+        assert_eq!(rt; second.emitted, 4);
+        assert_eq!(rt; rows(&second, 0), &[row(&[NET, 2])][..]);
+        assert_eq!(rt; rows(&second, 1), &[row(&[NET + 9, 2])][..]);
+    }
+    Ok(())
 }
