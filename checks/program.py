@@ -130,7 +130,8 @@ def size_of(folder):
 
 def random_cases(description, case, alone=None, cases=1000, needs=()):
     """Run cases of random files, each from its seed, and tell how they came out. A case gives its statuses, None where two answers differ; `alone` is
-    a case that needs no program, where there is one. Commands that are needed and that the program hasn't end it. The status is 0 where no answers differ."""
+    a case that needs no program, where there is one. Commands that are needed and that the program hasn't end it. Control-C ends it with what was tried by
+    then. The status is 0 where no answers differ."""
     words = command_line(description)
     words.add_argument('--cases', type=int, default=cases, help='how many cases (default %d)' % cases)
     words.add_argument('--first', type=int, default=0, help='the first seed')
@@ -148,15 +149,18 @@ def random_cases(description, case, alone=None, cases=1000, needs=()):
     with tempfile.TemporaryDirectory() as passing:
         folder = given.keep or passing
         os.makedirs(folder, exist_ok=True)
-        for seed in range(given.first, given.first + given.cases):
-            found = tried(seed, folder)
-            if None in found:
-                differing.append((size_of(folder), seed))
-                print('seed %d: they differ: %s' % (seed, found), flush=True)
-            counts[tuple(found)] += 1
+        try:
+            for seed in range(given.first, given.first + given.cases):
+                found = tried(seed, folder)
+                if None in found:
+                    differing.append((size_of(folder), seed))
+                    print('seed %d: they differ: %s' % (seed, found), flush=True)
+                counts[tuple(found)] += 1
+        except KeyboardInterrupt:
+            print('interrupted')
     for statuses, count in counts.most_common():
         print('%6d cases with the statuses %s' % (count, ', '.join(map(str, statuses))))
-    print('%d of %d cases differ%s' % (len(differing), given.cases, '; that of the fewest bytes has the seed %d' % min(differing)[1] if differing else ''))
+    print('%d of %d cases differ%s' % (len(differing), sum(counts.values()), '; that of the fewest bytes has the seed %d' % min(differing)[1] if differing else ''))
     return 1 if differing else 0
 
 
