@@ -7,10 +7,6 @@ In each second 24 gateways fetch pages from 32 servers of 10.20.0.0/22, a host o
 10.20.9.9, and 10.20.2.2 sends its backup to 192.0.2.10. Today a flood of SYNs from drawn addresses to 10.20.0.80 begins in the middle of the fourth
 second and comes again in each second that follows; in the burst it comes once. The same words write the same bytes each time. Needs nothing but Python."""
 
-import argparse
-import os
-import sys
-
 import written
 
 SECOND = 1_000_000
@@ -72,15 +68,5 @@ def day(number, flooded):
 DAYS = {'yesterday': (1, ()), 'today': (2, range(3, 8)), 'burst': (3, (3,))}
 
 
-def main():
-    words = argparse.ArgumentParser(description=__doc__, formatter_class=argparse.RawDescriptionHelpFormatter)
-    words.add_argument('folder')
-    given = words.parse_args()
-    os.makedirs(given.folder, exist_ok=True)
-    for name, words_of_day in DAYS.items():
-        written.write(os.path.join(given.folder, name + '.pcap'), day(*words_of_day))
-    return 0
-
-
 if __name__ == '__main__':
-    sys.exit(main())
+    written.write_captures(__doc__, ((name, day(*words)) for name, words in DAYS.items()))

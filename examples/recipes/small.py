@@ -6,9 +6,6 @@
 In each second 24 connections are opened to 10.20.9.9, and 24 more to twelve servers of 10.20.0.0/22, two to each. Today somebody opens 30 more to 10.20.0.80 in
 each second from the second one on. Only the SYNs are written. The same words write the same bytes each time. Needs nothing but Python."""
 
-import argparse
-import os
-
 import written
 
 SECOND = 1_000_000
@@ -35,14 +32,5 @@ def day(flooded):
 DAYS = {'yesterday': (), 'today': (1, 2, 3)}
 
 
-def main():
-    words = argparse.ArgumentParser(description=__doc__, formatter_class=argparse.RawDescriptionHelpFormatter)
-    words.add_argument('folder')
-    given = words.parse_args()
-    os.makedirs(given.folder, exist_ok=True)
-    for name, flooded in DAYS.items():
-        written.write(os.path.join(given.folder, f'{name}.pcap'), sorted(day(flooded)))
-
-
 if __name__ == '__main__':
-    main()
+    written.write_captures(__doc__, ((name, sorted(day(flooded))) for name, flooded in DAYS.items()))

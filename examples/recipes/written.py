@@ -105,6 +105,16 @@ def write(name, packets):
             out.write(struct.pack('<IIII', 1 + when // 1_000_000, when % 1_000_000, min(SNAP, len(frame)), len(frame)) + frame[:SNAP])
 
 
+def write_captures(description, captures):
+    """The main part of a script that writes captures, each its name and its packets, into a folder that its caller names."""
+    words = argparse.ArgumentParser(description=description, formatter_class=argparse.RawDescriptionHelpFormatter)
+    words.add_argument('folder')
+    given = words.parse_args()
+    os.makedirs(given.folder, exist_ok=True)
+    for name, packets in captures:
+        write(os.path.join(given.folder, name + '.pcap'), packets)
+
+
 def main():
     words = argparse.ArgumentParser(description=__doc__, formatter_class=argparse.RawDescriptionHelpFormatter)
     words.add_argument('folder')

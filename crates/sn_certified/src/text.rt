@@ -1,46 +1,27 @@
 //! The text of a certificate.
 ghost use Rattle.std.specs.Prelude.{◌≡◌, ◌++◌, codes, IfOk, OnOk};
-ghost use Rattle.std.specs.Fmt.{decimal};
 ghost use Rattle.sn_certified.specs.Certificates.{certificate_text};
 ghost use Rattle.sn_tree_text.specs.Printing.{nodes_text, tree_text};
 
 use crate::certificate::Certificate;
 use sn_base::memory::Memory;
 use sn_base::seq::Seq;
+use sn_out::pieces::{push_bytes, push_number};
 use sn_plan::print as print_plan;
 use sn_tree_text::print as print_tree;
 use sn_tree_text::tree::Tree;
 use std::alloc::Global;
 
-fn put(out: &mut Vec<u8>, text: &[u8]) -> Result<(), Memory>
-    ensures { OnOk result (out.new.items ≡ out.old.items ++ text.now) }
-{
-    match out.extend_from_slice(text) {
-        Ok(()) => Ok(()),
-        Err(_) => Err(Memory),
-    }
-}
-
-/// Writes a number in decimal digits.
-fn put_number(alloc: Global, out: &mut Vec<u8>, number: u64) -> Result<(), Memory>
-    ensures { OnOk result (out.new.items ≡ out.old.items ++ decimal number) }
-{
-    let Ok(digits) = number.to_string(alloc) else {
-        return Err(Memory);
-    };
-    put(out, digits.as_bytes())
-}
-
 /// Writes a cost, and a tree with a line for each node.
-fn put_tree(alloc: Global, out: &mut Vec<u8>, cost: u64, tree: &Tree) -> Result<(), Memory>
+fn push_tree(alloc: Global, out: &mut Vec<u8>, cost: u64, tree: &Tree) -> Result<(), Memory>
     ensures { OnOk result (out.new.items ≡ out.old.items ++ tree_text cost (nodes_text tree.now)) }
 {
     let lines = print_tree(alloc, tree)?;
-    put(out, b"cost ")?;
-    put_number(alloc, out, cost)?;
-    put(out, b";\ntree\n")?;
-    put(out, lines.as_slice())?;
-    put(out, b"done\n")
+    push_bytes(out, b"cost ")?;
+    push_number(out, cost)?;
+    push_bytes(out, b";\ntree\n")?;
+    push_bytes(out, lines.as_slice())?;
+    push_bytes(out, b"done\n")
 }
 
 /// The text of a certificate: the plan, its cost, and the tree with a line for each node.
@@ -51,6 +32,6 @@ pub fn certificate_text(alloc: Global, certificate: &Certificate) -> Result<Seq<
     ensures { IfOk result (λ text. text ≡ certificate_text certificate.now) }
 {
     let mut out = print_plan(alloc, &certificate.plan)?.into_vec();
-    put_tree(alloc, &mut out, certificate.cost, &certificate.tree)?;
+    push_tree(alloc, &mut out, certificate.cost, &certificate.tree)?;
     Ok(Seq::from_vec(out))
 }

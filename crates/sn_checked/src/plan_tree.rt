@@ -1,29 +1,17 @@
 //! A plan with a cost and a tree behind it, in one text.
 ghost use Rattle.std.specs.Prelude.{◌≡◌, ◌≤◌, ◌^◌, length};
 ghost use Rattle.sn_checked.specs.PlanTrees.{PlanBefore, TreeBehind, tree_text_refusal};
-ghost use Rattle.sn_planned.specs.Texts.{plan_refusal};
 ghost use Rattle.sn_stage.specs.Runs.{Answers};
 
-use sn_plan::fault::PlanFault;
 use sn_plan::parse as parse_plan;
 use sn_plan_rules::plan::Plan;
+use sn_planned::texts::plan_refusal;
 use sn_stage::fault::{Fault, TextFault, TextKind};
 use sn_stage::refusal::Refusal;
 use sn_tree_text::fault::TextFault as TreeTextFault;
 use sn_tree_text::parse as parse_tree;
 use sn_tree_text::tree::Tree;
 use std::alloc::Global;
-
-fn plan_refusal(fault: PlanFault) -> Refusal
-    ensures { result ≡ plan_refusal fault }
-{
-    let (kind, line) = match fault {
-        PlanFault::Lex { line } => (TextKind::Lex, line),
-        PlanFault::Expected { line } => (TextKind::Expected, line),
-        PlanFault::Memory => return Refusal::Memory,
-    };
-    Refusal::Refused(Fault::Plan(TextFault { kind, line }))
-}
 
 /// The plan of a text, and the byte where the word `cost` or the end of the text stands behind it.
 pub(crate) fn judge_plan(alloc: Global, text: &[u8]) -> Result<(Plan, u64), Refusal>

@@ -1,5 +1,4 @@
 pub mod MadeLemmas
-pub mod RowLemmas
 pub mod SummingLemmas
 pub mod JobLemmas
 pub mod FileLemmas

@@ -5,6 +5,7 @@ pub mod files;
 pub mod job;
 pub mod law;
 pub mod made;
-mod rows;
 pub mod summary;
 pub mod summing;
+#[cfg(test)]
+mod tests;

@@ -7,11 +7,12 @@ ghost use Rattle.sn_out.specs.Text.{IsPartOf};
 ghost use Rattle.sn_types.specs.Typed.{query_at};
 ghost use Rattle.sn_job.specs.Summary.{job_line, number_line, rows_text, shown, shown_part, summary_text};
 
-use crate::rows::{push_bytes, push_number, push_rows};
 use crate::summing::Summing;
 use sn_base::memory::Memory;
 use sn_base::seq::Seq;
 use sn_gen::capture::packet_count;
+use sn_out::pieces::{push_bytes, push_number};
+use sn_out::rows::push_rows;
 use sn_types::answers::{Answers, Part};
 use sn_types::typed::Typed;
 

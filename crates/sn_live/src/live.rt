@@ -4,11 +4,12 @@ ghost use Rattle.sn_live.specs.Live.{Live};
 ghost use Rattle.sn_stage.specs.Desks.{world};
 ghost use Rattle.sn_stage.specs.Runs.{Works};
 
-use crate::along::answer_along;
 use crate::certified::Certified;
 use crate::certify::certify;
 use sn_io::inputs::Inputs;
 use sn_io::sink::Sink;
+use sn_run::answer::answer_along;
+use sn_run::form::Form;
 use sn_stage::desk::Desk;
 use sn_stage::refusal::Refusal;
 use std::alloc::Global;
@@ -33,5 +34,5 @@ pub fn live<I: Inputs, O: Sink>(
         certificate,
     } = certified;
     let plan = certificate.plan;
-    answer_along(alloc, typed, &limits, plan, capture, desk)
+    answer_along(alloc, Form::Blocks, typed, &limits, plan, capture, desk)
 }

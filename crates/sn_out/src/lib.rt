@@ -5,7 +5,7 @@ pub mod block;
 pub mod csv_rows;
 mod fields;
 pub mod lines;
-mod pieces;
-mod rows;
+pub mod pieces;
+pub mod rows;
 #[cfg(test)]
 mod tests;

@@ -59,7 +59,8 @@ pub fn read_switch<I: Inputs, O: Sink>(
     judge_switch(alloc, text.as_slice())
 }
 
-fn plan_refusal(fault: PlanFault) -> Refusal
+/// The refusal of a plan text that has this fault.
+pub fn plan_refusal(fault: PlanFault) -> Refusal
     ensures { result ≡ plan_refusal fault }
 {
     let (kind, line) = match fault {

@@ -4,9 +4,8 @@ ghost use Rattle.sn_run.specs.Run.{Run};
 ghost use Rattle.sn_stage.specs.Desks.{world};
 ghost use Rattle.sn_stage.specs.Runs.{Works};
 
-use crate::along::Along;
+use crate::answer::answer_along;
 use crate::form::Form;
-use sn_answered::capture::answer_capture;
 use sn_io::inputs::Inputs;
 use sn_io::sink::Sink;
 use sn_planned::fit::test_fit;
@@ -33,7 +32,6 @@ pub fn run<I: Inputs, O: Sink>(
     let limits = read_switch(alloc, desk, switch)?;
     let entries = read_plan(alloc, desk, plan)?;
     test_fit(&typed, &limits, &entries)?;
-    let window_ns = typed.window_ns();
-    let mut along = Along::make(Form::of_csv(csv), typed, &limits, entries)?;
-    answer_capture(alloc, window_ns, capture, &mut along, desk)
+    let form = Form::of_csv(csv);
+    answer_along(alloc, form, typed, &limits, entries, capture, desk)
 }

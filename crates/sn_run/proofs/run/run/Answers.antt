@@ -1,15 +1,11 @@
-use Rattle.std.proofs.Common.{◌≡◌, ℕ, [], ◌∷◌, subst, ◌∙◌, arith}
+use Rattle.std.proofs.Common.{[], ◌∷◌, subst}
 use Rattle.std.proofs.lemmas.Result.{err_from_is_err_and}
-use Rattle.sn_answered.specs.Capture.{Answered}
-use Rattle.sn_answered.proofs.StreamLemmas.{runs_memory}
 use Rattle.sn_stage.specs.Desks.{world}
 use Rattle.sn_stage.specs.Runs.{Runs}
 use Rattle.sn_stage.proofs.StageLemmas.{file_stops, file_then, gives_as, stage_stops, stage_then, works_stops, works_then}
 use Rattle.sn_planned.specs.Queries.{queries_of}
-use Rattle.sn_run.specs.Planned.{Planned, form_of, wording_in}
 use Rattle.sn_run.specs.declared.form.Form.{Form}
-use Rattle.sn_run.specs.Run.{planned}
-use Rattle.sn_run.proofs.RunLemmas.{window_some}
+use Rattle.sn_run.specs.Run.{AlongIn}
 use Rattle.sn_run.proofs.run.run.Goals as goal
 
 pub returns-in_err-typed : goal.returns-in_err-typed
@@ -28,24 +24,10 @@ returns-in_err-test_fit g c =
     let p = err_from_is_err_and c.from_residual-in_err-test_fit.result c.from_residual-in_err-test_fit.ensures.1 in
     rw (p.1, p.2) (works_then c.in_ok-typed.ensures (file_then c.in_ok-limits.ensures.works.runs (file_then c.in_ok-entries.ensures.runs (stage_stops (gives_as _ c.in_err-test_fit.ensures.verdict)))))
 
-pub returns-in_err-along : goal.returns-in_err-along
-returns-in_err-along g c =
-    let p = err_from_is_err_and c.from_residual-in_err-along.result c.from_residual-in_err-along.ensures.1 in
-    rw (p.1, p.2) (works_then c.in_ok-typed.ensures (file_then c.in_ok-limits.ensures.works.runs (file_then c.in_ok-entries.ensures.runs (stage_then (gives_as _ c.in_ok-test_fit.ensures.verdict) (runs_memory _ _ _)))))
-
-pub answer_capture-requires-clause-window : goal.answer_capture-requires-clause-window
-answer_capture-requires-clause-window g c =
-    let some = window_some c.in_ok-typed.typed.window_us c.in_ok-typed.typed.queries c.in_ok-typed.typed.typed in
-    omega (arith, c.window_ns-window_ns.ensures, some)
-
 pub returns : goal.returns
 returns g c =
     let name = c.args.capture.now in
     let mid = world g.I.Inputs g.O.Sink c.read_plan.new.desk in
-    let there = world g.I.Inputs g.O.Sink c.answer_capture.new.desk in
-    let made : Planned = planned (queries_of c.in_ok-typed.typed) c.in_ok-limits.limits c.in_ok-entries.entries in
-    let form : c.in_ok-along.along.form ≡ form_of c.args.csv = c.in_ok-along.ensures.form ∙ c.of_csv.ensures in
-    let answered = subst (λ (p : Planned). Runs (name ∷ []) (Answered (wording_in c.in_ok-along.along.form p) c.window_ns-window_ns.result name) mid c.answer_capture.result there) c.in_ok-along.ensures.plan c.answer_capture.ensures in
-    let formed = subst (λ (f : Form). Runs (name ∷ []) (Answered (wording_in f made) c.window_ns-window_ns.result name) mid c.answer_capture.result there) form answered in
-    works_then c.in_ok-typed.ensures (file_then c.in_ok-limits.ensures.works.runs (file_then c.in_ok-entries.ensures.runs (stage_then (gives_as _ c.in_ok-test_fit.ensures.verdict)
-    (subst (λ (window : ℕ). Runs (name ∷ []) (Answered (wording_in (form_of c.args.csv) made) window name) mid c.answer_capture.result there) c.window_ns-window_ns.ensures formed))))
+    let there = world g.I.Inputs g.O.Sink c.answer_along.new.desk in
+    let answered = subst (λ (f : Form). Runs (name ∷ []) (AlongIn f name (queries_of c.in_ok-typed.typed) c.in_ok-limits.limits c.in_ok-entries.entries) mid c.answer_along.result there) c.of_csv-form.ensures c.answer_along.ensures in
+    works_then c.in_ok-typed.ensures (file_then c.in_ok-limits.ensures.works.runs (file_then c.in_ok-entries.ensures.runs (stage_then (gives_as _ c.in_ok-test_fit.ensures.verdict) answered)))

@@ -7,10 +7,9 @@ use Rattle.sn_run.proofs.RunLemmas.{window_some}
 use Rattle.sn_run.specs.Planned.{Planned, wording_in}
 use Rattle.sn_run.specs.Run.{planned}
 use Rattle.sn_run.specs.declared.form.Form.{Form}
-use Rattle.sn_run.specs.declared.form.Form.TheVariants as forms
 use Rattle.sn_stage.specs.Desks.{world}
 use Rattle.sn_stage.specs.Runs.{Runs}
-use Rattle.sn_live.proofs.along.answer_along.Goals as goal
+use Rattle.sn_run.proofs.answer.answer_along.Goals as goal
 
 pub returns-in_err-along : goal.returns-in_err-along
 returns-in_err-along g c = let p = err_from_is_err_and c.from_residual.result c.from_residual.ensures.1 in rw (p.1, p.2) (runs_memory _ _ _)
@@ -29,4 +28,4 @@ returns g c =
     let made : Planned = planned (queries_of c.args.typed) c.args.limits.now c.args.plan in
     let answered = subst (λ (p : Planned). Runs (name ∷ []) (Answered (wording_in c.in_ok-along.along.form p) c.window_ns-window_ns.result name) here c.answer_capture.result there) c.in_ok-along.ensures.plan c.answer_capture.ensures in
     let formed = subst (λ (f : Form). Runs (name ∷ []) (Answered (wording_in f made) c.window_ns-window_ns.result name) here c.answer_capture.result there) c.in_ok-along.ensures.form answered in
-    subst (λ (window : ℕ). Runs (name ∷ []) (Answered (wording_in forms.Blocks made) window name) here c.answer_capture.result there) c.window_ns-window_ns.ensures formed
+    subst (λ (window : ℕ). Runs (name ∷ []) (Answered (wording_in c.args.form made) window name) here c.answer_capture.result there) c.window_ns-window_ns.ensures formed
