@@ -1,5 +1,6 @@
 //! Cases of a table, run one after another by the top call.
 use crate::case::Case;
+use crate::packets::push_syns;
 use sn_base::seq::Seq;
 use sn_io::mem_inputs::MemInputs;
 use sn_io::mem_sink::MemSink;
@@ -21,10 +22,24 @@ pub(crate) enum Form {
     Switch,
     /// The text is a plan of counts by destination, on a small switch.
     Plan,
+    /// The text is a plan of two counts on a narrow switch, with a cost and a tree behind it, and is checked.
+    Tree,
 }
 
 /// Counts by destination.
 const COUNTS: &str = "packets | map ip.dst as d, 1 as n | reduce d: sum(n) width 16;";
+
+/// Counts by destination and by source.
+const TWO_COUNTS: &str = "window 1000000
+query a { packets | map ip.dst as d, 1 as n | reduce d: sum(n) width 8; }
+query b { packets | map ip.src as s, 1 as n | reduce s: sum(n) width 8; }
+";
+
+/// Room for one register.
+const NARROW: &str = "stages 2; actions 1; bits 41; meta 100; chain 1; slots 1;";
+
+/// What the two counts are trained on.
+const TRAINED: &str = "0 1 9, 1 1 9, 2 1 9, 3 2 9, 4 2 9";
 
 const SMALL: &str = "stages 4; actions 2; bits 1000; meta 1000; chain 1; slots 1;";
 
@@ -44,6 +59,8 @@ fn words_of(alloc: Global, form: Form, case: &Case) -> Result<Vec<String>, Fail>
         case.words.as_str()
     } else if !case.reports.is_empty() {
         "finish q p r"
+    } else if matches!(form, Form::Tree) {
+        "check s q t p"
     } else if is_plain {
         "plain q c"
     } else {
@@ -61,6 +78,7 @@ fn queries_of(alloc: Global, form: Form, case: &Case) -> Result<String, Fail> {
     let body = match form {
         Form::Whole => return Ok(String::from_str(alloc, case.text.as_str())?),
         Form::Body | Form::Rows => case.text.as_str(),
+        Form::Tree => return Ok(String::from_str(alloc, TWO_COUNTS)?),
         Form::Switch | Form::Plan => COUNTS,
     };
     Ok(format!(in alloc; "window 1000000\nquery q {{ {body} }}")?)
@@ -70,6 +88,7 @@ fn queries_of(alloc: Global, form: Form, case: &Case) -> Result<String, Fail> {
 fn switch_of(form: Form, case: &Case) -> &str {
     match form {
         Form::Switch => case.text.as_str(),
+        Form::Tree if case.switch.is_empty() => NARROW,
         _ if case.switch.is_empty() => SMALL,
         _ => case.switch.as_str(),
     }
@@ -78,7 +97,7 @@ fn switch_of(form: Form, case: &Case) -> &str {
 /// The text of a plan.
 fn plan_of(form: Form, case: &Case) -> &str {
     match form {
-        Form::Plan => case.text.as_str(),
+        Form::Plan | Form::Tree => case.text.as_str(),
         _ if case.plan.is_empty() => UNCUT,
         _ => case.plan.as_str(),
     }
@@ -89,16 +108,29 @@ fn text_file(alloc: Global, text: &str) -> Result<Seq<u8>, Fail> {
     Ok(Seq::from_vec(Vec::from_slice(alloc, text.as_bytes())?))
 }
 
+/// The training capture.
+fn training_of(alloc: Global, form: Form, case: &Case) -> Result<Vec<u8>, Fail> {
+    let mut capture = Vec::from_slice(alloc, case.header.as_slice())?;
+    match form {
+        Form::Tree => push_syns(&mut capture, TRAINED)?,
+        _ if case.trained.is_empty() => capture.extend_from_slice(case.records.as_slice())?,
+        _ => capture.extend_from_slice(case.trained.as_slice())?,
+    }
+    Ok(capture)
+}
+
 fn files_of(alloc: Global, form: Form, case: &Case) -> Result<MemInputs, Fail> {
     let queries = queries_of(alloc, form, case)?;
     let mut capture = Vec::from_slice(alloc, case.header.as_slice())?;
     capture.extend_from_slice(case.records.as_slice())?;
+    let training = training_of(alloc, form, case)?;
     let reports = Vec::from_slice(alloc, case.reports.as_slice())?;
     let mut files = MemInputs::new(alloc);
     files.put("q", text_file(alloc, queries.as_str())?)?;
     files.put("s", text_file(alloc, switch_of(form, case))?)?;
     files.put("p", text_file(alloc, plan_of(form, case))?)?;
     files.put("c", Seq::from_vec(capture))?;
+    files.put("t", Seq::from_vec(training))?;
     files.put("r", Seq::from_vec(reports))?;
     Ok(files)
 }
@@ -126,6 +158,8 @@ fn status_of(text: &str) -> u8 {
         Some("switch") => 4,
         Some("capture") => 5,
         Some("plan") => 6,
+        Some("tree") => 7,
+        Some("budget") => 8,
         Some("read") => 9,
         Some("write") => 10,
         Some("reports") => 11,

@@ -2,11 +2,12 @@
 //!
 //! A line that begins with one of these says what comes behind it, and each other line is of the text that the table is of:
 //! - `= `: a line that is wanted, of the text that is written and then of the line on the status;
-//! - `words: `: the command's words, whose files are `q`, `s`, `p`, `c` and `r`; else they follow from the files;
+//! - `words: `: the command's words, whose files are `q`, `s`, `p`, `c`, `t` and `r`; else they follow from the files;
 //! - `switch: `, `plan: `: a line of a switch text or of a plan text;
 //! - `header: `, `link: `: the capture's header, or its link type, in hexadecimal digits;
 //! - `record: `: bytes behind the header; `frame: `: a record with these bytes, at one second;
 //! - `syn: `: records of SYNs, each by its microseconds after one second, s and d of 10.0.0.s and 10.0.0.d, and its length;
+//! - `train: `: records of SYNs of the training capture, which else is the other one;
 //! - `reports: `: bytes of report frames.
 use crate::packets::{HEADER, push_frame, push_hex, push_syns};
 use std::alloc::Global;
@@ -22,6 +23,8 @@ pub(crate) struct Case {
     pub(crate) plan: String,
     pub(crate) header: Vec<u8>,
     pub(crate) records: Vec<u8>,
+    /// The records of the training capture.
+    pub(crate) trained: Vec<u8>,
     pub(crate) reports: Vec<u8>,
     pub(crate) wanted: String,
 }
@@ -42,6 +45,7 @@ impl Case {
             plan: String::new(alloc),
             header: Vec::from_slice(alloc, &HEADER)?,
             records: Vec::new(alloc),
+            trained: Vec::new(alloc),
             reports: Vec::new(alloc),
             wanted: String::new(alloc),
         })
@@ -69,6 +73,7 @@ impl Case {
             }
             Some(("record", bytes)) => push_hex(&mut self.records, bytes),
             Some(("syn", packets)) => push_syns(&mut self.records, packets),
+            Some(("train", packets)) => push_syns(&mut self.trained, packets),
             Some(("frame", bytes)) => push_frame(alloc, &mut self.records, bytes),
             Some(("reports", bytes)) => push_hex(&mut self.reports, bytes),
             _ => push_line(&mut self.text, line),

@@ -25,7 +25,11 @@ mod queries;
 #[cfg(test)]
 mod runs;
 #[cfg(test)]
+mod searched;
+#[cfg(test)]
 mod tokens;
+#[cfg(test)]
+mod trees;
 #[cfg(test)]
 mod types;
 #[cfg(test)]
