@@ -1,0 +1,4 @@
+//! Where tokens stand in their text: a law with nothing to run.
+#![tactic(auto)]
+
+pub mod stands;
