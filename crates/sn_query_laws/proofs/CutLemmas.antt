@@ -236,6 +236,6 @@ greatest_of_branch window q b queries t lt within =
     let branch : TypedBranch = branch_at queries q b in
     let below = cut_of window queries q b branch.max_cut t lt within (omega arith) in
     let above : greatest_cut branch.ops ≤ branch.max_cut =
-        ∥∥₁_elim t le_prop (λ t. let s = branch_source_of window queries q b t lt within in subst (λ (x : TypedBranch). greatest_cut x.ops ≤ x.max_cut) (sym s.is) (omega arith)) in
+    ∥∥₁_elim t le_prop (λ t. let s = branch_source_of window queries q b t lt within in subst (λ (x : TypedBranch). greatest_cut x.ops ≤ x.max_cut) (sym s.is) (omega arith)) in
     let same : greatest_cut branch.ops ≡ branch.max_cut = omega (arith, below, above) in
     subst (IsGreatestCut branch.ops) same (greatest branch.ops)
