@@ -3,3 +3,10 @@ pub mod PipeLemmas
 pub mod FrameLemmas
 pub mod WindowLemmas
 pub mod AnswersLemmas
+pub mod ByteLemmas
+pub mod RecordLemmas
+pub mod PeelLemmas
+pub mod CaptureLemmas
+pub mod LaneLemmas
+pub mod ReplayLemmas
+pub mod CallLemmas

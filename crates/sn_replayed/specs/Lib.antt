@@ -1,1 +1,3 @@
 pub mod Real
+pub mod Replayed
+pub mod Calls
