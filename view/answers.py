@@ -76,6 +76,9 @@ def chosen(rows, most):
 
 
 def write_title(part, query, level, levels, drawn, count, column):
+    if not levels:
+        part.set_title(query + ': no rows', loc='left', fontsize=8, pad=3)
+        return
     others = ', '.join('%d rows at level %d' % (len(rows), other) for other, rows in sorted(levels.items()) if other != level)
     keys = '' if drawn == count else ', %d of %s keys' % (drawn, format(count, ','))
     words = '%s, level %d: %s rows%s%s' % (query, level, format(len(levels.get(level, [])), ','), keys, ' (%s)' % others if others else '')
