@@ -1,7 +1,8 @@
 #!/usr/bin/env python3
 """Measures the commands around plans against `sonata plain`, all of one run of this program: processor time (user and system) and peak memory as ratios.
 
-along     `run`, `emit` and `finish` with the queries of three.query and the plan of full.plan, on two generated captures. The answers of `run` and `finish`
+along     `run`, `emit` and `finish` with the queries of three.query and the plan of full.plan, on two generated captures; on `few` also `run` and `emit` with
+          few.plan, whose registers are of a size that suits it (`fitting`). The answers of `run` and `finish`
           are compared with those of `plain`, and the text of `run` with that of switch.c, which does by hand what this plan says.
 training  `plan` and `check` with the queries and the switch of the generated job, at several sizes of the capture. `plan --nodes 1` ends behind the cost
           table, so it is the training alone, and what `plan` takes beyond it is the search and the printing of the tree.
@@ -20,7 +21,7 @@ import tempfile
 
 import run
 
-SWITCH, PLAN = (os.path.join(run.HERE, name) for name in ('full.switch', 'full.plan'))
+SWITCH, PLAN, FEW_PLAN = (os.path.join(run.HERE, name) for name in ('full.switch', 'full.plan', 'few.plan'))
 CHECKS = os.path.join(run.HERE, '..', 'checks')
 JOB_SWITCH = 'stages 16; actions 8; bits 8388608; meta 4096; chain 2; slots 256, 1024, 4096;\n'
 TIGHT_SWITCH = 'stages 8; actions 2; bits 65536; meta 1024; chain 1; slots 64, 256;\n'
@@ -86,6 +87,9 @@ def along(given, measurer, folder):
             part.add('C')
             part.words['C'] = [switch, capture]
         reports = part.add('emit', 'emit', *four) if 'emit' in given.built else None
+        if kind == 'few':
+            for command in ('run', 'emit'):
+                part.add(command + ' fitting', command, SWITCH, run.QUERIES, FEW_PLAN, capture)
         run.read_once(capture)
         part.measure()
         if reports:
