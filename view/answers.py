@@ -76,13 +76,16 @@ def chosen(rows, most):
 
 
 def write_title(part, query, level, levels, drawn, count, column):
+    part.set_title(title_words(query, level, levels, drawn, count, column), loc='left', fontsize=8, pad=3)
+
+
+def title_words(query, level, levels, drawn, count, column):
     if not levels:
-        part.set_title(query + ': no rows', loc='left', fontsize=8, pad=3)
-        return
+        return query + ': no rows'
     others = ', '.join('%d rows at level %d' % (len(rows), other) for other, rows in sorted(levels.items()) if other != level)
     keys = '' if drawn == count else ', %d of %s keys' % (drawn, format(count, ','))
     words = '%s, level %d: %s rows%s%s' % (query, level, format(len(levels.get(level, [])), ','), keys, ' (%s)' % others if others else '')
-    part.set_title(words + (', number: ' + column if column else ''), loc='left', fontsize=8, pad=3)
+    return words + (', number: ' + column if column else '')
 
 
 def draw_query(part, rows, keys, number, bordered):

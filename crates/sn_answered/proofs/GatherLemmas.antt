@@ -1,9 +1,9 @@
 -- What is gathered record by record comes to the windows of the whole capture.
-use Rattle.std.proofs.Common.{◌≡◌, ℕ, suc, ◌+◌, ◌<◌, ◌≤◌, List, [], ◌∷◌, ◌++◌, Bool, true, false, cond, ◌&&◌, map, filter, Option, None, Some, is_some, Result, Ok, Err, length, take, drop, unwrap_or, subst, ◌-◌, ◌/◌, length-append, refl, ap, sym, ◌∙◌, arith, append_assoc, append-nil}
+use Rattle.std.proofs.Common.{◌≡◌, ℕ, suc, ◌+◌, ◌<◌, ◌≤◌, List, [], ◌∷◌, ◌++◌, Bool, true, false, cond, ◌&&◌, ◌||◌, map, filter, Option, None, Some, is_some, Result, Ok, Err, length, take, drop, unwrap_or, subst, ◌-◌, ◌/◌, length-append, refl, ap, sym, ◌∙◌, arith, append_assoc, append-nil}
 use Rattle.std.specs.Prelude.{nat_le, nat_lt, ◌==◌}
 use Rattle.std.proofs.Math.Nat.{zero-div}
-use Rattle.std.proofs.Math.Seq.{take-append_seam, drop-append_seam}
-use Rattle.std.proofs.lemmas.List.{map-append, length-map}
+use Rattle.std.proofs.Math.Seq.{take-append_seam, take-append-add, drop-append_seam}
+use Rattle.std.proofs.lemmas.List.{map-append, length-map, take_all}
 use Rattle.std.proofs.lemmas.List.Elements.{filter-append}
 use Rattle.std.proofs.lemmas.Bool.{eq-eqb, eqb-true, eqb-false, ne_eqb, lt-ltb, le-ltb, ltb-false, leb-true, leb-false, false≢true}
 use borrow.Author.Tests.{ltb-true}
@@ -18,14 +18,14 @@ use Rattle.sn_stage.specs.declared.refusal.Refusal.TheVariants.{Refused}
 use Rattle.sn_stage.specs.Outcomes.{Outcome, silent}
 use Rattle.sn_windows.specs.Windows.{record_at, run_of, first_run, numbered}
 use Rattle.sn_windows.specs.Numbering.{Numbering, next_first, next_number, next_count, stepped, numbered_from}
-use Rattle.sn_windows.specs.Blocks.{blocks, all_few}
+use Rattle.sn_windows.specs.Blocks.{all_few, most_records}
 use Rattle.sn_windows.proofs.RunLemmas.{Rises, AtLeast}
 use Rattle.sn_windows.proofs.NumberLemmas.{numbered_is, numbers_rise, numbers_stay}
 use Rattle.sn_answered.specs.Wording.{AreRising, IsCausal, Window, Wording}
-use Rattle.sn_answered.specs.Capture.{last_from, last_number, before_last, block_in, time_of, windows_in, windows_outcome}
-use Rattle.sn_answered.specs.Gathering.{Gathering, begins, closing, closing_of, hand_text, joined, none_gathered, taken, with_hand}
+use Rattle.sn_answered.specs.Capture.{last_from, last_number, before_last, blocks_in, ends_large, time_of, unfinished_in, windows_in, windows_outcome, windows_refused}
+use Rattle.sn_answered.specs.Gathering.{Gathering, begins, closing, closing_of, hand_text, joined, none_gathered, refused, taken, unfinished_of, with_hand}
 use Rattle.sn_answered.proofs.RisingLemmas.{rising_next, rising_other}
-use Rattle.sn_answered.proofs.WindowLemmas.{left_outcome, left_none, left_large, left_next}
+use Rattle.sn_answered.proofs.WindowLemmas.{left_outcome, left_none, left_large, left_next, run_long, windows_more}
 
 -- ---- one run, and what stands behind it
 
@@ -133,13 +133,21 @@ cut_rises last.TooLarge z zs r = filter_rises (λ p. nat_lt p.0 (last_number (z 
 
 -- ---- what is left of a capture
 
-abbrev with_ending : Ending → Result (List Window) Refusal → Result (List Window × Ending) Refusal
-with_ending ending (Ok ws) = Ok (ws, ending)
-with_ending ending (Err refusal) = Err refusal
+-- a capture is refused behind this text
+abbrev refused_as : Refusal → List ℕ → Outcome (List Window × Ending)
+refused_as refusal text = record { text = text; end = Err refusal }
 
-abbrev ended : Last → Outcome (List Window) → Outcome (List Window × Ending)
-ended (last.Ended ending) o = record { text = o.text; end = with_ending ending o.end }
-ended last.TooLarge o = record { text = o.text; end = Err (Refused TooLarge) }
+abbrev refused_behind : List ℕ → Outcome (List Window × Ending)
+refused_behind text = refused_as (Refused TooLarge) text
+
+-- blocks, and behind them what stands of the window at hand where the capture is refused
+abbrev ended_with : Ending → List ℕ → Result (List Window) Refusal → List ℕ → Outcome (List Window × Ending)
+ended_with ending text (Ok ws) more = record { text = text; end = Ok (ws, ending) }
+ended_with ending text (Err refusal) more = record { text = text ++ more; end = Err refusal }
+
+abbrev ended : Last → Outcome (List Window) → List ℕ → Outcome (List Window × Ending)
+ended (last.Ended ending) o more = ended_with ending o.text o.end more
+ended last.TooLarge o more = refused_behind (o.text ++ more)
 
 -- an outcome behind a text
 abbrev pub put_before : {B : Type 0} → List ℕ → Outcome B → Outcome B
@@ -157,6 +165,11 @@ followed_by text (Err refusal) f = record { text = text; end = Err refusal }
 abbrev follow : {A B : Type 0} → Outcome A → (A → Outcome B) → Outcome B
 follow o f = followed_by o.text o.end f
 
+-- the second one is enough
+either_true : (a b : Bool) → b ≡ true → (a || b) ≡ true
+either_true true b e = refl
+either_true false b e = e
+
 -- records are counted that have the number of the window at hand
 counted_here : (some same : Bool) (count : ℕ) → 4194304 ≤ cond (some && same) count 0 → (some ≡ true) × (same ≡ true) × (4194304 ≤ count)
 counted_here true true count h = (refl, refl, h)
@@ -167,7 +180,7 @@ module _ (wording : Wording) (shown : Packet → List ℕ) where
   -- what is left of a capture, one packet after another
   abbrev pub left_of : Gathering → List Packet → Last → Outcome (List Window × Ending)
   left_of g [] (last.Ended ending) = closing wording g ending
-  left_of g [] last.TooLarge = silent (Err (Refused TooLarge))
+  left_of g [] last.TooLarge = refused wording g
   left_of g (p ∷ ps) l = let o : Outcome Gathering = taken wording g p.time (shown p) in followed_by o.text o.end (λ next. left_of next ps l)
 
 module _ (wording : Wording) (shown : Packet → List ℕ)
@@ -183,7 +196,7 @@ module _ (wording : Wording) (shown : Packet → List ℕ)
   packet_block closed n held = wording.block (closed_with closed n held) n (map shown held)
 
   abbrev windows_left : List Window → List (ℕ × Packet) → Last → Outcome (List Window × Ending)
-  windows_left closed ys l = ended l (left_outcome wording shown closed (cut l ys))
+  windows_left closed ys l = ended l (left_outcome wording shown closed (cut l ys)) (unfinished_in wording l closed (windows_in shown ys))
 
   -- the state has these packets at hand
   pub record Holds (g : Gathering) (held : List Packet) : Type 0 where
@@ -197,32 +210,118 @@ module _ (wording : Wording) (shown : Packet → List ℕ)
   hand_first : (n : ℕ) (h : Packet) (hs : List Packet) (zs : List (ℕ × Packet)) → run_of n zs ≡ 0 → first_run (at_hand n (h ∷ hs) ++ zs) ≡ length (at_hand n (h ∷ hs))
   hand_first n h hs zs none = let run = run_held n hs zs in let long = hand_long n hs in omega arith
 
+  -- the records of the window at hand, and those behind it
+  hand_front : (n : ℕ) (h : Packet) (hs : List Packet) (zs : List (ℕ × Packet)) → run_of n zs ≡ 0 → take (first_run (at_hand n (h ∷ hs) ++ zs)) (at_hand n (h ∷ hs) ++ zs) ≡ at_hand n (h ∷ hs)
+  hand_front n h hs zs none = ap (λ (k : ℕ). take k (at_hand n (h ∷ hs) ++ zs)) (hand_first n h hs zs none) ∙ take-append_seam (at_hand n (h ∷ hs)) zs
+
+  hand_back : (n : ℕ) (h : Packet) (hs : List Packet) (zs : List (ℕ × Packet)) → run_of n zs ≡ 0 → drop (first_run (at_hand n (h ∷ hs) ++ zs)) (at_hand n (h ∷ hs) ++ zs) ≡ zs
+  hand_back n h hs zs none = ap (λ (k : ℕ). drop k (at_hand n (h ∷ hs) ++ zs)) (hand_first n h hs zs none) ∙ drop-append_seam (at_hand n (h ∷ hs)) zs
+
+  -- the window at hand comes first
+  hand_windows : (n : ℕ) (h : Packet) (hs : List Packet) (zs : List (ℕ × Packet)) → Behind n zs → AtLeast n zs → Rises zs → windows_in shown (at_hand n (h ∷ hs) ++ zs) ≡ held_window n (h ∷ hs) ∷ windows_in shown zs
+  hand_windows n h hs zs behind least rises =
+      let ys : List (ℕ × Packet) = at_hand n (h ∷ hs) ++ zs in
+      let none : run_of n zs ≡ 0 = run_none n zs behind in
+      windows_more shown (n, h) (at_hand n hs ++ zs) (rises_run n (h ∷ hs) zs least rises)
+      ∙ ap (λ (xs : List (ℕ × Packet)). (n, map shown (map record_at xs)) ∷ windows_in shown (drop (first_run ys) ys)) (hand_front n h hs zs none)
+      ∙ ap (λ (qs : List Packet). (n, map shown qs) ∷ windows_in shown (drop (first_run ys) ys)) (hand_records n (h ∷ hs))
+      ∙ ap (λ (xs : List (ℕ × Packet)). held_window n (h ∷ hs) ∷ windows_in shown xs) (hand_back n h hs zs none)
+
+  held_few : (held : List Packet) → length held ≤ 4194304 → nat_lt most_records (length (map shown held)) ≡ false
+  held_few held few = let long : length (map shown held) ≡ length held = length-map held shown in le-ltb most_records (length (map shown held)) (omega arith)
+
+  some_behind : (l : Last) (z : ℕ × Packet) (zs : List (ℕ × Packet)) → ends_large l (windows_in shown (z ∷ zs)) ≡ false
+  some_behind (last.Ended ending) z zs = refl
+  some_behind last.TooLarge z zs = refl
+
+  -- the capture isn't refused in the window at hand
+  unfinished_next : (closed : List Window) (n : ℕ) (h : Packet) (hs : List Packet) (z : ℕ × Packet) (zs : List (ℕ × Packet)) (l : Last) → n < z.0 → AtLeast z.0 zs → Rises zs → length (h ∷ hs) ≤ 4194304
+      → unfinished_in wording l closed (windows_in shown (at_hand n (h ∷ hs) ++ z ∷ zs)) ≡ unfinished_in wording l (closed_with closed n (h ∷ hs)) (windows_in shown (z ∷ zs))
+  unfinished_next closed n h hs z zs l lt least rises few =
+      let more : List Window = windows_in shown (z ∷ zs) in
+      let tuples : List (List ℕ) = map shown (h ∷ hs) in
+      let others : (ends_large l more || nat_lt most_records (length tuples)) ≡ false = ap (λ b. b || nat_lt most_records (length tuples)) (some_behind l z zs) ∙ held_few (h ∷ hs) few in
+      ap (unfinished_in wording l closed) (hand_windows n h hs (z ∷ zs) lt (omega arith, at_least_le n z.0 (omega arith) zs least) (least, rises))
+      ∙ ap (λ b. cond b (wording.unfinished closed n (take most_records tuples)) (unfinished_in wording l (closed_with closed n (h ∷ hs)) more)) others
+
+  -- it is, since the window at hand has too many records
+  unfinished_large : (closed : List Window) (n : ℕ) (held : List Packet) (p : Packet) (zs : List (ℕ × Packet)) (l : Last) → length held ≡ 4194304 → AtLeast n zs → Rises zs
+      → unfinished_in wording l closed (windows_in shown (at_hand n held ++ (n, p) ∷ zs)) ≡ wording.unfinished closed n (map shown held)
+  unfinished_large closed n [] p zs l many least rises = absurd (omega arith)
+  unfinished_large closed n (h ∷ hs) p zs l many least rises =
+      let held : List Packet = h ∷ hs in
+      let more : List (ℕ × Packet) = (n, p) ∷ zs in
+      let hand : List (ℕ × Packet) = at_hand n held in
+      let ys : List (ℕ × Packet) = hand ++ more in
+      let rises_all : Rises ys = rises_run n held more (omega arith, least) (least, rises) in
+      let same : (n == n) ≡ true = eq-eqb n n refl in
+      let one : run_of n more ≡ suc (run_of n zs) = ap (λ (b : Bool). cond b (suc (run_of n zs)) 0) same in
+      let run : run_of n (at_hand n hs ++ more) ≡ length hs + run_of n more = run_held n hs more in
+      let long : length hand ≡ length held = hand_long n held in
+      let whole : first_run ys ≡ length hand + run_of n more = omega arith in
+      let rest : List (ℕ × Packet) = take (run_of n more) more in
+      let tuples : List (List ℕ) = map shown (map record_at (take (first_run ys) ys)) in
+      let shown_rest : List (List ℕ) = map shown (map record_at rest) in
+      let front : take (first_run ys) ys ≡ hand ++ rest = ap (λ (k : ℕ). take k ys) whole ∙ take-append-add hand more (run_of n more) in
+      let tuples_are : tuples ≡ map shown held ++ shown_rest =
+      ap (λ (xs : List (ℕ × Packet)). map shown (map record_at xs)) front
+      ∙ ap (map shown) (map-append record_at hand rest)
+      ∙ map-append shown (map record_at hand) (map record_at rest)
+      ∙ ap (λ (qs : List Packet). map shown qs ++ shown_rest) (hand_records n held) in
+      let count : length tuples ≡ first_run ys = length-map (map record_at (take (first_run ys) ys)) shown ∙ run_long (n, h) (at_hand n hs ++ more) in
+      let large : nat_lt most_records (length tuples) ≡ true = lt-ltb most_records (length tuples) (omega arith) in
+      let most : most_records ≡ length (map shown held) = let held_long : length (map shown held) ≡ length held = length-map held shown in omega arith in
+      let kept : take most_records tuples ≡ map shown held = ap (take most_records) tuples_are ∙ ap (λ (k : ℕ). take k (map shown held ++ shown_rest)) most ∙ take-append_seam (map shown held) shown_rest in
+      let others : List Window = windows_in shown (drop (first_run ys) ys) in
+      ap (unfinished_in wording l closed) (windows_more shown (n, h) (at_hand n hs ++ more) rises_all)
+      ∙ ap (λ b. cond b (wording.unfinished closed n (take most_records tuples)) (unfinished_in wording l (closed ++ (n, tuples) ∷ []) others)) (either_true (ends_large l others) (nat_lt most_records (length tuples)) large)
+      ∙ ap (wording.unfinished closed n) kept
+
+  -- it is, since the capture has too many bytes
+  unfinished_last : (closed : List Window) (n : ℕ) (held : List Packet) → length held ≤ 4194304 → unfinished_in wording last.TooLarge closed (windows_in shown (at_hand n held)) ≡ unfinished_of wording n closed (map shown held)
+  unfinished_last closed n [] few = refl
+  unfinished_last closed n (h ∷ hs) few =
+      let long : length (map shown (h ∷ hs)) ≡ length (h ∷ hs) = length-map (h ∷ hs) shown in
+      ap (λ (ys : List (ℕ × Packet)). unfinished_in wording last.TooLarge closed (windows_in shown ys)) (sym (append-nil (at_hand n (h ∷ hs))))
+      ∙ ap (unfinished_in wording last.TooLarge closed) (hand_windows n h hs [] tt tt tt)
+      ∙ ap (wording.unfinished closed n) (take_all most_records (map shown (h ∷ hs)) (omega arith))
+
+  unfinished_some : (closed : List Window) (n : ℕ) (held : List Packet) → 0 < length held → unfinished_of wording n closed (map shown held) ≡ wording.unfinished closed n (map shown held)
+  unfinished_some closed n [] some = absurd (omega arith)
+  unfinished_some closed n (h ∷ hs) some = refl
+
   -- the window at hand has its block, and the others are left
   hand_next : (closed : List Window) (n : ℕ) (h : Packet) (hs : List Packet) (zs : List (ℕ × Packet)) → AreRising None (closed_with closed n (h ∷ hs)) → Behind n zs → AtLeast n zs → Rises zs → length (h ∷ hs) ≤ 4194304
       → left_outcome wording shown closed (at_hand n (h ∷ hs) ++ zs) ≡ put_before (packet_block closed n (h ∷ hs)) (left_outcome wording shown (closed_with closed n (h ∷ hs)) zs)
   hand_next closed n h hs zs rising behind least rises few =
       let held : List Packet = h ∷ hs in
       let hand : List (ℕ × Packet) = at_hand n held in
-      let first : first_run (hand ++ zs) ≡ length hand = hand_first n h hs zs (run_none n zs behind) in
+      let none : run_of n zs ≡ 0 = run_none n zs behind in
+      let first : first_run (hand ++ zs) ≡ length hand = hand_first n h hs zs none in
       let long : length hand ≡ length held = hand_long n held in
-      let front : take (first_run (hand ++ zs)) (hand ++ zs) ≡ hand = ap (λ (k : ℕ). take k (hand ++ zs)) first ∙ take-append_seam hand zs in
-      let packets : held ≡ map record_at (take (first_run (hand ++ zs)) (hand ++ zs)) = sym (ap (λ (xs : List (ℕ × Packet)). map record_at xs) front ∙ hand_records n held) in
-      let back : drop (first_run (hand ++ zs)) (hand ++ zs) ≡ zs = ap (λ (k : ℕ). drop k (hand ++ zs)) first ∙ drop-append_seam hand zs in
+      let packets : held ≡ map record_at (take (first_run (hand ++ zs)) (hand ++ zs)) = sym (ap (λ (xs : List (ℕ × Packet)). map record_at xs) (hand_front n h hs zs none) ∙ hand_records n held) in
+      let back : drop (first_run (hand ++ zs)) (hand ++ zs) ≡ zs = hand_back n h hs zs none in
       left_next wording shown closed (hand ++ zs) (rises_run n held zs least rises) (omega arith) (omega arith) n held refl packets rising (causal closed n (map shown held))
       ∙ ap (λ (xs : List (ℕ × Packet)). put_before (packet_block closed n held) (left_outcome wording shown (closed_with closed n held) xs)) back
 
-  ended_behind : (l : Last) (text : List ℕ) (o : Outcome (List Window)) → ended l (put_before text o) ≡ put_before text (ended l o)
-  ended_behind (last.Ended ending) text o = refl
-  ended_behind last.TooLarge text o = refl
+  with_behind : (ending : Ending) (text first : List ℕ) (end : Result (List Window) Refusal) (more : List ℕ) → ended_with ending (text ++ first) end more ≡ put_before text (ended_with ending first end more)
+  with_behind ending text first (Ok ws) more = refl
+  with_behind ending text first (Err refusal) more = ap (refused_as refusal) (append_assoc text first more)
+
+  ended_behind : (l : Last) (text : List ℕ) (o : Outcome (List Window)) (more : List ℕ) → ended l (put_before text o) more ≡ put_before text (ended l o more)
+  ended_behind (last.Ended ending) text o more = with_behind ending text o.text o.end more
+  ended_behind last.TooLarge text o more = ap refused_behind (append_assoc text o.text more)
 
   windows_next : (closed : List Window) (n : ℕ) (h : Packet) (hs : List Packet) (z : ℕ × Packet) (zs : List (ℕ × Packet)) (l : Last) → AreRising None (closed_with closed n (h ∷ hs)) → n < z.0 → AtLeast z.0 zs → Rises zs → length (h ∷ hs) ≤ 4194304
       → windows_left closed (at_hand n (h ∷ hs) ++ z ∷ zs) l ≡ put_before (packet_block closed n (h ∷ hs)) (windows_left (closed_with closed n (h ∷ hs)) (z ∷ zs) l)
   windows_next closed n h hs z zs l rising lt least rises few =
       let rest : List (ℕ × Packet) = cut l (z ∷ zs) in
       let above : AtLeast (suc n) rest = cut_above l z zs (suc n) (omega arith) least in
-      ap (λ (ys : List (ℕ × Packet)). ended l (left_outcome wording shown closed ys)) (cut_behind l n (h ∷ hs) z zs lt least rises)
-      ∙ ap (ended l) (hand_next closed n h hs rest rising (behind_of n rest above) (at_least_le n (suc n) (omega arith) rest above) (cut_rises l z zs (least, rises)) few)
-      ∙ ended_behind l (packet_block closed n (h ∷ hs)) (left_outcome wording shown (closed_with closed n (h ∷ hs)) rest)
+      let unfinished : List ℕ = unfinished_in wording l closed (windows_in shown (at_hand n (h ∷ hs) ++ z ∷ zs)) in
+      ap (λ (ys : List (ℕ × Packet)). ended l (left_outcome wording shown closed ys) unfinished) (cut_behind l n (h ∷ hs) z zs lt least rises)
+      ∙ ap (λ (o : Outcome (List Window)). ended l o unfinished) (hand_next closed n h hs rest rising (behind_of n rest above) (at_least_le n (suc n) (omega arith) rest above) (cut_rises l z zs (least, rises)) few)
+      ∙ ap (ended l (put_before (packet_block closed n (h ∷ hs)) (left_outcome wording shown (closed_with closed n (h ∷ hs)) rest))) (unfinished_next closed n h hs z zs l lt least rises few)
+      ∙ ended_behind l (packet_block closed n (h ∷ hs)) (left_outcome wording shown (closed_with closed n (h ∷ hs)) rest) (unfinished_in wording l (closed_with closed n (h ∷ hs)) (windows_in shown (z ∷ zs)))
 
   -- the window at hand has too many records
   hand_large : (closed : List Window) (n : ℕ) (held : List Packet) (p : Packet) (zs : List (ℕ × Packet)) → 4194304 ≤ length held → AtLeast n zs → Rises zs → left_outcome wording shown closed (at_hand n held ++ (n, p) ∷ zs) ≡ silent (Err (Refused TooLarge))
@@ -234,9 +333,10 @@ module _ (wording : Wording) (shown : Packet → List ℕ)
       let run : run_of n (at_hand n hs ++ more) ≡ length hs + run_of n more = run_held n hs more in
       left_large wording shown closed (at_hand n (h ∷ hs) ++ more) (rises_run n (h ∷ hs) more (omega arith, least) (least, rises)) (omega arith)
 
-  windows_large : (closed : List Window) (n : ℕ) (held : List Packet) (p : Packet) (zs : List (ℕ × Packet)) (l : Last) → 4194304 ≤ length held → AtLeast n zs → Rises zs → windows_left closed (at_hand n held ++ (n, p) ∷ zs) l ≡ silent (Err (Refused TooLarge))
-  windows_large closed n held p zs (last.Ended ending) many least rises = ap (ended (last.Ended ending)) (hand_large closed n held p zs many least rises)
-  windows_large closed n held p zs last.TooLarge many least rises =
+  blocks_large : (closed : List Window) (n : ℕ) (held : List Packet) (p : Packet) (zs : List (ℕ × Packet)) (l : Last) (text : List ℕ) → 4194304 ≤ length held → AtLeast n zs → Rises zs
+      → ended l (left_outcome wording shown closed (cut l (at_hand n held ++ (n, p) ∷ zs))) text ≡ refused_behind text
+  blocks_large closed n held p zs (last.Ended ending) text many least rises = ap (λ (o : Outcome (List Window)). ended (last.Ended ending) o text) (hand_large closed n held p zs many least rises)
+  blocks_large closed n held p zs last.TooLarge text many least rises =
       let ys : List (ℕ × Packet) = at_hand n held ++ (n, p) ∷ zs in
       let m : ℕ = last_number ys in
       by_test (nat_lt n m)
@@ -246,24 +346,35 @@ module _ (wording : Wording) (shown : Packet → List ℕ)
       filter-append (λ q. nat_lt q.0 m) (at_hand n held) ((n, p) ∷ zs)
       ∙ ap (λ (xs : List (ℕ × Packet)). xs ++ filter (λ q. nat_lt q.0 m) ((n, p) ∷ zs)) (below_hand n m held lt)
       ∙ ap (λ (b : Bool). at_hand n held ++ cond b ((n, p) ∷ filter (λ q. nat_lt q.0 m) zs) (filter (λ q. nat_lt q.0 m) zs)) is in
-      ap (λ (xs : List (ℕ × Packet)). ended last.TooLarge (left_outcome wording shown closed xs)) kept
-      ∙ ap (ended last.TooLarge) (hand_large closed n held p (filter (λ q. nat_lt q.0 m) zs) many (filter_least (λ q. nat_lt q.0 m) n zs least) (filter_rises (λ q. nat_lt q.0 m) zs rises)))
+      ap (λ (xs : List (ℕ × Packet)). ended last.TooLarge (left_outcome wording shown closed xs) text) kept
+      ∙ ap (λ (o : Outcome (List Window)). ended last.TooLarge o text) (hand_large closed n held p (filter (λ q. nat_lt q.0 m) zs) many (filter_least (λ q. nat_lt q.0 m) n zs least) (filter_rises (λ q. nat_lt q.0 m) zs rises)))
       (λ isnt.
       let le : m ≤ n = ltb-false n m isnt in
       let nothing : before_last ys ≡ [] = below_none n m ys (at_least_run n held ((n, p) ∷ zs) (omega arith, least)) le in
-      ap (λ (xs : List (ℕ × Packet)). ended last.TooLarge (left_outcome wording shown closed xs)) nothing)
+      ap (λ (xs : List (ℕ × Packet)). ended last.TooLarge (left_outcome wording shown closed xs) text) nothing)
+
+  windows_large : (closed : List Window) (n : ℕ) (held : List Packet) (p : Packet) (zs : List (ℕ × Packet)) (l : Last) → length held ≡ 4194304 → AtLeast n zs → Rises zs
+      → windows_left closed (at_hand n held ++ (n, p) ∷ zs) l ≡ refused_behind (wording.unfinished closed n (map shown held))
+  windows_large closed n held p zs l many least rises =
+      blocks_large closed n held p zs l (unfinished_in wording l closed (windows_in shown (at_hand n held ++ (n, p) ∷ zs))) (omega arith) least rises
+      ∙ ap refused_behind (unfinished_large closed n held p zs l many least rises)
 
   -- no further record comes
   none_left : (g : Gathering) (held : List Packet) (l : Last) → Holds g held → left_of wording shown g [] l ≡ windows_left g.closed (at_hand g.numbering.number held) l
-  none_left g held last.TooLarge h = sym (ap (λ (xs : List (ℕ × Packet)). ended last.TooLarge (left_outcome wording shown g.closed xs)) (cut_hand g.numbering.number held))
+  none_left g held last.TooLarge h =
+      let n : ℕ = g.numbering.number in
+      ap (λ (ts : List (List ℕ)). refused_behind (unfinished_of wording n g.closed ts)) h.tuples
+      ∙ sym (ap (λ (xs : List (ℕ × Packet)). ended last.TooLarge (left_outcome wording shown g.closed xs) (unfinished_in wording last.TooLarge g.closed (windows_in shown (at_hand n held)))) (cut_hand n held)
+      ∙ ap refused_behind (unfinished_last g.closed n held h.few))
   none_left g [] (last.Ended ending) h =
-      ap (closing_of wording g.numbering.number g.closed ending) h.tuples ∙ sym (ap (ended (last.Ended ending)) (left_none wording shown g.closed))
+      ap (closing_of wording g.numbering.number g.closed ending) h.tuples ∙ sym (ap (λ (o : Outcome (List Window)). ended (last.Ended ending) o []) (left_none wording shown g.closed))
   none_left g (p ∷ ps) (last.Ended ending) h =
       let n : ℕ = g.numbering.number in
+      let unfinished : List ℕ = unfinished_in wording (last.Ended ending) g.closed (windows_in shown (at_hand n (p ∷ ps))) in
       ap (closing_of wording n g.closed ending) h.tuples
-      ∙ sym (ap (λ (ys : List (ℕ × Packet)). ended (last.Ended ending) (left_outcome wording shown g.closed ys)) (sym (append-nil (at_hand n (p ∷ ps))))
-      ∙ ap (ended (last.Ended ending)) (hand_next g.closed n p ps [] (rising_other g.closed n g.tuples (map shown (p ∷ ps)) h.rising) tt tt tt h.few)
-      ∙ ap (λ (o : Outcome (List Window)). ended (last.Ended ending) (put_before (packet_block g.closed n (p ∷ ps)) o)) (left_none wording shown (closed_with g.closed n (p ∷ ps)))
+      ∙ sym (ap (λ (ys : List (ℕ × Packet)). ended (last.Ended ending) (left_outcome wording shown g.closed ys) unfinished) (sym (append-nil (at_hand n (p ∷ ps))))
+      ∙ ap (λ (o : Outcome (List Window)). ended (last.Ended ending) o unfinished) (hand_next g.closed n p ps [] (rising_other g.closed n g.tuples (map shown (p ∷ ps)) h.rising) tt tt tt h.few)
+      ∙ ap (λ (o : Outcome (List Window)). ended (last.Ended ending) (put_before (packet_block g.closed n (p ∷ ps)) o) unfinished) (left_none wording shown (closed_with g.closed n (p ∷ ps)))
       ∙ ap (λ (text : List ℕ). text_end text (closed_with g.closed n (p ∷ ps), ending)) (append-nil (packet_block g.closed n (p ∷ ps))))
 
   -- a record goes to the window at hand
@@ -340,7 +451,7 @@ module _ (wording : Wording) (shown : Packet → List ℕ)
       let rises : Rises zs = numbers_rise time_of (stepped g.numbering p.time) ps in
       let more : Outcome Gathering = silent (Ok (joined g p.time (shown p))) in
       let next : Outcome Gathering = text_end (hand_text wording g) (begins g p.time (shown p)) in
-      let many : Outcome Gathering = silent (Err (Refused TooLarge)) in
+      let many : Outcome Gathering = refused wording g in
       let on : Gathering → Outcome (List Window × Ending) = λ next. left_of wording shown next ps l in
       by_test (nat_le 4194304 count)
       (λ is.
@@ -348,9 +459,12 @@ module _ (wording : Wording) (shown : Packet → List ℕ)
       let known = counted_here (is_some g.numbering.first) (number == n) g.numbering.count much in
       let same : number ≡ n = eqb-true number n known.1 in
       let long : g.numbering.count ≡ length held = h.count known.0 in
+      let full : length held ≡ 4194304 = let c = known.2 in let few = h.few in omega arith in
       ap (λ (b : Bool). follow (cond b many (cond (number == n) more next)) on) is
+      ∙ ap (λ (ts : List (List ℕ)). refused_behind (unfinished_of wording n g.closed ts)) h.tuples
+      ∙ ap refused_behind (unfinished_some g.closed n held (omega arith))
       ∙ sym (ap (λ (k : ℕ). windows_left g.closed (at_hand n held ++ (k, p) ∷ zs) l) same
-      ∙ windows_large g.closed n held p zs l (let c = known.2 in omega arith) (at_least_le n number (omega arith) zs least) rises))
+      ∙ windows_large g.closed n held p zs l full (at_least_le n number (omega arith) zs least) rises))
       (λ isnt.
       let few : count < 4194304 = leb-false 4194304 count isnt in
       by_test (number == n)
@@ -382,7 +496,8 @@ module _ (wording : Wording) (shown : Packet → List ℕ)
     where
       whole : (e : Last) (ys : List (ℕ × Packet)) → windows_left [] ys e ≡ windows_outcome wording shown ys e
       whole (last.Ended ending) ys =
-          elim (all_few ys) as (λ b. ◌≡◌ {A = Outcome (List Window × Ending)} (record { text = blocks (block_in wording shown (windows_in shown ys)) ys; end = with_ending ending (cond b (Ok (windows_in shown ys)) (Err (Refused TooLarge))) }) (record { text = blocks (block_in wording shown (windows_in shown ys)) ys; end = cond b (Ok (windows_in shown ys, ending)) (Err (Refused TooLarge)) })) [
+          elim (all_few ys) as (λ b. ended_with ending (blocks_in wording shown ys) (cond b (Ok (windows_in shown ys)) (Err (Refused TooLarge))) (unfinished_in wording (last.Ended ending) [] (windows_in shown ys))
+          ≡ cond b (record { text = blocks_in wording shown ys; end = Ok (windows_in shown ys, ending) }) (windows_refused wording (last.Ended ending) (blocks_in wording shown ys) (windows_in shown ys))) [
             | true ↦ refl
             | false ↦ refl
           ]

@@ -39,7 +39,7 @@ use Rattle.sn_windows.specs.Numbering.{next_number, next_count}
 use Rattle.sn_windows.specs.Windows.{numbered}
 use Rattle.sn_answered.specs.Wording.{IsCausal, Window, Wording}
 use Rattle.sn_answered.specs.Capture.{known_bytes, Whole, Head, Found, RecordsIn, packet_tuple, time_of, windows_outcome, WindowsIn, WindowsOf}
-use Rattle.sn_answered.specs.Gathering.{Gathering, after, all_of, begins, closing, closing_of, hand_text, joined, none_gathered, taken}
+use Rattle.sn_answered.specs.Gathering.{Gathering, after, all_of, begins, closing, closing_of, hand_text, joined, none_gathered, refused, taken}
 use Rattle.sn_pcap.proofs.OneCapture.{below_or_not}
 use Rattle.sn_pcap.proofs.ToldLemmas.{at_told}
 use Rattle.sn_answered.proofs.GatherLemmas.{left_of, put_before, text_end, followed_by, gathered_all}
@@ -262,10 +262,10 @@ module _ (wording : Wording) (link : Link) (capture : List ℕ) (reader after : 
       of (p ∷ ps) is t = absurd (never_end ending t.seen (sym t.answered))
 
   -- the capture has too many bytes
-  pub left_large : IfSome (told_file told capture) (λ file. (packets : List Packet) (e : Last) → Left file reader packets e → large_answer ≢ Err errors.ReadFault → Takes file packets e large_answer after) → outcome ≡ silent (Err (Refused faults.TooLarge))
+  pub left_large : IfSome (told_file told capture) (λ file. (packets : List Packet) (e : Last) → Left file reader packets e → large_answer ≢ Err errors.ReadFault → Takes file packets e large_answer after) → outcome ≡ refused wording g
   left_large takes = of l.packets l.is (takes_here large_answer (λ e. absurd cc) takes)
     where
-      of : (packets : List Packet) → outcome ≡ left_of wording (packet_tuple link (within l.file)) g packets l.end → Takes l.file packets l.end large_answer after → outcome ≡ silent (Err (Refused faults.TooLarge))
+      of : (packets : List Packet) → outcome ≡ left_of wording (packet_tuple link (within l.file)) g packets l.end → Takes l.file packets l.end large_answer after → outcome ≡ refused wording g
       of [] is t = is ∙ ap (left_of wording (packet_tuple link (within l.file)) g []) (large_is l.end t.0)
       of (p ∷ ps) is t = absurd (never_large t.seen (sym t.answered))
 
@@ -322,11 +322,8 @@ module _ (wording : Wording) (g : Gathering) (time : ℕ) (shown : List ℕ) whe
   abbrev few_taken : Outcome Gathering
   few_taken = if next_number g.numbering time == g.numbering.number then silent (Ok (joined g time shown)) else text_end (hand_text wording g) (begins g time shown)
 
-  abbrev refused_taken : Outcome Gathering
-  refused_taken = silent (Err (Refused faults.TooLarge))
-
   few_is : next_count g.numbering time < 4194304 → taken wording g time shown ≡ few_taken
-  few_is few = ap (λ (b : Bool). if b then refused_taken else few_taken) (lt-leb 4194304 (next_count g.numbering time) few)
+  few_is few = ap (λ (b : Bool). if b then refused wording g else few_taken) (lt-leb 4194304 (next_count g.numbering time) few)
 
   pub after_here : next_number g.numbering time ≡ g.numbering.number → after g time shown ≡ joined g time shown
   after_here same = ap (λ (b : Bool). if b then joined g time shown else begins g time shown) (eq-eqb (next_number g.numbering time) g.numbering.number same)
@@ -335,10 +332,10 @@ module _ (wording : Wording) (g : Gathering) (time : ℕ) (shown : List ℕ) whe
   after_next other = ap (λ (b : Bool). if b then joined g time shown else begins g time shown) (ne_eqb (next_number g.numbering time) g.numbering.number other)
 
   -- the window at hand has too many records
-  pub runs_many : (w : World) → 4194304 ≤ next_count g.numbering time → Runs [] (Does (taken wording g time shown)) w (Err (Refused faults.TooLarge)) w
-  runs_many w many =
-      let is : taken wording g time shown ≡ refused_taken = ap (λ (b : Bool). if b then refused_taken else few_taken) (le-leb 4194304 (next_count g.numbering time) many) in
-      subst (λ (o : Outcome Gathering). Runs [] (Does o) w (Err (Refused faults.TooLarge)) w) (sym is) (runs_gives (Err faults.TooLarge) w)
+  pub runs_many : (w later : World) (refusal : Refusal) → 4194304 ≤ next_count g.numbering time → Runs [] (Does (refused {A = Gathering} wording g)) w (Err refusal) later → Runs [] (Does (taken wording g time shown)) w (Err refusal) later
+  runs_many w later refusal many r =
+      let is : taken wording g time shown ≡ refused wording g = ap (λ (b : Bool). if b then refused wording g else few_taken) (le-leb 4194304 (next_count g.numbering time) many) in
+      subst (λ (o : Outcome Gathering). Runs [] (Does o) w (Err refusal) later) (sym is) r
 
   -- the record is of the window at hand
   pub runs_joined : (w : World) → next_count g.numbering time < 4194304 → next_number g.numbering time ≡ g.numbering.number → Runs [] (Does (taken wording g time shown)) w (Ok (after g time shown)) w
@@ -368,6 +365,38 @@ module _ (wording : Wording) (g : Gathering) (time : ℕ) (shown : List ℕ) whe
       → Runs [] (Does (taken wording g time shown)) w (Err refusal) later
   runs_unwritten w later refusal few other r =
       subst (λ (o : Outcome Gathering). Runs [] (Does o) w (Err refusal) later) (sym (begun_is few other)) (text_stops (hand_text wording g) (silent (Ok (begins g time shown))) r)
+
+-- a text went out, or couldn't, and the work is refused behind it
+module _ {A : Type 0} (text : List ℕ) (before now : World) where
+  abbrev refused_then : Outcome A
+  refused_then = record { text = text; end = Err (Refused faults.TooLarge) }
+
+  pub runs_refused : Runs [] (Adds text) before (Ok tt) now → Runs [] (Does refused_then) before (Err (Refused faults.TooLarge)) now
+  runs_refused r =
+      subst (λ (bytes : List ℕ). Runs {A = A} [] (Does (record { text = bytes; end = Err (Refused faults.TooLarge) })) before (Err (Refused faults.TooLarge)) now) (append-nil text)
+      (text_then text (silent (Err (Refused faults.TooLarge))) r (runs_gives (Err faults.TooLarge) now))
+
+  pub runs_unrefused : {refusal : Refusal} → Runs [] (Adds text) before (Err refusal) now → Runs [] (Does refused_then) before (Err refusal) now
+  runs_unrefused {refusal} r =
+      subst (λ (bytes : List ℕ). Runs {A = A} [] (Does (record { text = bytes; end = Err (Refused faults.TooLarge) })) before (Err refusal) now) (append-nil text)
+      (text_stops text (silent (Err (Refused faults.TooLarge))) r)
+
+-- a refusal is one whatever value is wanted
+same_refusal : {A B : Type 0} {r s : Refusal} → ◌≡◌ {A = Result A Refusal} (Err r) (Err s) → ◌≡◌ {A = Result B Refusal} (Err r) (Err s)
+same_refusal e = cc
+
+pub refused_elsewhere : {A B : Type 0} {text : List ℕ} {due refusal : Refusal} {before now : World} → Runs [] (Does {A = A} (record { text = text; end = Err due })) before (Err refusal) now
+    → Runs [] (Does {A = B} (record { text = text; end = Err due })) before (Err refusal) now
+refused_elsewhere {A} {B} {text} {due} {refusal} {before} {now} r = record {
+  keeps = λ files told outcome is.
+      let k : Keeps {A = A} (record { text = text; end = Err due }) (Err refusal) before.out.written now.out.written = r.keeps files told (record { text = text; end = Err due }) refl in
+      subst (λ (o : Outcome B). Keeps o (Err refusal) before.out.written now.out.written) (sym is) (record { front = k.front; ends = λ e. same_refusal (k.ends e); whole = k.whole });
+  missing = λ e. r.missing (same_refusal e);
+  read_fault = λ e. r.read_fault (same_refusal e);
+  write_fault = λ e. r.write_fault (same_refusal e);
+  words = λ e. r.words (same_refusal e);
+  follows = r.follows;
+}
 
 -- a text went out, and then memory was wanted
 pub added_wanting : (text : List ℕ) (before now : World) → Runs [] (Adds text) before (Ok tt) now → Runs [] (Adds text) before (Err Memory) now

@@ -15,20 +15,18 @@ use Rattle.sn_pcap.specs.declared.seen.Seen.{Seen}
 use Rattle.sn_pcap.specs.declared.seen.Next.{Next}
 use Rattle.sn_pcap.specs.declared.seen.Last.{Last}
 use Rattle.sn_pcap.specs.Reading.{ReaderState, made, Follows as ReaderFollows, Left, Takes}
-use Rattle.sn_stage.specs.declared.fault.Fault.TheVariants as faults
 use Rattle.sn_stage.specs.declared.refusal.Refusal.{Refusal}
-use Rattle.sn_stage.specs.declared.refusal.Refusal.TheVariants.{ReadFault, Refused}
-use Rattle.sn_stage.specs.Outcomes.{Outcome, silent, Stage}
+use Rattle.sn_stage.specs.declared.refusal.Refusal.TheVariants.{ReadFault}
+use Rattle.sn_stage.specs.Outcomes.{Outcome, Stage}
 use Rattle.sn_stage.specs.Runs.{Runs, Leads}
 use Rattle.sn_stage.specs.Stages.{Does}
 use Rattle.sn_stage.specs.Worlds.{Files, World, Follows}
 use Rattle.sn_stage.proofs.OutcomeLemmas.{chance_keeps}
-use Rattle.sn_stage.proofs.StageLemmas.{runs_gives}
 use Rattle.sn_answered.specs.Wording.{IsCausal, Window, Wording}
-use Rattle.sn_answered.specs.Capture.{read_refusal, WindowsOf}
+use Rattle.sn_answered.specs.Capture.{WindowsOf}
 use Rattle.sn_answered.specs.declared.gathered.Gathered.{Gathered}
-use Rattle.sn_answered.specs.Gathering.{Gathering, none_gathered, Stands, taken, closing}
-use Rattle.sn_answered.proofs.StreamLemmas.{LeftOver, runs_told, read_follows, file_known, left_begin, packet_answer, end_answer, large_answer, left_packet, left_end, left_large, turn_goes, turn_stops, turn_ends}
+use Rattle.sn_answered.specs.Gathering.{Gathering, none_gathered, refused, Stands, Stops, taken, closing}
+use Rattle.sn_answered.proofs.StreamLemmas.{LeftOver, refused_elsewhere, runs_told, read_follows, file_known, left_begin, packet_answer, end_answer, large_answer, left_packet, left_end, left_large, turn_goes, turn_stops, turn_ends}
 
 if_all : (told : Option (List ℕ)) (P : List ℕ → Type 0) → ((file : List ℕ) → P file) → IfSome told P
 if_all None P all = tt
@@ -75,9 +73,9 @@ module _ (wording : Wording) (link : Link) (capture : List ℕ) (reader after : 
   end_stops ending answer now takes r = turn_ends follows refl (λ held same outcome l. left_end wording link capture reader after g before.files.told held outcome same l ending takes) leads r
 
   -- the capture has too many bytes
-  large_stops : TakesHere large_answer → Runs (capture ∷ []) whole first (Err (Refused faults.TooLarge)) (read_on before files)
-  large_stops takes =
-      turn_ends {due = silent (Err (Refused faults.TooLarge))} follows refl (λ held same outcome l. left_large wording link capture reader after g before.files.told held outcome same l takes) leads (runs_gives (Err faults.TooLarge) (read_on before files))
+  large_stops : (refusal : Refusal) (now : World) → TakesHere large_answer → Runs [] (Does (refused {A = Gathering} wording g)) (read_on before files) (Err refusal) now → Runs (capture ∷ []) whole first (Err refusal) now
+  large_stops refusal now takes r =
+      turn_ends {due = refused wording g} follows refl (λ held same outcome l. left_large wording link capture reader after g before.files.told held outcome same l takes) leads (refused_elsewhere r)
 
   -- a read failed
   fault_stops : RoseAt capture before.files.faults files.faults → Runs (capture ∷ []) whole first (Err ReadFault) (read_on before files)
@@ -91,12 +89,12 @@ module _ (wording : Wording) (link : Link) (capture : List ℕ) (reader after : 
   })
 
   -- the reader gives no record and no end
-  pub error_stops : (error : ReadError) → is_some (get before.files.faults capture) ≡ true → (IsErrOf {T = Next} (Err error) errors.Missing → get before.files.faults capture ≡ None) → (IsErrOf {T = Next} (Err error) errors.ReadFault → RoseAt capture before.files.faults files.faults)
-      → (IsErrOf {T = Next} (Err error) errors.Memory → ⊥) → TakesHere (Err error) → Runs (capture ∷ []) whole first (Err (read_refusal error)) (read_on before files)
-  error_stops errors.Missing known missing fault memory takes = absurd (false≢true (sym (ap is_some (missing refl)) ∙ known))
-  error_stops errors.ReadFault known missing fault memory takes = fault_stops (fault refl)
-  error_stops errors.TooLarge known missing fault memory takes = large_stops takes
-  error_stops errors.Memory known missing fault memory takes = absurd (memory refl)
+  pub error_stops : (hand : List Window → ℕ → List (List ℕ) → Type 0) (kept : Gathered) → Stands hand kept g → (error : ReadError) (refusal : Refusal) (now : World) → is_some (get before.files.faults capture) ≡ true → (IsErrOf {T = Next} (Err error) errors.Missing → get before.files.faults capture ≡ None) → (IsErrOf {T = Next} (Err error) errors.ReadFault → RoseAt capture before.files.faults files.faults)
+      → (IsErrOf {T = Next} (Err error) errors.Memory → ⊥) → TakesHere (Err error) → Stops hand wording kept error (read_on before files) refusal now → Runs (capture ∷ []) whole first (Err refusal) now
+  error_stops hand kept s errors.Missing refusal now known missing fault memory takes stops = absurd (false≢true (sym (ap is_some (missing refl)) ∙ known))
+  error_stops hand kept s errors.ReadFault refusal now known missing fault memory takes stops = rw (stops.0, stops.1) (fault_stops (fault refl))
+  error_stops hand kept s errors.TooLarge refusal now known missing fault memory takes stops = large_stops refusal now takes (stops g s)
+  error_stops hand kept s errors.Memory refusal now known missing fault memory takes stops = absurd (memory refl)
 
 -- ---- the loop
 

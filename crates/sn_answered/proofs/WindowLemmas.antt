@@ -20,7 +20,7 @@ run_within : (w : ℕ) (ps : List (ℕ × Packet)) → run_of w ps ≤ length ps
 run_within w [] = omega arith
 run_within w (p ∷ ps) = let more = run_within w ps in by_test (p.0 == w) (λ is. rw is (omega arith)) (λ isnt. rw isnt (omega arith))
 
-run_long : (p : ℕ × Packet) (ps : List (ℕ × Packet)) → length (map record_at (take (first_run (p ∷ ps)) (p ∷ ps))) ≡ first_run (p ∷ ps)
+pub run_long : (p : ℕ × Packet) (ps : List (ℕ × Packet)) → length (map record_at (take (first_run (p ∷ ps)) (p ∷ ps))) ≡ first_run (p ∷ ps)
 run_long p ps =
     let within = run_within p.0 ps in
     length-map (take (first_run (p ∷ ps)) (p ∷ ps)) record_at ∙ length-take-le (first_run (p ∷ ps)) (p ∷ ps) (omega arith)

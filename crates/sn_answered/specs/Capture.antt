@@ -1,5 +1,5 @@
 -- The stages of an answered capture.
-use Rattle.std.specs.Prelude.{◌≡◌, ℕ, nat_lt, List, [], ◌∷◌, map, filter, Result, Ok, Err, Option, Some, None, if◌then◌else◌}
+use Rattle.std.specs.Prelude.{◌≡◌, ℕ, nat_lt, List, [], ◌∷◌, ◌++◌, Bool, true, false, ◌||◌, length, take, map, filter, Result, Ok, Err, Option, Some, None, if◌then◌else◌}
 use Rattle.std.specs.FinMap.{get}
 use Rattle.sn_base.specs.declared.link.Link.{Link}
 use Rattle.sn_fields.specs.Tuples.{tuple}
@@ -20,7 +20,7 @@ use Rattle.sn_stage.specs.declared.refusal.Refusal.TheVariants.{Memory, Missing,
 use Rattle.sn_stage.specs.Outcomes.{Outcome, silent, Stage}
 use Rattle.sn_stage.specs.Stages.{Does, Adds, Gives, Judges, named, Then}
 use Rattle.sn_windows.specs.Windows.{in_window, numbered, windows_of}
-use Rattle.sn_windows.specs.Blocks.{blocks, all_few}
+use Rattle.sn_windows.specs.Blocks.{blocks, all_few, most_records}
 use Rattle.sn_answered.specs.Wording.{Window, Wording}
 
 -- the refusal of a capture that can't be read on
@@ -88,14 +88,31 @@ block_in wording shown windows number packets = wording.block windows number (ma
 abbrev pub blocks_in : Wording → (Packet → List ℕ) → List (ℕ × Packet) → List ℕ
 blocks_in wording shown packets = blocks (block_in wording shown (windows_in shown packets)) packets
 
+-- the capture has too many bytes, and no window comes behind these
+abbrev pub ends_large : Last → List Window → Bool
+ends_large (last.Ended ending) windows = false
+ends_large last.TooLarge [] = true
+ends_large last.TooLarge (w ∷ ws) = false
+
+-- What stands of the window at hand where the capture is refused, behind some windows that were closed: it's the first of
+-- the others with too many records, of which the first 4194304 came. Where none has, and the capture has too many bytes, it's
+-- the last one.
+abbrev pub unfinished_in : Wording → Last → List Window → List Window → List ℕ
+unfinished_in wording end closed [] = []
+unfinished_in wording end closed (w ∷ ws) =
+    if ends_large end ws || nat_lt most_records (length w.1) then wording.unfinished closed w.0 (take most_records w.1) else unfinished_in wording end (closed ++ w ∷ []) ws
+
+-- a capture with these windows is refused, behind these blocks
+abbrev pub windows_refused : Wording → Last → List ℕ → List Window → Outcome (List Window × Ending)
+windows_refused wording end text windows = record { text = text ++ unfinished_in wording end [] windows; end = Err (Refused faults.TooLarge) }
+
 -- The blocks of the windows, up to the first one with too many records; and which windows there are, with how the records
 -- end. Of a capture with too many bytes only the windows below the last whole record's have their blocks.
 abbrev pub windows_outcome : Wording → (Packet → List ℕ) → List (ℕ × Packet) → Last → Outcome (List Window × Ending)
-windows_outcome wording shown packets (last.Ended ending) = record {
-  text = blocks_in wording shown packets;
-  end = (if all_few packets then Ok (windows_in shown packets, ending) else Err (Refused faults.TooLarge));
-}
-windows_outcome wording shown packets last.TooLarge = record { text = blocks_in wording shown (before_last packets); end = Err (Refused faults.TooLarge) }
+windows_outcome wording shown packets (last.Ended ending) =
+    if all_few packets then record { text = blocks_in wording shown packets; end = Ok (windows_in shown packets, ending) }
+    else windows_refused wording (last.Ended ending) (blocks_in wording shown packets) (windows_in shown packets)
+windows_outcome wording shown packets last.TooLarge = windows_refused wording last.TooLarge (blocks_in wording shown (before_last packets)) (windows_in shown packets)
 
 -- the windows of a capture's first 2^40 bytes, each of so many nanoseconds
 abbrev pub WindowsIn : Wording → ℕ → Header → List ℕ → Stage (List Window × Ending)

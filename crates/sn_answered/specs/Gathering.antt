@@ -1,11 +1,18 @@
 -- What is kept of a capture while its records are read one after another.
 use Rattle.std.specs.Prelude.{◌≡◌, ℕ, ◌<◌, nat_le, ◌==◌, List, [], ◌∷◌, ◌++◌, Bool, true, false, Ok, Err, None, length, if◌then◌else◌}
+use Rattle.sn_io.specs.declared.inputs.ReadError.{ReadError}
+use Rattle.sn_io.specs.declared.inputs.ReadError.TheVariants as errors
 use Rattle.sn_pcap.specs.declared.packet.Ending.{Ending}
 use Rattle.sn_stage.specs.declared.fault.Fault.TheVariants.{TooLarge}
+use Rattle.sn_stage.specs.declared.refusal.Refusal.{Refusal}
 use Rattle.sn_stage.specs.declared.refusal.Refusal.TheVariants.{Refused}
 use Rattle.sn_stage.specs.Outcomes.{Outcome, silent}
+use Rattle.sn_stage.specs.Runs.{Runs}
+use Rattle.sn_stage.specs.Stages.{Does}
+use Rattle.sn_stage.specs.Worlds.{World}
 use Rattle.sn_windows.specs.Numbering.{Numbering, begun, next_number, next_count, stepped}
 use Rattle.sn_windows.specs.NumberingOf.{numbering}
+use Rattle.sn_answered.specs.Capture.{read_refusal}
 use Rattle.sn_answered.specs.Wording.{AreRising, Window, Wording}
 use Rattle.sn_answered.specs.declared.gathered.Gathered.{Gathered}
 
@@ -27,6 +34,18 @@ with_hand g = g.closed ++ (g.numbering.number, g.tuples) ∷ []
 abbrev pub hand_text : Wording → Gathering → List ℕ
 hand_text wording g = wording.block (with_hand g) g.numbering.number g.tuples
 
+-- What stands of the window at hand where the capture is refused. Before the first record no window is at hand.
+abbrev pub unfinished_of : Wording → ℕ → List Window → List (List ℕ) → List ℕ
+unfinished_of wording number closed [] = []
+unfinished_of wording number closed (t ∷ ts) = wording.unfinished closed number (t ∷ ts)
+
+abbrev pub unfinished_text : Wording → Gathering → List ℕ
+unfinished_text wording g = unfinished_of wording g.numbering.number g.closed g.tuples
+
+-- the capture is refused, behind what stands of the window at hand
+abbrev pub refused : {A : Type 0} → Wording → Gathering → Outcome A
+refused wording g = record { text = unfinished_text wording g; end = Err (Refused TooLarge) }
+
 -- behind a record of the window at hand
 abbrev pub joined : Gathering → ℕ → List ℕ → Gathering
 joined g time tuple = record { numbering = stepped g.numbering time; tuples = g.tuples ++ tuple ∷ []; closed = g.closed }
@@ -43,10 +62,10 @@ abbrev pub after : Gathering → ℕ → List ℕ → Gathering
 after g time tuple = if is_here g time then joined g time tuple else begins g time tuple
 
 -- A record at this time, with this tuple, is of the window at hand or begins the next one: then the block of the one at
--- hand goes out. It is refused where the window at hand has too many records.
+-- hand goes out. Where the window at hand would have too many records, the capture is refused.
 abbrev pub taken : Wording → Gathering → ℕ → List ℕ → Outcome Gathering
 taken wording g time tuple =
-    if nat_le 4194304 (next_count g.numbering time) then silent (Err (Refused TooLarge))
+    if nat_le 4194304 (next_count g.numbering time) then refused wording g
     else (if is_here g time then silent (Ok (joined g time tuple)) else record { text = hand_text wording g; end = Ok (begins g time tuple) })
 
 -- The records end: the block of the window at hand goes out, if there is one.
@@ -71,5 +90,12 @@ pub record Stands (hand : List Window → ℕ → List (List ℕ) → Type 0) (k
   pub closed : kept.closed ≡ length g.closed
   pub some : kept.some ≡ true → 0 < length g.tuples
   pub none : kept.some ≡ false → g.tuples ≡ []
+  pub fresh : kept.some ≡ false → (g.numbering.first ≡ None) × (g.numbering.number ≡ 0)
   pub at_hand : hand g.closed g.numbering.number g.tuples
   pub rising : AreRising None (with_hand g)
+
+-- A capture that can't be read on is refused. Where it has too many bytes, what stands of the window at hand went out before;
+-- else nothing did.
+abbrev pub Stops : (List Window → ℕ → List (List ℕ) → Type 0) → Wording → Gathered → ReadError → World → Refusal → World → Type 0
+Stops hand wording kept errors.TooLarge before refusal now = (g : Gathering) → Stands hand kept g → Runs [] (Does (refused {A = Gathering} wording g)) before (Err refusal) now
+Stops hand wording kept error before refusal now = (refusal ≡ read_refusal error) × (now ≡ before)

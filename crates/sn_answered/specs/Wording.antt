@@ -1,5 +1,5 @@
 -- How the windows of a capture are answered.
-use Rattle.std.specs.Prelude.{◌≡◌, ◌⊎◌, ℕ, ◌<◌, List, [], ◌∷◌, ◌++◌, Option, None, Some}
+use Rattle.std.specs.Prelude.{◌≡◌, ◌⊎◌, ℕ, ◌<◌, List, [], ◌∷◌, ◌++◌, length, Option, None, Some}
 use Rattle.sn_pcap.specs.declared.packet.Ending.{Ending}
 
 -- a window: its number, and its tuples in capture order
@@ -17,10 +17,12 @@ AreRising before [] = Unit {0}
 AreRising before (w ∷ ws) = IsAbove before w.0 × AreRising (Some w.0) ws
 
 -- What stands before the blocks of a capture; the block of a window with this number and these tuples, in a capture that has
--- these windows; and what stands behind the blocks of a capture with these windows, whose records end so.
+-- these windows; what stands of the window with this number behind the blocks of these windows, where the capture is refused
+-- behind these tuples of it; and what stands behind the blocks of a capture with these windows, whose records end so.
 pub record Wording : Type 0 where
   pub first : List ℕ
   pub block : List Window → ℕ → List (List ℕ) → List ℕ
+  pub unfinished : List Window → ℕ → List (List ℕ) → List ℕ
   pub last : List Window → Ending → List ℕ
 
 -- the block of a window depends on no later one
@@ -28,17 +30,13 @@ abbrev pub IsCausal : Wording → Type 0
 IsCausal wording = (closed : List Window) (number : ℕ) (tuples : List (List ℕ)) (more : List Window) → AreRising None (closed ++ (number, tuples) ∷ more)
     → wording.block (closed ++ (number, tuples) ∷ more) number tuples ≡ wording.block (closed ++ (number, tuples) ∷ []) number tuples
 
--- some windows were closed, and none is at hand
-abbrev pub Rests : (List Window → Type 0) → Type 0
-Rests idle = (closed : List Window) × idle closed
-
 -- some windows were closed, and the one with this number is at hand
 abbrev pub Holds : (List Window → ℕ → List (List ℕ) → Type 0) → ℕ → Type 0
 Holds hand number = (closed : List Window) × (tuples : List (List ℕ)) × hand closed number tuples
 
--- some window is at hand
-abbrev pub Takes : (List Window → ℕ → List (List ℕ) → Type 0) → Type 0
-Takes hand = (number : ℕ) × Holds hand number
+-- and some tuples of it came
+abbrev pub HoldsSome : (List Window → ℕ → List (List ℕ) → Type 0) → ℕ → Type 0
+HoldsSome hand number = (closed : List Window) × (tuples : List (List ℕ)) × (0 < length tuples) × hand closed number tuples
 
 -- these windows were closed, and no tuple came since
 abbrev pub Closed : (List Window → Type 0) → (List Window → ℕ → List (List ℕ) → Type 0) → List Window → Type 0

@@ -2,9 +2,9 @@
 //! when it closes. Nothing is kept of the capture but what the way of answering keeps.
 ghost use Rattle.std.specs.Prelude.{◌≡◌, ◌<◌, ◌≤◌, ◌+◌, ◌^◌, ◌++◌, ℕ, List, [], ◌∷◌, None, true, is_some, IfOk, OnOk, length, take};
 ghost use Rattle.std.specs.FinMap.{get};
-ghost use Rattle.sn_answered.specs.Capture.{read_refusal, Head, WindowsOf, ending_verdict, LastLines, AfterHead, Answered};
-ghost use Rattle.sn_answered.specs.Gathering.{Gathering, after, all_closed, closing, Stands, taken};
-ghost use Rattle.sn_answered.specs.Wording.{AreRising, Closed, Holds, Rests, Window};
+ghost use Rattle.sn_answered.specs.Capture.{Head, WindowsOf, ending_verdict, LastLines, AfterHead, Answered};
+ghost use Rattle.sn_answered.specs.Gathering.{Gathering, after, all_closed, closing, refused, Stands, Stops, taken, unfinished_text};
+ghost use Rattle.sn_answered.specs.Wording.{AreRising, Closed, HoldsSome, Window};
 ghost use Rattle.sn_fields.specs.Tuples.{tuple};
 ghost use Rattle.sn_stage.specs.Desks.{world};
 ghost use Rattle.sn_stage.specs.Refusals.{refusing, seen_as};
@@ -14,7 +14,7 @@ ghost use Rattle.sn_stage.specs.Stages.{Does, Adds};
 use crate::answering::Answering;
 use crate::gathered::Gathered;
 use sn_base::link::Link;
-use sn_fields::tuple::tuple_of;
+use sn_fields::tuple::{Tuple, tuple_of};
 use sn_io::inputs::{InputFault, Inputs, ReadError};
 use sn_io::sink::Sink;
 use sn_pcap::front::read_head;
@@ -29,38 +29,72 @@ use sn_stage::texts::write_text;
 use sn_windows::windows::Windows;
 use std::alloc::Global;
 
-/// Closes the window at hand, and writes its block.
+/// Closes the window at hand, which is the last one, and writes its block.
 fn write_window<A: Answering, I: Inputs, O: Sink>(
     answering: &mut A,
     number: u64,
     desk: &mut Desk<'_, I, O>,
 ) -> Result<(), Refusal>
-    requires { Holds (A.hand answering.old) number }
-    ensures runs { (closed : List Window) (tuples : List (List ℕ)) → A.hand answering.old closed number tuples →
+    requires { HoldsSome (A.hand answering.old) number }
+    ensures runs { (closed : List Window) (tuples : List (List ℕ)) → 0 < length tuples → A.hand answering.old closed number tuples →
         Runs [] (Adds ((A.wording answering.old).block (closed ++ (number, tuples) ∷ []) number tuples)) (world I.Inputs O.Sink desk.old) result (world I.Inputs O.Sink desk.new) }
-    ensures closed { OnOk result ((closed : List Window) (tuples : List (List ℕ)) → A.hand answering.old closed number tuples → A.idle answering.new (closed ++ (number, tuples) ∷ [])) }
+    ensures closed { OnOk result ((closed : List Window) (tuples : List (List ℕ)) → 0 < length tuples → A.hand answering.old closed number tuples → A.idle answering.new (closed ++ (number, tuples) ∷ [])) }
     ensures wording { OnOk result (A.wording answering.new ≡ A.wording answering.old) }
 {
     let text = answering.close(number)?;
     write_text(text.as_slice(), desk)
 }
 
-/// Closes the window at hand, writes its block, and begins the next.
+/// Takes the first tuple of a later window: closes the window at hand, and writes its block.
 fn next_window<A: Answering, I: Inputs, O: Sink>(
     answering: &mut A,
     at_hand: u64,
     number: u64,
+    tuple: &Tuple,
     desk: &mut Desk<'_, I, O>,
 ) -> Result<(), Refusal>
-    requires { Holds (A.hand answering.old) at_hand }
-    ensures runs { (closed : List Window) (tuples : List (List ℕ)) → A.hand answering.old closed at_hand tuples →
+    requires hand { HoldsSome (A.hand answering.old) at_hand }
+    requires above { at_hand < number }
+    ensures runs { (closed : List Window) (tuples : List (List ℕ)) → 0 < length tuples → A.hand answering.old closed at_hand tuples →
         Runs [] (Adds ((A.wording answering.old).block (closed ++ (at_hand, tuples) ∷ []) at_hand tuples)) (world I.Inputs O.Sink desk.old) result (world I.Inputs O.Sink desk.new) }
-    ensures begun { OnOk result ((closed : List Window) (tuples : List (List ℕ)) → A.hand answering.old closed at_hand tuples → AreRising None ((closed ++ (at_hand, tuples) ∷ []) ++ (number, []) ∷ []) → A.hand answering.new (closed ++ (at_hand, tuples) ∷ []) number []) }
+    ensures begun { OnOk result ((closed : List Window) (tuples : List (List ℕ)) → 0 < length tuples → A.hand answering.old closed at_hand tuples → AreRising None ((closed ++ (at_hand, tuples) ∷ []) ++ (number, []) ∷ []) →
+        A.hand answering.new (closed ++ (at_hand, tuples) ∷ []) number (tuple.now ∷ [])) }
     ensures wording { OnOk result (A.wording answering.new ≡ A.wording answering.old) }
 {
-    write_window(answering, at_hand, desk)?;
-    answering.begin(number)?;
-    Ok(())
+    let text = answering.pass(at_hand, number, tuple)?;
+    write_text(text.as_slice(), desk)
+}
+
+/// Writes what stands of the window at hand, if there is one, where the capture is refused there.
+fn write_unfinished<A: Answering, I: Inputs, O: Sink>(
+    answering: &A,
+    gathered: Gathered,
+    desk: &mut Desk<'_, I, O>,
+) -> Result<(), Refusal>
+    requires { (g : Gathering) × Stands (A.hand answering.now) gathered g }
+    ensures { (g : Gathering) → Stands (A.hand answering.now) gathered g → Runs [] (Adds (unfinished_text (A.wording answering.now) g)) (world I.Inputs O.Sink desk.old) result (world I.Inputs O.Sink desk.new) }
+{
+    if !gathered.some {
+        return Ok(());
+    }
+    let text = answering.unfinished(gathered.windows.number())?;
+    write_text(text.as_slice(), desk)
+}
+
+/// Refuses a capture that is too large, behind what stands of the window at hand.
+fn refuse_large<A: Answering, I: Inputs, O: Sink>(
+    answering: &A,
+    gathered: Gathered,
+    desk: &mut Desk<'_, I, O>,
+) -> Refusal
+    requires { (g : Gathering) × Stands (A.hand answering.now) gathered g }
+    ensures { (g : Gathering) → Stands (A.hand answering.now) gathered g →
+        Runs [] (Does (refused {A = Gathering} (A.wording answering.now) g)) (world I.Inputs O.Sink desk.old) (Err result) (world I.Inputs O.Sink desk.new) }
+{
+    match write_unfinished(answering, gathered, desk) {
+        Ok(()) => Refusal::Refused(Fault::TooLarge),
+        Err(refusal) => refusal,
+    }
 }
 
 /// Takes a packet: it is of the window at hand, or the block of that one is written and it begins the next.
@@ -83,18 +117,20 @@ fn take_packet<A: Answering, I: Inputs, O: Sink>(
     let mut windows = gathered.windows;
     let closed = gathered.closed;
     let at_hand = windows.number();
-    let number = windows.next_number(seen.time)?;
+    let number = match windows.next_number(seen.time) {
+        Ok(number) => number,
+        Err(_) => return Err(refuse_large(answering, gathered, desk)),
+    };
     let tuple = tuple_of(link, seen.wire, seen.bytes());
     if number == at_hand {
-        answering.packet(&tuple)?;
+        answering.packet(number, &tuple)?;
         return Ok(Gathered {
             windows,
             closed,
             some: true,
         });
     }
-    next_window(answering, at_hand, number, desk)?;
-    answering.packet(&tuple)?;
+    next_window(answering, at_hand, number, &tuple, desk)?;
     Ok(Gathered {
         windows,
         closed: closed + 1,
@@ -123,14 +159,20 @@ fn close_last<A: Answering, I: Inputs, O: Sink>(
     Ok((gathered.closed + 1, ending))
 }
 
-/// The refusal of a capture that can't be read on.
-fn refusal_of(error: ReadError) -> Refusal
-    ensures { result ≡ read_refusal error }
+/// Refuses a capture that can't be read on. Where it has too many bytes, what stands of the window at hand is written before.
+fn refuse_capture<A: Answering, I: Inputs, O: Sink>(
+    answering: &A,
+    gathered: Gathered,
+    error: ReadError,
+    desk: &mut Desk<'_, I, O>,
+) -> Refusal
+    requires { (g : Gathering) × Stands (A.hand answering.now) gathered g }
+    ensures { Stops (A.hand answering.now) (A.wording answering.now) gathered error (world I.Inputs O.Sink desk.old) result (world I.Inputs O.Sink desk.new) }
 {
     match error {
         ReadError::Missing => Refusal::Missing,
         ReadError::ReadFault => Refusal::ReadFault,
-        ReadError::TooLarge => Refusal::Refused(Fault::TooLarge),
+        ReadError::TooLarge => refuse_large(answering, gathered, desk),
         ReadError::Memory => Refusal::Memory,
     }
 }
@@ -147,13 +189,12 @@ fn write_windows<A: Answering, I: Inputs, O: Sink>(
 ) -> Result<(u64, Ending), Refusal>
     requires known { is_some (get (world I.Inputs O.Sink desk.old).files.faults capture.now) ≡ true }
     requires window { 1 ≤ window_ns }
-    requires idle { A.idle answering.old [] }
+    requires begun { A.hand answering.old [] 0 [] }
     ensures runs { (windows : List Window) × Runs (capture.now ∷ []) (WindowsOf (A.wording answering.old) window_ns capture.now header.now) (world I.Inputs O.Sink desk.old) (seen_as (λ found. (windows, found.1)) result) (world I.Inputs O.Sink desk.new)
         × IfOk result (λ found. (found.0 ≡ length windows) × Closed (A.idle answering.new) (A.hand answering.new) windows) }
     ensures wording { OnOk result (A.wording answering.new ≡ A.wording answering.old) }
 {
     let mut reader = Reader::make(alloc, *header)?;
-    answering.begin(0)?;
     let mut gathered = Gathered {
         windows: Windows::new(window_ns),
         closed: 0,
@@ -165,7 +206,7 @@ fn write_windows<A: Answering, I: Inputs, O: Sink>(
                 gathered = take_packet(answering, header.link, gathered, &seen, desk)?;
             }
             Ok(Next::End(ending)) => return close_last(answering, gathered, ending, desk),
-            Err(error) => return Err(refusal_of(error)),
+            Err(error) => return Err(refuse_capture(answering, gathered, error, desk)),
         }
     }
 }
@@ -234,7 +275,7 @@ fn answer_records<A: Answering, I: Inputs, O: Sink>(
 ) -> Result<(), Refusal>
     requires known { is_some (get (world I.Inputs O.Sink desk.old).files.faults capture.now) ≡ true }
     requires window { 1 ≤ window_ns }
-    requires idle { A.idle answering.old [] }
+    requires begun { A.hand answering.old [] 0 [] }
     ensures { Runs (capture.now ∷ []) (AfterHead (A.wording answering.old) window_ns capture.now header.now) (world I.Inputs O.Sink desk.old) result (world I.Inputs O.Sink desk.new) }
 {
     write_first_lines(answering, desk)?;
@@ -242,7 +283,7 @@ fn answer_records<A: Answering, I: Inputs, O: Sink>(
     write_last_lines(answering, windows, ending, desk)
 }
 
-/// Answers a capture in windows of so many nanoseconds, of which none was closed or begun.
+/// Answers a capture in windows of so many nanoseconds, of which none was closed, and none was given a tuple.
 pub fn answer_capture<A: Answering, I: Inputs, O: Sink>(
     alloc: Global,
     window_ns: u64,
@@ -251,7 +292,7 @@ pub fn answer_capture<A: Answering, I: Inputs, O: Sink>(
     desk: &mut Desk<'_, I, O>,
 ) -> Result<(), Refusal>
     requires window { 1 ≤ window_ns }
-    requires idle { A.idle answering.old [] }
+    requires begun { A.hand answering.old [] 0 [] }
     ensures { Runs (capture.now ∷ []) (Answered (A.wording answering.old) window_ns capture.now) (world I.Inputs O.Sink desk.old) result (world I.Inputs O.Sink desk.new) }
 {
     let header = read_header(capture, desk)?;

@@ -1,5 +1,5 @@
 -- Small lemmas on tests, filters and lists that the crates above share.
-use Rattle.std.proofs.Common.{◌≡◌, ℕ, ◌+◌, List, [], ◌∷◌, ◌++◌, map, filter, take, slice_get, Bool, true, false, not, ◌||◌, cond, nat_eq, Option, None, Some, is_some, is_none, unwrap_or, IfSome, refl, ap, sym, ◌∙◌, subst, eq-eqb, append-nil, append_assoc}
+use Rattle.std.proofs.Common.{◌≡◌, ℕ, ◌+◌, List, [], ◌∷◌, ◌++◌, map, filter, take, slice_get, Bool, true, false, not, ◌||◌, ◌&&◌, cond, nat_eq, Option, None, Some, is_some, is_none, unwrap_or, IfSome, refl, ap, sym, ◌∙◌, subst, eq-eqb, append-nil, append_assoc}
 use Rattle.std.specs.List.{list_any, find, AllByRecursion}
 use Rattle.std.proofs.lemmas.Bool.{false≢true, eqb-true}
 use Rattle.std.proofs.lemmas.List.{take_more, map-append}
@@ -20,6 +20,18 @@ not_true false h = refl
 pub not_false : (b : Bool) → not b ≡ false → b ≡ true
 not_false true e = refl
 not_false false e = sym e
+
+-- both hold where their 'and' does, and the other way
+pub and_parts : (a b : Bool) → (a && b) ≡ true → (a ≡ true) × (b ≡ true)
+and_parts true b e = (refl, e)
+and_parts false b e = cc
+
+pub and_both : (a b : Bool) → a ≡ true → b ≡ true → (a && b) ≡ true
+and_both a b e f = ap (λ x. x && b) e ∙ f
+
+pub or_none : (a b : Bool) → (a || b) ≡ false → (a ≡ false) × (b ≡ false)
+or_none true b e = cc
+or_none false b e = (refl, e)
 
 pub or_left : (a b : Bool) → a ≡ true → (a || b) ≡ true
 or_left a b e = ap (λ x. x || b) e

@@ -1,5 +1,5 @@
 -- A cost and a tree without a fault leave no plan that fits and sends fewer items.
-use Rattle.std.proofs.Common.{◌≡◌, ℕ, ◌≤◌, List, Option, None, Some, Result, Ok, Err, refl, sym, ◌∙◌, subst, arith}
+use Rattle.std.proofs.Common.{◌≡◌, ℕ, ◌≤◌, List, Option, None, Some, Ok, refl, sym, ◌∙◌, arith}
 use Rattle.sn_chosen.specs.Chosen.{plan_choices}
 use Rattle.sn_chosen.specs.Theorems.{AreRising, IsNamed}
 use Rattle.sn_chosen.proofs.Wholes.{plans_named}
@@ -13,55 +13,19 @@ use Rattle.sn_paid.proofs.Plans.{trained_priced}
 use Rattle.sn_paid.specs.Sent.{sent_over}
 use Rattle.sn_plan_rules.specs.declared.plan.Entry.{Entry}
 use Rattle.sn_planned.specs.Fitting.{misfit_verdict}
-use Rattle.sn_planned.specs.Queries.{QueriesIn}
-use Rattle.sn_planned.specs.Texts.{SwitchIn, switch_fault}
+use Rattle.sn_planned.proofs.Accepted.{ok_err}
 use Rattle.sn_priced.specs.Space.{trained_entry, trained_plans}
-use Rattle.sn_read_queries.specs.Texts as query_texts
-use Rattle.sn_read_queries.specs.Texts.{Queries}
 use Rattle.sn_refine.specs.Steps.{Given}
 use Rattle.sn_space.proofs.Least.{least_by_cover}
 use Rattle.sn_space.specs.declared.node.Node.{Node}
 use Rattle.sn_space.specs.Space.{Space}
-use Rattle.sn_stage.specs.declared.fault.Fault.{Fault}
-use Rattle.sn_stage.specs.declared.fault.Fault.TheVariants as faults
-use Rattle.sn_stage.specs.Stages.{ReadAs, named}
-use Rattle.sn_switch.proofs.Switches.{bounds, one_switch, set_so}
-use Rattle.sn_switch.specs.Texts as switches
-use Rattle.sn_switch.specs.Texts.{IsSwitch, switch_in}
+use Rattle.sn_switch.specs.Texts.{IsSwitch}
 use Rattle.sn_switch.specs.declared.switch.Switch.{Switch}
 use Rattle.sn_tree.proofs.Accepts.{accepted_without_fault}
 use Rattle.sn_tree.specs.Faults.{tree_fault}
 use Rattle.sn_tree.specs.declared.fault.TreeFault.{TreeFault}
 use Rattle.sn_types.specs.declared.typed_query.TypedQuery.{TypedQuery}
-use Rattle.sn_types.specs.Typed.{IsTyped}
 use Rattle.sn_checked.specs.Shown.{flaw_verdict}
-
--- ---- what the accepted texts are
-
-value_same : {A : Type 0} (x y : A) → ◌≡◌ {A = Result A Fault} (Ok x) (Ok y) → x ≡ y
-value_same x y e = cc
-
-ok_err : {A : Type 0} {x : A} {f : Fault} {G : Type 0} → ◌≡◌ {A = Result A Fault} (Ok x) (Err f) → G
-ok_err e = absurd cc
-
--- what a text is read as, where it is accepted
-read_ok : {A F : Type 0} (name : F → Fault) (reading : Result A F → Type 0) (value : A) → ReadAs name reading (Ok value) → reading (Ok value)
-read_ok {A = A} {F = F} name reading value r = by_found r.found r.is r.same
-  where
-    by_found : (found : Result A F) → reading found → Ok value ≡ named name found → reading (Ok value)
-    by_found (Ok v) is same = subst (λ (w : A). reading (Ok w)) (sym (value_same value v same)) is
-    by_found (Err e) is same = ok_err same
-
-pub typed_in : (text : List ℕ) (read : Queries) → QueriesIn text (Ok read) → ∥ IsTyped read.window_us read.queries ∥₁
-typed_in text read is = let k = read_ok faults.Queries (query_texts.IsRead text) read is in ∣ (k.0, k.2) ∣₁
-
-pub switch_limits : (text : List ℕ) (s : Switch) → SwitchIn text (Ok s) → IsSwitch s
-switch_limits text s is =
-    let k = read_ok switch_fault (switches.IsRead text) s is in
-    let fits = k.accepted.fits in
-    let b = bounds k.items fits in
-    let known : IsSwitch (switch_in k.items) = record { stages = b.stages; actions = b.actions; bits = b.bits; meta = b.meta; chain = b.chain; slots = b.slots } in
-    subst IsSwitch (one_switch k.items (switch_in k.items) s (set_so k.items fits) k.each) known
 
 -- ---- a plan without a misfit fits
 

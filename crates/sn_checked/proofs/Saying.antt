@@ -13,24 +13,18 @@ use Rattle.sn_planned.specs.Texts.{PlanIn, SwitchIn, plan_fault}
 use Rattle.sn_read_queries.specs.Texts.{Queries}
 use Rattle.sn_run.specs.Run.{window_ns}
 use Rattle.sn_space.specs.declared.node.Node.{Node}
-use Rattle.sn_stage.specs.declared.fault.Fault.{Fault}
 use Rattle.sn_stage.specs.Outcomes.{Outcome}
 use Rattle.sn_stage.specs.Stages.{Adds, Bytes, Judges, Text, Then, most_text, named}
 use Rattle.sn_switch.specs.declared.switch.Switch.{Switch}
 use Rattle.sn_training.specs.Training.{TrainingIn}
+use Rattle.sn_planned.proofs.Accepted.{ok_err, switch_limits, typed_in, value_same}
 use Rattle.sn_training.specs.declared.training.Training.{Training}
 use Rattle.sn_checked.specs.Check.{Check, PlanTree, Showing, yes_line}
 use Rattle.sn_checked.specs.Least.{ShowsLeast}
 use Rattle.sn_checked.specs.PlanTrees.{PlanBefore, TreeBehind}
 use Rattle.sn_checked.specs.Shown.{ShownFor}
-use Rattle.sn_checked.proofs.Leasts.{cost_is_sent, none_sends_less, plan_fits, switch_limits, typed_in}
+use Rattle.sn_checked.proofs.Leasts.{cost_is_sent, none_sends_less, plan_fits}
 use Rattle.sn_checked.proofs.Stopping.{given, held, judged, passed, was_read}
-
-value_same : {A : Type 0} (x y : A) → ◌≡◌ {A = Result A Fault} (Ok x) (Ok y) → x ≡ y
-value_same x y e = cc
-
-ok_err : {A : Type 0} {x : A} {f : Fault} {G : Type 0} → ◌≡◌ {A = Result A Fault} (Ok x) (Err f) → G
-ok_err e = absurd cc
 
 -- a plan that is read with the byte behind it is read
 plan_read : (text : List ℕ) (found : Plan × ℕ) → PlanBefore text (Ok found) → PlanIn text (Ok found.0)

@@ -4,6 +4,7 @@ use Rattle.std.specs.Prelude.{nat_eq, ◌==◌}
 use Rattle.std.specs.Cmp.Lexicographic.{pointwise}
 use Rattle.std.specs.List.{AllByRecursion, flat_map, range_with_len}
 use Rattle.std.proofs.lemmas.Bool.Decides.{nat_tests}
+use Rattle.sn_base.proofs.Lists.{and_both, and_parts}
 use Rattle.sn_space.specs.Space.{IsOneOf}
 use Rattle.sn_switch.specs.declared.switch.Switch.{Switch}
 use Rattle.sn_types.specs.declared.typed_query.TypedBranch.{TypedBranch}
@@ -22,13 +23,6 @@ same_number n = grind (arith, nat_tests)
 
 equal_numbers : (n m : ℕ) → (n == m) ≡ true → n ≡ m
 equal_numbers n m e = grind (arith, nat_tests)
-
-and_parts : (a b : Bool) → (a && b) ≡ true → (a ≡ true) × (b ≡ true)
-and_parts true b e = (refl, e)
-and_parts false b e = cc
-
-and_both : (a b : Bool) → a ≡ true → b ≡ true → (a && b) ≡ true
-and_both a b e f = ap (λ x. x && b) e ∙ f
 
 same_lists : (xs : List ℕ) → pointwise nat_eq xs xs ≡ true
 same_lists [] = refl

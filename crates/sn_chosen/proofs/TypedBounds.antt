@@ -1,10 +1,11 @@
 -- The queries of a typed file keep their bounds.
-use Rattle.std.proofs.Common.{◌≡◌, ℕ, suc, ◌<◌, ◌≤◌, List, [], ◌∷◌, Bool, true, false, not, ◌||◌, ◌&&◌, length, nat_lt, is_none, Option, None, Some, IfSome, slice_get, unwrap_or, cond, refl, ap, sym, subst, arith, lit≤}
+use Rattle.std.proofs.Common.{◌≡◌, ℕ, suc, ◌<◌, ◌≤◌, List, [], ◌∷◌, true, false, not, ◌||◌, ◌&&◌, length, nat_lt, is_none, Option, None, Some, IfSome, slice_get, unwrap_or, cond, ap, sym, subst, arith, lit≤}
 use Rattle.std.specs.List.{AllByRecursion, AllByRecursion-prop, list_all, list_any}
 use Rattle.std.specs.Option.{option_map_or}
 use Rattle.std.proofs.Math.Bridge.{le_prop}
 use Rattle.std.proofs.Math.Logic.{∥∥₁_elim}
 use Rattle.std.proofs.lemmas.Bool.Decides.{nat_tests}
+use Rattle.sn_base.proofs.Lists.{and_parts, not_false, or_none}
 use Rattle.sn_fields.specs.declared.field.Field.{Field}
 use Rattle.sn_fields.specs.Fields.{with_name, width_of, is_address}
 use Rattle.sn_query_rules.specs.declared.ast.Refine.{Refine}
@@ -38,28 +39,16 @@ all_places P d (x ∷ xs) f = (f 0 (omega arith), all_places P d xs (λ i h. f (
 
 -- ---- levels rise
 
-pub or_none : (a b : Bool) → (a || b) ≡ false → (a ≡ false) × (b ≡ false)
-or_none true b e = cc
-or_none false b e = (refl, e)
-
-and_true : (a b : Bool) → (a && b) ≡ true → (a ≡ true) × (b ≡ true)
-and_true true b e = (refl, e)
-and_true false b e = cc
-
-not_false : (b : Bool) → not b ≡ false → b ≡ true
-not_false true e = refl
-not_false false e = sym e
-
 all_above : (x : ℕ) (xs : List ℕ) → list_all (nat_lt x) xs ≡ true → AllByRecursion (λ y. x < y) xs
 all_above x [] e = tt
-all_above x (y ∷ xs) e = let parts = and_true (nat_lt x y) (list_all (nat_lt x) xs) e in (below x y parts.0, all_above x xs parts.1)
+all_above x (y ∷ xs) e = let parts = and_parts (nat_lt x y) (list_all (nat_lt x) xs) e in (below x y parts.0, all_above x xs parts.1)
   where
     below : (x y : ℕ) → nat_lt x y ≡ true → x < y
     below x y e = grind (arith, nat_tests)
 
 rising : (xs : List ℕ) → are_rising xs ≡ true → IsRising xs
 rising [] e = tt
-rising (x ∷ xs) e = let parts = and_true (list_all (nat_lt x) xs) (are_rising xs) e in (all_above x xs parts.0, rising xs parts.1)
+rising (x ∷ xs) e = let parts = and_parts (list_all (nat_lt x) xs) (are_rising xs) e in (all_above x xs parts.0, rising xs parts.1)
 
 field_rising : (o : Option Field) (levels : List ℕ) → is_none o ≡ false → option_map_or (λ f. wrong_field_levels f levels) o false ≡ false → are_rising levels ≡ true
 field_rising None levels some e = cc

@@ -24,7 +24,7 @@ use Rattle.sn_chosen.proofs.Readings.{seats_known, seats_placed, GoodEntry, good
 use Rattle.sn_chosen.proofs.Runs.{Does, taken_by, plan_runs, run_is_plan, run_costs}
 use Rattle.sn_chosen.proofs.Seats.{task_at, query_tasks}
 use Rattle.sn_chosen.proofs.Slots.{not_past, is_within, Runs}
-use Rattle.sn_chosen.proofs.TypedBounds.{or_none}
+use Rattle.sn_base.proofs.Lists.{or_none}
 
 path_fits : (q : TypedQuery) (m : ℕ) → HasLevels q → IsPath q.levels (path_of m q.levels)
 path_fits q m h = by_levels q.levels h.some h.rising

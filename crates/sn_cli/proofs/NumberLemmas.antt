@@ -4,7 +4,7 @@ use Rattle.std.specs.Prelude.{nat_lt, nat_le, ◌==◌, option_and_then}
 use Rattle.std.specs.List.{list_all}
 use Rattle.std.proofs.Math.Seq.{drop-cons}
 use Rattle.std.proofs.lemmas.Bool.{false≢true, le-ltb, lt-leb, le-leb, ltb-false, leb-true, eqb-false, ne_eqb}
-use Rattle.sn_base.proofs.Lists.{by_test}
+use Rattle.sn_base.proofs.Lists.{by_test, or_none}
 use Rattle.sn_cli.specs.Words.{is_digit, value_behind, decimal_value, IsNumber}
 use Rattle.sn_cli.specs.Reading.{value_within, at_least, number_of}
 
@@ -42,10 +42,6 @@ and_left false b e = e
 pub and_right : (a b : Bool) → (a && b) ≡ true → b ≡ true
 and_right true b e = e
 and_right false b e = absurd (false≢true e)
-
-pub or_none : (a b : Bool) → (a || b) ≡ false → (a ≡ false) × (b ≡ false)
-or_none true b e = absurd (false≢true (sym e))
-or_none false b e = (refl, e)
 
 -- a number that is found is one
 pub number_is : (least most : ℕ) (word : List ℕ) (n : ℕ) → number_of least most word ≡ Some n → IsNumber least most word n

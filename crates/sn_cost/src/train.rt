@@ -81,7 +81,7 @@ fn add_window(
         tuples,
         table,
     )?;
-    refined.window(t, w, tuples)?;
+    refined.pass(t, w, tuples)?;
     Ok(())
 }
 

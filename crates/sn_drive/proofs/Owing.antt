@@ -1,22 +1,20 @@
 -- What is due over the turns of a driver.
-use Rattle.std.proofs.Common.{◌≡◌, ℕ, suc, ◌<◌, ◌≤◌, ◌||◌, ◌++◌, List, [], ◌∷◌, map, length, Bool, true, false, not, is_none, slice_get, zero, IsSome, Result, Ok, Err, Option, None, Some, refl, ap, sym, ◌∙◌, subst, arith, append_assoc, inl, inr}
-use Rattle.std.specs.Option.{option_map, option_map_or}
+use Rattle.std.proofs.Common.{◌≡◌, ℕ, suc, ◌<◌, ◌≤◌, ◌||◌, ◌++◌, List, [], ◌∷◌, length, Bool, true, false, not, is_none, slice_get, zero, IsSome, Option, None, Some, refl, ap, sym, ◌∙◌, subst, arith, inl, inr}
+use Rattle.std.specs.Option.{option_map_or}
 use Rattle.std.proofs.lemmas.Bool.{false≢true}
-use Rattle.std.proofs.lemmas.List.{length-map, map-append}
-use Rattle.sn_core.proofs.Calling.{done_owes_none}
-use Rattle.sn_core.proofs.DueKept.{event_keeps_due, give_keeps_due}
+use Rattle.std.proofs.lemmas.List.{length-map}
+use Rattle.sn_base.proofs.Lists.{or_none}
 use Rattle.sn_core.proofs.Falls.{step_works}
 use Rattle.sn_core.proofs.GoesOn.{can_go_on}
 use Rattle.sn_core.proofs.StandingKept.{event_keeps_net, give_keeps_net, length_started, take_keeps_net}
-use Rattle.sn_core.proofs.Tests.{length_changed, need_holds, some_not_none}
+use Rattle.sn_core.proofs.Tests.{length_changed, need_holds}
 use Rattle.sn_core.specs.Debt.{CanGoOn, work}
 use Rattle.sn_core.specs.Due.{due}
 use Rattle.sn_core.specs.Events.{after_close, after_event, after_install, after_packet, given, kept_for_held, with_first, with_next, with_tuple, without_answers}
 use Rattle.sn_core.specs.Events as core
 use Rattle.sn_core.specs.Needs.{first_need_that_fails, has_room, is_begun_with, is_done, is_empty, is_over, needs, passes, wants}
-use Rattle.sn_core.specs.Nets.{Lane}
 use Rattle.sn_core.specs.Standing.{IsNet, IsNoEarlier}
-use Rattle.sn_core.specs.Workings.{AreLawful, option_list}
+use Rattle.sn_core.specs.Workings.{AreLawful}
 use Rattle.sn_core.specs.declared.event.Event.{Event}
 use Rattle.sn_core.specs.declared.event.Event.TheVariants.{Packet, ReadOut, Deliver, CloseWindow, Install}
 use Rattle.sn_core.specs.declared.event.Why.TheVariants.{Empty, Ended, Full, NotReading}
@@ -25,10 +23,7 @@ use Rattle.sn_core.specs.declared.supply.Supply.TheVariants.{Numbered, End}
 use Rattle.sn_core.specs.declared.supply.Window.{Window}
 use Rattle.sn_core.specs.declared.supply.Window.TheVariants.{Idle, Begun, Closed}
 use Rattle.sn_machine.specs.States.{State, Works}
-use Rattle.sn_machine.specs.Steps.{IsOneOf, Steps}
-use Rattle.sn_machine.specs.declared.fault.StepFault.{StepFault}
-use Rattle.sn_pipe.specs.Pipes.{PipeState}
-use Rattle.sn_report.specs.declared.frame.Item.{Item}
+use Rattle.sn_machine.specs.Steps.{IsOneOf}
 use Rattle.sn_types.specs.declared.answers.Answers.{Answers}
 
 -- ---- a turn
@@ -89,16 +84,12 @@ may_within s (Deliver lane) may = passes_within (λ x. not (is_empty x)) s.lanes
 may_within s CloseWindow may = tt
 may_within s Install may = tt
 
-either_false : (a b : Bool) → (a || b) ≡ false → (a ≡ false) × (b ≡ false)
-either_false true b e = absurd (false≢true (sym e))
-either_false false b e = (refl, e)
-
 -- where no event may happen, a machine that stands still wants a supply or is done
 pub goes_on : {G : Type 0} (w : Works) (law : AreLawful w) (s : State) (lanes : ℕ) → lanes ≡ length s.lanes → IsNet w s → (wants s || is_done s) ≡ false → s.waiting ≡ None → ((event : Event) → IsOneOf lanes event → is_none (first_need_that_fails s event) ≡ false) → G
 goes_on {G} w law s lanes many net going taken none = by (can_go_on w s net parts.1)
   where
     parts : (wants s ≡ false) × (is_done s ≡ false)
-    parts = either_false (wants s) (is_done s) going
+    parts = or_none (wants s) (is_done s) going
 
     by : CanGoOn s → G
     by (inl held) = absurd (false≢true (sym parts.0 ∙ ap is_none held))

@@ -17,7 +17,7 @@ ghost use Rattle.sn_emit.specs.Plans.{pieces_from};
 ghost use Rattle.sn_fit.specs.Fits.{Fits};
 ghost use Rattle.sn_machine.specs.States.{State};
 ghost use Rattle.sn_machine.specs.Steps.{IsOneOf};
-ghost use Rattle.sn_net.specs.PlanWorkings.{HaveWidths, given_of, workings};
+ghost use Rattle.sn_net.specs.PlanWorkings.{AreLanesFor, HaveWidths, given_of, workings};
 ghost use Rattle.sn_refine.specs.Steps.{windows_of as given_windows};
 ghost use Rattle.sn_switch.specs.Texts.{IsSwitch};
 
@@ -49,7 +49,6 @@ fn happen<M: Machine>(machine: &mut M, event: Event, notes: &mut Seq<Note>) -> R
     ensures after { OnOk result (M.state machine.new ≡ after_event (M.works machine.old) (M.state machine.old) event) }
     ensures notes { OnOk result (notes.new ≡ notes.old ++ Note.Happened event ∷ []) }
     ensures works { M.works machine.new ≡ M.works machine.old }
-    ensures told { M.told machine.new ≡ M.told machine.old }
 {
     match machine.step(event) {
         Ok(()) => notes.push(Note::Happened(event)),
@@ -59,10 +58,9 @@ fn happen<M: Machine>(machine: &mut M, event: Event, notes: &mut Seq<Note>) -> R
 
 /// Takes the answers that wait, if any do, and notes them.
 fn gather<M: Machine>(machine: &mut M, notes: &mut Seq<Note>) -> Result<(), Memory>
-    ensures notes { OnOk result ((x y : ℕ) (s : State) → Leads (M.works machine.old) (M.told machine.old) x s notes.old y (M.state machine.old) → Leads (M.works machine.old) (M.told machine.old) x s notes.new y (M.state machine.new)) }
+    ensures notes { OnOk result ((x y : ℕ) (s : State) → Leads (M.works machine.old) M.told x s notes.old y (M.state machine.old) → Leads (M.works machine.old) M.told x s notes.new y (M.state machine.new)) }
     ensures rest { M.state machine.new ≡ without_answers (M.state machine.old) }
     ensures works { M.works machine.new ≡ M.works machine.old }
-    ensures told { M.told machine.new ≡ M.told machine.old }
 {
     match machine.take_answers() {
         Some(answers) => notes.push(Note::Told(answers)),
@@ -81,13 +79,12 @@ fn turn<M: Machine>(
     requires stands { IsNet (M.works machine.old) (M.state machine.old) }
     requires going { is_still (M.state machine.old) ≡ false }
     requires taken { (M.state machine.old).waiting ≡ None }
-    ensures notes { OnOk result ((x : ℕ) (s : State) → Leads (M.works machine.old) (M.told machine.old) x s notes.old draws.old.number (M.state machine.old) → Leads (M.works machine.old) (M.told machine.old) x s notes.new draws.new.number (M.state machine.new)) }
+    ensures notes { OnOk result ((x : ℕ) (s : State) → Leads (M.works machine.old) M.told x s notes.old draws.old.number (M.state machine.old) → Leads (M.works machine.old) M.told x s notes.new draws.new.number (M.state machine.new)) }
     ensures work { OnOk result (work (M.works machine.old) (M.state machine.new) [] < work (M.works machine.old) (M.state machine.old) []) }
     ensures stands { OnOk result (IsNet (M.works machine.old) (M.state machine.new)) }
     ensures taken { OnOk result ((M.state machine.new).waiting ≡ None) }
     ensures lanes { OnOk result (length (M.state machine.new).lanes ≡ lanes) }
     ensures works { M.works machine.new ≡ M.works machine.old }
-    ensures told { M.told machine.new ≡ M.told machine.old }
 {
     let event = pick(machine, lanes, draws);
     happen(machine, event, notes)?;
@@ -105,13 +102,12 @@ fn settle<M: Machine>(
     requires lanes { lanes ≡ length (M.state machine.old).lanes }
     requires stands { IsNet (M.works machine.old) (M.state machine.old) }
     requires taken { (M.state machine.old).waiting ≡ None }
-    ensures run { IfOk result (λ notes. IsRun (M.works machine.old) (M.told machine.old) draws.old.number (M.state machine.old) notes draws.new.number (M.state machine.new)) }
+    ensures run { IfOk result (λ notes. IsRun (M.works machine.old) M.told draws.old.number (M.state machine.old) notes draws.new.number (M.state machine.new)) }
     ensures stands { OnOk result (IsNet (M.works machine.old) (M.state machine.new)) }
     ensures still { OnOk result (is_still (M.state machine.new) ≡ true) }
     ensures taken { OnOk result ((M.state machine.new).waiting ≡ None) }
     ensures lanes { OnOk result (length (M.state machine.new).lanes ≡ lanes) }
     ensures works { M.works machine.new ≡ M.works machine.old }
-    ensures told { M.told machine.new ≡ M.told machine.old }
 {
     let mut notes = Seq::new(alloc);
     'events: loop {
@@ -138,15 +134,14 @@ pub fn advance<M: Machine>(
     requires wants { wants (M.state machine.old) ≡ true }
     requires rises { IsNoEarlier next (M.state machine.old).window }
     requires taken { (M.state machine.old).waiting ≡ None }
-    ensures run { IfOk result (λ notes. IsRun (M.works machine.old) (M.told machine.old) draws.old.number (given (M.state machine.old) next) notes draws.new.number (M.state machine.new)) }
+    ensures run { IfOk result (λ notes. IsRun (M.works machine.old) M.told draws.old.number (given (M.state machine.old) next) notes draws.new.number (M.state machine.new)) }
     ensures due { IfOk result (λ notes. (following : List (Given (List ℕ))) →
-        map (M.told machine.old) (due (M.works machine.old) (M.state machine.old) (next ∷ following)) ≡ answers_in notes ++ map (M.told machine.old) (due (M.works machine.old) (M.state machine.new) following)) }
+        map M.told (due (M.works machine.old) (M.state machine.old) (next ∷ following)) ≡ answers_in notes ++ map M.told (due (M.works machine.old) (M.state machine.new) following)) }
     ensures stands { OnOk result (IsNet (M.works machine.old) (M.state machine.new)) }
     ensures behind { OnOk result (IsBehind next (M.state machine.new)) }
     ensures taken { OnOk result ((M.state machine.new).waiting ≡ None) }
     ensures lanes { OnOk result (length (M.state machine.new).lanes ≡ lanes) }
     ensures works { M.works machine.new ≡ M.works machine.old }
-    ensures told { M.told machine.new ≡ M.told machine.old }
 {
     machine.give(next);
     let notes = settle(alloc, machine, lanes, draws)?;
@@ -174,6 +169,7 @@ pub fn start<M: Machine>(t: &Typed, s: &Switch, plan: &Plan, room: u32) -> Resul
     ensures lanes { IfOk result (λ found. found.1 ≡ length (M.state found.0).lanes) }
     ensures works { IfOk result (λ found. M.works found.0 ≡ workings t.now.queries plan.now.entries) }
     ensures stands { IfOk result (λ found. IsNet (M.works found.0) (M.state found.0)) }
+    ensures pipes { IfOk result (λ found. AreLanesFor t.now.queries s.now.chain (pieces_from 0 plan.now.entries) (M.state found.0).lanes) }
     ensures new { IfOk result (λ found. M.state found.0 ≡ made (M.works found.0) room (M.state found.0).lanes) }
     // Whatever follows, what is due are the answers of the plan for each window that is given.
     ensures due { IfOk result (λ found. (following : List (Given (List ℕ))) → let windows = windows_of following in DontFall 0 following → HaveWidths windows →

@@ -19,7 +19,7 @@ impl Machine for Net {
 
     ghost state = { state };
 
-    ghost told = { λ net answers. answers };
+    ghost told = { λ answers. answers };
 
     fn make(t: &Typed, s: &Switch, plan: &Plan, room: u32) -> Result<Net, Memory> {
         Net::make(t, s, plan, room)
@@ -51,5 +51,5 @@ impl Machine for Net {
 
     ghost lawful = { nets_are_lawful };
 
-    ghost tells = { λ net queries answers. tells_itself queries answers };
+    ghost tells = { λ queries answers. tells_itself queries answers };
 }

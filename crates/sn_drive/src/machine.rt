@@ -32,15 +32,15 @@ use sn_types::answers::Answers;
 use sn_types::typed::Typed;
 
 /// A machine: its state is that of a net, each call does to it what it does to a net, and its answers are told.
-pub trait Machine: Sized {
+pub trait Machine: Sized + Drop {
     /// The pipes and answers over which it is made. No call changes them.
     ghost works: { Self → Works };
 
     /// What it holds.
     ghost state: { Self → State };
 
-    /// What it tells of answers. No call changes it.
-    ghost told: { Self → Found → Found };
+    /// What machines of this kind tell of answers.
+    ghost told: { Found → Found };
 
     /// The machine of a plan that fits, with room for so many frames in each lane, 1 to 65536. Nothing was given to it.
     fn make(t: &Typed, s: &Switch, plan: &Plan, room: u32) -> Result<Self, Memory>
@@ -65,8 +65,7 @@ pub trait Machine: Sized {
         requires wants { wants (state self.old) ≡ true }
         requires rises { IsNoEarlier next (state self.old).window }
         ensures state { state self.new ≡ given (state self.old) next }
-        ensures works { works self.new ≡ works self.old }
-        ensures told { told self.new ≡ told self.old };
+        ensures works { works self.new ≡ works self.old };
 
     /// Whether every need of an event holds, which names one of the lanes if it names one. Takes no memory.
     fn enabled(&self, event: Event) -> bool
@@ -77,15 +76,13 @@ pub trait Machine: Sized {
     fn step(&mut self, event: Event) -> Result<(), StepFault>
         requires { IsOneOf (length (state self.old).lanes) event }
         ensures steps { Steps (works self.old) (state self.old) event (state self.new) result }
-        ensures works { works self.new ≡ works self.old }
-        ensures told { told self.new ≡ told self.old };
+        ensures works { works self.new ≡ works self.old };
 
     /// Takes the answers that wait, as they are told. `None` exactly where none do. Takes no memory.
     fn take_answers(&mut self) -> Option<Answers>
-        ensures answers { result ≡ option_map (told self.old) (state self.old).waiting }
+        ensures answers { result ≡ option_map told (state self.old).waiting }
         ensures rest { state self.new ≡ without_answers (state self.old) }
-        ensures works { works self.new ≡ works self.old }
-        ensures told { told self.new ≡ told self.old };
+        ensures works { works self.new ≡ works self.old };
 
     /// Whether all is done: the end was given, no window is begun or closed, and no answers wait. Takes no memory.
     fn done(&self) -> bool
@@ -95,5 +92,5 @@ pub trait Machine: Sized {
     ghost lawful: { (machine : Self) → AreLawful (works machine) };
 
     /// Whatever is told keeps the window, the number of items, and which parts there are.
-    ghost tells: { (machine : Self) (queries : List TypedQuery) (answers : Found) → Tells queries answers (told machine answers) };
+    ghost tells: { (queries : List TypedQuery) (answers : Found) → Tells queries answers (told answers) };
 }

@@ -3,5 +3,6 @@ pub mod PieceLemmas
 pub mod KeptLemmas
 pub mod LanesLemmas
 pub mod SendingLemmas
+pub mod DriverLemmas
 pub mod StateLemmas
 pub mod EmitLemmas

@@ -22,10 +22,9 @@ use Rattle.sn_fit.specs.Fits.{Fits}
 use Rattle.sn_refine.specs.Steps.{Set}
 use Rattle.sn_report.specs.declared.frame.Frame.{Frame}
 use Rattle.sn_report.specs.Frames.{spelling}
-use Rattle.sn_run.specs.Along.{IsDriverOf}
 use Rattle.sn_run.specs.Planned.{Planned}
 use Rattle.sn_run.proofs.AlongLemmas.{last_more, rising_again}
-use Rattle.sn_run.proofs.StateLemmas.{begun_at, driver_after}
+use Rattle.sn_emitted.proofs.DriverLemmas.{begun_at, driver_after}
 use Rattle.sn_switch.specs.declared.switch.Switch.{Switch}
 use Rattle.sn_switch.specs.Texts.{IsSwitch}
 use Rattle.sn_types.specs.declared.answers.Answers.{Answers}
@@ -34,7 +33,7 @@ use Rattle.sn_types.specs.Typed.{HasWidths}
 use Rattle.sn_emitted.specs.declared.reporter.Reporter.{Reporter}
 use Rattle.sn_emitted.specs.Causal.{same_frames}
 use Rattle.sn_emitted.specs.Lanes.{frames_given}
-use Rattle.sn_emitted.specs.Reporting.{AreBytesOf, IsAtHand, IsIdle, kept_now, plan_of}
+use Rattle.sn_emitted.specs.Reporting.{AreBytesOf, IsAtHand, IsDriverOf, IsIdle, kept_now, plan_of}
 use Rattle.sn_emitted.specs.Sent.{frames_behind, frames_block, kept_of, packet_frames}
 use Rattle.sn_emitted.proofs.KeptLemmas.{all_let_in}
 use Rattle.sn_emitted.proofs.LanesLemmas.{all_read, all_send}

@@ -2,22 +2,35 @@
 use Rattle.std.specs.Prelude.{◌≡◌, ℕ, List, [], ◌∷◌, ◌++◌, length, Option, None}
 use Rattle.std.specs.List.{AllByRecursion, flat_map, range_with_len}
 use Rattle.sn_answered.specs.Wording.{AreRising, Window}
-use Rattle.sn_driver.specs.Sources.{kept_in, source_of}
+use Rattle.sn_driver.specs.declared.driver.Driver.{Driver}
+use Rattle.sn_driver.specs.Sources.{kept_in, source_of, sources_of}
 use Rattle.sn_driver.specs.Work.{AreAtWork, AreIdle, AreUnread}
+use Rattle.sn_emit.specs.Making.{CanMake}
 use Rattle.sn_emit.specs.Plans.{AreLanesOf, Placed, pieces_from}
+use Rattle.sn_fit.specs.Fits.{AreEntriesOf}
 use Rattle.sn_refine.specs.Steps.{Set}
 use Rattle.sn_report.specs.Frames.{spelling}
-use Rattle.sn_run.specs.Along.{IsDriverOf, last_of}
+use Rattle.sn_run.specs.Along.{last_of}
 use Rattle.sn_run.specs.Planned.{Planned}
 use Rattle.sn_types.specs.declared.answers.Answers.{Answers}
 use Rattle.sn_types.specs.declared.typed_query.TypedQuery.{TypedQuery}
-use Rattle.sn_types.specs.Typed.{HasWidths}
+use Rattle.sn_types.specs.Typed.{HasWidths, IsTyped}
 use Rattle.sn_emitted.specs.declared.reporter.Reporter.{Reporter}
 use Rattle.sn_emitted.specs.Sent.{packet_frames}
 
 -- the plan
 abbrev pub plan_of : Reporter → Planned
 plan_of a = record { queries = a.typed.queries; depth = a.depth; entries = a.plan.entries }
+
+-- the plan is one of typed queries, and the driver is that of the plan
+pub record IsDriverOf (p : Planned) (d : Driver) : Type 0 where
+  pub typed_for : ℕ
+  pub typed : ∥ IsTyped typed_for p.queries ∥₁
+  pub entries : AreEntriesOf p.queries p.entries
+  pub can : AllByRecursion (CanMake p.queries) (pieces_from 0 p.entries)
+  pub queries : d.engine.t.queries ≡ p.queries
+  pub sources : d.sources ≡ sources_of 0 p.entries
+  pub many : length d.sources ≡ length d.emitter
 
 -- the prefixes that the lane of a piece lets in, where these are the answers of the last window
 abbrev pub kept_now : List TypedQuery → Option Answers → ℕ → Placed → Set
@@ -46,3 +59,7 @@ pub record IsAtHand (a : Reporter) (closed : List Window) (number : ℕ) (tuples
   pub last : a.last ≡ last_of (plan_of a) closed
   pub sent : AreBytesOf (plan_of a) (kept_now a.typed.queries a.last number) tuples a.sent.items
   pub rising : AreRising None (closed ++ (number, []) ∷ [])
+
+-- some windows were closed, and none is at hand
+abbrev pub Rests : (List Window → Type 0) → Type 0
+Rests idle = (closed : List Window) × idle closed

@@ -94,4 +94,4 @@ abbrev pub no_lines : List Window → Ending → List ℕ
 no_lines windows ending = []
 
 abbrev pub frames_wording : Planned → Wording
-frames_wording p = record { first = []; block = frames_block p; last = no_lines }
+frames_wording p = record { first = []; block = frames_block p; unfinished = λ closed number tuples. []; last = no_lines }

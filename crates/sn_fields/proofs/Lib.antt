@@ -1,3 +1,4 @@
 pub mod Naming
 pub mod Walked
 pub mod Fronts
+pub mod Ranges

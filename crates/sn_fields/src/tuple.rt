@@ -100,6 +100,7 @@ pub fn tuple_of(link: Link, wire: u32, bytes: &[u8]) -> Tuple
     ensures fields { result ≡ tuple link wire bytes.now }
     ensures each { (field : Field) → slice_index result (number_of field) ≡ field_of link wire bytes.now field }
     ensures front { result ≡ tuple link wire (take 128 bytes.now) }
+    ensures widths { (field : Field) → slice_index result (number_of field) < 2 ^ width_of field }
 {
     let frame = link_part(link, bytes);
     let ip = ip_part(frame.header.kind, bytes, frame.end);

@@ -12,7 +12,7 @@ use sn_base::memory::Memory;
 use sn_base::row::Row;
 use sn_base::seq::Seq;
 use sn_ops::flow::run;
-use sn_ops::join::join;
+use sn_ops::join::join_by;
 use sn_report::frame::Item;
 use sn_types::typed::Typed;
 use std::alloc::Global;
@@ -32,7 +32,7 @@ fn branch_value(
     ensures rows { IfOk result (λ rows. rows ≡ branch_value (query_at t.now.queries q) b level items.now) }
     ensures columns { IfOk result (λ rows. AllByRecursion (IsOf (end_columns (branch_at t.now.queries q b))) rows) }
 {
-    value(alloc, t.operators(q, b), level, items)
+    value(alloc, t.seed, t.operators(q, b), level, items)
 }
 
 /// The values of the items of both branches, joined.
@@ -53,7 +53,13 @@ fn joined_value(
 {
     let left = branch_value(alloc, t, q, 0, level, left)?;
     let right = branch_value(alloc, t, q, 1, level, right)?;
-    join(alloc, left.as_slice(), right.as_slice(), t.join_keys(q))
+    join_by(
+        alloc,
+        t.seed,
+        left.as_slice(),
+        right.as_slice(),
+        t.join_keys(q),
+    )
 }
 
 /// The value of the items of a query at a level: of its branch, or of its two branches joined and taken through the
@@ -74,7 +80,7 @@ pub fn query_value(
 {
     if t.branches(q) == 2 {
         let rows = joined_value(alloc, t, q, level, left, right)?;
-        run(alloc, t.query(q).posts.as_slice(), level, rows)
+        run(alloc, t.seed, t.query(q).posts.as_slice(), level, rows)
     } else {
         branch_value(alloc, t, q, 0, level, left)
     }

@@ -9,15 +9,17 @@ use crate::rows::{partial_rows, push_rows_at};
 use sn_base::memory::Memory;
 use sn_base::row::Row;
 use sn_base::seq::Seq;
-use sn_ops::group::{distinct, reduce_with};
+use sn_ops::group::{distinct_by, reduce_with};
 use sn_ops::select::{filter, map};
 use sn_report::frame::Item;
+use sn_seed::Seed;
 use sn_types::typed_op::TOp;
 use std::alloc::Global;
 
 /// What an operator gives for these rows and for the Partial rows at it.
 fn taken(
     alloc: Global,
+    seed: Seed,
     op: &TOp,
     level: u32,
     rows: &[Row],
@@ -30,8 +32,8 @@ fn taken(
     match op {
         TOp::Filter(conds) => filter(alloc, rows, conds.as_slice(), level),
         TOp::Map(cols) => map(alloc, rows, cols.as_slice()),
-        TOp::Distinct => distinct(alloc, rows),
-        TOp::Reduce(r) => reduce_with(alloc, rows, parts, r),
+        TOp::Distinct => distinct_by(alloc, seed, rows),
+        TOp::Reduce(r) => reduce_with(alloc, seed, rows, parts, r),
     }
 }
 
@@ -39,6 +41,7 @@ fn taken(
 /// into the next one join.
 pub(crate) fn value(
     alloc: Global,
+    seed: Seed,
     ops: &[TOp],
     level: u32,
     items: &[Item],
@@ -52,7 +55,7 @@ pub(crate) fn value(
     let mut operator = 0;
     for op in ops {
         let parts = partial_rows(alloc, items, operator)?;
-        rows = taken(alloc, op, level, rows.as_slice(), parts.as_slice())?;
+        rows = taken(alloc, seed, op, level, rows.as_slice(), parts.as_slice())?;
         operator += 1;
         push_rows_at(&mut rows, items, operator)?;
     }

@@ -5,6 +5,7 @@ ghost use Rattle.sn_io.specs.Counts.{ByName, OnlyRises, RoseAt};
 ghost use Rattle.sn_io.specs.Inputs.{Reads, told_file};
 
 use sn_base::seq::Seq;
+use sn_seed::Seed;
 use std::alloc::Global;
 
 /// Why a read gave no bytes.
@@ -34,6 +35,11 @@ pub trait Inputs {
         ensures untouched { OnErr result (into.new ≡ into.old) }
         ensures within { IfOk result (λ n. n ≤ length into.old) }
         ensures bytes { IfOk result (λ n. IfSome (told_file (told self.old) name.now) (λ file. Reads file at n into.old into.new)) };
+
+    /// A seed that the writers of the files couldn't know, where there is one.
+    fn seed(&self) -> Seed {
+        Seed::new(0)
+    }
 
     /// Where contents are told, the names held are the names known.
     ghost same_names: { (s : Self) (files : ByName (List ℕ)) (name : List ℕ) → told s ≡ Some files → is_some (get files name) ≡ is_some (get (faults s) name) };

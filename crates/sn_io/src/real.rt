@@ -10,10 +10,12 @@ use crate::inputs::{InputFault, Inputs};
 use crate::known::{Entry, one_more, place_of, raise, read_place};
 use crate::sink::{Failed, Sink};
 use sn_base::memory::Memory;
+use sn_seed::Seed;
 use std::alloc::Global;
 use std::io;
 use std::io::{Stderr, Stdout, Write};
 use std::marker::Model;
+use std::random::RandomSource;
 
 #[derive(Drop)]
 enum Stream {
@@ -144,6 +146,15 @@ impl Inputs for RealInputs {
                 raise(&mut self.known, name);
                 Err(InputFault::Failed)
             }
+        }
+    }
+
+    /// Drawn by the system. Where it can't, 0 serves as well for all but crafted captures.
+    fn seed(&self) -> Seed {
+        let mut bytes = [0; 8];
+        match self.rt.fill_bytes(&mut bytes) {
+            Ok(()) => Seed::new(u64::from_le_bytes(bytes)),
+            Err(_) => Seed::new(0),
         }
     }
 }

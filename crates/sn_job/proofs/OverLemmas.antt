@@ -10,6 +10,7 @@ use Rattle.sn_io.specs.MemInputs.{FileState, held_by}
 use Rattle.sn_job.specs.Job.{Job, Summed, job_entries, job_files}
 use Rattle.sn_job.specs.Made.{made_known, no_faults}
 use Rattle.sn_job.proofs.MadeLemmas.{none_rose}
+use Rattle.sn_run.specs.Planned.{Telling}
 use Rattle.sn_stage.specs.declared.refusal.Refusal.{Refusal}
 use Rattle.sn_stage.specs.Outcomes.{Keeps}
 use Rattle.sn_stage.specs.Runs.{Works}
@@ -42,11 +43,11 @@ none_failed (name ∷ more) before now first last e f (inl rose) =
 none_failed (name ∷ more) before now first last e f (inr rose) = none_failed more before now first last e f rose
 
 -- A run of the stages of a job over its made files is a run of the job, whatever files there are.
-pub works_over : (number : ℕ) (files later : List FileState) → held_by files ≡ job_files number → (before now inner after : World) (answer : Result (Unit {0}) Refusal)
+pub works_over : (telling : Telling) (number : ℕ) (files later : List FileState) → held_by files ≡ job_files number → (before now inner after : World) (answer : Result (Unit {0}) Refusal)
     → inner.files.told ≡ Some (held_by files) → inner.files.faults ≡ no_faults files → after.files.faults ≡ no_faults later
     → inner.out ≡ before.out → after.out ≡ now.out → now.files ≡ before.files → now.places ≡ before.places
-    → Works (codes "queries" ∷ codes "switch" ∷ codes "training" ∷ codes "capture" ∷ []) (Summed number) inner answer after → Works [] (Job number) before answer now
-works_over number files later are before now inner after answer told_is faults_is later_is first last same places w =
+    → Works (codes "queries" ∷ codes "switch" ∷ codes "training" ∷ codes "capture" ∷ []) (Summed telling number) inner answer after → Works [] (Job telling number) before answer now
+works_over telling number files later are before now inner after answer told_is faults_is later_is first last same places w =
     let r = w.runs in
     let told : inner.files.told ≡ Some (job_files number) = told_is ∙ ap Some are in
     works_alone (record {

@@ -10,6 +10,7 @@ use Rattle.sn_io.specs.Counts.{ByName}
 use Rattle.sn_job.specs.Summary.{summary_wording}
 use Rattle.sn_planned.specs.Queries.{QueriesIn}
 use Rattle.sn_planned.specs.Texts.{SwitchIn}
+use Rattle.sn_run.specs.Planned.{Telling}
 use Rattle.sn_run.specs.Run.{planned, window_ns}
 use Rattle.sn_stage.specs.Outcomes.{Stage}
 use Rattle.sn_stage.specs.Stages.{Judges, Text, Then}
@@ -30,19 +31,19 @@ job_files number = from_entries (job_entries number)
 
 -- Over these files a job does what `live` does with 100000 nodes, but that the summary is all that it writes: the queries are read, then the
 -- switch, then the training capture; the plan that costs least on it is searched for; and then the other capture is read and answered along
--- that plan.
-abbrev pub Summed : ℕ → Stage (Unit {0})
-Summed number =
+-- that plan, as a machine tells the answers.
+abbrev pub Summed : Telling → ℕ → Stage (Unit {0})
+Summed told number =
     Then (Text (codes "queries") QueriesIn) (λ read.
     Then (Text (codes "switch") SwitchIn) (λ limits.
     Then (Text (codes "training") (TrainingIn (window_ns read))) (λ training.
     Then (Judges (SearchedIn limits read.queries (trained training.numbers training.tuples) 100000)) (λ found.
-    Answered (summary_wording number found.cost (length found.tree) (planned read limits found.plan)) (window_ns read) (codes "capture")))))
+    Answered (summary_wording told number found.cost (length found.tree) (planned read limits found.plan)) (window_ns read) (codes "capture")))))
 
 -- a stage over these files, whatever files there are
 abbrev pub Over : {A : Type 0} → ByName (List ℕ) → Stage A → Stage A
 Over made stage files outcome = stage made outcome
 
 -- `job NUMBER`
-abbrev pub Job : ℕ → Stage (Unit {0})
-Job number = Over (job_files number) (Summed number)
+abbrev pub Job : Telling → ℕ → Stage (Unit {0})
+Job told number = Over (job_files number) (Summed told number)

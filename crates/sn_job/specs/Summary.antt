@@ -5,7 +5,7 @@ use Rattle.std.specs.List.{flat_map}
 use Rattle.sn_answered.specs.Wording.{Window, Wording}
 use Rattle.sn_gen.specs.Generated.{packet_count}
 use Rattle.sn_out.specs.Text.{row_line}
-use Rattle.sn_run.specs.Planned.{Planned, answers_at, emitted_in}
+use Rattle.sn_run.specs.Planned.{Planned, Telling, told_at, told_emitted_in}
 use Rattle.sn_types.specs.declared.answers.Answers.{Answers}
 use Rattle.sn_types.specs.declared.answers.Part.{Part}
 use Rattle.sn_types.specs.declared.typed_query.TypedQuery.{TypedQuery}
@@ -31,12 +31,12 @@ shown_part queries part = if part.level == finest_level (query_at queries part.q
 abbrev pub shown : List TypedQuery → Answers → List ℕ
 shown queries answers = if answers.window == 3 then flat_map (shown_part queries) answers.parts else []
 
--- of the windows of a capture that is answered along a plan
-abbrev pub shown_at : Planned → List Window → Window → List ℕ
-shown_at p windows w = shown p.queries (answers_at p windows w.0)
+-- of the windows of a capture that is answered along a plan, where this is told of their answers
+abbrev pub shown_at : Telling → Planned → List Window → Window → List ℕ
+shown_at told p windows w = shown p.queries (told_at told p windows w.0)
 
-abbrev pub shown_in : Planned → List Window → List ℕ
-shown_in p windows = flat_map (shown_at p windows) windows
+abbrev pub shown_in : Telling → Planned → List Window → List ℕ
+shown_in told p windows = flat_map (shown_at told p windows) windows
 
 -- The lines of a summary: what the plan costs on the first capture, how many items it sends of the windows that are answered, how many
 -- nodes its tree has, and the rows that are shown.
@@ -44,10 +44,10 @@ abbrev pub summary_text : ℕ → ℕ → ℕ → ℕ → ℕ → List ℕ → L
 summary_text number cost nodes windows emitted rows =
     job_line number windows ++ number_line (codes "cost ") cost ++ number_line (codes "emitted ") emitted ++ number_line (codes "nodes ") nodes ++ rows
 
--- the summary of a job, whose plan answers these windows
-abbrev pub summary : ℕ → ℕ → ℕ → Planned → List Window → List ℕ
-summary number cost nodes p windows = summary_text number cost nodes (length windows) (emitted_in p windows) (shown_in p windows)
+-- the summary of a job, whose plan answers these windows, as it is told
+abbrev pub summary : Telling → ℕ → ℕ → ℕ → Planned → List Window → List ℕ
+summary told number cost nodes p windows = summary_text number cost nodes (length windows) (told_emitted_in told p windows) (shown_in told p windows)
 
 -- the summary is all that is written
-abbrev pub summary_wording : ℕ → ℕ → ℕ → Planned → Wording
-summary_wording number cost nodes p = record { first = []; block = λ windows w tuples. []; last = λ windows ending. summary number cost nodes p windows }
+abbrev pub summary_wording : Telling → ℕ → ℕ → ℕ → Planned → Wording
+summary_wording told number cost nodes p = record { first = []; block = λ windows w tuples. []; unfinished = λ closed number tuples. []; last = λ windows ending. summary told number cost nodes p windows }

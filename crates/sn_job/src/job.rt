@@ -5,9 +5,11 @@ ghost use Rattle.sn_stage.specs.Desks.{world};
 ghost use Rattle.sn_stage.specs.Runs.{Works};
 
 use crate::files::job_files;
+use crate::made::MadeFiles;
 use crate::summing::Summing;
 use sn_answered::capture::answer_capture;
 use sn_certified::search::search;
+use sn_drive::machine::Machine;
 use sn_io::inputs::Inputs;
 use sn_io::sink::Sink;
 use sn_planned::queries::read_queries;
@@ -23,13 +25,13 @@ use std::alloc::Global;
 const NODES: u32 = 100000;
 
 /// Does a job over its files: searches for the plan that costs least on the training capture, answers the other capture along
-/// it, and writes the summary.
-fn sum_up<I: Inputs, O: Sink>(
+/// it by a machine, and writes the summary.
+fn sum_up<M: Machine, I: Inputs, O: Sink>(
     alloc: Global,
     number: u32,
     desk: &mut Desk<'_, I, O>,
 ) -> Result<(), Refusal>
-    ensures { Works (codes "queries" ∷ codes "switch" ∷ codes "training" ∷ codes "capture" ∷ []) (Summed number) (world I.Inputs O.Sink desk.old) result (world I.Inputs O.Sink desk.new) }
+    ensures { Works (codes "queries" ∷ codes "switch" ∷ codes "training" ∷ codes "capture" ∷ []) (Summed M.told number) (world I.Inputs O.Sink desk.old) result (world I.Inputs O.Sink desk.new) }
 {
     let typed = read_queries(alloc, desk, "queries")?;
     let limits = read_switch(alloc, desk, "switch")?;
@@ -37,7 +39,7 @@ fn sum_up<I: Inputs, O: Sink>(
     let training = read_training(alloc, desk, "training", window_ns)?;
     let found = search(alloc, &typed, &limits, &training, NODES)?;
     let nodes = found.tree.as_slice().len() as u64;
-    let along = Along::make(Form::Blocks, typed, &limits, found.plan)?;
+    let along: Along<M> = Along::make(Form::Blocks, typed, &limits, found.plan)?;
     let mut summing = Summing {
         number,
         cost: found.cost,
@@ -49,18 +51,18 @@ fn sum_up<I: Inputs, O: Sink>(
 }
 
 /// `job NUMBER`: makes the captures of this number and of the next, searches for the plan of the job's queries that costs least on the
-/// first, answers the second along it, and writes a summary. It reads no file.
-pub fn job<I: Inputs, O: Sink>(
+/// first, answers the second along it by a machine, and writes a summary. It reads no file.
+pub fn job<M: Machine, I: Inputs, O: Sink>(
     alloc: Global,
     number: u32,
     desk: &mut Desk<'_, I, O>,
 ) -> Result<(), Refusal>
-    ensures { Works [] (Job number) (world I.Inputs O.Sink desk.old) result (world I.Inputs O.Sink desk.new) }
+    ensures { Works [] (Job M.told number) (world I.Inputs O.Sink desk.old) result (world I.Inputs O.Sink desk.new) }
 {
     let mut files = job_files(alloc, number)?;
     let mut made = Desk {
         files: &mut files,
         out: &mut *desk.out,
     };
-    sum_up(alloc, number, &mut made)
+    sum_up::<M, MadeFiles, O>(alloc, number, &mut made)
 }

@@ -5,13 +5,16 @@ use crate::job::job;
 use sn_io::inputs::Inputs;
 use sn_io::mem_inputs::MemInputs;
 use sn_io::mem_sink::MemSink;
+use sn_machine::net::Net;
 use sn_stage::desk::Desk;
 use std::test::Fail;
 
-/// The first line, by hand: 20,000 packets in the four windows of a second that the generated captures have.
+/// The first line and the word behind it, by hand: 20,000 packets in the four windows of a second that the generated
+/// captures have.
 const FIRST: &[u8] = b"job 7 packets 20000 windows 4\ncost ";
 
-/// The last lines, by hand: 500 new connections to one server, 500 sources of another, and one long connection.
+/// The last lines, by hand: one server has 500 new connections, of 500 sources, and another 25,000 connections for each
+/// million bytes.
 const LAST: &[u8] =
     b"query newconn rows 1\n10.1.2.3 500\nquery spread rows 1\n10.1.2.3 500\nquery slow rows 1\n10.9.8.7 25000\n";
 
@@ -24,7 +27,7 @@ fn sums_up_a_job(rt: HostRuntime) -> Result<(), Fail> {
         files: &mut files,
         out: &mut out,
     };
-    let answer = job(alloc, 7, &mut desk);
+    let answer = job::<Net, MemInputs, MemSink>(alloc, 7, &mut desk);
     assert!(rt; answer.is_ok());
     let text = out.bytes();
     assert!(rt; text.starts_with(FIRST));

@@ -4,7 +4,7 @@ use Rattle.std.specs.Prelude.{◌⊎◌, ◌&&◌, ◌==◌, ◌^◌, nat_eq, na
 use Rattle.std.specs.FinMap.{get}
 use Rattle.std.specs.List.{flat_map, list_all}
 use Rattle.std.proofs.lemmas.Bool.{false≢true, ltb-false}
-use Rattle.sn_answered.specs.Capture.{AfterHead, Answered, Found, Head, LastLines, RecordsIn, Whole, WindowsIn, WindowsOf, block_in, blocks_in, ending_verdict, known_bytes, packet_tuple, time_of, windows_in, windows_outcome}
+use Rattle.sn_answered.specs.Capture.{AfterHead, Answered, Found, Head, LastLines, RecordsIn, Whole, WindowsIn, WindowsOf, block_in, blocks_in, ending_verdict, known_bytes, packet_tuple, time_of, windows_in, windows_outcome, windows_refused}
 use Rattle.sn_answered.specs.Wording.{Window, Wording}
 use Rattle.sn_base.proofs.Lists.{by_test}
 use Rattle.sn_io.specs.Counts.{ByName}
@@ -129,10 +129,17 @@ module _ (capture : List ℕ) (files : ByName (List ℕ)) where
       are : closed.0 ≡ windows_in (shown file) (numbers packets)
       blocks : text ≡ flat_map (λ (w : Window). wording.block closed.0 w.0 w.1) closed.0
 
+    -- a capture whose records end, as no window has too many, or one has
+    abbrev ended_if : List ℕ → List (ℕ × Packet) → Ending → Bool → Outcome (List Window × Ending)
+    ended_if file ps ending few =
+        let text : List ℕ = blocks_in wording (shown file) ps in
+        let windows : List Window = windows_in (shown file) ps in
+        cond few (record { text = text; end = Ok (windows, ending) }) (windows_refused wording (last.Ended ending) text windows)
+
     never_last : (file : List ℕ) (ps : List (ℕ × Packet)) (l : Last) → NeverSo (Does (windows_outcome wording (shown file) ps l)) files
     never_last file ps (last.Ended ending) o r is e = by_test (all_few ps)
-        (λ few. absurd (let no = sym (ap (λ b. cond b (Ok (windows_in (shown file) ps, ending)) (Err (Refused faults.TooLarge))) few) ∙ sym (ap (λ (o : Outcome (List Window × Ending)). o.end) is) ∙ e in cc))
-        (λ many. ap is_ending (sym (large (sym (ap (λ b. cond b (Ok (windows_in (shown file) ps, ending)) (Err (Refused faults.TooLarge))) many) ∙ sym (ap (λ (o : Outcome (List Window × Ending)). o.end) is) ∙ e))))
+        (λ few. absurd (let no = sym (ap (λ b. (ended_if file ps ending b).end) few) ∙ sym (ap (λ (o : Outcome (List Window × Ending)). o.end) is) ∙ e in cc))
+        (λ many. ap is_ending (sym (large (sym (ap (λ b. (ended_if file ps ending b).end) many) ∙ sym (ap (λ (o : Outcome (List Window × Ending)). o.end) is) ∙ e))))
       where
         large : ◌≡◌ {A = Result (List Window × Ending) Refusal} (Err (Refused faults.TooLarge)) (Err r) → Refused faults.TooLarge ≡ r
         large k = cc
@@ -165,12 +172,12 @@ module _ (capture : List ℕ) (files : ByName (List ℕ)) where
         → (closed.0 ≡ windows_in (shown file) ps) × (closed.1 ≡ e) × ((windows_outcome wording (shown file) ps l).text ≡ flat_map (λ (w : Window). wording.block closed.0 w.0 w.1) closed.0)
     outcome_so ps file e (last.Ended later) closed is end = by_test (all_few ps)
         (λ few.
-        let same : (windows_in (shown file) ps, later) ≡ closed = pair_is (windows_in (shown file) ps, later) closed (sym (ap (λ b. cond b (Ok (windows_in (shown file) ps, later)) (Err (Refused faults.TooLarge))) few) ∙ end) in (
+        let same : (windows_in (shown file) ps, later) ≡ closed = pair_is (windows_in (shown file) ps, later) closed (sym (ap (λ b. (ended_if file ps later b).end) few) ∙ end) in (
           sym (ap (λ (x : List Window × Ending). x.0) same),
           sym (ap (λ (x : List Window × Ending). x.1) same) ∙ ended_is file e later is,
-          each_block wording (shown file) ps few ∙ ap (λ (x : List Window × Ending). flat_map (λ (w : Window). wording.block x.0 w.0 w.1) x.0) same,
+          ap (λ b. (ended_if file ps later b).text) few ∙ each_block wording (shown file) ps few ∙ ap (λ (x : List Window × Ending). flat_map (λ (w : Window). wording.block x.0 w.0 w.1) x.0) same,
         ))
-        (λ many. absurd (let no = sym (ap (λ b. cond b (Ok (windows_in (shown file) ps, later)) (Err (Refused faults.TooLarge))) many) ∙ end in cc))
+        (λ many. absurd (let no = sym (ap (λ b. (ended_if file ps later b).end) many) ∙ end in cc))
     outcome_so ps file e last.TooLarge closed is end = absurd (let no = end in cc)
 
     windows_so : (o : Outcome (List Window × Ending)) (closed : List Window × Ending) → WindowsOf wording window capture header files o → o.end ≡ Ok closed → WindowsSo closed o.text

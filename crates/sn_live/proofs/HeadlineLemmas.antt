@@ -20,7 +20,7 @@ use Rattle.sn_planned.specs.Texts.{SwitchIn, switch_fault}
 use Rattle.sn_priced.specs.Space.{trained_entry, trained_plans}
 use Rattle.sn_read_queries.specs.Texts.{IsRead, Queries}
 use Rattle.sn_read_queries.specs.declared.fault.QueryFault.{QueryFault}
-use Rattle.sn_run.specs.Planned.{Planned, plan_lines, plan_wording}
+use Rattle.sn_run.specs.Planned.{Planned, as_they_are, plan_lines, plan_wording}
 use Rattle.sn_run.specs.Run.{AlongPlan, planned, window_ns}
 use Rattle.sn_space.specs.Trees.{IsAccepted}
 use Rattle.sn_stage.specs.declared.fault.Fault.{Fault}
@@ -237,9 +237,9 @@ module _ (show : Shows) (costs : Costs) (switch queries train capture : List ℕ
 
   module _ (nodes : ℕ) (o : Outcome (Unit {0})) where
     -- what ends as the records of a capture end was given accepted files
-    pub headline : Live switch queries train capture nodes files o → o.end ≡ ended ending → (given : AreAccepted switch queries train capture files ending) × Headline given o.text
+    pub headline : Live as_they_are switch queries train capture nodes files o → o.end ≡ ended ending → (given : AreAccepted switch queries train capture files ending) × Headline given o.text
     headline t end =
-        let p = passed (Certifies switch queries train nodes) (λ found. AlongPlan capture found.read found.limits found.certificate.plan) files (never_certifies switch queries train nodes files) o t (λ r e. ended_so ending r (sym end ∙ e)) in
+        let p = passed (Certifies switch queries train nodes) (λ found. AlongPlan as_they_are capture found.read found.limits found.certificate.plan) files (never_certifies switch queries train nodes files) o t (λ r e. ended_so ending r (sym end ∙ e)) in
         let found = p.value in
         let c = certified_so switch queries train nodes files p.begun found p.begins p.ok in
         let a = answered_so capture files (plan_wording (planned found.read found.limits found.certificate.plan)) (window_ns found.read) p.rest p.goes_on (λ r e. ended_so ending r (sym end ∙ p.end ∙ e)) in

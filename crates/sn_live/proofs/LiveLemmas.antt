@@ -5,7 +5,7 @@ use Rattle.sn_certified.proofs.Verdicts.{one_search}
 use Rattle.sn_planned.proofs.Verdicts.{one_queries, one_switch}
 use Rattle.sn_planned.specs.Queries.{QueriesIn}
 use Rattle.sn_planned.specs.Texts.{SwitchIn}
-use Rattle.sn_run.specs.Planned.{plan_wording}
+use Rattle.sn_run.specs.Planned.{Telling, told_wording}
 use Rattle.sn_run.specs.Run.{planned, window_ns}
 use Rattle.sn_stage.specs.Outcomes.{HasOne}
 use Rattle.sn_stage.proofs.OneLemmas.{one_does, one_judges, one_text, one_then}
@@ -23,6 +23,6 @@ one_certifies switch queries train nodes =
 pub one_plan_run : (switch queries train : List ℕ) (nodes : ℕ) → HasOne (Plan switch queries train nodes)
 one_plan_run switch queries train nodes = one_then (one_certifies switch queries train nodes) (λ found. one_does _)
 
-pub one_live_run : (switch queries train capture : List ℕ) (nodes : ℕ) → HasOne (Live switch queries train capture nodes)
-one_live_run switch queries train capture nodes =
-    one_then (one_certifies switch queries train nodes) (λ found. one_answered (plan_wording (planned found.read found.limits found.certificate.plan)) (window_ns found.read) capture)
+pub one_live_run : (told : Telling) (switch queries train capture : List ℕ) (nodes : ℕ) → HasOne (Live told switch queries train capture nodes)
+one_live_run told switch queries train capture nodes =
+    one_then (one_certifies switch queries train nodes) (λ found. one_answered (told_wording told (planned found.read found.limits found.certificate.plan)) (window_ns found.read) capture)

@@ -5,6 +5,7 @@ use Rattle.sn_answered.specs.Capture.{ending_verdict}
 use Rattle.sn_io.specs.Counts.{ByName}
 use Rattle.sn_pcap.specs.declared.packet.Ending.{Ending}
 use Rattle.sn_pcap.specs.declared.packet.Ending.TheVariants.{Clean}
+use Rattle.sn_run.specs.Planned.{as_they_are}
 use Rattle.sn_stage.specs.declared.refusal.Refusal.{Refusal}
 use Rattle.sn_stage.specs.declared.refusal.Refusal.TheVariants.{Memory, Usage, Missing, ReadFault, WriteFault, Refused}
 use Rattle.sn_stage.specs.Ends.{Around, Excused, IsCommandRun, end_status}
@@ -28,15 +29,15 @@ zero_is (Err (Refused f)) e = absurd (let own = (faults_own f).above in omega ar
 
 abbrev pub Prints : Type 0
 Prints = (switch queries train capture : List ℕ) (files : ByName (List ℕ)) (ending : Ending) (given : AreAccepted switch queries train capture files ending) (nodes : ℕ) (outcome : Outcome (Unit {0}))
-    → KeepsLimits given nodes → Live switch queries train capture nodes files outcome → (outcome.end ≡ refusing (ending_verdict ending)) × Headline given outcome.text
+    → KeepsLimits given nodes → Live as_they_are switch queries train capture nodes files outcome → (outcome.end ≡ refusing (ending_verdict ending)) × Headline given outcome.text
 
 abbrev pub Only : Type 0
 Only = (switch queries train capture : List ℕ) (files : ByName (List ℕ)) (ending : Ending) (nodes : ℕ) (outcome : Outcome (Unit {0}))
-    → Live switch queries train capture nodes files outcome → outcome.end ≡ refusing (ending_verdict ending) → (given : AreAccepted switch queries train capture files ending) × Headline given outcome.text
+    → Live as_they_are switch queries train capture nodes files outcome → outcome.end ≡ refusing (ending_verdict ending) → (given : AreAccepted switch queries train capture files ending) × Headline given outcome.text
 
-module _ (prints : Prints) (always : Only) (switch queries train capture : List ℕ) (nodes : ℕ) (before : Around) (status : ℕ) (now : Around) (run : IsCommandRun (queries ∷ switch ∷ train ∷ capture ∷ []) (Live switch queries train capture nodes) before status now) where
-  outcome_of : (files : ByName (List ℕ)) → Has (Live switch queries train capture nodes) files
-  outcome_of files = (one_live_run switch queries train capture nodes).some files
+module _ (prints : Prints) (always : Only) (switch queries train capture : List ℕ) (nodes : ℕ) (before : Around) (status : ℕ) (now : Around) (run : IsCommandRun (queries ∷ switch ∷ train ∷ capture ∷ []) (Live as_they_are switch queries train capture nodes) before status now) where
+  outcome_of : (files : ByName (List ℕ)) → Has (Live as_they_are switch queries train capture nodes) files
+  outcome_of files = (one_live_run as_they_are switch queries train capture nodes).some files
 
   unexcused : (R W : Type 0) → status ≡ 0 → Excused R W status → ⊥
   unexcused R W zero (inl one) = omega arith

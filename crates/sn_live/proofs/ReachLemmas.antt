@@ -6,7 +6,7 @@ use Rattle.std.specs.List.{AllByRecursion, flat_map, list_all, sum_by}
 use Rattle.std.proofs.lemmas.Bool.{le-leb, le-ltb}
 use Rattle.std.proofs.lemmas.List.{length-map}
 use Rattle.std.proofs.lemmas.List.Sums.{sum_by-cons}
-use Rattle.sn_answered.specs.Capture.{AfterHead, Answered, Found, Head, LastLines, RecordsIn, Whole, WindowsIn, WindowsOf, ending_verdict, known_bytes, packet_tuple, time_of, window_in, windows_in, windows_outcome}
+use Rattle.sn_answered.specs.Capture.{AfterHead, Answered, Found, Head, LastLines, RecordsIn, Whole, WindowsIn, WindowsOf, blocks_in, ending_verdict, known_bytes, packet_tuple, time_of, window_in, windows_in, windows_outcome, windows_refused}
 use Rattle.sn_answered.specs.Wording.{Window, Wording}
 use Rattle.sn_certified.specs.Certificates.{IsCertificate, IsSpent, SearchedIn, certificate_text}
 use Rattle.sn_certified.specs.declared.certificate.Certificate.{Certificate}
@@ -26,7 +26,7 @@ use Rattle.sn_planned.specs.Texts.{SwitchIn}
 use Rattle.sn_priced.specs.Space.{trained_entry, trained_plans}
 use Rattle.sn_read_queries.specs.Texts.{Queries}
 use Rattle.sn_plan_rules.specs.declared.plan.Plan.{Plan}
-use Rattle.sn_run.specs.Planned.{Planned, emitted_at, emitted_in, plan_lines, plan_wording}
+use Rattle.sn_run.specs.Planned.{Planned, as_they_are, emitted_at, emitted_in, plan_lines, plan_wording}
 use Rattle.sn_run.specs.Run.{AlongPlan, planned, window_ns}
 use Rattle.sn_space.specs.Space.{IsFirstLeast}
 use Rattle.sn_space.proofs.Existence.{some_first_least}
@@ -90,7 +90,7 @@ module _ (wording : Wording) (window : ℕ) (capture : List ℕ) (files : ByName
       let blocks : due ≡ windows_outcome wording shown ps (last_of file ending) =
       ap (λ (ws : List Window). made (flat_map (λ (w : Window). wording.block ws w.0 w.1) ws) (Ok (ws, ending))) is.are
       ∙ ap (λ (text : List ℕ). made text (Ok (windows_in shown ps, ending))) (sym (each_block wording shown ps all))
-      ∙ sym (ap (λ (l : Last). windows_outcome wording shown ps l) end ∙ ap (λ b. made (windows_outcome wording shown ps (last.Ended ending)).text (cond b (Ok (windows_in shown ps, ending)) (Err (Refused faults.TooLarge)))) all) in
+      ∙ sym (ap (λ (l : Last). windows_outcome wording shown ps l) end ∙ ap (λ b. cond b (made (blocks_in wording shown ps) (Ok (windows_in shown ps, ending))) (windows_refused wording (last.Ended ending) (blocks_in wording shown ps) (windows_in shown ps))) all) in
       let records : WindowsIn wording window is.header file files due = then_given [] found due (record { verdict = Ok found; is = is.records; same = refl }) blocks in
       let closed : WindowsOf wording window capture is.header files due = then_given [] file due whole records in
       let lines : LastLines wording windows ending files (record { text = wording.last windows ending; end = refusing (ending_verdict ending) }) =
@@ -164,16 +164,16 @@ module _ {switch queries train capture : List ℕ} {files : ByName (List ℕ)} {
       (then_given [] trained added
       (text_given train (TrainingIn window) files given.first_file trained given.has_first (training_given window given.first_file given.has_first.few given.first given.first_ending given.is_first keeps.few_records)) searched))
 
-  pub live_given : Live switch queries train capture nodes files (record { text = certificate_text certificate ++ behind; end = refusing (ending_verdict ending) })
+  pub live_given : Live as_they_are switch queries train capture nodes files (record { text = certificate_text certificate ++ behind; end = refusing (ending_verdict ending) })
   live_given =
       let found : Searched = record { read = given.read; limits = given.limits; certificate = certificate } in
       then_given (certificate_text certificate) found (record { text = behind; end = refusing (ending_verdict ending) }) certified_given
       (answered_given (plan_wording along) window capture files given.second_file given.second ending given.has_second given.is_second keeps.few_each keeps.within_bytes)
 
   module _ (show : Shows) (costs : Costs) where
-    pub reached : (o : Outcome (Unit {0})) → Live switch queries train capture nodes files o → (o.end ≡ refusing (ending_verdict ending)) × Headline given o.text
+    pub reached : (o : Outcome (Unit {0})) → Live as_they_are switch queries train capture nodes files o → (o.end ≡ refusing (ending_verdict ending)) × Headline given o.text
     reached o is =
-        let same : record { text = certificate_text certificate ++ behind; end = refusing (ending_verdict ending) } ≡ o = (one_live_run switch queries train capture nodes).once files (record { text = certificate_text certificate ++ behind; end = refusing (ending_verdict ending) }) o live_given is in (
+        let same : record { text = certificate_text certificate ++ behind; end = refusing (ending_verdict ending) } ≡ o = (one_live_run as_they_are switch queries train capture nodes).once files (record { text = certificate_text certificate ++ behind; end = refusing (ending_verdict ending) }) o live_given is in (
           sym (ap (λ (x : Outcome (Unit {0})). x.end) same),
           headline_of show costs switch queries train capture files ending given nodes certificate some_certificate.1 o.text (sym (ap (λ (x : Outcome (Unit {0})). x.text) same)),
         )

@@ -7,6 +7,7 @@ use Rattle.sn_cost.specs.Entries.{trained}
 use Rattle.sn_planned.specs.Queries.{QueriesIn, queries_of}
 use Rattle.sn_planned.specs.Texts.{SwitchIn}
 use Rattle.sn_read_queries.specs.Texts.{Queries}
+use Rattle.sn_run.specs.Planned.{Telling}
 use Rattle.sn_run.specs.Run.{AlongPlan, window_ns}
 use Rattle.sn_stage.specs.Outcomes.{Stage}
 use Rattle.sn_stage.specs.Stages.{Does, Gives, Judges, Text, Then}
@@ -47,6 +48,7 @@ Certifies switch queries train nodes =
 abbrev pub Plan : List ℕ → List ℕ → List ℕ → ℕ → Stage (Unit {0})
 Plan switch queries train nodes = Then (Certifies switch queries train nodes) (λ found. Gives (Ok tt))
 
--- `live SWITCH QUERIES TRAIN CAPTURE --nodes NODES`: then the capture is read and answered along that plan.
-abbrev pub Live : List ℕ → List ℕ → List ℕ → List ℕ → ℕ → Stage (Unit {0})
-Live switch queries train capture nodes = Then (Certifies switch queries train nodes) (λ found. AlongPlan capture found.read found.limits found.certificate.plan)
+-- `live SWITCH QUERIES TRAIN CAPTURE --nodes NODES`: then the capture is read and answered along that plan; the answers are given as a
+-- machine tells them.
+abbrev pub Live : Telling → List ℕ → List ℕ → List ℕ → List ℕ → ℕ → Stage (Unit {0})
+Live told switch queries train capture nodes = Then (Certifies switch queries train nodes) (λ found. AlongPlan told capture found.read found.limits found.certificate.plan)

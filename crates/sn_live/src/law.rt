@@ -6,7 +6,7 @@ ghost use Rattle.sn_live.specs.Headline.{AreAccepted, Headline, KeepsHeadline, K
 ghost use Rattle.sn_live.specs.Live.{Live, Plan};
 ghost use Rattle.sn_pcap.specs.declared.packet.Ending.{Ending};
 ghost use Rattle.sn_plan_rules.specs.declared.plan.Plan.{Plan as AnyPlan};
-ghost use Rattle.sn_run.specs.Planned.{emitted_in};
+ghost use Rattle.sn_run.specs.Planned.{Telling, as_they_are, emitted_in};
 ghost use Rattle.sn_run.specs.Run.{planned};
 ghost use Rattle.sn_stage.specs.Ends.{Around, IsCommandRun};
 ghost use Rattle.sn_stage.specs.Outcomes.{HasOne, Outcome};
@@ -22,31 +22,32 @@ pub fn plan_has_one_outcome()
     ensures { (switch queries train : List ℕ) (nodes : ℕ) → HasOne (Plan switch queries train nodes) }
 {}
 
-/// Over each set of files `live` has exactly one outcome.
+/// Over each set of files `live` has exactly one outcome, whatever is told of answers.
 #[tactic(auto, using(crate::proofs::LiveLemmas::one_live_run))]
 pub fn live_has_one_outcome()
-    ensures { (switch queries train capture : List ℕ) (nodes : ℕ) → HasOne (Live switch queries train capture nodes) }
+    ensures { (told : Telling) (switch queries train capture : List ℕ) (nodes : ℕ) → HasOne (Live told switch queries train capture nodes) }
 {}
 
 /// Of accepted queries, an accepted switch and two captures `live` prints a plan that fits, a tree that shows that no plan that fits costs less on the
-/// first capture, and for each window of the second one the refined answers along the plan, with the number of items that were sent.
+/// first capture, and for each window of the second one the refined answers along the plan, with the number of items that were sent: so it is where
+/// the machine tells its answers as they are.
 pub fn live_keeps_the_headline()
     // Where the limits are kept, this is the whole text, and the work ends as the records of the second capture do.
     ensures printed { (switch queries train capture : List ℕ) (files : ByName (List ℕ)) (ending : Ending) (given : AreAccepted switch queries train capture files ending) (nodes : ℕ) (outcome : Outcome (Unit {0})) →
-        KeepsLimits given nodes → Live switch queries train capture nodes files outcome → (outcome.end ≡ refusing (ending_verdict ending)) × Headline given outcome.text }
+        KeepsLimits given nodes → Live as_they_are switch queries train capture nodes files outcome → (outcome.end ≡ refusing (ending_verdict ending)) × Headline given outcome.text }
     // The work ends so in no other case.
     ensures only { (switch queries train capture : List ℕ) (files : ByName (List ℕ)) (ending : Ending) (nodes : ℕ) (outcome : Outcome (Unit {0})) →
-        Live switch queries train capture nodes files outcome → outcome.end ≡ refusing (ending_verdict ending) → (given : AreAccepted switch queries train capture files ending) × Headline given outcome.text }
+        Live as_they_are switch queries train capture nodes files outcome → outcome.end ≡ refusing (ending_verdict ending) → (given : AreAccepted switch queries train capture files ending) × Headline given outcome.text }
 {
     typed_queries_and_switches_rise();
     certificates_show_least();
     costs_are_items_sent();
 }
 
-/// A call that is a run of the stages of `live` keeps the headline.
+/// A call that is a run of the stages of `live`, by a machine that tells its answers as they are, keeps the headline.
 pub fn runs_of_live_keep_the_headline()
     ensures { (switch queries train capture : List ℕ) (nodes : ℕ) (before : Around) (status : ℕ) (now : Around) →
-        IsCommandRun (queries ∷ switch ∷ train ∷ capture ∷ []) (Live switch queries train capture nodes) before status now → KeepsHeadline switch queries train capture nodes before status now }
+        IsCommandRun (queries ∷ switch ∷ train ∷ capture ∷ []) (Live as_they_are switch queries train capture nodes) before status now → KeepsHeadline switch queries train capture nodes before status now }
 {
     live_keeps_the_headline();
 }

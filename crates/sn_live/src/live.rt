@@ -6,6 +6,7 @@ ghost use Rattle.sn_stage.specs.Runs.{Works};
 
 use crate::certified::Certified;
 use crate::certify::certify;
+use sn_drive::machine::Machine;
 use sn_io::inputs::Inputs;
 use sn_io::sink::Sink;
 use sn_run::answer::answer_along;
@@ -15,8 +16,8 @@ use sn_stage::refusal::Refusal;
 use std::alloc::Global;
 
 /// `live SWITCH QUERIES TRAIN CAPTURE --nodes NODES`: does what `plan` does, and then reads the capture and answers it along the
-/// plan, window by window.
-pub fn live<I: Inputs, O: Sink>(
+/// plan by a machine, window by window.
+pub fn live<M: Machine, I: Inputs, O: Sink>(
     alloc: Global,
     switch: &str,
     queries: &str,
@@ -25,7 +26,7 @@ pub fn live<I: Inputs, O: Sink>(
     nodes: u32,
     desk: &mut Desk<'_, I, O>,
 ) -> Result<(), Refusal>
-    ensures { Works (queries.now ∷ switch.now ∷ train.now ∷ capture.now ∷ []) (Live switch.now queries.now train.now capture.now nodes) (world I.Inputs O.Sink desk.old) result (world I.Inputs O.Sink desk.new) }
+    ensures { Works (queries.now ∷ switch.now ∷ train.now ∷ capture.now ∷ []) (Live M.told switch.now queries.now train.now capture.now nodes) (world I.Inputs O.Sink desk.old) result (world I.Inputs O.Sink desk.new) }
 {
     let certified = certify(alloc, switch, queries, train, nodes, desk)?;
     let Certified {
@@ -34,5 +35,5 @@ pub fn live<I: Inputs, O: Sink>(
         certificate,
     } = certified;
     let plan = certificate.plan;
-    answer_along(alloc, Form::Blocks, typed, &limits, plan, capture, desk)
+    answer_along::<M, I, O>(alloc, Form::Blocks, typed, &limits, plan, capture, desk)
 }

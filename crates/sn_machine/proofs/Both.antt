@@ -1,5 +1,5 @@
 -- What happens to the lanes happens to both sides.
-use Rattle.std.proofs.Common.{◌≡◌, ℕ, suc, ◌<◌, ◌==◌, ◌&&◌, List, [], ◌∷◌, ◌++◌, map, length, Bool, true, false, not, is_some, is_none, nat_lt, Option, None, Some, refl, ap, ap₂, sym, ◌∙◌, subst, arith, append-nil, take, drop, nat_eq, ◌-◌, eq-eqb}
+use Rattle.std.proofs.Common.{◌≡◌, ℕ, suc, ◌<◌, ◌==◌, ◌&&◌, List, [], ◌∷◌, ◌++◌, map, length, Bool, true, false, not, is_some, nat_lt, Option, None, Some, refl, ap, ap₂, sym, ◌∙◌, arith, append-nil, take, drop, nat_eq, ◌-◌, eq-eqb}
 use Rattle.std.specs.FinSet as set
 use Rattle.std.specs.List.{AllByRecursion, list_all}
 use Rattle.std.specs.Option.{option_map_or}
@@ -7,8 +7,7 @@ use Rattle.std.specs.Ordering.{nat_cmp}
 use Rattle.std.proofs.lemmas.Bool.{false≢true, eqb-false, eqb-true, ne_eqb}
 use Rattle.std.proofs.lemmas.List.{drop_all, take_all}
 use Rattle.circular_buffer.specs.Buffer.{Buffer}
-use Rattle.sn_base.specs.declared.lane.Lane.{Lane}
-use Rattle.sn_base.proofs.Lists.{nat_same}
+use Rattle.sn_base.proofs.Lists.{nat_same, and_parts}
 use Rattle.sn_core.specs.Events as core
 use Rattle.sn_core.specs.Events.{all_started, row_frames, with_start, with_tuple}
 use Rattle.sn_core.specs.Needs.{has_room}
@@ -18,7 +17,6 @@ use Rattle.sn_engine.specs.Intakes.{agrees, emptied}
 use Rattle.sn_engine.specs.declared.intake.Intake.{Intake}
 use Rattle.sn_net.proofs.Settling.{unread_settled}
 use Rattle.sn_net.specs.PlanWorkings.{all_ended, workings_of}
-use Rattle.sn_net.specs.Settled.{settled}
 use Rattle.sn_pipe.specs.Pipes.{PipeState, after_packet, at_start, item_of}
 use Rattle.sn_report.specs.declared.frame.Item.{Item}
 use Rattle.sn_types.specs.declared.typed_query.TypedQuery.{TypedQuery}
@@ -26,7 +24,7 @@ use Rattle.sn_machine.specs.declared.holder.Holder.{Holder}
 use Rattle.sn_machine.specs.Facts.{are_roomy, are_unread, names_of}
 use Rattle.sn_machine.specs.Holders.{all_begun, all_took, begun, took, with_row}
 use Rattle.sn_machine.specs.States.{lane_of, lanes_of}
-use Rattle.sn_machine.proofs.Zips.{both_true, fits, kept_whole}
+use Rattle.sn_machine.proofs.Zips.{fits, kept_whole}
 
 abbrev pub Set : Type 0
 Set = set.FinSet nat_cmp
@@ -110,8 +108,8 @@ module _ (queries : List TypedQuery) (intakes : List Intake) (sources : List Sou
   took_lanes room tuple [] xs roomy unread free = refl
   took_lanes room tuple (h ∷ hs) [] roomy unread free = refl
   took_lanes room tuple (h ∷ hs) (x ∷ xs) roomy unread free =
-      let parts = both_true (h.ring.capacity == room) (are_roomy room hs) roomy in
-      let places = both_true (h.pipe.prefix.place == 0) (are_unread hs) unread in
+      let parts = and_parts (h.ring.capacity == room) (are_roomy room hs) roomy in
+      let places = and_parts (h.pipe.prefix.place == 0) (are_unread hs) unread in
       let fit : length h.ring.items < h.ring.capacity = fits (length h.ring.items) room h.ring.capacity (has_some (nat_lt (length h.ring.items) room) free.0) parts.0 in
       ap₂ (λ lane lanes. lane ∷ lanes) (took_lane tuple h x (nat_same h.pipe.prefix.place 0 places.0) fit) (took_lanes room tuple hs xs parts.1 places.1 free.1)
 
@@ -132,7 +130,7 @@ ended_again n [] [] e closed agreed = refl
 ended_again n [] (x ∷ xs) e closed agreed = absurd (omega (arith, e))
 ended_again n (h ∷ hs) [] e closed agreed = absurd (omega (arith, e))
 ended_again n (h ∷ hs) (x ∷ xs) e closed agreed =
-    let parts = both_true (agrees n x) (list_all (agrees n) xs) agreed in
+    let parts = and_parts (agrees n x) (list_all (agrees n) xs) agreed in
     ap₂ (λ (end : Option ℕ) (ys : List Intake). record x { end = end } ∷ ys) (end_is n x.end closed.0 parts.0) (ended_again n hs xs (omega (arith, e)) closed.1 parts.1)
 
 -- the number behind another

@@ -1,11 +1,11 @@
 -- A frame is taken by the engine's lane of its own place.
-use Rattle.std.proofs.Common.{◌≡◌, ℕ, zero, suc, ◌<◌, ◌==◌, ◌&&◌, ◌||◌, List, [], ◌∷◌, map, length, Bool, true, false, not, cond, get_or, set, slice_get, Option, None, Some, refl, ap, sym, ◌∙◌, arith}
+use Rattle.std.proofs.Common.{◌≡◌, ℕ, zero, suc, ◌<◌, ◌==◌, ◌&&◌, ◌||◌, List, [], ◌∷◌, map, length, Bool, true, false, not, cond, get_or, set, Option, None, Some, refl, ap, sym, ◌∙◌, arith}
 use Rattle.std.specs.List.{list_all}
 use Rattle.std.proofs.lemmas.Bool.{false≢true}
 use Rattle.std.proofs.lemmas.List.{length-map}
 use Rattle.sn_base.specs.declared.lane.Lane.{Lane}
 use Rattle.std.specs.Option.{option_map}
-use Rattle.sn_base.proofs.Lists.{nat_self, none_some, some_same}
+use Rattle.sn_base.proofs.Lists.{nat_self, none_some, some_same, and_parts, and_both}
 use Rattle.sn_core.specs.Events.{change_at}
 use Rattle.sn_core.specs.declared.supply.Frame.{Frame}
 use Rattle.sn_core.specs.declared.supply.Frame.TheVariants.{Row, Last}
@@ -13,16 +13,15 @@ use Rattle.sn_core.specs.declared.supply.Window.{Window}
 use Rattle.sn_core.specs.declared.supply.Window.TheVariants.{Idle, Begun, Closed}
 use Rattle.sn_core.proofs.Tests.{change_same}
 use Rattle.sn_driver.specs.Work.{taken}
-use Rattle.sn_engine.specs.Intakes.{after_frame, agrees, emptied, is_lane, with_end, with_first, with_item}
+use Rattle.sn_engine.specs.Intakes.{after_frame, agrees, emptied, is_lane, with_first}
 use Rattle.sn_engine.specs.declared.intake.Intake.{Intake}
 use Rattle.sn_engine.proofs.Firsts.{three_parts}
 use Rattle.sn_report.specs.declared.frame.Frame.{Frame as Report}
-use Rattle.sn_report.specs.declared.frame.Frame.TheVariants as report
 use Rattle.sn_report.specs.declared.frame.Item.{Item}
 use Rattle.sn_machine.specs.declared.holder.Holder.{Holder}
 use Rattle.sn_machine.specs.Facts.{are_named, ends_agree, names_of}
 use Rattle.sn_machine.specs.Reports.{report_of, window_number}
-use Rattle.sn_machine.proofs.Zips.{all_at, both_true}
+use Rattle.sn_machine.proofs.Zips.{all_at}
 
 no_more : (b : Bool) → not b ≡ true → b ≡ false
 no_more true e = sym e
@@ -68,18 +67,14 @@ still_empty x name window Last = refl
 pub taken_emptied : (name : Lane) (window : ℕ) (frame : Frame Item) (xs : List Intake) (n : ℕ) → map emptied (change_at (λ x. taken x (report_of name window frame)) xs n) ≡ map emptied xs
 taken_emptied name window frame xs n = change_same (λ x. taken x (report_of name window frame)) emptied (λ x. still_empty x name window frame) xs n
 
-and_true : (a b : Bool) → a ≡ true → b ≡ true → (a && b) ≡ true
-and_true true b e f = f
-and_true false b e f = e
-
 pub all_change : {X : Type 0} (test : X → Bool) (change : X → X) → ((x : X) → test x ≡ true → test (change x) ≡ true) → (xs : List X) (n : ℕ) → list_all test xs ≡ true → list_all test (change_at change xs n) ≡ true
 all_change test change keeps [] n e = e
 all_change test change keeps (x ∷ xs) zero e =
-    let parts = both_true (test x) (list_all test xs) e in
-    and_true (test (change x)) (list_all test xs) (keeps x parts.0) parts.1
+    let parts = and_parts (test x) (list_all test xs) e in
+    and_both (test (change x)) (list_all test xs) (keeps x parts.0) parts.1
 all_change test change keeps (x ∷ xs) (suc n) e =
-    let parts = both_true (test x) (list_all test xs) e in
-    and_true (test x) (list_all test (change_at change xs n)) parts.0 (all_change test change keeps xs n parts.1)
+    let parts = and_parts (test x) (list_all test xs) e in
+    and_both (test x) (list_all test (change_at change xs n)) parts.0 (all_change test change keeps xs n parts.1)
 
 agrees_still : (name : Lane) (window : ℕ) (frame : Frame Item) (x : Intake) → agrees window x ≡ true → agrees window (taken x (report_of name window frame)) ≡ true
 agrees_still name window (Row item) x e = e

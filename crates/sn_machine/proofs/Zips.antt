@@ -1,8 +1,9 @@
 -- A test of one side of the lanes.
-use Rattle.std.proofs.Common.{◌≡◌, ℕ, zero, suc, ◌+◌, ◌<◌, List, [], ◌∷◌, length, Bool, true, false, not, cond, nat_lt, slice_get, is_some, position, get_or, set, drop, ◌==◌, ◌&&◌, ◌++◌, ◌-◌, OnOk, subst, unwrap_or, Result, Ok, Err, None, Some, refl, ap, ap₂, sym, ◌∙◌, arith}
+use Rattle.std.proofs.Common.{◌≡◌, ℕ, zero, suc, ◌+◌, ◌<◌, List, [], ◌∷◌, length, Bool, true, not, cond, nat_lt, slice_get, is_some, position, get_or, set, drop, ◌==◌, ◌&&◌, ◌++◌, ◌-◌, OnOk, subst, unwrap_or, Result, Ok, Err, None, Some, refl, ap, ap₂, sym, ◌∙◌, arith}
 use Rattle.std.specs.List.{list_all, position_or_len}
-use Rattle.std.proofs.lemmas.Bool.{false≢true, eqb-true, ltb-true}
+use Rattle.std.proofs.lemmas.Bool.{eqb-true, ltb-true}
 use Rattle.std.proofs.lemmas.List.{length-append}
+use Rattle.sn_base.proofs.Lists.{and_parts}
 use Rattle.sn_base.specs.declared.lane.Lane.{Lane as Name}
 use Rattle.sn_core.specs.Nets.{Lane}
 use Rattle.sn_core.proofs.Tests.{some_not_none}
@@ -76,19 +77,15 @@ kept_whole n xs x room =
 
 -- ---- tests of all holders
 
-pub both_true : (a b : Bool) → (a && b) ≡ true → (a ≡ true) × (b ≡ true)
-both_true true b e = (refl, e)
-both_true false b e = absurd (false≢true e)
-
 pub all_at : {X : Type 0} (test : X → Bool) (xs : List X) (n : ℕ) (d : X) → list_all test xs ≡ true → n < length xs → test (get_or xs n d) ≡ true
 all_at test [] n d e within = absurd (omega arith)
-all_at test (x ∷ xs) zero d e within = (both_true (test x) (list_all test xs) e).0
-all_at test (x ∷ xs) (suc n) d e within = all_at test xs n d (both_true (test x) (list_all test xs) e).1 (omega arith)
+all_at test (x ∷ xs) zero d e within = (and_parts (test x) (list_all test xs) e).0
+all_at test (x ∷ xs) (suc n) d e within = all_at test xs n d (and_parts (test x) (list_all test xs) e).1 (omega arith)
 
 pub all_set : {X : Type 0} (test : X → Bool) (xs : List X) (n : ℕ) (y : X) → list_all test xs ≡ true → test y ≡ true → list_all test (set xs n y) ≡ true
 all_set test [] n y e passes = refl
-all_set test (x ∷ xs) zero y e passes = ap₂ (λ a b. a && b) passes (both_true (test x) (list_all test xs) e).1
-all_set test (x ∷ xs) (suc n) y e passes = ap₂ (λ a b. a && b) (both_true (test x) (list_all test xs) e).0 (all_set test xs n y (both_true (test x) (list_all test xs) e).1 passes)
+all_set test (x ∷ xs) zero y e passes = ap₂ (λ a b. a && b) passes (and_parts (test x) (list_all test xs) e).1
+all_set test (x ∷ xs) (suc n) y e passes = ap₂ (λ a b. a && b) (and_parts (test x) (list_all test xs) e).0 (all_set test xs n y (and_parts (test x) (list_all test xs) e).1 passes)
 
 pub fits : (len room capacity : ℕ) → nat_lt len room ≡ true → (capacity == room) ≡ true → len < capacity
 fits len room capacity less same = omega (arith, ltb-true len room less, eqb-true capacity room same)

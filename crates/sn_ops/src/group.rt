@@ -16,12 +16,13 @@ use sn_base::fold::Fold;
 use sn_base::memory::Memory;
 use sn_base::row::Row;
 use sn_base::seq::Seq;
+use sn_seed::Seed;
 use sn_types::evaluate::columns_of;
 use sn_types::typed_op::{TOp, TReduce};
 use std::alloc::Global;
 
 /// Adds a row. Whether it is new.
-pub(crate) fn is_new(seen: &mut IndexSet<Row>, row: Row) -> Result<bool, Memory>
+pub(crate) fn is_new(seen: &mut IndexSet<Row, Seed>, row: Row) -> Result<bool, Memory>
     ensures new { IfOk result (λ new. new ≡ not (list_any (same_row row) seen.old.keys)) }
     ensures keys { OnOk result (seen.new.keys ≡ insert_key same_row seen.old.keys row) }
 {
@@ -35,7 +36,14 @@ pub(crate) fn is_new(seen: &mut IndexSet<Row>, row: Row) -> Result<bool, Memory>
 pub fn distinct(alloc: Global, rows: &[Row]) -> Result<Seq<Row>, Memory>
     ensures { IfOk result (λ out. out ≡ apply (op_at 0 TOp.Distinct) rows.now) }
 {
-    let mut seen = IndexSet::new(alloc);
+    distinct_by(alloc, Seed::new(0), rows)
+}
+
+/// `distinct`, with a table that hashes from this seed.
+pub fn distinct_by(alloc: Global, seed: Seed, rows: &[Row]) -> Result<Seq<Row>, Memory>
+    ensures { IfOk result (λ out. out ≡ apply (op_at 0 TOp.Distinct) rows.now) }
+{
+    let mut seen = IndexSet::with_hasher(alloc, seed);
     let mut out = Seq::new(alloc);
     for row in rows {
         if is_new(&mut seen, *row)? {
@@ -48,7 +56,7 @@ pub fn distinct(alloc: Global, rows: &[Row]) -> Result<Seq<Row>, Memory>
 /// Puts a value to its key's fold. The key is looked up once.
 pub(crate) fn add_to(
     fold: AnyFold,
-    groups: &mut IndexMap<Row, u64>,
+    groups: &mut IndexMap<Row, u64, Seed>,
     key: Row,
     value: u64,
 ) -> Result<(), Memory>
@@ -65,7 +73,7 @@ pub(crate) fn add_to(
 }
 
 /// A row for each group: its key, then its fold.
-pub(crate) fn rows_of(alloc: Global, groups: &IndexMap<Row, u64>) -> Result<Seq<Row>, Memory>
+pub(crate) fn rows_of(alloc: Global, groups: &IndexMap<Row, u64, Seed>) -> Result<Seq<Row>, Memory>
     requires { All (λ g. length g.0 < 8) groups.now.entries }
     ensures { IfOk result (λ out. out ≡ map (λ g. g.0 ++ g.1 ∷ []) groups.now.entries) }
 {
@@ -94,11 +102,16 @@ fn front_of(row: &Row, count: usize) -> Row
 }
 
 /// Each key that occurs in the rows, with the fold of that key's values from the unit.
-fn groups_of(alloc: Global, rows: &[Row], r: &TReduce) -> Result<IndexMap<Row, u64>, Memory>
+fn groups_of(
+    alloc: Global,
+    seed: Seed,
+    rows: &[Row],
+    r: &TReduce,
+) -> Result<IndexMap<Row, u64, Seed>, Memory>
     requires { ReduceFits r.now rows.now }
     ensures { IfOk result (λ groups. groups.entries ≡ folded same_row (any_step r.now.fold) (any_unit r.now.fold) (map (pair_of (grouping_of r.now)) rows.now)) }
 {
-    let mut groups = IndexMap::new(alloc);
+    let mut groups = IndexMap::with_hasher(alloc, seed);
     for row in rows {
         let key = columns_of(row, r.keys.as_slice());
         add_to(r.fold, &mut groups, key, row.as_slice()[r.value as usize])?;
@@ -108,8 +121,10 @@ fn groups_of(alloc: Global, rows: &[Row], r: &TReduce) -> Result<IndexMap<Row, u
 
 /// One row for each key that occurs in the rows or in the Partial rows, in the order of first places: the key columns,
 /// then the fold of all that key's values from the unit. A Partial row is a key with the fold of a part of its values.
+/// The table of keys hashes from this seed.
 pub fn reduce_with(
     alloc: Global,
+    seed: Seed,
     rows: &[Row],
     parts: &[Row],
     r: &TReduce,
@@ -119,7 +134,7 @@ pub fn reduce_with(
     ensures { let g = grouping_of r.now in IfOk result (λ out. out ≡ grouped g (map (pair_of g) rows.now ++ map (parted g) parts.now)) }
 {
     let count = r.keys.as_slice().len();
-    let mut groups = groups_of(alloc, rows, r)?;
+    let mut groups = groups_of(alloc, seed, rows, r)?;
     for part in parts {
         let value = part.as_slice()[count];
         add_to(r.fold, &mut groups, front_of(part, count), value)?;
@@ -136,5 +151,16 @@ pub fn reduce(alloc: Global, rows: &[Row], r: &TReduce) -> Result<Seq<Row>, Memo
     requires had { All (λ row. any_has r.now.fold (slice_index row r.now.value)) rows.now }
     ensures { IfOk result (λ out. out ≡ apply (op_at 0 (TOp.Reduce r.now)) rows.now) }
 {
-    reduce_with(alloc, rows, &[], r)
+    reduce_by(alloc, Seed::new(0), rows, r)
+}
+
+/// `reduce`, with a table that hashes from this seed.
+pub fn reduce_by(alloc: Global, seed: Seed, rows: &[Row], r: &TReduce) -> Result<Seq<Row>, Memory>
+    requires few { length r.now.keys < 8 }
+    requires places { All (λ row. All (λ place. place < length row) r.now.keys) rows.now }
+    requires value { All (λ row. r.now.value < length row) rows.now }
+    requires had { All (λ row. any_has r.now.fold (slice_index row r.now.value)) rows.now }
+    ensures { IfOk result (λ out. out ≡ apply (op_at 0 (TOp.Reduce r.now)) rows.now) }
+{
+    reduce_with(alloc, seed, rows, &[], r)
 }

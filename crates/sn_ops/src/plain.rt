@@ -8,7 +8,7 @@ ghost use Rattle.sn_types.specs.Typed.{branch_of, branch_at, query_at, end_colum
 
 use crate::finish::finish;
 use crate::flow::run;
-use crate::join::join;
+use crate::join::join_by;
 use crate::packets::{Kept, is_kept};
 use crate::seen::unseen;
 use crate::take::take;
@@ -38,7 +38,7 @@ pub fn branch_rows(
     ensures columns { IfOk result (λ rows. AllByRecursion (IsOf (end_columns (branch_at t.now.queries q b))) rows) }
 {
     let ops = t.operators(q, b);
-    let mut seen = unseen(alloc, ops)?;
+    let mut seen = unseen(alloc, t.seed, ops)?;
     let mut out = Seq::new(alloc);
     for tuple in tuples {
         if is_kept(t, q, kept, tuple) {
@@ -46,7 +46,7 @@ pub fn branch_rows(
             take(ops, &mut seen, level, &mut row, &mut out)?;
         }
     }
-    finish(alloc, ops, &seen, level, out)
+    finish(alloc, t.seed, ops, &seen, level, out)
 }
 
 /// The two branches of a query on these tuples, joined.
@@ -67,7 +67,13 @@ fn joined_rows(
 {
     let left = branch_rows(alloc, t, q, 0, level, kept, tuples)?;
     let right = branch_rows(alloc, t, q, 1, level, kept, tuples)?;
-    join(alloc, left.as_slice(), right.as_slice(), t.join_keys(q))
+    join_by(
+        alloc,
+        t.seed,
+        left.as_slice(),
+        right.as_slice(),
+        t.join_keys(q),
+    )
 }
 
 /// The whole unsplit query on the tuples of a window: its branch, or its two branches joined and taken through the
@@ -89,7 +95,7 @@ pub fn plain(
 {
     if t.branches(q) == 2 {
         let rows = joined_rows(alloc, t, q, level, kept, tuples)?;
-        run(alloc, t.query(q).posts.as_slice(), level, rows)
+        run(alloc, t.seed, t.query(q).posts.as_slice(), level, rows)
     } else {
         branch_rows(alloc, t, q, 0, level, kept, tuples)
     }

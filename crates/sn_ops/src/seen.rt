@@ -13,6 +13,7 @@ use crate::group::{add_to, is_new};
 use indexmap::{IndexMap, IndexSet};
 use sn_base::memory::Memory;
 use sn_base::row::Row;
+use sn_seed::Seed;
 use sn_types::evaluate::{columns_of, mapped, passes};
 use sn_types::typed_op::{TOp, TReduce};
 use std::alloc::Global;
@@ -20,12 +21,12 @@ use std::alloc::Global;
 /// What an operator has seen: a distinct its rows, a reduce its groups, and the others nothing.
 #[derive(Drop)]
 pub struct Seen {
-    pub(crate) rows: IndexSet<Row>,
-    pub(crate) groups: IndexMap<Row, u64>,
+    pub(crate) rows: IndexSet<Row, Seed>,
+    pub(crate) groups: IndexMap<Row, u64, Seed>,
 }
 
 /// Puts a row's value to its key's fold.
-fn add_row(r: &TReduce, groups: &mut IndexMap<Row, u64>, row: &Row) -> Result<(), Memory>
+fn add_row(r: &TReduce, groups: &mut IndexMap<Row, u64, Seed>, row: &Row) -> Result<(), Memory>
     requires { CanMeet (TOp.Reduce r.now) groups.old.entries row.now }
     ensures { OnOk result (groups.new.entries ≡ groups_after (TOp.Reduce r.now) groups.old.entries row.now) }
 {
@@ -34,12 +35,12 @@ fn add_row(r: &TReduce, groups: &mut IndexMap<Row, u64>, row: &Row) -> Result<()
 }
 
 /// What these operators have seen at first: nothing.
-pub(crate) fn unseen(alloc: Global, ops: &[TOp]) -> Result<Vec<Seen>, Memory>
+pub(crate) fn unseen(alloc: Global, seed: Seed, ops: &[TOp]) -> Result<Vec<Seen>, Memory>
     ensures { IfOk result (λ seen. (level : ℕ) → Stands level ops.now seen.items [] []) }
 {
     let mut seen = Vec::new(alloc);
     for place in 0..ops.len() {
-        if let Err(_) = seen.push(Seen::new(alloc)) {
+        if let Err(_) = seen.push(Seen::new(alloc, seed)) {
             return Err(Memory);
         }
     }
@@ -47,14 +48,14 @@ pub(crate) fn unseen(alloc: Global, ops: &[TOp]) -> Result<Vec<Seen>, Memory>
 }
 
 impl Seen {
-    /// Nothing.
-    pub fn new(alloc: Global) -> Seen
+    /// Nothing. What is seen is found by hashes from this seed.
+    pub fn new(alloc: Global, seed: Seed) -> Seen
         ensures rows { result.rows.keys ≡ [] }
         ensures groups { result.groups.entries ≡ [] }
     {
         Seen {
-            rows: IndexSet::new(alloc),
-            groups: IndexMap::new(alloc),
+            rows: IndexSet::with_hasher(alloc, seed),
+            groups: IndexMap::with_hasher(alloc, seed),
         }
     }
 

@@ -10,6 +10,7 @@ use sn_io::inputs::Inputs;
 use sn_io::sink::Sink;
 use sn_read_queries::fault::Refused;
 use sn_read_queries::read::read;
+use sn_seed::Seed;
 use sn_stage::desk::Desk;
 use sn_stage::fault::Fault;
 use sn_stage::files::{MOST_TEXT, read_file};
@@ -29,6 +30,15 @@ fn judge_queries(alloc: Global, text: &[u8]) -> Result<Typed, Refusal>
     }
 }
 
+/// The queries of a text, whose tables of rows hash from this seed.
+fn seeded_queries(alloc: Global, seed: Seed, text: &[u8]) -> Result<Typed, Refusal>
+    requires { length text.now ≤ 2 ^ 30 }
+    ensures { Answers (QueriesIn text.now) (seen_as queries_of result) }
+{
+    let typed = judge_queries(alloc, text)?;
+    Ok(typed.with_seed(seed))
+}
+
 /// Reads the queries of a file.
 pub fn read_queries<I: Inputs, O: Sink>(
     alloc: Global,
@@ -38,5 +48,5 @@ pub fn read_queries<I: Inputs, O: Sink>(
     ensures { Works (name.now ∷ []) (Text name.now QueriesIn) (world I.Inputs O.Sink desk.old) (seen_as queries_of result) (world I.Inputs O.Sink desk.new) }
 {
     let text = read_file(alloc, desk, name, MOST_TEXT)?;
-    judge_queries(alloc, text.as_slice())
+    seeded_queries(alloc, desk.files.seed(), text.as_slice())
 }

@@ -1,10 +1,10 @@
 -- A typed file keeps the counts of its text.
-use Rattle.std.proofs.Common.{◌≡◌, ℕ, zero, suc, ◌<◌, ◌≤◌, List, [], ◌∷◌, map, length, Bool, true, false, not, ◌||◌, ◌&&◌, nat_lt, ◌==◌, cond, ◌⊎◌, slice_index, Option, None, Some, is_none, is_some, IfSome, inl, inr, refl, ap, sym, ◌∙◌, subst, arith}
+use Rattle.std.proofs.Common.{◌≡◌, ℕ, zero, suc, ◌<◌, ◌≤◌, List, [], ◌∷◌, map, length, true, false, not, ◌||◌, ◌&&◌, nat_lt, ◌==◌, cond, ◌⊎◌, slice_index, Option, None, Some, is_none, is_some, IfSome, inl, inr, refl, ap, sym, ◌∙◌, subst, arith}
 use Rattle.std.specs.List.{AllByRecursion, list_all, list_any}
 use Rattle.std.specs.Option.{option_map_or}
 use Rattle.std.proofs.lemmas.Bool.Decides.{nat_tests}
 use Rattle.std.proofs.lemmas.List.{length-map}
-use Rattle.sn_base.proofs.Lists.{all_map, all_weaker}
+use Rattle.sn_base.proofs.Lists.{all_map, all_weaker, and_parts, not_false, or_none}
 use Rattle.sn_fields.specs.declared.field.Field.{Field}
 use Rattle.sn_fields.specs.Fields.{is_address, width_of, with_name}
 use Rattle.sn_query_rules.specs.declared.ast.Branch.{Branch}
@@ -12,7 +12,7 @@ use Rattle.sn_query_rules.specs.declared.ast.Join.{Join}
 use Rattle.sn_query_rules.specs.declared.ast.Query.{Query}
 use Rattle.sn_query_rules.specs.declared.ast.Refine.{Refine}
 use Rattle.sn_query_rules.specs.Limits.{AreJoined, BranchLimits, QueryLimits, RefineLimits, Within}
-use Rattle.sn_query_laws.specs.Counts.{AreRising, IsRefined, IsUnrefined, KeepsCounts, KeepsQueryCounts}
+use Rattle.sn_query_laws.specs.Counts.{IsRefined, IsUnrefined, KeepsCounts, KeepsQueryCounts}
 use Rattle.sn_types.specs.declared.typed_query.TypedBranch.{TypedBranch}
 use Rattle.sn_types.specs.declared.typed_query.TypedQuery.{TypedQuery}
 use Rattle.sn_types.specs.Typed.{IsTyped}
@@ -29,17 +29,9 @@ use Rattle.sn_walk.specs.Walk.{first_fault, query_places, refine_places}
 
 -- ---- levels
 
-or_none : (a b : Bool) → (a || b) ≡ false → (a ≡ false) × (b ≡ false)
-or_none true b e = cc
-or_none false b e = (refl, e)
-
-and_both : (a b : Bool) → (a && b) ≡ true → (a ≡ true) × (b ≡ true)
-and_both true b e = (refl, e)
-and_both false b e = cc
-
-true_of : (b : Bool) → not b ≡ false → b ≡ true
-true_of true e = refl
-true_of false e = cc
+-- of two numbers the later one is above
+abbrev Rising : List ℕ → Type 0
+Rising numbers = (i j : ℕ) → i < j → j < length numbers → slice_index numbers i < slice_index numbers j
 
 below : (x y : ℕ) → nat_lt x y ≡ true → x < y
 below x y e = grind (arith, nat_tests)
@@ -52,15 +44,15 @@ some_of x e = grind (arith, nat_tests)
 
 below_all : (x : ℕ) (xs : List ℕ) (j : ℕ) → list_all (nat_lt x) xs ≡ true → j < length xs → x < slice_index xs j
 below_all x [] j e lt = absurd (omega (arith, lt))
-below_all x (y ∷ ys) zero e lt = below x y (and_both (nat_lt x y) (list_all (nat_lt x) ys) e).0
-below_all x (y ∷ ys) (suc j) e lt = below_all x ys j (and_both (nat_lt x y) (list_all (nat_lt x) ys) e).1 (omega (arith, lt))
+below_all x (y ∷ ys) zero e lt = below x y (and_parts (nat_lt x y) (list_all (nat_lt x) ys) e).0
+below_all x (y ∷ ys) (suc j) e lt = below_all x ys j (and_parts (nat_lt x y) (list_all (nat_lt x) ys) e).1 (omega (arith, lt))
 
-rising : (xs : List ℕ) → are_rising xs ≡ true → AreRising xs
+rising : (xs : List ℕ) → are_rising xs ≡ true → Rising xs
 rising [] e i j before lt = absurd (omega (arith, lt))
 rising (x ∷ xs) e zero zero before lt = absurd (omega (arith, before))
-rising (x ∷ xs) e zero (suc j) before lt = below_all x xs j (and_both (list_all (nat_lt x) xs) (are_rising xs) e).0 (omega (arith, lt))
+rising (x ∷ xs) e zero (suc j) before lt = below_all x xs j (and_parts (list_all (nat_lt x) xs) (are_rising xs) e).0 (omega (arith, lt))
 rising (x ∷ xs) e (suc i) zero before lt = absurd (omega (arith, before))
-rising (x ∷ xs) e (suc i) (suc j) before lt = rising xs (and_both (list_all (nat_lt x) xs) (are_rising xs) e).1 i j (omega (arith, before)) (omega (arith, lt))
+rising (x ∷ xs) e (suc i) (suc j) before lt = rising xs (and_parts (list_all (nat_lt x) xs) (are_rising xs) e).1 i j (omega (arith, before)) (omega (arith, lt))
 
 in_range : (width : ℕ) (xs : List ℕ) → list_any (out_of_range width) xs ≡ false → AllByRecursion (Within 1 width) xs
 in_range width [] e = tt
@@ -71,14 +63,14 @@ in_range width (x ∷ xs) e =
 
 -- levels of a field
 FitField : Option Field → List ℕ → Type 0
-FitField field levels = AreRising levels × IfSome field (λ f. AllByRecursion (Within 1 (width_of f)) levels)
+FitField field levels = Rising levels × IfSome field (λ f. AllByRecursion (Within 1 (width_of f)) levels)
 
 fit_field : (f : Field) (levels : List ℕ) → wrong_field_levels f levels ≡ false → FitField (Some f) levels
 unfolding FitField
 fit_field f levels e =
     let parts = or_none (not (is_address f) || not (are_rising levels)) (list_any (out_of_range (width_of f)) levels) e in
     let up = or_none (not (is_address f)) (not (are_rising levels)) parts.0 in
-    (rising levels (true_of (are_rising levels) up.1), in_range (width_of f) levels parts.1)
+    (rising levels (not_false (are_rising levels) up.1), in_range (width_of f) levels parts.1)
 
 known_field : (r : Refine) → refine_fault r ≡ None → (is_none (with_name r.field) ≡ false) × (wrong_refine r ≡ false)
 known_field r none =
@@ -122,7 +114,7 @@ refined_or_not (Some r) t limits none levels field some_field some_column =
     let fit = fit_named (with_name r.field) r.levels known.0 known.1 in
     inr (record {
       count = subst (λ (ls : List ℕ). Within 1 4 (length ls)) (sym levels) limits.count;
-      rising = subst AreRising (sym levels) fit.0;
+      rising = subst Rising (sym levels) fit.0;
       width = subst (λ (o : Option Field). IfSome o (λ f. AllByRecursion (Within 1 (width_of f)) t.levels)) (sym field)
           (subst (λ (ls : List ℕ). IfSome (with_name r.field) (λ f. AllByRecursion (Within 1 (width_of f)) ls)) (sym levels) fit.1);
       field = some_field;

@@ -6,10 +6,6 @@ use Rattle.sn_query_rules.specs.Limits.{Within}
 use Rattle.sn_types.specs.declared.typed_query.TypedBranch.{TypedBranch}
 use Rattle.sn_types.specs.declared.typed_query.TypedQuery.{TypedQuery}
 
--- of two numbers the later one is above
-abbrev pub AreRising : List ℕ → Type 0
-AreRising numbers = (i j : ℕ) → i < j → j < length numbers → slice_index numbers i < slice_index numbers j
-
 -- a query that isn't refined has the one level 0, and no refinement field or column
 pub record IsUnrefined (query : TypedQuery) : Type 0 where
   pub levels : query.levels ≡ 0 ∷ []
@@ -19,7 +15,8 @@ pub record IsUnrefined (query : TypedQuery) : Type 0 where
 -- a refined one has a field, a column, and one to four rising levels, from 1 to the field's width
 pub record IsRefined (query : TypedQuery) : Type 0 where
   pub count : Within 1 4 (length query.levels)
-  pub rising : AreRising query.levels
+  -- of two levels the later one is above
+  pub rising : (i j : ℕ) → i < j → j < length query.levels → slice_index query.levels i < slice_index query.levels j
   pub width : IfSome query.field (λ field. AllByRecursion (Within 1 (width_of field)) query.levels)
   pub field : is_some query.field ≡ true
   pub column : is_some query.column ≡ true

@@ -1,9 +1,10 @@
 -- Items with names that are apart, and how many there are.
-use Rattle.std.proofs.Common.{◌≡◌, ℕ, Bool, true, false, List, [], ◌∷◌, ◌++◌, length, map, refl, sym, subst, ◌∙◌}
+use Rattle.std.proofs.Common.{◌≡◌, ℕ, false, List, [], ◌∷◌, ◌++◌, length, map, sym, subst, ◌∙◌}
 use Rattle.std.specs.Prelude.{◌||◌}
 use Rattle.std.specs.List.{AllByRecursion, list_any}
 use Rattle.std.specs.Cmp.Lexicographic.{nat_list_eq_equiv}
 use Rattle.std.proofs.lemmas.List.{append-nil, append_assoc, map-append}
+use Rattle.sn_base.proofs.Lists.{or_none}
 use Rattle.sn_base.specs.Groups.{Apart, same_row}
 use Rattle.sn_rules.specs.Rules.{kept, Rule}
 use Rattle.sn_rules.proofs.Items.{Behind, Item, IsListOf}
@@ -16,17 +17,13 @@ all_push : {A : Type 0} (P : A → Type 0) (xs : List A) (x : A) → AllByRecurs
 all_push P [] x h px = (px, tt)
 all_push P (y ∷ xs) x h px = (h.0, all_push P xs x h.1 px)
 
-neither : (a b : Bool) → (a || b) ≡ false → (a ≡ false) × (b ≡ false)
-neither true b h = absurd cc
-neither false b h = (refl, h)
-
 turned : (x y : List ℕ) → same_row x y ≡ false → same_row y x ≡ false
 turned x y h = nat_list_eq_equiv.symm y x ∙ h
 
 apart_push : (ks : List (List ℕ)) (k : List ℕ) → Apart same_row ks → list_any (same_row k) ks ≡ false → Apart same_row (ks ++ k ∷ [])
 apart_push [] k apart fresh = (tt, tt)
 apart_push (q ∷ ks) k apart fresh =
-    let parts = neither (same_row k q) (list_any (same_row k) ks) fresh in
+    let parts = or_none (same_row k q) (list_any (same_row k) ks) fresh in
     (all_push (λ x. same_row q x ≡ false) ks k apart.0 (turned k q parts.0), apart_push ks k apart.1 parts.1)
 
 pub apart_behind : {A : Type 0} (F : List A → A → Type 0) (key : A → List ℕ) → ((seen : List A) (a : A) → F seen a → list_any (same_row (key a)) (map key seen) ≡ false)

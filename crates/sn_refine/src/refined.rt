@@ -1,5 +1,5 @@
 //! The refined answers of a query, window by window.
-ghost use Rattle.std.specs.Prelude.{◌≡◌, ◌<◌, map, length, nat_eq, true, filter, Some, None, [], IsSome, IfOk, OnOk, OnErr};
+ghost use Rattle.std.specs.Prelude.{◌≡◌, ◌<◌, ◌≤◌, map, take, length, nat_eq, true, filter, Some, None, [], IsSome, IfOk, OnOk, OnErr};
 ghost use Rattle.std.specs.List.{list_any};
 ghost use Rattle.std.specs.FinSet as set;
 ghost use Rattle.sn_base.specs.Sorted.{sorted_rows};
@@ -163,15 +163,16 @@ impl Refined {
         next_rows(self.alloc, t, self.query, path[place], kept, tuples)
     }
 
-    /// The answers at each level of the path.
-    fn parts(&self, t: &Typed, w: u64, tuples: &[Tuple]) -> Result<Seq<Part>, Memory>
+    /// The answers at the first levels of the path, so many.
+    fn parts(&self, t: &Typed, w: u64, tuples: &[Tuple], count: usize) -> Result<Seq<Part>, Memory>
         requires path { IsPathOf t.now.queries self.now.query self.now.path }
         requires above { IsAbove self.now.last w }
-        ensures { IfOk result (λ parts. parts ≡ parts_in self.now.query (query_at t.now.queries self.now.query) self.now.path (kept_at self.now.last self.now.kept w) tuples.now) }
+        requires count { count ≤ length self.now.path }
+        ensures { IfOk result (λ parts. parts ≡ take count (parts_in self.now.query (query_at t.now.queries self.now.query) self.now.path (kept_at self.now.last self.now.kept w) tuples.now)) }
     {
         let none = Members::new(self.alloc);
         let mut parts = Seq::new(self.alloc);
-        for place in 0..self.path.as_slice().len() {
+        for place in 0..count {
             let rows = self.rows_at(t, w, place, &none, tuples)?;
             parts.push(Part {
                 query: self.query,
@@ -195,11 +196,30 @@ impl Refined {
         ensures query { self.new.query ≡ self.old.query }
         ensures path { self.new.path ≡ self.old.path }
     {
-        let parts = self.parts(t, w, tuples)?;
-        let coarser = self.path.as_slice().len().saturating_sub(1);
+        let levels = self.path.as_slice().len();
+        let parts = self.parts(t, w, tuples, levels)?;
+        let coarser = levels.saturating_sub(1);
         let kept = prefixes_of(self.alloc, t, self.query, &parts.as_slice()[..coarser])?;
         self.kept = kept;
         self.last = Some(w);
         Ok(parts)
+    }
+
+    /// Takes a window whose answers no one asks for. Only the levels but the last answer it, since the next window needs
+    /// no more. An `Err` changes nothing.
+    pub fn pass(&mut self, t: &Typed, w: u64, tuples: &[Tuple]) -> Result<(), Memory>
+        requires path { IsPathOf t.now.queries self.old.query self.old.path }
+        requires above { IsAbove self.old.last w }
+        ensures kept { let query = query_at t.now.queries self.old.query in OnOk result (self.new.kept ≡ kept_of query self.old.path (parts_in self.old.query query self.old.path (kept_at self.old.last self.old.kept w) tuples.now)) }
+        ensures last { OnOk result (self.new.last ≡ Some w) }
+        ensures err { OnErr result ((self.new.last ≡ self.old.last) × (self.new.kept ≡ self.old.kept)) }
+        ensures query { self.new.query ≡ self.old.query }
+        ensures path { self.new.path ≡ self.old.path }
+    {
+        let coarser = self.path.as_slice().len().saturating_sub(1);
+        let parts = self.parts(t, w, tuples, coarser)?;
+        self.kept = prefixes_of(self.alloc, t, self.query, parts.as_slice())?;
+        self.last = Some(w);
+        Ok(())
     }
 }

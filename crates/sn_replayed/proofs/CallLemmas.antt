@@ -7,6 +7,7 @@ use Rattle.sn_emitted.proofs.EmitLemmas.{one_emit}
 use Rattle.sn_finished.specs.Finish.{Finish}
 use Rattle.sn_finished.proofs.FinishLemmas.{one_finish}
 use Rattle.sn_io.specs.Counts.{ByName}
+use Rattle.sn_run.specs.Planned.{as_they_are}
 use Rattle.sn_run.specs.Run.{Run}
 use Rattle.sn_run.proofs.RunLemmas.{one_run}
 use Rattle.sn_stage.specs.Ends.{Excused, IsRun, end_status}
@@ -53,12 +54,12 @@ module _ {names : List (List ℕ)} {work : Stage (Unit {0})} {files : ByName (Li
 
 module _ (switch queries plan capture reports : List ℕ) (files later : ByName (List ℕ)) (emit_names run_names : List (List ℕ)) (emit_status run_status : ℕ) (text ran : List ℕ) (bytes : HoldsBytes capture files)
     (emits : Wrote emit_names (Emit switch queries plan capture) files emit_status text) (emitted : IsWritten emit_status) (few : length text ≤ most_text) (kept : IsKept queries plan reports text files later)
-    (runs : Wrote run_names (Run false switch queries plan capture) files run_status ran) (all_ran : IsWritten run_status) where
+    (runs : Wrote run_names (Run as_they_are false switch queries plan capture) files run_status ran) (all_ran : IsWritten run_status) where
   emit_has : Has (Emit switch queries plan capture) files
   emit_has = (one_emit switch queries plan capture).some files
 
-  run_has : Has (Run false switch queries plan capture) files
-  run_has = (one_run false switch queries plan capture).some files
+  run_has : Has (Run as_they_are false switch queries plan capture) files
+  run_has = (one_run as_they_are false switch queries plan capture).some files
 
   finish_has : Has (Finish queries plan reports) later
   finish_has = (one_finish queries plan reports).some later

@@ -1,7 +1,7 @@
 -- What an answered capture adds, by the bytes of its file.
 use Rattle.std.proofs.Common.{◌≡◌, ℕ, ◌⊎◌, List, [], ◌++◌, Bool, true, false, cond, Option, None, Some, Result, Ok, Err, refl, ap, ◌∙◌, append-nil, inl, inr}
 use Rattle.std.specs.FinMap.{get}
-use Rattle.sn_answered.specs.Capture.{AfterHead, Answered, Found, Head, LastLines, RecordsIn, Whole, WindowsOf, blocks_in, ending_verdict, known_bytes, packet_tuple, time_of, windows_in, windows_outcome}
+use Rattle.sn_answered.specs.Capture.{AfterHead, Answered, Found, Head, LastLines, RecordsIn, Whole, WindowsOf, blocks_in, ending_verdict, known_bytes, packet_tuple, time_of, windows_in, windows_outcome, windows_refused}
 use Rattle.sn_answered.specs.Wording.{Window, Wording}
 use Rattle.sn_answered.proofs.AnsweredLemmas.{found_once}
 use Rattle.sn_finished.specs.Taken.{followed}
@@ -135,10 +135,10 @@ module _ (wording : Wording) (window : ℕ) where
 
     module _ (header : Header) where
       abbrev cut_off : Wording → Ending → Bool → Outcome (List Window × Ending)
-      cut_off w ending few = record {
-        text = blocks_in w (shown_in header file) (packets_in window header file);
-        end = cond few (Ok (windows_in (shown_in header file) (packets_in window header file), ending)) (Err (Refused faults.TooLarge));
-      }
+      cut_off w ending few =
+          let text : List ℕ = blocks_in w (shown_in header file) (packets_in window header file) in
+          let windows : List Window = windows_in (shown_in header file) (packets_in window header file) in
+          cond few (record { text = text; end = Ok (windows, ending) }) (windows_refused w (last.Ended ending) text windows)
 
       by_few : (ending : Ending) (few : Bool) → all_few (packets_in window header file) ≡ few → ((w : Wording) → capture_due w window (Some file) ≡ headed w (followed (cut_off w ending few) (behind w)))
           → MeansTo (headed wording (followed (cut_off wording ending few) (behind wording))) → Ways

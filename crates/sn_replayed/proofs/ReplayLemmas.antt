@@ -1,5 +1,5 @@
 -- From file to file, `finish` prints of what `emit` wrote what `run` writes.
-use Rattle.std.proofs.Common.{◌≡◌, ℕ, ◌≤◌, ◌<◌, ◌^◌, ◌⊎◌, List, [], ◌∷◌, ◌++◌, length, drop, false, cond, Option, None, Some, Result, Ok, Err, ap, sym, ◌∙◌, subst, append-nil, inl, inr}
+use Rattle.std.proofs.Common.{◌≡◌, ℕ, ◌≤◌, ◌<◌, ◌^◌, ◌⊎◌, List, [], ◌∷◌, ◌++◌, length, drop, false, cond, Option, None, Some, Result, Ok, Err, ap, ◌∙◌, subst, append-nil, inl, inr}
 use Rattle.std.specs.FinMap.{get}
 use Rattle.std.specs.List.{AllByRecursion, flat_map}
 use Rattle.std.proofs.lemmas.Bool.{le-ltb}
@@ -25,23 +25,20 @@ use Rattle.sn_plan_rules.specs.declared.plan.Entry.{Entry}
 use Rattle.sn_plan_rules.specs.declared.plan.Piece.{Piece}
 use Rattle.sn_plan_rules.specs.declared.plan.Plan.{Plan}
 use Rattle.sn_planned.specs.Queries.{QueriesIn}
-use Rattle.sn_planned.specs.Texts.{PlanIn, SwitchIn, switch_fault}
+use Rattle.sn_planned.specs.Texts.{PlanIn}
 use Rattle.sn_planned.proofs.Verdicts.{plan_once, queries_once, switch_once}
-use Rattle.sn_read_queries.specs.Texts as query_texts
+use Rattle.sn_planned.proofs.Accepted.{switch_limits, typed_in}
 use Rattle.sn_read_queries.specs.Texts.{Queries}
-use Rattle.sn_run.specs.Planned.{Planned, emitted_in, plan_block, plan_lines, plan_wording}
+use Rattle.sn_run.specs.Planned.{Planned, as_they_are, emitted_in, plan_block, plan_lines, plan_wording}
 use Rattle.sn_run.specs.Run.{Run, planned, window_ns}
-use Rattle.sn_stage.specs.declared.fault.Fault.{Fault}
 use Rattle.sn_stage.specs.declared.fault.Fault.TheVariants as faults
 use Rattle.sn_stage.specs.declared.refusal.Refusal.{Refusal}
 use Rattle.sn_stage.specs.declared.refusal.Refusal.TheVariants.{Refused}
 use Rattle.sn_stage.specs.Ends.{end_status}
 use Rattle.sn_stage.specs.Outcomes.{Outcome, silent}
 use Rattle.sn_stage.specs.Refusals.{refusing}
-use Rattle.sn_stage.specs.Stages.{ReadAs, most_text, named, within_limit}
-use Rattle.sn_switch.proofs.Switches.{bounds, one_switch, set_so}
-use Rattle.sn_switch.specs.Texts as switches
-use Rattle.sn_switch.specs.Texts.{IsSwitch, switch_in}
+use Rattle.sn_stage.specs.Stages.{most_text, within_limit}
+use Rattle.sn_switch.specs.Texts.{IsSwitch}
 use Rattle.sn_switch.specs.declared.switch.Switch.{Switch}
 use Rattle.sn_types.specs.declared.typed_query.TypedBranch.{TypedBranch}
 use Rattle.sn_types.specs.declared.typed_query.TypedQuery.{TypedQuery}
@@ -54,32 +51,6 @@ use Rattle.sn_replayed.proofs.CaptureLemmas.{HasNoHead, HasWindows, capture_due,
 use Rattle.sn_replayed.proofs.LaneLemmas.{some_lanes}
 use Rattle.sn_replayed.proofs.PeelLemmas.{goes_silent, passed_goes, plan_harmless, queries_harmless, read_goes, reads_there, switch_harmless, test_passed, text_read}
 use Rattle.sn_replayed.proofs.RecordLemmas.{IsPacket, blocks_whole, counted, never_fall, packets_are, windows_real, windows_rise}
-
--- ---- what the accepted texts are
-
-value_same : {A : Type 0} (x y : A) → ◌≡◌ {A = Result A Fault} (Ok x) (Ok y) → x ≡ y
-value_same x y e = cc
-
-ok_err : {A : Type 0} {x : A} {f : Fault} {G : Type 0} → ◌≡◌ {A = Result A Fault} (Ok x) (Err f) → G
-ok_err e = absurd cc
-
-read_ok : {A F : Type 0} (name : F → Fault) (reading : Result A F → Type 0) (value : A) → ReadAs name reading (Ok value) → reading (Ok value)
-read_ok {A = A} {F = F} name reading value r = by_found r.found r.is r.same
-  where
-    by_found : (found : Result A F) → reading found → Ok value ≡ named name found → reading (Ok value)
-    by_found (Ok v) is same = subst (λ (w : A). reading (Ok w)) (sym (value_same value v same)) is
-    by_found (Err e) is same = ok_err same
-
-typed_in : (text : List ℕ) (read : Queries) → QueriesIn text (Ok read) → ∥ IsTyped read.window_us read.queries ∥₁
-typed_in text read is = let k = read_ok faults.Queries (query_texts.IsRead text) read is in ∣ (k.0, k.2) ∣₁
-
-switch_limits : (text : List ℕ) (s : Switch) → SwitchIn text (Ok s) → IsSwitch s
-switch_limits text s is =
-    let k = read_ok switch_fault (switches.IsRead text) s is in
-    let fits = k.accepted.fits in
-    let b = bounds k.items fits in
-    let known : IsSwitch (switch_in k.items) = record { stages = b.stages; actions = b.actions; bits = b.bits; meta = b.meta; chain = b.chain; slots = b.slots } in
-    subst IsSwitch (one_switch k.items (switch_in k.items) s (set_so k.items fits) k.each) known
 
 -- ---- a plan that fits has the shape of its queries
 
@@ -184,7 +155,7 @@ within_most text held e few =
 
 pub finish_follows : (switch queries plan capture reports : List ℕ) (files later : ByName (List ℕ)) (emitted ran finished : Outcome (Unit {0})) → HoldsBytes capture files
     → Emit switch queries plan capture files emitted → HasWritten emitted → length emitted.text ≤ most_text → IsKept queries plan reports emitted.text files later
-    → Run false switch queries plan capture files ran → Finish queries plan reports later finished → FinishesSo emitted ran finished
+    → Run as_they_are false switch queries plan capture files ran → Finish queries plan reports later finished → FinishesSo emitted ran finished
 finish_follows switch queries plan capture reports files later emitted ran finished bytes emits written few kept runs finishing =
     let q = text_read queries_harmless emits written in
     let s = text_read switch_harmless q.2 written in

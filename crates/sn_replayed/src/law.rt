@@ -13,7 +13,7 @@ ghost use Rattle.sn_pcap.specs.declared.packet.Ending.TheVariants.{Clean};
 ghost use Rattle.sn_replayed.specs.Calls.{CallsFollow, Wrote};
 ghost use Rattle.sn_replayed.specs.Real.{IsReal};
 ghost use Rattle.sn_replayed.specs.Replayed.{FinishesSo, HasWritten, HoldsBytes, IsKept, IsWritten};
-ghost use Rattle.sn_run.specs.Planned.{Planned, plan_block, plan_lines};
+ghost use Rattle.sn_run.specs.Planned.{Planned, as_they_are, plan_block, plan_lines};
 ghost use Rattle.sn_run.specs.Run.{Run};
 ghost use Rattle.sn_stage.specs.Outcomes.{Outcome};
 ghost use Rattle.sn_stage.specs.Stages.{most_text};
@@ -31,12 +31,13 @@ pub fn finish_answers_what_emit_writes()
 {}
 
 /// What `emit` wrote with status 0 or 5, where that is at most 2^30 bytes, stands in a file, beside the queries and the plan
-/// that it was given. Then `finish` prints of these three what `run` prints of the files that `emit` had, without `--csv`, but
-/// for the line of a damaged capture, and it ends with 0. Of a capture whose header is refused it prints the total of no window.
+/// that it was given. Then `finish` prints of these three what `run` prints of the files that `emit` had, without `--csv` and
+/// with answers that are told as they are, but for the line of a damaged capture, and it ends with 0. Of a capture whose header
+/// is refused it prints the total of no window.
 pub fn finish_prints_what_run_writes()
     ensures { (switch queries plan capture reports : List ℕ) (files later : ByName (List ℕ)) (emitted ran finished : Outcome (Unit {0})) → HoldsBytes capture files →
         Emit switch queries plan capture files emitted → HasWritten emitted → length emitted.text ≤ most_text → IsKept queries plan reports emitted.text files later →
-        Run false switch queries plan capture files ran → Finish queries plan reports later finished → FinishesSo emitted ran finished }
+        Run as_they_are false switch queries plan capture files ran → Finish queries plan reports later finished → FinishesSo emitted ran finished }
 {}
 
 /// The same of calls with the words of these commands, as the contract of the top call has them: a call of `emit` ended with 0 or
@@ -46,5 +47,5 @@ pub fn finish_prints_what_run_writes()
 pub fn finish_calls_print_what_run_calls_write()
     ensures { (switch queries plan capture reports : List ℕ) (files later : ByName (List ℕ)) (emit_names run_names : List (List ℕ)) (emit_status run_status : ℕ) (text ran : List ℕ) → HoldsBytes capture files →
         Wrote emit_names (Emit switch queries plan capture) files emit_status text → IsWritten emit_status → length text ≤ most_text → IsKept queries plan reports text files later →
-        Wrote run_names (Run false switch queries plan capture) files run_status ran → IsWritten run_status → CallsFollow queries plan reports later emit_status run_status ran }
+        Wrote run_names (Run as_they_are false switch queries plan capture) files run_status ran → IsWritten run_status → CallsFollow queries plan reports later emit_status run_status ran }
 {}

@@ -10,8 +10,8 @@ use Rattle.sn_driver.proofs.Laws.{all_windows}
 use Rattle.sn_fit.specs.Fits.{AreEntriesOf}
 use Rattle.sn_refine.specs.Steps.{IsAbove as IsAboveIt, Rises, windows_of}
 use Rattle.sn_types.specs.declared.answers.Answers.{Answers}
-use Rattle.sn_run.specs.Along.{answers_of, last_from, last_of, sent_in}
-use Rattle.sn_run.specs.Planned.{Planned, answers_at, emitted_in}
+use Rattle.sn_run.specs.Along.{answers_of, last_from, last_of, sent_in, told_of}
+use Rattle.sn_run.specs.Planned.{Planned, Telling, answers_at, told_at, told_emitted_in}
 
 -- windows rise in either way of saying it
 above_it : (before : Option ℕ) (w : ℕ) → IsAbove before w → IsAboveIt before w
@@ -40,7 +40,7 @@ end_is : (d : Answers) (xs : List Answers) (x : Answers) → end_of d (xs ++ x �
 end_is d [] x = refl
 end_is d (a ∷ xs) x = end_is a xs x
 
-last_is : (before : Option Answers) (xs : List Answers) (x : Answers) → last_from before (xs ++ x ∷ []) ≡ Some x
+pub last_is : (before : Option Answers) (xs : List Answers) (x : Answers) → last_from before (xs ++ x ∷ []) ≡ Some x
 last_is before [] x = refl
 last_is before (a ∷ xs) x = last_is (Some a) xs x
 
@@ -55,7 +55,7 @@ module _ (p : Planned) where
   abbrev pub next_answers : List Window → ℕ → List (List ℕ) → Answers
   next_answers closed number tuples = window_answers p.queries p.depth p.entries (kept_in p.queries (last_of p closed) number) number tuples
 
-  one_more : (last : Option Answers) (closed : List Window) (number : ℕ) (tuples : List (List ℕ))
+  pub one_more : (last : Option Answers) (closed : List Window) (number : ℕ) (tuples : List (List ℕ))
       → answers_from p.queries p.depth p.entries last (closed ++ (number, tuples) ∷ [])
       ≡ answers_from p.queries p.depth p.entries last closed ++ window_answers p.queries p.depth p.entries (kept_in p.queries (last_from last (answers_from p.queries p.depth p.entries last closed)) number) number tuples ∷ []
   one_more last [] number tuples = refl
@@ -66,8 +66,12 @@ module _ (p : Planned) where
   pub last_more : (closed : List Window) (number : ℕ) (tuples : List (List ℕ)) → last_of p (closed ++ (number, tuples) ∷ []) ≡ Some (next_answers closed number tuples)
   last_more closed number tuples = ap (last_from None) (one_more None closed number tuples) ∙ last_is None (answers_of p closed) (next_answers closed number tuples)
 
-  pub sent_more : (closed : List Window) (number : ℕ) (tuples : List (List ℕ)) → sent_in p (closed ++ (number, tuples) ∷ []) ≡ sent_in p closed + (next_answers closed number tuples).emitted
-  sent_more closed number tuples = ap (λ (xs : List Answers). sum (map (λ (a : Answers). a.emitted) xs)) (one_more None closed number tuples) ∙ sum_end (answers_of p closed) (next_answers closed number tuples)
+  -- what is told of them
+  pub told_more : (told : Telling) (closed : List Window) (number : ℕ) (tuples : List (List ℕ)) → told_of told p (closed ++ (number, tuples) ∷ []) ≡ told_of told p closed ++ told (next_answers closed number tuples) ∷ []
+  told_more told closed number tuples = ap (map told) (one_more None closed number tuples) ∙ map-append told (answers_of p closed) (next_answers closed number tuples ∷ [])
+
+  pub sent_more : (told : Telling) (closed : List Window) (number : ℕ) (tuples : List (List ℕ)) → sent_in told p (closed ++ (number, tuples) ∷ []) ≡ sent_in told p closed + (told (next_answers closed number tuples)).emitted
+  sent_more told closed number tuples = ap (λ (xs : List Answers). sum (map (λ (a : Answers). a.emitted) xs)) (told_more told closed number tuples) ∙ sum_end (told_of told p closed) (told (next_answers closed number tuples))
 
   -- they are the answers along the plan
   pub next_right : (closed : List Window) (number : ℕ) (tuples : List (List ℕ)) → AreEntriesOf p.queries p.entries → AreRising None (closed ++ (number, tuples) ∷ [])
@@ -80,8 +84,10 @@ module _ (p : Planned) where
       sym (one_more None closed number tuples) ∙ all_windows p.queries p.depth p.entries all h (rises_of None all rising) ∙ map-append right closed ((number, tuples) ∷ []) in
       sym (end_is now (answers_of p closed) now) ∙ ap (end_of now) e ∙ end_is now (map right closed) (right (number, tuples))
 
-  pub sent_right : (closed : List Window) → AreEntriesOf p.queries p.entries → AreRising None closed → sent_in p closed ≡ emitted_in p closed
-  sent_right closed h rising =
-      let right : Window → Answers = λ g. plan_answers p.queries p.depth p.entries (windows_of closed) g.0 in
-      ap (λ (xs : List Answers). sum (map (λ (a : Answers). a.emitted) xs)) (all_windows p.queries p.depth p.entries closed h (rises_of None closed rising))
-      ∙ ap sum (map_both right (λ (a : Answers). a.emitted) closed)
+  pub told_right : (told : Telling) (closed : List Window) → AreEntriesOf p.queries p.entries → AreRising None closed → told_of told p closed ≡ map (λ (w : Window). told_at told p closed w.0) closed
+  told_right told closed h rising = ap (map told) (all_windows p.queries p.depth p.entries closed h (rises_of None closed rising)) ∙ map_both (λ (w : Window). answers_at p closed w.0) told closed
+
+  pub sent_right : (told : Telling) (closed : List Window) → AreEntriesOf p.queries p.entries → AreRising None closed → sent_in told p closed ≡ told_emitted_in told p closed
+  sent_right told closed h rising =
+      ap (λ (xs : List Answers). sum (map (λ (a : Answers). a.emitted) xs)) (told_right told closed h rising)
+      ∙ ap sum (map_both (λ (w : Window). told_at told p closed w.0) (λ (a : Answers). a.emitted) closed)

@@ -1,4 +1,7 @@
 pub mod PartLemmas
 pub mod AlongLemmas
-pub mod StateLemmas
+pub mod SupplyLemmas
+pub mod MachineLemmas
+pub mod NoteLemmas
+pub mod HandLemmas
 pub mod RunLemmas

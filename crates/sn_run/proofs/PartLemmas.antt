@@ -5,10 +5,14 @@ use Rattle.std.specs.List.{AllByRecursion, range_with_len}
 use Rattle.std.specs.Ordering.{nat_cmp, is_gt}
 use Rattle.std.specs.Cmp.Lexicographic.{slice_cmp}
 use Rattle.std.proofs.lemmas.Bool.{eqb-true, eqb-false}
+use Rattle.sn_base.specs.Bags.{SameBag}
+use Rattle.sn_base.specs.Bags.SameBag.{stays, behind, turned, joined}
 use Rattle.sn_base.specs.Groups.{Row}
 use Rattle.sn_base.specs.Operators.{through}
 use Rattle.sn_base.specs.Sorted.{put_row, sorted_rows}
+use Rattle.sn_base.proofs.SortLemmas.{sort_bag}
 use Rattle.sn_base.proofs.Lists.{all_append, all_filter, all_map, by_test}
+use Rattle.sn_drive.specs.Telling.{IsSortedPart}
 use Rattle.sn_driver.specs.declared.source.Source.{Source}
 use Rattle.sn_driver.specs.Sources.{source_at}
 use Rattle.sn_driver.specs.Windows.{parts_from}
@@ -18,7 +22,6 @@ use Rattle.sn_ops.specs.Packets.{packet_rows}
 use Rattle.sn_ops.proofs.Branches.{branch_of_end, packets_of}
 use Rattle.sn_ops.proofs.PacketSteps.{some_branch}
 use Rattle.sn_ops.proofs.Queries.{query_joined, query_one, query_posts_final}
-use Rattle.sn_out.specs.Text.{IsPartOf}
 use Rattle.sn_plan_rules.specs.declared.plan.Entry.{Entry}
 use Rattle.sn_refine.specs.Refined.{level_rows, part_at}
 use Rattle.sn_refine.specs.Steps.{Set, is_held, parts_in, rows_at}
@@ -37,6 +40,25 @@ all_put P x (y ∷ ys) here h =
 all_sorted : (P : Row → Type 0) (rows : List Row) → AllByRecursion P rows → AllByRecursion P (sorted_rows rows)
 all_sorted P [] h = tt
 all_sorted P (x ∷ xs) h = all_put P x (sorted_rows xs) h.0 (all_sorted P xs h.1)
+
+-- rows that are sorted stay as they are
+put_bag : (x : Row) (ys : List Row) → SameBag (put_row x ys) (x ∷ ys)
+put_bag x [] = stays (x ∷ [])
+put_bag x (y ∷ ys) =
+    by_test (is_gt (slice_cmp nat_cmp x y))
+    (λ is. subst (λ b. SameBag (cond b (y ∷ put_row x ys) (x ∷ y ∷ ys)) (x ∷ y ∷ ys)) (sym is) (joined (y ∷ put_row x ys) (y ∷ x ∷ ys) (x ∷ y ∷ ys) (behind y (put_row x ys) (x ∷ ys) (put_bag x ys)) (turned y x ys)))
+    (λ isnt. subst (λ b. SameBag (cond b (y ∷ put_row x ys) (x ∷ y ∷ ys)) (x ∷ y ∷ ys)) (sym isnt) (stays (x ∷ y ∷ ys)))
+
+sorted_bag : (xs : List Row) → SameBag (sorted_rows xs) xs
+sorted_bag [] = stays []
+sorted_bag (x ∷ xs) = joined (put_row x (sorted_rows xs)) (x ∷ sorted_rows xs) (x ∷ xs) (put_bag x (sorted_rows xs)) (behind x (sorted_rows xs) xs (sorted_bag xs))
+
+sorted_twice : (xs : List Row) → sorted_rows (sorted_rows xs) ≡ sorted_rows xs
+sorted_twice xs = sort_bag (sorted_rows xs) xs (sorted_bag xs)
+
+at_sorted : (query : TypedQuery) (path : List ℕ) (kept : ℕ → Set) (tuples : List (List ℕ)) (j : ℕ) → sorted_rows (rows_at query path kept tuples j) ≡ rows_at query path kept tuples j
+at_sorted query path kept tuples zero = sorted_twice (query_rows query (slice_index path 0) None tuples)
+at_sorted query path kept tuples (suc j) = sorted_twice (query_rows query (slice_index path (suc j)) None (filter (is_held query.field (slice_index path j) (kept j)) tuples))
 
 all_of : {X : Type 0} (P : X → Type 0) → ((x : X) → P x) → (xs : List X) → AllByRecursion P xs
 all_of P h [] = tt
@@ -76,18 +98,18 @@ module _ (window : ℕ) (queries : List TypedQuery) (t : ∥ IsTyped window quer
         let held : List ℕ → Bool = is_held (query_at queries q).field (slice_index path j) (kept j) in
         level_of q (slice_index path (suc j)) (filter held tuples) lt (all_filter HasWidths held tuples widths)
 
-    in_fit : (q : ℕ) (path : List ℕ) (kept : ℕ → Set) → q < length queries → AllByRecursion (IsPartOf queries) (parts_in q (query_at queries q) path kept tuples)
+    in_fit : (q : ℕ) (path : List ℕ) (kept : ℕ → Set) → q < length queries → AllByRecursion (IsSortedPart queries) (parts_in q (query_at queries q) path kept tuples)
     in_fit q path kept lt =
-        all_map (IsPartOf queries) (part_at q path (rows_at (query_at queries q) path kept tuples)) (range_with_len 0 (length path))
-        (all_of _ (λ j. record { query = lt; rows = at_of q path kept j lt }) (range_with_len 0 (length path)))
+        all_map (IsSortedPart queries) (part_at q path (rows_at (query_at queries q) path kept tuples)) (range_with_len 0 (length path))
+        (all_of _ (λ j. record { part = record { query = lt; rows = at_of q path kept j lt }; sorted = at_sorted (query_at queries q) path kept tuples j }) (range_with_len 0 (length path)))
 
-    from_fit : (kept : Source → Set) (q : ℕ) (es : List Entry) → q + length es ≤ length queries → AllByRecursion (IsPartOf queries) (parts_from queries kept tuples q es)
+    from_fit : (kept : Source → Set) (q : ℕ) (es : List Entry) → q + length es ≤ length queries → AllByRecursion (IsSortedPart queries) (parts_from queries kept tuples q es)
     from_fit kept q [] le = tt
     from_fit kept q (e ∷ es) le =
-        all_append (IsPartOf queries) (parts_in q (query_at queries q) e.levels (λ j. kept (source_at q (Some (slice_index e.levels j)))) tuples) (parts_from queries kept tuples (suc q) es)
+        all_append (IsSortedPart queries) (parts_in q (query_at queries q) e.levels (λ j. kept (source_at q (Some (slice_index e.levels j)))) tuples) (parts_from queries kept tuples (suc q) es)
         (in_fit q e.levels (λ j. kept (source_at q (Some (slice_index e.levels j)))) (omega arith)) (from_fit kept (suc q) es (omega arith))
 
-    pub parts_fit : (kept : Source → Set) (es : List Entry) → AreEntriesOf queries es → AllByRecursion (IsPartOf queries) (parts_from queries kept tuples 0 es)
+    pub parts_fit : (kept : Source → Set) (es : List Entry) → AreEntriesOf queries es → AllByRecursion (IsSortedPart queries) (parts_from queries kept tuples 0 es)
     parts_fit kept es h = from_fit kept 0 es (let long = as_many queries es h in omega arith)
       where
         as_many : (qs : List TypedQuery) (xs : List Entry) → AreEntriesOf qs xs → length xs ≤ length qs

@@ -10,13 +10,13 @@ use Rattle.sn_stage.specs.Outcomes.{HasOne}
 use Rattle.sn_stage.proofs.OneLemmas.{one_does, one_text, one_then}
 use Rattle.sn_types.specs.declared.typed_query.TypedQuery.{TypedQuery}
 use Rattle.sn_types.specs.Typed.{IsTyped}
-use Rattle.sn_run.specs.Planned.{form_of, wording_in}
+use Rattle.sn_run.specs.Planned.{Telling, form_of, wording_in}
 use Rattle.sn_run.specs.Run.{Run, planned, window_ns}
 
 -- a window has some length
 pub window_some : (window : ℕ) (queries : List TypedQuery) → ∥ IsTyped window queries ∥₁ → 1 ≤ window
 window_some window queries t = ∥∥₁_elim t le_prop (λ t. let some = t.1.limits.window.from_least in let same = t.1.same_window in omega arith)
 
-pub one_run : (csv : Bool) (switch queries plan capture : List ℕ) → HasOne (Run csv switch queries plan capture)
-one_run csv switch queries plan capture =
-    one_then (one_text queries QueriesIn one_queries) (λ read. one_then (one_text switch SwitchIn one_switch) (λ limits. one_then (one_text plan PlanIn one_plan) (λ entries. one_then (one_does _) (λ _. one_answered (wording_in (form_of csv) (planned read limits entries)) (window_ns read) capture))))
+pub one_run : (told : Telling) (csv : Bool) (switch queries plan capture : List ℕ) → HasOne (Run told csv switch queries plan capture)
+one_run told csv switch queries plan capture =
+    one_then (one_text queries QueriesIn one_queries) (λ read. one_then (one_text switch SwitchIn one_switch) (λ limits. one_then (one_text plan PlanIn one_plan) (λ entries. one_then (one_does _) (λ _. one_answered (wording_in (form_of csv) told (planned read limits entries)) (window_ns read) capture))))

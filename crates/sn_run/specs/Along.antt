@@ -1,21 +1,28 @@
--- What is kept of a plan between two windows, and while a window is at hand.
-use Rattle.std.specs.Prelude.{◌≡◌, ℕ, List, [], ◌∷◌, ◌++◌, map, sum, length, Option, None, Some}
-use Rattle.std.specs.List.{AllByRecursion}
+-- What is kept of a plan that answers the windows of a capture by a machine.
+use Rattle.std.specs.Prelude.{◌≡◌, ℕ, ◌<◌, List, [], ◌∷◌, ◌++◌, map, sum, length, Option, None, Some}
+use Rattle.std.specs.List.{AllByRecursion, flat_map}
+use Rattle.sn_answered.specs.Gathering.{all_of}
 use Rattle.sn_answered.specs.Wording.{AreRising, Window}
-use Rattle.sn_driver.specs.declared.driver.Driver.{Driver}
-use Rattle.sn_driver.specs.Sources.{kept_in, sources_of}
-use Rattle.sn_driver.specs.Windows.{answers_from}
-use Rattle.sn_driver.specs.Work.{AreAtWork, AreIdle, AreUnread}
-use Rattle.sn_emit.specs.Making.{CanMake}
-use Rattle.sn_emit.specs.Plans.{AreLanesOf, pieces_from}
+use Rattle.sn_core.specs.Due.{due}
+use Rattle.sn_core.specs.Due as core
+use Rattle.sn_core.specs.Numbers.{DontFall}
+use Rattle.sn_core.specs.Standing.{IsNet}
+use Rattle.sn_core.specs.declared.supply.Supply.{Supply}
+use Rattle.sn_core.specs.declared.supply.Supply.TheVariants.{Numbered}
+use Rattle.sn_core.specs.declared.supply.Window.TheVariants.{Begun, Idle}
+use Rattle.sn_drive.specs.declared.machine.Machine.{Ghosts as MachineOf}
+use Rattle.sn_driver.specs.Windows.{answers_from, plan_answers}
 use Rattle.sn_fit.specs.Fits.{AreEntriesOf}
+use Rattle.sn_machine.specs.States.{State, Works}
+use Rattle.sn_net.specs.PlanWorkings.{HaveWidths, given_of}
+use Rattle.sn_refine.specs.Steps.{windows_of}
 use Rattle.sn_types.specs.declared.answers.Answers.{Answers}
 use Rattle.sn_types.specs.Typed.{HasWidths, IsTyped}
 use Rattle.sn_run.specs.declared.along.Along.{Along}
-use Rattle.sn_run.specs.Planned.{Planned}
+use Rattle.sn_run.specs.Planned.{Planned, Telling}
 
 -- the plan
-abbrev pub plan_of : Along → Planned
+abbrev pub plan_of : {M : Type 0} → Along M → Planned
 plan_of a = record { queries = a.typed.queries; depth = a.depth; entries = a.plan.entries }
 
 -- the last one of answers
@@ -30,38 +37,63 @@ answers_of p closed = answers_from p.queries p.depth p.entries None closed
 abbrev pub last_of : Planned → List Window → Option Answers
 last_of p closed = last_from None (answers_of p closed)
 
--- how many items were sent in them
-abbrev pub sent_in : Planned → List Window → ℕ
-sent_in p closed = sum (map (λ (a : Answers). a.emitted) (answers_of p closed))
+-- what is told of it, and how many items were told to be sent
+abbrev pub told_of : Telling → Planned → List Window → List Answers
+told_of told p closed = map told (answers_of p closed)
 
--- the plan is one of typed queries, and the driver is that of the plan
-pub record IsDriverOf (p : Planned) (d : Driver) : Type 0 where
+abbrev pub sent_in : Telling → Planned → List Window → ℕ
+sent_in told p closed = sum (map (λ (a : Answers). a.emitted) (told_of told p closed))
+
+-- ---- what a machine is given
+
+abbrev pub supplies_in : Window → List (Supply (List ℕ))
+supplies_in w = map (Numbered w.0) w.1
+
+abbrev pub supplies_of : List Window → List (Supply (List ℕ))
+supplies_of windows = flat_map supplies_in windows
+
+-- the answers along the plan for the windows that are given
+abbrev pub answers_for : Planned → List (Supply (List ℕ)) → List Answers
+answers_for p supplies =
+    let windows = core.windows_of supplies in
+    map (λ x. plan_answers p.queries p.depth p.entries (windows_of (map given_of windows)) x.number) windows
+
+-- Whatever follows what was given, what was told and what is told of what is due are what is told of all answers along the plan.
+abbrev pub Owes : Works → Telling → Planned → List (Supply (List ℕ)) → List Answers → State → Type 0
+Owes w told p given taken s = (following : List (Supply (List ℕ))) → DontFall 0 (given ++ following) → HaveWidths (core.windows_of (given ++ following))
+    → taken ++ map told (due w s following) ≡ map told (answers_for p (given ++ following))
+
+-- a window holds tuples, whose numbers have the widths of their fields
+pub record IsSound (w : Window) : Type 0 where
+  pub some : 0 < length w.1
+  pub widths : AllByRecursion HasWidths w.1
+
+-- The plan is one of typed queries. Its machine stands, and waits for what is given next: it was given these windows, and told the
+-- answers of those that were closed.
+pub record IsFed {M : Type 0} (machine : MachineOf M) (a : Along M) (given closed : List Window) : Type 0 where
   pub typed_for : ℕ
-  pub typed : ∥ IsTyped typed_for p.queries ∥₁
-  pub entries : AreEntriesOf p.queries p.entries
-  pub can : AllByRecursion (CanMake p.queries) (pieces_from 0 p.entries)
-  pub queries : d.engine.t.queries ≡ p.queries
-  pub sources : d.sources ≡ sources_of 0 p.entries
-  pub many : length d.sources ≡ length d.emitter
+  pub typed : ∥ IsTyped typed_for a.typed.queries ∥₁
+  pub entries : AreEntriesOf a.typed.queries a.plan.entries
+  pub lanes : a.lanes ≡ length (machine.state a.machine).lanes
+  pub stands : IsNet (machine.works a.machine) (machine.state a.machine)
+  pub taken : (machine.state a.machine).waiting ≡ None
+  pub sound : AllByRecursion IsSound given
+  pub owes : Owes (machine.works a.machine) machine.told (plan_of a) (supplies_of given) (told_of machine.told (plan_of a) closed) (machine.state a.machine)
+  pub emitted : a.emitted ≡ sent_in machine.told (plan_of a) closed
 
--- what was answered in the windows that were closed is kept
-pub record Recalls (a : Along) (closed : List Window) : Type 0 where
-  pub last : a.last ≡ last_of (plan_of a) closed
-  pub emitted : a.emitted ≡ sent_in (plan_of a) closed
-
--- these windows were closed, and none is at hand
-pub record IsIdle (a : Along) (closed : List Window) : Type 0 where
-  pub driver : IsDriverOf (plan_of a) a.driver
-  pub lanes : AreIdle a.typed.queries a.depth (pieces_from 0 a.plan.entries) a.driver.emitter a.driver.engine.lanes.items
-  pub recalls : Recalls a closed
-  pub rising : AreRising None closed
+-- of the window with this number these tuples were given, all of which are used up
+abbrev pub IsUsed : ℕ → List (List ℕ) → State → Type 0
+IsUsed number [] s = (s.held ≡ None) × (s.window ≡ Idle)
+IsUsed number (t ∷ ts) s = (s.held ≡ None) × (s.window ≡ Begun number)
 
 -- these windows were closed, and of the one with this number these tuples came
-pub record IsAtHand (a : Along) (closed : List Window) (number : ℕ) (tuples : List (List ℕ)) : Type 0 where
-  pub driver : IsDriverOf (plan_of a) a.driver
-  pub work : AreAtWork a.typed.queries a.depth (pieces_from 0 a.plan.entries) (kept_in a.typed.queries a.last number) tuples a.driver.emitter a.driver.engine.lanes.items
-  pub lanes : AreLanesOf a.typed.queries a.depth (pieces_from 0 a.plan.entries) a.driver.emitter
-  pub unread : AreUnread a.driver.emitter
-  pub widths : AllByRecursion HasWidths tuples
-  pub recalls : Recalls a closed
+pub record IsAtHand {M : Type 0} (machine : MachineOf M) (a : Along M) (closed : List Window) (number : ℕ) (tuples : List (List ℕ)) : Type 0 where
+  pub fed : IsFed machine a (all_of number closed tuples) closed
+  pub used : IsUsed number tuples (machine.state a.machine)
   pub rising : AreRising None (closed ++ (number, []) ∷ [])
+
+-- these windows were closed, and no other comes
+pub record IsIdle {M : Type 0} (machine : MachineOf M) (a : Along M) (closed : List Window) : Type 0 where
+  pub entries : AreEntriesOf a.typed.queries a.plan.entries
+  pub emitted : a.emitted ≡ sent_in machine.told (plan_of a) closed
+  pub rising : AreRising None closed

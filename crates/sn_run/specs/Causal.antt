@@ -21,7 +21,7 @@ use Rattle.sn_types.specs.declared.typed_query.TypedQuery.{TypedQuery}
 use Rattle.sn_types.specs.Typed.{query_at}
 use Rattle.sn_run.specs.declared.form.Form.{Form}
 use Rattle.sn_run.specs.declared.form.Form.TheVariants as forms
-use Rattle.sn_run.specs.Planned.{Planned, answers_at, wording_in}
+use Rattle.sn_run.specs.Planned.{Planned, Telling, answers_at, wording_in}
 
 map_same : {X Y : Type 0} (f g : X → Y) → ((x : X) → f x ≡ g x) → (xs : List X) → map f xs ≡ map g xs
 map_same f g same [] = refl
@@ -99,6 +99,6 @@ answers_stand : (p : Planned) (closed : List Window) (number : ℕ) (tuples : Li
 answers_stand p closed number tuples more rising =
     same_answers (windows_of (closed ++ (number, tuples) ∷ more)) (windows_of (closed ++ (number, tuples) ∷ [])) p.queries p.depth p.entries number (λ v le. up_to None closed number tuples more v rising le)
 
-pub plan_is_causal : (form : Form) (p : Planned) → IsCausal (wording_in form p)
-plan_is_causal forms.Blocks p closed number tuples more rising = ap (λ (a : Answers). block_text p.queries a true) (answers_stand p closed number tuples more rising)
-plan_is_causal forms.Records p closed number tuples more rising = ap (window_records p.queries) (answers_stand p closed number tuples more rising)
+pub plan_is_causal : (form : Form) (told : Telling) (p : Planned) → IsCausal (wording_in form told p)
+plan_is_causal forms.Blocks told p closed number tuples more rising = ap (λ (a : Answers). block_text p.queries (told a) true) (answers_stand p closed number tuples more rising)
+plan_is_causal forms.Records told p closed number tuples more rising = ap (λ (a : Answers). window_records p.queries (told a)) (answers_stand p closed number tuples more rising)

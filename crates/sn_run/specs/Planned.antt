@@ -30,6 +30,27 @@ emitted_at p windows w = (answers_at p windows w.0).emitted
 abbrev pub emitted_in : Planned → List Window → ℕ
 emitted_in p windows = sum (map (emitted_at p windows) windows)
 
+-- ---- as they are told
+
+-- What a machine tells of answers. It may be more or less than the answers themselves; of what it is nothing is known here.
+abbrev pub Telling : Type 0
+Telling = Answers → Answers
+
+-- answers that are told as they are
+abbrev pub as_they_are : Telling
+as_they_are answers = answers
+
+-- what is told of the answers in a window
+abbrev pub told_at : Telling → Planned → List Window → ℕ → Answers
+told_at told p windows w = told (answers_at p windows w)
+
+-- how many items were told to be sent in all windows
+abbrev pub told_emitted_at : Telling → Planned → List Window → Window → ℕ
+told_emitted_at told p windows w = (told_at told p windows w.0).emitted
+
+abbrev pub told_emitted_in : Telling → Planned → List Window → ℕ
+told_emitted_in told p windows = sum (map (told_emitted_at told p windows) windows)
+
 -- ---- in blocks
 
 -- the block of a window: its line with that number, and its answers
@@ -41,23 +62,33 @@ abbrev pub plan_lines : Planned → List Window → Ending → List ℕ
 plan_lines p windows ending = damage_line ending ++ total_line (length windows) (Some (emitted_in p windows))
 
 abbrev pub plan_wording : Planned → Wording
-plan_wording p = record { first = []; block = plan_block p; last = plan_lines p }
+plan_wording p = record { first = []; block = plan_block p; unfinished = λ closed number tuples. []; last = plan_lines p }
+
+-- the same, where the answers are told
+abbrev pub told_block : Telling → Planned → List Window → ℕ → List (List ℕ) → List ℕ
+told_block told p windows w tuples = block_text p.queries (told_at told p windows w) true
+
+abbrev pub told_lines : Telling → Planned → List Window → Ending → List ℕ
+told_lines told p windows ending = damage_line ending ++ total_line (length windows) (Some (told_emitted_in told p windows))
+
+abbrev pub told_wording : Telling → Planned → Wording
+told_wording told p = record { first = []; block = told_block told p; unfinished = λ closed number tuples. []; last = told_lines told p }
 
 -- ---- as comma-separated values
 
 -- the records of a window's rows
-abbrev pub plan_records : Planned → List Window → ℕ → List (List ℕ) → List ℕ
-plan_records p windows w tuples = window_records p.queries (answers_at p windows w)
+abbrev pub told_records : Telling → Planned → List Window → ℕ → List (List ℕ) → List ℕ
+told_records told p windows w tuples = window_records p.queries (told_at told p windows w)
 
 -- the heading and the records: no window, no damage and no total has a line
-abbrev pub records_wording : Planned → Wording
-records_wording p = record { first = heading_line; block = plan_records p; last = λ windows ending. [] }
+abbrev pub records_wording : Telling → Planned → Wording
+records_wording told p = record { first = heading_line; block = told_records told p; unfinished = λ closed number tuples. []; last = λ windows ending. [] }
 
 -- ---- in either form
 
-abbrev pub wording_in : Form → Planned → Wording
-wording_in forms.Blocks p = plan_wording p
-wording_in forms.Records p = records_wording p
+abbrev pub wording_in : Form → Telling → Planned → Wording
+wording_in forms.Blocks told p = told_wording told p
+wording_in forms.Records told p = records_wording told p
 
 -- with `--csv` answers are written as comma-separated values, and else in blocks
 abbrev pub form_of : Bool → Form

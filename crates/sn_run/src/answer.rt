@@ -10,6 +10,7 @@ ghost use Rattle.sn_switch.specs.Texts.{IsSwitch};
 use crate::along::Along;
 use crate::form::Form;
 use sn_answered::capture::answer_capture;
+use sn_drive::machine::Machine;
 use sn_io::inputs::Inputs;
 use sn_io::sink::Sink;
 use sn_plan_rules::plan::Plan;
@@ -19,8 +20,8 @@ use sn_switch::switch::Switch;
 use sn_types::typed::Typed;
 use std::alloc::Global;
 
-/// Reads a capture, and answers it along a plan that fits, window by window, in this form.
-pub fn answer_along<I: Inputs, O: Sink>(
+/// Reads a capture, and answers it along a plan that fits by a machine, window by window, in this form.
+pub fn answer_along<M: Machine, I: Inputs, O: Sink>(
     alloc: Global,
     form: Form,
     typed: Typed,
@@ -31,9 +32,9 @@ pub fn answer_along<I: Inputs, O: Sink>(
 ) -> Result<(), Refusal>
     requires limits { IsSwitch limits.now }
     requires fits { Fits typed.queries limits.now plan.entries }
-    ensures { Runs (capture.now ∷ []) (AlongIn form capture.now (queries_of typed) limits.now plan) (world I.Inputs O.Sink desk.old) result (world I.Inputs O.Sink desk.new) }
+    ensures { Runs (capture.now ∷ []) (AlongIn form M.told capture.now (queries_of typed) limits.now plan) (world I.Inputs O.Sink desk.old) result (world I.Inputs O.Sink desk.new) }
 {
     let window_ns = typed.window_ns();
-    let mut along = Along::make(form, typed, limits, plan)?;
+    let mut along: Along<M> = Along::make(form, typed, limits, plan)?;
     answer_capture(alloc, window_ns, capture, &mut along, desk)
 }

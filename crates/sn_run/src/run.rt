@@ -6,6 +6,7 @@ ghost use Rattle.sn_stage.specs.Runs.{Works};
 
 use crate::answer::answer_along;
 use crate::form::Form;
+use sn_drive::machine::Machine;
 use sn_io::inputs::Inputs;
 use sn_io::sink::Sink;
 use sn_planned::fit::test_fit;
@@ -16,8 +17,8 @@ use sn_stage::refusal::Refusal;
 use std::alloc::Global;
 
 /// `run SWITCH QUERIES PLAN CAPTURE [--csv]`: reads the queries, the switch and the plan, tests the plan, and answers the capture
-/// along it, window by window. With `csv` the answers are comma-separated values, and else blocks.
-pub fn run<I: Inputs, O: Sink>(
+/// along it by a machine, window by window. With `csv` the answers are comma-separated values, and else blocks.
+pub fn run<M: Machine, I: Inputs, O: Sink>(
     alloc: Global,
     csv: bool,
     switch: &str,
@@ -26,12 +27,12 @@ pub fn run<I: Inputs, O: Sink>(
     capture: &str,
     desk: &mut Desk<'_, I, O>,
 ) -> Result<(), Refusal>
-    ensures { Works (queries.now ∷ switch.now ∷ plan.now ∷ capture.now ∷ []) (Run csv switch.now queries.now plan.now capture.now) (world I.Inputs O.Sink desk.old) result (world I.Inputs O.Sink desk.new) }
+    ensures { Works (queries.now ∷ switch.now ∷ plan.now ∷ capture.now ∷ []) (Run M.told csv switch.now queries.now plan.now capture.now) (world I.Inputs O.Sink desk.old) result (world I.Inputs O.Sink desk.new) }
 {
     let typed = read_queries(alloc, desk, queries)?;
     let limits = read_switch(alloc, desk, switch)?;
     let entries = read_plan(alloc, desk, plan)?;
     test_fit(&typed, &limits, &entries)?;
     let form = Form::of_csv(csv);
-    answer_along(alloc, form, typed, &limits, entries, capture, desk)
+    answer_along::<M, I, O>(alloc, form, typed, &limits, entries, capture, desk)
 }

@@ -3,7 +3,7 @@ ghost use Rattle.std.specs.Prelude.{◌≡◌, ℕ, List, IfOk, length};
 ghost use Rattle.std.specs.List.{AllByRecursion};
 ghost use Rattle.sn_answered.specs.Wording.{Window};
 ghost use Rattle.sn_out.specs.Text.{IsPartOf};
-ghost use Rattle.sn_run.specs.Planned.{Planned, answers_at, emitted_in, wording_in};
+ghost use Rattle.sn_run.specs.Planned.{Planned, Telling, told_at, told_emitted_in, wording_in};
 
 use crate::form::Form;
 use sn_answered::lines::last_lines;
@@ -18,7 +18,7 @@ use std::alloc::Global;
 
 /// What stands before the answers of all windows.
 pub(crate) fn first_text(alloc: Global, form: Form) -> Result<Seq<u8>, Memory>
-    ensures { IfOk result (λ text. (p : Planned) → text ≡ (wording_in form p).first) }
+    ensures { IfOk result (λ text. (told : Telling) (p : Planned) → text ≡ (wording_in form told p).first) }
 {
     match form {
         Form::Blocks => Ok(Seq::new(alloc)),
@@ -37,8 +37,8 @@ pub(crate) fn window_text(
     answers: &Answers,
 ) -> Result<Seq<u8>, Memory>
     requires { AllByRecursion (IsPartOf t.now.queries) answers.now.parts }
-    ensures { IfOk result (λ text. (p : Planned) (windows : List Window) (number : ℕ) (tuples : List (List ℕ)) → p.queries ≡ t.now.queries → answers.now ≡ answers_at p windows number →
-        text ≡ (wording_in form p).block windows number tuples) }
+    ensures { IfOk result (λ text. (told : Telling) (p : Planned) (windows : List Window) (number : ℕ) (tuples : List (List ℕ)) → p.queries ≡ t.now.queries → answers.now ≡ told_at told p windows number →
+        text ≡ (wording_in form told p).block windows number tuples) }
 {
     match form {
         Form::Blocks => block(alloc, t, answers, true),
@@ -54,7 +54,7 @@ pub(crate) fn last_text(
     windows: u64,
     emitted: u64,
 ) -> Result<Seq<u8>, Memory>
-    ensures { IfOk result (λ text. (p : Planned) (closed : List Window) → windows ≡ length closed → emitted ≡ emitted_in p closed → text ≡ (wording_in form p).last closed ending) }
+    ensures { IfOk result (λ text. (told : Telling) (p : Planned) (closed : List Window) → windows ≡ length closed → emitted ≡ told_emitted_in told p closed → text ≡ (wording_in form told p).last closed ending) }
 {
     match form {
         Form::Blocks => last_lines(alloc, ending, windows, Some(emitted)),

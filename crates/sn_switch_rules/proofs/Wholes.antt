@@ -4,6 +4,7 @@ use Rattle.std.specs.Prelude.{nat_le, ◌&&◌, ◌||◌}
 use Rattle.std.specs.List.{AllByRecursion, list_all, filter}
 use Rattle.std.proofs.lemmas.Bool.{eqb-true, eq-eqb, leb-true}
 use Rattle.std.proofs.lemmas.List.Folds.{list_any-append}
+use Rattle.sn_base.proofs.Lists.{and_parts}
 use Rattle.sn_rules.specs.declared.Flaw.{Flaw}
 use Rattle.sn_rules.specs.declared.Flaw.TheVariants.{Range, Twice, Missing}
 use Rattle.sn_rules.specs.Rules.{kept, closed, fit_from}
@@ -160,14 +161,9 @@ in_range_of : (b : Bool) → closed kept (cond b no_flaw (some_flaw Range)) ≡ 
 in_range_of true e = refl
 in_range_of false e = absurd cc
 
-and_true : (a b : Bool) → (a && b) ≡ true → (a ≡ true) × (b ≡ true)
-and_true true true e = (refl, refl)
-and_true false b e = absurd cc
-and_true true false e = absurd cc
-
 within_is : (low high n : ℕ) → closed kept (within low high n) ≡ None → IsIn low high n
 within_is low high n e =
-    let h = and_true (nat_le low n) (nat_le n high) (in_range_of (nat_le low n && nat_le n high) e) in
+    let h = and_parts (nat_le low n) (nat_le n high) (in_range_of (nat_le low n && nat_le n high) e) in
     (leb-true low n h.0, leb-true n high h.1)
 
 pub one_of : (low high : ℕ) (ns : List ℕ) → (one_number low high).fits kept ns → (ns ≡ first_of ns ∷ []) × IsIn low high (first_of ns)
@@ -180,12 +176,12 @@ InRange n = IsIn 1 65536 n
 
 below_all : (n : ℕ) (seen : List ℕ) → list_all (below n) seen ≡ true → AllByRecursion (λ m. m < n) seen
 below_all n [] e = tt
-below_all n (m ∷ seen) e = let h = and_true (below n m) (list_all (below n) seen) e in (leb-true (suc m) n h.0, below_all n seen h.1)
+below_all n (m ∷ seen) e = let h = and_parts (below n m) (list_all (below n) seen) e in (leb-true (suc m) n h.0, below_all n seen h.1)
 
 size_is : (seen : List ℕ) (n : ℕ) → closed kept (size_test seen n) ≡ None → InRange n × AllByRecursion (λ m. m < n) seen
 size_is seen n e =
-    let h = and_true (nat_le 1 n && nat_le n 65536) (list_all (below n) seen) (in_range_of (nat_le 1 n && nat_le n 65536 && list_all (below n) seen) e) in
-    let r = and_true (nat_le 1 n) (nat_le n 65536) h.0 in
+    let h = and_parts (nat_le 1 n && nat_le n 65536) (list_all (below n) seen) (in_range_of (nat_le 1 n && nat_le n 65536 && list_all (below n) seen) e) in
+    let r = and_parts (nat_le 1 n) (nat_le n 65536) h.0 in
     ((leb-true 1 n r.0, leb-true n 65536 r.1), below_all n seen h.1)
 
 all_split : (P : ℕ → Type 0) (xs ys : List ℕ) → AllByRecursion P (xs ++ ys) → AllByRecursion P xs × AllByRecursion P ys

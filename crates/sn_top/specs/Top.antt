@@ -1,7 +1,5 @@
 -- What the top call is called with and leaves, and the work of each command.
-use Rattle.std.specs.Prelude.{◌≡◌, ℕ, List, [], ◌∷◌, Bool, true, false, not, ◌||◌, nat_eq, codes, Result, Err}
-use Rattle.std.specs.Cmp.Lexicographic.{pointwise}
-use Rattle.std.specs.List.{list_any}
+use Rattle.std.specs.Prelude.{◌≡◌, ℕ, List, [], ◌∷◌, Bool, true, false, not, Result, Err}
 use Rattle.sn_io.specs.declared.inputs.Inputs.{Ghosts as InputsOf}
 use Rattle.sn_io.specs.declared.sink.Sink.{Ghosts as SinkOf}
 use Rattle.sn_cli.specs.declared.command.Command.{Command}
@@ -19,43 +17,39 @@ use Rattle.sn_finished.specs.Finish.{Finish}
 use Rattle.sn_generated.specs.Gen.{Gen}
 use Rattle.sn_job.specs.Job.{Job}
 use Rattle.sn_live.specs.Live.{Live, Plan}
+use Rattle.sn_run.specs.Planned.{Telling}
 use Rattle.sn_run.specs.Run.{Run}
 use Rattle.sn_top.specs.Plain.{Plain}
 
--- an option of `live` that isn't built
-abbrev pub is_schedule : List ℕ → Bool
-is_schedule word = pointwise nat_eq word (codes "--schedule")
-
--- The commands that are built: all, but `live` with `--schedule` or `--trace`. Words that spell another one are refused like words that
--- spell none.
-abbrev pub is_built : List (List ℕ) → Command → Bool
-is_built words (commands.Live nodes schedule trace) = not (list_any is_schedule words || trace)
-is_built words command = true
+-- The commands that are built: all, but `live` with `--trace`. Words that spell another one are refused like words that spell none.
+abbrev pub is_built : Command → Bool
+is_built (commands.Live nodes schedule trace) = not trace
+is_built command = true
 
 -- refused as a usage, with nothing read or written
 abbrev pub IsUsage : World → Result (Unit {0}) Refusal → World → Type 0
 IsUsage before answer now = (answer ≡ Err Usage) × (now ≡ before)
 
 -- `live`, if it is built
-abbrev pub IsLiveWork : Bool → ℕ → List (List ℕ) → World → Result (Unit {0}) Refusal → World → Type 0
-IsLiveWork true nodes words before answer now =
-    Works (word_at words 2 ∷ word_at words 1 ∷ word_at words 3 ∷ word_at words 4 ∷ []) (Live (word_at words 1) (word_at words 2) (word_at words 3) (word_at words 4) nodes) before answer now
-IsLiveWork false nodes words before answer now = IsUsage before answer now
+abbrev pub IsLiveWork : Telling → Bool → ℕ → List (List ℕ) → World → Result (Unit {0}) Refusal → World → Type 0
+IsLiveWork told true nodes words before answer now =
+    Works (word_at words 2 ∷ word_at words 1 ∷ word_at words 3 ∷ word_at words 4 ∷ []) (Live told (word_at words 1) (word_at words 2) (word_at words 3) (word_at words 4) nodes) before answer now
+IsLiveWork told false nodes words before answer now = IsUsage before answer now
 
--- the work of a command: its stages over the files that its words name, where it is built
-abbrev pub IsWork : Command → List (List ℕ) → World → Result (Unit {0}) Refusal → World → Type 0
-IsWork commands.Plain words before answer now = Works (word_at words 1 ∷ word_at words 2 ∷ []) (Plain (word_at words 1) (word_at words 2)) before answer now
-IsWork (commands.Plan nodes) words before answer now = Works (word_at words 2 ∷ word_at words 1 ∷ word_at words 3 ∷ []) (Plan (word_at words 1) (word_at words 2) (word_at words 3) nodes) before answer now
-IsWork (commands.Run csv) words before answer now =
-    Works (word_at words 2 ∷ word_at words 1 ∷ word_at words 3 ∷ word_at words 4 ∷ []) (Run csv (word_at words 1) (word_at words 2) (word_at words 3) (word_at words 4)) before answer now
-IsWork commands.Emit words before answer now =
+-- the work of a command: its stages over the files that its words name, where it is built; of answers this is told
+abbrev pub IsWork : Telling → Command → List (List ℕ) → World → Result (Unit {0}) Refusal → World → Type 0
+IsWork told commands.Plain words before answer now = Works (word_at words 1 ∷ word_at words 2 ∷ []) (Plain (word_at words 1) (word_at words 2)) before answer now
+IsWork told (commands.Plan nodes) words before answer now = Works (word_at words 2 ∷ word_at words 1 ∷ word_at words 3 ∷ []) (Plan (word_at words 1) (word_at words 2) (word_at words 3) nodes) before answer now
+IsWork told (commands.Run csv) words before answer now =
+    Works (word_at words 2 ∷ word_at words 1 ∷ word_at words 3 ∷ word_at words 4 ∷ []) (Run told csv (word_at words 1) (word_at words 2) (word_at words 3) (word_at words 4)) before answer now
+IsWork told commands.Emit words before answer now =
     Works (word_at words 2 ∷ word_at words 1 ∷ word_at words 3 ∷ word_at words 4 ∷ []) (Emit (word_at words 1) (word_at words 2) (word_at words 3) (word_at words 4)) before answer now
-IsWork commands.Finish words before answer now = Works (word_at words 1 ∷ word_at words 2 ∷ word_at words 3 ∷ []) (Finish (word_at words 1) (word_at words 2) (word_at words 3)) before answer now
-IsWork commands.Check words before answer now =
+IsWork told commands.Finish words before answer now = Works (word_at words 1 ∷ word_at words 2 ∷ word_at words 3 ∷ []) (Finish (word_at words 1) (word_at words 2) (word_at words 3)) before answer now
+IsWork told commands.Check words before answer now =
     Works (word_at words 2 ∷ word_at words 1 ∷ word_at words 3 ∷ word_at words 4 ∷ []) (Check (word_at words 1) (word_at words 2) (word_at words 3) (word_at words 4)) before answer now
-IsWork (commands.Live nodes schedule trace) words before answer now = IsLiveWork (is_built words (commands.Live nodes schedule trace)) nodes words before answer now
-IsWork (commands.Gen number) words before answer now = Works [] (Gen number) before answer now
-IsWork (commands.Job number) words before answer now = Works [] (Job number) before answer now
+IsWork told (commands.Live nodes schedule trace) words before answer now = IsLiveWork told (is_built (commands.Live nodes schedule trace)) nodes words before answer now
+IsWork told (commands.Gen number) words before answer now = Works [] (Gen number) before answer now
+IsWork told (commands.Job number) words before answer now = Works [] (Job told number) before answer now
 
 abbrev pub around : {I O E : Type 0} → InputsOf I → SinkOf O → SinkOf E → I → O → E → Around
 around inputs out_sink err_sink files out err = record { files = files_of inputs files; out = sunk out_sink out; err = sunk err_sink err }

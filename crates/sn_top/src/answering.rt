@@ -10,12 +10,12 @@ use sn_fields::tuple::Tuple;
 use sn_pcap::packet::Ending;
 
 impl Answering for Unsplit {
-    ghost use Rattle.std.specs.Prelude.{◌≡◌, [], refl};
+    ghost use Rattle.std.specs.Prelude.{◌≡◌, refl};
     ghost use Rattle.sn_top.specs.Answers.{plain_wording};
 
     ghost wording = { λ a. plain_wording a.typed.queries };
 
-    ghost idle = { λ a closed. a.tuples ≡ [] };
+    ghost idle = { λ a closed. Unit {0} };
 
     ghost hand = { λ a closed number tuples. a.tuples ≡ tuples };
 
@@ -23,18 +23,23 @@ impl Answering for Unsplit {
         Ok(Seq::new(self.alloc))
     }
 
-    fn begin(&mut self, _: u64) -> Result<(), Memory> {
-        Ok(())
-    }
-
-    fn packet(&mut self, tuple: &Tuple) -> Result<(), Memory> {
+    fn packet(&mut self, _: u64, tuple: &Tuple) -> Result<(), Memory> {
         self.tuples.push(*tuple)
     }
 
-    fn close(&mut self, number: u64) -> Result<Seq<u8>, Memory> {
-        let text = window_text(self.alloc, &self.typed, number, self.tuples.as_slice())?;
+    fn pass(&mut self, at_hand: u64, _: u64, tuple: &Tuple) -> Result<Seq<u8>, Memory> {
+        let text = window_text(self.alloc, &self.typed, at_hand, self.tuples.as_slice())?;
         self.tuples = Seq::new(self.alloc);
+        self.tuples.push(*tuple)?;
         Ok(text)
+    }
+
+    fn close(&mut self, number: u64) -> Result<Seq<u8>, Memory> {
+        window_text(self.alloc, &self.typed, number, self.tuples.as_slice())
+    }
+
+    fn unfinished(&self, _: u64) -> Result<Seq<u8>, Memory> {
+        Ok(Seq::new(self.alloc))
     }
 
     fn last(&self, windows: u64, ending: Ending) -> Result<Seq<u8>, Memory> {

@@ -4,11 +4,7 @@
 pub mod answering;
 pub mod answers;
 pub mod law;
-#[cfg(test)]
-mod live_tests;
 pub mod plain;
-#[cfg(test)]
-mod run_tests;
 #[cfg(test)]
 mod slow_tests;
 #[cfg(test)]

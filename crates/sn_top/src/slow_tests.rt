@@ -10,6 +10,7 @@ use sn_base::seq::Seq;
 use sn_io::inputs::{InputFault, Inputs};
 use sn_io::mem_inputs::MemInputs;
 use sn_io::mem_sink::MemSink;
+use sn_machine::net::Net;
 use std::alloc::Global;
 use std::test::Fail;
 
@@ -54,7 +55,7 @@ fn answers_a_capture_that_comes_byte_by_byte(rt: HostRuntime) -> Result<(), Fail
     let words = words_of(alloc, &["plain", "q", "c"])?;
     let mut out = MemSink::new(alloc, 1000)?;
     let mut err = MemSink::new(alloc, 1000)?;
-    let status = top(alloc, &words, &mut slow, &mut out, &mut err);
+    let status = top::<Net, Slow, MemSink, MemSink>(alloc, &words, &mut slow, &mut out, &mut err);
     assert_eq!(rt; status, 5);
     assert_eq!(rt;
         out.bytes(),

@@ -1,7 +1,5 @@
 //! The top call: words in, texts and a status out.
-ghost use Rattle.std.specs.Prelude.{◌≡◌, ◌↔◌, [], ◌∷◌, ℕ, Bool, false, not, ◌||◌};
-ghost use Rattle.std.specs.List.{list_any};
-ghost use Rattle.std.specs.String.{string_bytes};
+ghost use Rattle.std.specs.Prelude.{◌≡◌, ◌↔◌, [], ◌∷◌, ℕ, Bool, false, not};
 ghost use Rattle.sn_cli.specs.declared.command.Command.{Command};
 ghost use Rattle.sn_cli.specs.Grammar.{Spells};
 ghost use Rattle.sn_cli.specs.Words.{texts, word_at};
@@ -12,17 +10,19 @@ ghost use Rattle.sn_live.specs.Headline.{KeepsHeadline};
 ghost use Rattle.sn_live.specs.Live.{Live, Plan};
 ghost use Rattle.sn_generated.specs.Gen.{Gen};
 ghost use Rattle.sn_job.specs.Job.{Job};
-ghost use Rattle.sn_stage.specs.Desks.{sunk, world};
+ghost use Rattle.sn_stage.specs.Desks.{files_of, sunk, world};
 ghost use Rattle.sn_stage.specs.Ends.{end_status, IsCommandRun, IsStatusTold};
 ghost use Rattle.sn_stage.specs.Worlds.{OutRose};
 ghost use Rattle.sn_top.specs.Plain.{Plain};
 ghost use Rattle.sn_run.specs.Run.{Run};
-ghost use Rattle.sn_top.specs.Top.{is_built, is_schedule, IsLiveWork, IsUsage, IsWork, around};
+ghost use Rattle.sn_run.specs.Planned.{as_they_are};
+ghost use Rattle.sn_top.specs.Top.{is_built, IsLiveWork, IsUsage, IsWork, around};
 
 use crate::plain::plain;
 use sn_checked::check::check;
 use sn_cli::command::Command;
 use sn_cli::words::words;
+use sn_drive::machine::Machine;
 use sn_emitted::emit::emit;
 use sn_finished::finish::finish;
 use sn_generated::generate::generate;
@@ -57,55 +57,34 @@ fn word(given: &[String], place: usize) -> &str
     }
 }
 
-/// Whether a word is the option `--schedule`.
-fn is_schedule(word: &String) -> bool
-    ensures { result ≡ is_schedule (string_bytes word.now) }
-{
-    word.as_bytes() == b"--schedule".as_slice()
-}
-
-/// Whether one of the words is this option.
-fn any_schedule(given: &[String]) -> bool
-    ensures { result ≡ list_any (λ word. is_schedule (string_bytes word)) given.now }
-{
-    given.iter().any(|word| is_schedule(word))
-}
-
-/// Whether the words name a schedule.
-fn names_schedule(given: &[String]) -> bool
-    ensures { result ≡ list_any is_schedule (texts given.now) }
-{
-    any_schedule(given)
-}
-
-/// Does the work of `live`. With a schedule or a trace it isn't built.
-fn work_live<I: Inputs, O: Sink>(
+/// Does the work of `live`. With a trace it isn't built.
+fn work_live<M: Machine, I: Inputs, O: Sink>(
     alloc: Global,
     nodes: u32,
     trace: bool,
     given: &[String],
     desk: &mut Desk<'_, I, O>,
 ) -> Result<(), Refusal>
-    ensures { IsLiveWork (not (list_any is_schedule (texts given.now) || trace)) nodes (texts given.now) (world I.Inputs O.Sink desk.old) result (world I.Inputs O.Sink desk.new) }
+    ensures { IsLiveWork M.told (not trace) nodes (texts given.now) (world I.Inputs O.Sink desk.old) result (world I.Inputs O.Sink desk.new) }
 {
-    if names_schedule(given) || trace {
+    if trace {
         return Err(Refusal::Usage);
     }
     let switch = word(given, 1);
     let queries = word(given, 2);
     let train = word(given, 3);
     let capture = word(given, 4);
-    live(alloc, switch, queries, train, capture, nodes, desk)
+    live::<M, I, O>(alloc, switch, queries, train, capture, nodes, desk)
 }
 
 /// Does the work of a command.
-fn work<I: Inputs, O: Sink>(
+fn work<M: Machine, I: Inputs, O: Sink>(
     alloc: Global,
     command: Command,
     given: &[String],
     desk: &mut Desk<'_, I, O>,
 ) -> Result<(), Refusal>
-    ensures { IsWork command (texts given.now) (world I.Inputs O.Sink desk.old) result (world I.Inputs O.Sink desk.new) }
+    ensures { IsWork M.told command (texts given.now) (world I.Inputs O.Sink desk.old) result (world I.Inputs O.Sink desk.new) }
 {
     let first = word(given, 1);
     let second = word(given, 2);
@@ -114,47 +93,52 @@ fn work<I: Inputs, O: Sink>(
     match command {
         Command::Plain => plain(alloc, first, second, desk),
         Command::Plan { nodes } => plan(alloc, first, second, third, nodes, desk),
-        Command::Run { csv } => answer_along(alloc, csv, first, second, third, fourth, desk),
+        Command::Run { csv } => answer_along::<M, I, O>(
+            alloc, csv, first, second, third, fourth, desk,
+        ),
         Command::Emit => emit(alloc, first, second, third, fourth, desk),
         Command::Finish => finish(alloc, first, second, third, desk),
         Command::Check => check(alloc, first, second, third, fourth, desk),
-        Command::Live { nodes, trace, .. } => work_live(alloc, nodes, trace, given, desk),
+        Command::Live { nodes, trace, .. } => work_live::<M, I, O>(
+            alloc, nodes, trace, given, desk,
+        ),
         Command::Gen { number } => generate(alloc, number, desk),
-        Command::Job { number } => job(alloc, number, desk),
+        Command::Job { number } => job::<M, I, O>(alloc, number, desk),
     }
 }
 
 /// Finds the command, and does its work.
-fn run<I: Inputs, O: Sink>(
+fn run<M: Machine, I: Inputs, O: Sink>(
     alloc: Global,
     given: &[String],
     desk: &mut Desk<'_, I, O>,
 ) -> Result<(), Refusal>
-    ensures works { (command : Command) → Spells (texts given.now) command → IsWork command (texts given.now) (world I.Inputs O.Sink desk.old) result (world I.Inputs O.Sink desk.new) }
+    ensures works { (command : Command) → Spells (texts given.now) command → IsWork M.told command (texts given.now) (world I.Inputs O.Sink desk.old) result (world I.Inputs O.Sink desk.new) }
     ensures usage { ((command : Command) → Spells (texts given.now) command → ⊥) → IsUsage (world I.Inputs O.Sink desk.old) result (world I.Inputs O.Sink desk.new) }
     ensures files_place { desk.new.files.ghost_name ≡ desk.old.files.ghost_name }
     ensures out_place { desk.new.out.ghost_name ≡ desk.old.out.ghost_name }
 {
     match words(given) {
-        Ok(command) => work(alloc, command, given, desk),
+        Ok(command) => work::<M, I, O>(alloc, command, given, desk),
         Err(_) => Err(Refusal::Usage),
     }
 }
 
 /// Runs a command: its text goes to `out`, a line on its status to `err`, and the status is the answer.
 ///
-/// The words are those after the program's name. all commands are built, but `live` with `--schedule` or `--trace`. A fault in
-/// writing the line to `err` is dropped, and the status stays.
-pub fn top<I: Inputs, O: Sink, E: Sink>(
+/// The words are those after the program's name. All commands are built, but `live` with `--trace`. The windows of `run`, `live` and
+/// `job` are answered by a machine, and printed as it tells them. A fault in writing the line to `err` is dropped, and the status stays.
+pub fn top<M: Machine, I: Inputs, O: Sink, E: Sink>(
     alloc: Global,
     words: &[String],
     files: &mut I,
     out: &mut O,
     err: &mut E,
 ) -> u8
-    // 2: exactly where the words spell no command that is built. Then nothing is written.
-    ensures usage { (result ≡ 2) ↔ ((command : Command) → Spells (texts words.now) command → is_built (texts words.now) command ≡ false) }
-    ensures nothing { result ≡ 2 → O.written out.new ≡ O.written out.old }
+    // 2: exactly where the words spell no command that is built. Then files and output are as they were, with their counts.
+    ensures usage { (result ≡ 2) ↔ ((command : Command) → Spells (texts words.now) command → is_built command ≡ false) }
+    ensures nothing_read { result ≡ 2 → files_of I.Inputs files.new ≡ files_of I.Inputs files.old }
+    ensures nothing_written { result ≡ 2 → sunk O.Sink out.new ≡ sunk O.Sink out.old }
     // 10 over any sink: only where a write failed in this call, or took nothing of a rest that has bytes.
     ensures write_fault { result ≡ 10 → OutRose (sunk O.Sink out.old) (sunk O.Sink out.new) }
     // The line of the status is told.
@@ -167,7 +151,7 @@ pub fn top<I: Inputs, O: Sink, E: Sink>(
     // `run SWITCH QUERIES PLAN CAPTURE`, with `--csv` or without it: the run is that of its stages.
     ensures run { (csv : Bool) → Spells (texts words.now) (Command.Run csv) →
         IsCommandRun (word_at (texts words.now) 2 ∷ word_at (texts words.now) 1 ∷ word_at (texts words.now) 3 ∷ word_at (texts words.now) 4 ∷ [])
-        (Run csv (word_at (texts words.now) 1) (word_at (texts words.now) 2) (word_at (texts words.now) 3) (word_at (texts words.now) 4)) (around I.Inputs O.Sink E.Sink files.old out.old err.old) result (around I.Inputs O.Sink E.Sink files.new out.new err.new) }
+        (Run M.told csv (word_at (texts words.now) 1) (word_at (texts words.now) 2) (word_at (texts words.now) 3) (word_at (texts words.now) 4)) (around I.Inputs O.Sink E.Sink files.old out.old err.old) result (around I.Inputs O.Sink E.Sink files.new out.new err.new) }
 
     // `finish QUERIES PLAN REPORTS`: the run is that of its stages.
     ensures finish { Spells (texts words.now) Command.Finish →
@@ -192,24 +176,25 @@ pub fn top<I: Inputs, O: Sink, E: Sink>(
         IsCommandRun (word_at (texts words.now) 2 ∷ word_at (texts words.now) 1 ∷ word_at (texts words.now) 3 ∷ [])
         (Plan (word_at (texts words.now) 1) (word_at (texts words.now) 2) (word_at (texts words.now) 3) nodes) (around I.Inputs O.Sink E.Sink files.old out.old err.old) result (around I.Inputs O.Sink E.Sink files.new out.new err.new) }
 
-    // `live SWITCH QUERIES TRAIN CAPTURE`, with the number of `--nodes` and neither `--schedule` nor `--trace`: the run is that of its stages.
-    ensures live { (nodes schedule : ℕ) → Spells (texts words.now) (Command.Live nodes schedule false) → list_any is_schedule (texts words.now) ≡ false →
+    // `live SWITCH QUERIES TRAIN CAPTURE`, with the number of `--nodes` and without `--trace`: the run is that of its stages, whatever the schedule.
+    ensures live { (nodes schedule : ℕ) → Spells (texts words.now) (Command.Live nodes schedule false) →
         IsCommandRun (word_at (texts words.now) 2 ∷ word_at (texts words.now) 1 ∷ word_at (texts words.now) 3 ∷ word_at (texts words.now) 4 ∷ [])
-        (Live (word_at (texts words.now) 1) (word_at (texts words.now) 2) (word_at (texts words.now) 3) (word_at (texts words.now) 4) nodes) (around I.Inputs O.Sink E.Sink files.old out.old err.old) result (around I.Inputs O.Sink E.Sink files.new out.new err.new) }
+        (Live M.told (word_at (texts words.now) 1) (word_at (texts words.now) 2) (word_at (texts words.now) 3) (word_at (texts words.now) 4) nodes) (around I.Inputs O.Sink E.Sink files.old out.old err.old) result (around I.Inputs O.Sink E.Sink files.new out.new err.new) }
 
     // The headline. Of accepted queries, an accepted switch and two captures it prints a plan that fits every limit of the switch, a
     // tree of bounds that shows that no plan that fits costs less on the first capture, and for each window of the second one exactly
-    // the answers of the unsplit queries refined along the plan, with the number of items that were sent.
-    ensures headline { (nodes schedule : ℕ) → Spells (texts words.now) (Command.Live nodes schedule false) → list_any is_schedule (texts words.now) ≡ false →
+    // the answers of the unsplit queries refined along the plan, with the number of items that were sent. It is so with a machine that
+    // tells its answers as they are, as a net does.
+    ensures headline { M.told ≡ as_they_are → (nodes schedule : ℕ) → Spells (texts words.now) (Command.Live nodes schedule false) →
         KeepsHeadline (word_at (texts words.now) 1) (word_at (texts words.now) 2) (word_at (texts words.now) 3) (word_at (texts words.now) 4) nodes (around I.Inputs O.Sink E.Sink files.old out.old err.old) result (around I.Inputs O.Sink E.Sink files.new out.new err.new) }
 
     // `job NUMBER`: the run is that of its stages, which read no file.
     ensures job { (number : ℕ) → Spells (texts words.now) (Command.Job number) →
-        IsCommandRun [] (Job number) (around I.Inputs O.Sink E.Sink files.old out.old err.old) result (around I.Inputs O.Sink E.Sink files.new out.new err.new) }
+        IsCommandRun [] (Job M.told number) (around I.Inputs O.Sink E.Sink files.old out.old err.old) result (around I.Inputs O.Sink E.Sink files.new out.new err.new) }
 {
     runs_of_live_keep_the_headline();
     let mut desk = Desk { files, out };
-    let answer = run(alloc, words, &mut desk);
+    let answer = run::<M, I, O>(alloc, words, &mut desk);
     tell(answer, err);
     status_of(answer)
 }

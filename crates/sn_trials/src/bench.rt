@@ -4,6 +4,7 @@ use crate::packets::push_syns;
 use sn_base::seq::Seq;
 use sn_io::mem_inputs::MemInputs;
 use sn_io::mem_sink::MemSink;
+use sn_machine::net::Net;
 use sn_top::top::top;
 use std::alloc::Global;
 use std::process::Abort;
@@ -173,7 +174,9 @@ fn run(alloc: Global, form: Form, case: &Case) -> Result<Ran, Fail> {
     let mut files = files_of(alloc, form, case)?;
     let mut out = MemSink::new(alloc, 4000)?;
     let mut err = MemSink::new(alloc, 1000)?;
-    let status = top(alloc, &words, &mut files, &mut out, &mut err);
+    let status = top::<Net, MemInputs, MemSink, MemSink>(
+        alloc, &words, &mut files, &mut out, &mut err,
+    );
     Ok(Ran { status, out, err })
 }
 

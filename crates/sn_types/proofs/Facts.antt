@@ -6,7 +6,7 @@ use Rattle.std.proofs.Math.Bridge.{le_prop}
 use Rattle.std.proofs.Math.Logic.{∥∥₁_elim}
 use Rattle.std.specs.List.{AllByRecursion, flat_map, list_any}
 use Rattle.std.specs.Option.{option_map_or}
-use Rattle.sn_base.proofs.Lists.{by_test, nat_same}
+use Rattle.sn_base.proofs.Lists.{by_test, nat_same, or_none}
 use Rattle.sn_base.specs.declared.column.Column.{Column}
 use Rattle.sn_fields.specs.declared.field.Field.{Field}
 use Rattle.sn_fields.specs.Fields.{with_name, width_of, is_address}
@@ -38,10 +38,6 @@ some_none e = cc
 pub if_none : (b : Bool) (f : TypeFault) (o : Option TypeFault) → cond b (Some f) o ≡ None → (b ≡ false) × (o ≡ None)
 if_none true f o e = absurd (some_none e)
 if_none false f o e = (refl, e)
-
-or_none : (a b : Bool) → (a || b) ≡ false → (a ≡ false) × (b ≡ false)
-or_none true b e = cc
-or_none false b e = (refl, e)
 
 not_below : (m n : ℕ) → nat_lt m n ≡ false → n ≤ m
 not_below m n e = ltb-false m n e

@@ -5,7 +5,7 @@ use Rattle.std.proofs.lemmas.List.{map-append}
 use Rattle.std.specs.List.{AllByRecursion, list_any, list_all, find}
 use Rattle.std.specs.Cmp.{IsEquivalence}
 use Rattle.std.specs.Cmp.Lexicographic.{nat_list_eq_equiv}
-use Rattle.sn_base.proofs.Lists.{by_test, not_false, map_both, all_append, all_filter}
+use Rattle.sn_base.proofs.Lists.{by_test, not_false, map_both, all_append, all_filter, or_none, and_parts}
 use Rattle.sn_base.proofs.FoldedLemmas.{same_row_exact}
 use Rattle.sn_base.specs.declared.column.Column.{Column}
 use Rattle.sn_base.specs.Groups.{Apart, same_row}
@@ -27,14 +27,6 @@ use Rattle.sn_types.proofs.Facts.{if_none}
 use Rattle.sn_types.proofs.Known.{IsKnown, whole_schema, fails_for_each}
 use Rattle.sn_types.proofs.Schemas.{IsSchema, HasWidth, mapped_whole, reduced_whole, columns_along, named_widths, packet_whole, schema_after}
 use Rattle.sn_types.proofs.Sound.{IsSound, AreSound}
-
-or_none : (a b : Bool) → (a || b) ≡ false → (a ≡ false) × (b ≡ false)
-or_none true b e = cc
-or_none false b e = (refl, e)
-
-and_true : (a b : Bool) → (a && b) ≡ true → (a ≡ true) × (b ≡ true)
-and_true true b e = (refl, e)
-and_true false b e = cc
 
 and_false : (a b : Bool) → a ≡ true → (a && b) ≡ false → b ≡ false
 and_false true b is e = e
@@ -118,7 +110,7 @@ apart_of : (names : List Name) → are_apart names ≡ true → Apart same_row n
 unfolding are_apart
 apart_of [] e = tt
 apart_of (n ∷ names) e =
-    let parts = and_true (not (list_any (same_row n) names)) (are_apart names) e in
+    let parts = and_parts (not (list_any (same_row n) names)) (are_apart names) e in
     (fails_for_each (same_row n) names (not_true_of (list_any (same_row n) names) parts.0), apart_of names parts.1)
 
 fields_apart : Apart same_row (map name_of fields)
@@ -146,11 +138,11 @@ keys_in left right (k ∷ keys) h =
 
 left_in : (left right : List Column) (keys : List Name) → AllByRecursion (λ k. in_both left right k ≡ true) keys → AllByRecursion (IsKnown left) keys
 left_in left right [] h = tt
-left_in left right (k ∷ keys) h = ((and_true (has_column left k) (has_column right k) h.0).0, left_in left right keys h.1)
+left_in left right (k ∷ keys) h = ((and_parts (has_column left k) (has_column right k) h.0).0, left_in left right keys h.1)
 
 right_in : (left right : List Column) (keys : List Name) → AllByRecursion (λ k. in_both left right k ≡ true) keys → AllByRecursion (IsKnown right) keys
 right_in left right [] h = tt
-right_in left right (k ∷ keys) h = ((and_true (has_column left k) (has_column right k) h.0).1, right_in left right keys h.1)
+right_in left right (k ∷ keys) h = ((and_parts (has_column left k) (has_column right k) h.0).1, right_in left right keys h.1)
 
 all_in : (left right : List Column) (keys : List Name) → AllByRecursion (λ k. in_both left right k ≡ true) keys → list_all (in_both left right) keys ≡ true
 all_in left right [] h = refl

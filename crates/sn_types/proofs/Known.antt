@@ -4,7 +4,7 @@ use Rattle.std.proofs.lemmas.Bool.{ltb-true, le-leb}
 use Rattle.std.proofs.lemmas.List.{length-map}
 use Rattle.std.proofs.lemmas.List.Folds.{list_any-append}
 use Rattle.std.specs.List.{AllByRecursion, flat_map, list_any, find, position, position_or_len}
-use Rattle.sn_base.proofs.Lists.{by_test, or_left, or_right, not_false, all_map, all_weaker}
+use Rattle.sn_base.proofs.Lists.{by_test, or_left, or_right, not_false, all_map, all_weaker, or_none}
 use Rattle.std.specs.Cmp.Lexicographic.{bytes_decides}
 use Rattle.sn_base.proofs.FoldedLemmas.{same_row_exact}
 use Rattle.sn_base.specs.declared.column.Column.{Column}
@@ -26,10 +26,6 @@ use Rattle.sn_types.specs.Values.{ReadsWithin}
 use Rattle.sn_types.specs.WellFormed.{StaysWithin}
 
 -- ---- lists
-
-or_none : (a b : Bool) → (a || b) ≡ false → (a ≡ false) × (b ≡ false)
-or_none true b e = cc
-or_none false b e = (refl, e)
 
 -- where a test's failure is nowhere, the test holds everywhere
 pub holds_for_each : {X : Type 0} (q : X → Bool) (xs : List X) → list_any (λ x. not (q x)) xs ≡ false → AllByRecursion (λ x. q x ≡ true) xs

@@ -2,7 +2,7 @@
 use Rattle.std.proofs.Common.{◌≡◌, ℕ, List, [], ◌∷◌, ◌++◌, Bool, true, false, ◌||◌, cond, is_none, is_some, Option, None, Some, refl, ap, sym, ◌∙◌}
 use Rattle.std.specs.List.{AllByRecursion, flat_map, list_any}
 use Rattle.std.specs.Option.{option_map, option_map_or}
-use Rattle.sn_base.proofs.Lists.{by_test, not_false}
+use Rattle.sn_base.proofs.Lists.{by_test, not_false, or_none}
 use Rattle.sn_fields.specs.Fields.{with_name}
 use Rattle.sn_query_rules.specs.declared.ast.Query.{Query}
 use Rattle.sn_query_rules.specs.declared.ast.Branch.{Branch}
@@ -23,10 +23,6 @@ use Rattle.sn_walk.specs.Walk.{Place, is_end, ops_at, carried_along, first_fault
 use Rattle.sn_types.specs.Typing.{behind_branches, typed_query, posts_of, field_of}
 use Rattle.sn_types.proofs.Sources.{none_in_both, none_in_each, later_none}
 use Rattle.sn_types.proofs.Facts.{if_none}
-
-or_none : (a b : Bool) → (a || b) ≡ false → (a ≡ false) × (b ≡ false)
-or_none true b e = cc
-or_none false b e = (refl, e)
 
 some_of : {X : Type 0} (o : Option X) → is_none o ≡ false → is_some o ≡ true
 some_of None e = cc

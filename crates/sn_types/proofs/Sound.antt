@@ -2,7 +2,7 @@
 -- the limits.
 use Rattle.std.proofs.Common.{◌≡◌, ℕ, ◌≤◌, List, [], ◌∷◌, ◌++◌, map, length, Bool, true, false, not, ◌||◌, ◌&&◌, cond, is_none, Option, None, Some, refl, ap, sym, ◌∙◌, subst}
 use Rattle.std.specs.List.{AllByRecursion, list_any}
-use Rattle.sn_base.proofs.Lists.{by_test, or_right, all_weaker, all_append}
+use Rattle.sn_base.proofs.Lists.{by_test, or_right, all_weaker, all_append, or_none}
 use Rattle.sn_base.specs.declared.column.Column.{Column}
 use Rattle.sn_base.specs.Groups.{Apart, same_row}
 use Rattle.sn_fields.specs.Fields.{with_name}
@@ -88,10 +88,6 @@ clean_of levels scope op last none =
     let c = if_none (too_wide scope op.what) (TooWide op.line) of_map b.1 in
     let d = if_none (no_map scope op.what) (NoMap op.line) of_lost c.1 in
     record { no_unknown_field = a.0; no_unknown_column = b.0; narrow = c.0; map_stands = d.0 }
-
-or_none : (a b : Bool) → (a || b) ≡ false → (a ≡ false) × (b ≡ false)
-or_none true b e = cc
-or_none false b e = (refl, e)
 
 when_mapped : (mapped b : Bool) → mapped ≡ true → (mapped && b) ≡ false → b ≡ false
 when_mapped true b m e = e

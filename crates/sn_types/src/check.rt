@@ -7,6 +7,7 @@ ghost use Rattle.sn_types.specs.Typed.{IsTypingOf};
 use crate::typed::Typed;
 use crate::typing::typed_queries;
 use sn_query_rules::ast::QueryFile;
+use sn_seed::Seed;
 use sn_walk::fault::TypeFault;
 use sn_walk::walk::file_fault;
 use std::alloc::Global;
@@ -29,6 +30,7 @@ pub fn check(alloc: Global, file: QueryFile) -> Result<Typed, TypeFault>
         Ok(queries) => Ok(Typed {
             alloc,
             window_us: file.window_us,
+            seed: Seed::new(0),
             queries,
         }),
         Err(_) => Err(TypeFault::Memory),

@@ -15,6 +15,7 @@ use sn_base::schema::Schema;
 use sn_base::seq::Seq;
 use sn_fields::field::Field;
 use sn_fields::tuple::Tuple;
+use sn_seed::Seed;
 use std::alloc::Global;
 
 /// The queries of a well typed file, with names and widths resolved.
@@ -27,12 +28,24 @@ pub struct Typed {
     pub alloc: Global,
     /// The window in microseconds, 1 to 3600000000.
     pub window_us: u64,
+    /// From which tables of rows hash. No answer depends on it.
+    pub seed: Seed,
     /// One to eight queries.
     pub queries: Seq<TypedQuery>,
     ghost typed: { ∥ IsTyped window_us queries ∥₁ },
 }
 
 impl Typed {
+    /// The same queries, whose tables of rows hash from this seed.
+    pub fn with_seed(self, seed: Seed) -> Typed
+        ensures window { result.window_us ≡ self.window_us }
+        ensures queries { result.queries ≡ self.queries }
+    {
+        let mut typed = self;
+        typed.seed = seed;
+        typed
+    }
+
     /// The window in nanoseconds.
     pub fn window_ns(&self) -> u64
         ensures { result ≡ self.now.window_us * 1000 }
@@ -243,6 +256,7 @@ impl Typed {
         Ok(Typed {
             alloc: self.alloc,
             window_us: self.window_us,
+            seed: self.seed,
             queries,
         })
     }

@@ -2,6 +2,7 @@
 #![tactic(auto)]
 
 use sn_io::real::{RealInputs, RealSink};
+use sn_machine::net::Net;
 use sn_top::top::top;
 use std::alloc::Global;
 use std::env;
@@ -18,7 +19,8 @@ fn keep_pages(alloc: Global) {
     let _: Result<Vec<u8>, _> = Vec::with_capacity(alloc, FIRST_BLOCK);
 }
 
-/// Passes the words, the files that they name and the standard streams to the top call, and ends with its status.
+/// Passes the words, the files that they name and the standard streams to the top call, with nets to answer windows, and ends with
+/// its status.
 fn main(rt: HostRuntime) -> ExitCode {
     keep_pages(rt.alloc());
     let Ok(args) = env::args(&rt) else {
@@ -35,5 +37,11 @@ fn main(rt: HostRuntime) -> ExitCode {
     };
     let mut out = RealSink::out(&rt);
     let mut err = RealSink::err(&rt);
-    ExitCode::from(top(rt.alloc(), &words, &mut files, &mut out, &mut err))
+    ExitCode::from(top::<Net, RealInputs, RealSink, RealSink>(
+        rt.alloc(),
+        &words,
+        &mut files,
+        &mut out,
+        &mut err,
+    ))
 }

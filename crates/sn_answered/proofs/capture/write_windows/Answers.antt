@@ -11,8 +11,8 @@ use Rattle.std.specs.Prelude.{Result}
 use Rattle.sn_stage.specs.Refusals.{seen_as}
 use Rattle.sn_stage.specs.Runs.{Runs}
 use Rattle.sn_stage.specs.Stages.{Does}
-use Rattle.sn_answered.specs.Capture.{read_refusal, WindowsOf}
-use Rattle.sn_answered.specs.Gathering.{Gathering, after, all_closed, closing, none_gathered, taken}
+use Rattle.sn_answered.specs.Capture.{WindowsOf}
+use Rattle.sn_answered.specs.Gathering.{Gathering, after, all_closed, closing, none_gathered, Stops, taken}
 use Rattle.sn_answered.specs.Wording.{Closed, Window, Wording}
 use Rattle.sn_answered.proofs.StandLemmas.{ok_weaker, seen_same}
 use Rattle.sn_answered.proofs.StreamLemmas.{runs_memory}
@@ -22,14 +22,11 @@ use Rattle.sn_answered.proofs.capture.write_windows.Goals as goal
 pub returns-in_err-reader-clause-runs : goal.returns-in_err-reader-clause-runs
 returns-in_err-reader-clause-runs g c = let p = err_from_is_err_and c.from_residual.result c.from_residual.ensures.1 in rw (p.1, p.2) ([], runs_memory _ _ _, tt)
 
-pub returns-in_err-begin-clause-runs : goal.returns-in_err-begin-clause-runs
-returns-in_err-begin-clause-runs g c = let p = err_from_is_err_and c.from_residual-in_err-begin.result c.from_residual-in_err-begin.ensures.1 in rw (p.1, p.2) ([], runs_memory _ _ _, tt)
-
 pub records-init : goal.records-init
 records-init g c =
     let here = world g.I.Inputs g.O.Sink c.args.desk.now in
-    let wording = g.A.Answering.wording c.begin.new.self in
-    let causal = g.met.A.Answering.causal c.begin.new.self in
+    let wording = g.A.Answering.wording c.args.answering.now in
+    let causal = g.met.A.Answering.causal c.args.answering.now in
     let window = c.args.window_ns in
     let header = c.args.header.now in
     let name = c.args.capture.now in
@@ -43,7 +40,8 @@ records-init g c =
         closed = refl;
         some = λ e. absurd (false≢true e);
         none = λ e. refl;
-        at_hand = c.in_ok-begin.ensures.begun [] c.requires.idle (tt, tt);
+        fresh = λ e. (refl, refl);
+        at_hand = c.requires.begun;
         rising = (tt, tt);
       };
       leads = leads_first wording causal window header name reader first here c.in_ok-reader.ensures refl (g.met.I.Inputs.same_names c.args.desk.now.files.now) c.requires.known;
@@ -59,7 +57,7 @@ returns-in_err-gathered-in-Ok-Packet-clause-runs g c =
     let here = world g.I.Inputs g.O.Sink c.records.desk in
     let begin = world g.I.Inputs g.O.Sink c.args.desk.now in
     let mid = c.records.invariant in
-    let wording = g.A.Answering.wording c.begin.new.self in
+    let wording = g.A.Answering.wording c.args.answering.now in
     let header = c.args.header.now in
     let name = c.args.capture.now in
     let seen = c.in-Ok-Packet.seen in
@@ -68,7 +66,7 @@ returns-in_err-gathered-in-Ok-Packet-clause-runs g c =
     let p = err_from_is_err_and c.from_residual-in_err-gathered-in-Ok-Packet.result c.from_residual-in_err-gathered-in-Ok-Packet.ensures.1 in
     rw (p.1, p.2) (
       [],
-      subst (λ (w : Wording). Runs (name ∷ []) (WindowsOf w c.args.window_ns name header) begin (Err refusal) there) c.in_ok-begin.ensures.wording (packet_stops wording header.link name c.records.reader c.next.new.self mid.state (WindowsOf wording c.args.window_ns name header) begin here (files_of g.I.Inputs c.next.new.files) c.next.ensures.told c.next.ensures.faults mid.leads
+      (packet_stops wording header.link name c.records.reader c.next.new.self mid.state (WindowsOf wording c.args.window_ns name header) begin here (files_of g.I.Inputs c.next.new.files) c.next.ensures.told c.next.ensures.faults mid.leads
           seen refusal there (rw c.in-Ok-Packet.field-0-is at c.in-Ok-Packet.ensures).takes
           (subst (λ (w : Wording). Runs [] (Does (taken w mid.state seen.time (tuple header.link seen.wire (take seen.len seen.front)))) (read_on here (files_of g.I.Inputs c.next.new.files)) (Err refusal) there) mid.same (c.in_err-gathered-in-Ok-Packet.ensures.runs mid.state mid.stands))),
       tt,
@@ -79,7 +77,7 @@ records-preserved g c =
     let here = world g.I.Inputs g.O.Sink c.records.desk in
     let begin = world g.I.Inputs g.O.Sink c.args.desk.now in
     let mid = c.records.invariant in
-    let wording = g.A.Answering.wording c.begin.new.self in
+    let wording = g.A.Answering.wording c.args.answering.now in
     let header = c.args.header.now in
     let name = c.args.capture.now in
     let now = c.next.new.self in
@@ -106,7 +104,7 @@ returns-in-Ok-End-clause-runs g c =
     let here = world g.I.Inputs g.O.Sink c.records.desk in
     let begin = world g.I.Inputs g.O.Sink c.args.desk.now in
     let mid = c.records.invariant in
-    let wording = g.A.Answering.wording c.begin.new.self in
+    let wording = g.A.Answering.wording c.args.answering.now in
     let header = c.args.header.now in
     let name = c.args.capture.now in
     let ending = c.in-Ok-End.ending in
@@ -121,8 +119,7 @@ returns-in-Ok-End-clause-runs g c =
     ending (seen_as (λ (found : ℕ × Ending). (all, ending)) c.close_last.result) there (rw c.in-Ok-End.field-0-is at c.in-Ok-End.ensures).takes
     (subst (λ (w : Wording). Runs [] (Does (closing w mid.state ending)) (read_on here (files_of g.I.Inputs c.next.new.files)) (seen_as (λ (found : ℕ × Ending). (all, ending)) c.close_last.result) there) mid.same (c.close_last.ensures.runs mid.state mid.stands)) in (
       all,
-      subst (λ (w : Wording). Runs (name ∷ []) (WindowsOf w c.args.window_ns name header) begin (seen_as (λ (found : ℕ × Ending). (all, found.1)) c.close_last.result) there) c.in_ok-begin.ensures.wording
-          (subst (λ (r : Result (List Window × Ending) Refusal). Runs (name ∷ []) whole begin r there) (seen_same all ending c.close_last.result told) runs),
+      (subst (λ (r : Result (List Window × Ending) Refusal). Runs (name ∷ []) whole begin r there) (seen_same all ending c.close_last.result told) runs),
       closes,
     )
 
@@ -131,12 +128,16 @@ returns-in-Err-clause-runs g c =
     let here = world g.I.Inputs g.O.Sink c.records.desk in
     let begin = world g.I.Inputs g.O.Sink c.args.desk.now in
     let mid = c.records.invariant in
-    let wording = g.A.Answering.wording c.begin.new.self in
+    let wording = g.A.Answering.wording c.args.answering.now in
     let header = c.args.header.now in
     let name = c.args.capture.now in
-    rw c.refusal_of.ensures (
+    let hand = g.A.Answering.hand c.records.answering in
+    let files = files_of g.I.Inputs c.next.new.files in
+    let refusal = c.refuse_capture.result in
+    let there = world g.I.Inputs g.O.Sink c.refuse_capture.new.desk in (
       [],
-      subst (λ (w : Wording). Runs (name ∷ []) (WindowsOf w c.args.window_ns name header) begin (Err (read_refusal c.in-Err.error)) (read_on here (files_of g.I.Inputs c.next.new.files))) c.in_ok-begin.ensures.wording (error_stops wording header.link name c.records.reader c.next.new.self mid.state (WindowsOf wording c.args.window_ns name header) begin here (files_of g.I.Inputs c.next.new.files) c.next.ensures.told c.next.ensures.faults mid.leads
-          c.in-Err.error mid.known c.in-Err.ensures.missing.0 c.in-Err.ensures.fault c.in-Err.ensures.no_memory c.in-Err.ensures.takes),
+      (error_stops wording header.link name c.records.reader c.next.new.self mid.state (WindowsOf wording c.args.window_ns name header) begin here files c.next.ensures.told c.next.ensures.faults mid.leads
+          hand c.records.gathered mid.stands c.in-Err.error refusal there mid.known c.in-Err.ensures.missing.0 c.in-Err.ensures.fault c.in-Err.ensures.no_memory c.in-Err.ensures.takes
+          (subst (λ (w : Wording). Stops hand w c.records.gathered c.in-Err.error (read_on here files) refusal there) mid.same c.refuse_capture.ensures)),
       tt,
     )

@@ -23,8 +23,8 @@ pub returns-clause-run : goal.returns-clause-run
 returns-clause-run g c =
     let m = c.args.machine.now in
     let one = c.give.new.self in
-    same_run (g.M.Machine.works one) (g.M.Machine.works m) (g.M.Machine.told one) (g.M.Machine.told m) c.args.draws.now.number c.settle.new.draws.number (given (g.M.Machine.state m) c.args.next) (g.M.Machine.state one)
-    (g.M.Machine.state c.settle.new.machine) c.in_ok-notes.notes c.give.ensures.works c.give.ensures.told c.give.ensures.state c.in_ok-notes.ensures.run
+    same_run (g.M.Machine.works one) (g.M.Machine.works m) g.M.Machine.told g.M.Machine.told c.args.draws.now.number c.settle.new.draws.number (given (g.M.Machine.state m) c.args.next) (g.M.Machine.state one)
+    (g.M.Machine.state c.settle.new.machine) c.in_ok-notes.notes c.give.ensures.works refl c.give.ensures.state c.in_ok-notes.ensures.run
 
 pub returns-clause-due : goal.returns-clause-due
 returns-clause-due g c = λ following.
@@ -33,9 +33,9 @@ returns-clause-due g c = λ following.
     let s = g.M.Machine.state m in
     let two = g.M.Machine.state c.settle.new.machine in
     let stands : IsNet (g.M.Machine.works m) (given s c.args.next) = given_net (g.M.Machine.works m) (g.M.Machine.works m) (g.met.M.Machine.lawful m) s (given s c.args.next) c.args.next refl refl c.requires.stands c.requires.wants c.requires.rises in
-    supplied_due (g.M.Machine.works m) (g.met.M.Machine.lawful m) (g.M.Machine.told m) c.args.draws.now.number s c.args.next c.in_ok-notes.notes c.settle.new.draws.number two following c.requires.stands c.requires.wants stands
-    (same_run (g.M.Machine.works one) (g.M.Machine.works m) (g.M.Machine.told one) (g.M.Machine.told m) c.args.draws.now.number c.settle.new.draws.number (given s c.args.next) (g.M.Machine.state one) two c.in_ok-notes.notes
-    c.give.ensures.works c.give.ensures.told c.give.ensures.state c.in_ok-notes.ensures.run)
+    supplied_due (g.M.Machine.works m) (g.met.M.Machine.lawful m) g.M.Machine.told c.args.draws.now.number s c.args.next c.in_ok-notes.notes c.settle.new.draws.number two following c.requires.stands c.requires.wants stands
+    (same_run (g.M.Machine.works one) (g.M.Machine.works m) g.M.Machine.told g.M.Machine.told c.args.draws.now.number c.settle.new.draws.number (given s c.args.next) (g.M.Machine.state one) two c.in_ok-notes.notes
+    c.give.ensures.works refl c.give.ensures.state c.in_ok-notes.ensures.run)
 
 pub returns-clause-stands : goal.returns-clause-stands
 returns-clause-stands g c = subst (λ (w : Works). IsNet w (g.M.Machine.state c.settle.new.machine)) c.give.ensures.works c.in_ok-notes.ensures.stands
@@ -44,6 +44,6 @@ pub returns-clause-behind : goal.returns-clause-behind
 returns-clause-behind g c =
     let m = c.args.machine.now in
     let one = c.give.new.self in
-    run_behind (g.M.Machine.works m) (g.M.Machine.told m) c.args.draws.now.number (g.M.Machine.state m) c.args.next c.in_ok-notes.notes c.settle.new.draws.number (g.M.Machine.state c.settle.new.machine)
-    (same_run (g.M.Machine.works one) (g.M.Machine.works m) (g.M.Machine.told one) (g.M.Machine.told m) c.args.draws.now.number c.settle.new.draws.number (given (g.M.Machine.state m) c.args.next) (g.M.Machine.state one)
-    (g.M.Machine.state c.settle.new.machine) c.in_ok-notes.notes c.give.ensures.works c.give.ensures.told c.give.ensures.state c.in_ok-notes.ensures.run)
+    run_behind (g.M.Machine.works m) g.M.Machine.told c.args.draws.now.number (g.M.Machine.state m) c.args.next c.in_ok-notes.notes c.settle.new.draws.number (g.M.Machine.state c.settle.new.machine)
+    (same_run (g.M.Machine.works one) (g.M.Machine.works m) g.M.Machine.told g.M.Machine.told c.args.draws.now.number c.settle.new.draws.number (given (g.M.Machine.state m) c.args.next) (g.M.Machine.state one)
+    (g.M.Machine.state c.settle.new.machine) c.in_ok-notes.notes c.give.ensures.works refl c.give.ensures.state c.in_ok-notes.ensures.run)

@@ -7,11 +7,10 @@ use Rattle.sn_drive.proofs.driving.settle.Given as goal
 abbrev pub invariant-events : goal.invariant-events
 invariant-events g l = record {
   works : g.M.Machine.works l.machine ≡ g.M.Machine.works l.initial.machine;
-  told : g.M.Machine.told l.machine ≡ g.M.Machine.told l.initial.machine;
   lanes : l.lanes ≡ length (g.M.Machine.state l.machine).lanes;
   stands : IsNet (g.M.Machine.works l.initial.machine) (g.M.Machine.state l.machine);
   taken : (g.M.Machine.state l.machine).waiting ≡ None;
-  leads : Leads (g.M.Machine.works l.initial.machine) (g.M.Machine.told l.initial.machine) l.initial.draws.number (g.M.Machine.state l.initial.machine) l.notes l.draws.number (g.M.Machine.state l.machine);
+  leads : Leads (g.M.Machine.works l.initial.machine) g.M.Machine.told l.initial.draws.number (g.M.Machine.state l.initial.machine) l.notes l.draws.number (g.M.Machine.state l.machine);
 }
 
 abbrev pub decreases-events : goal.decreases-events

@@ -1,5 +1,6 @@
-use Rattle.std.proofs.Common.{ap, ◌∙◌, sym, slice_index}
-use Rattle.sn_fields.specs.Fields.{number_of}
+use Rattle.std.proofs.Common.{ap, ◌∙◌, sym, subst, slice_index, ℕ, ◌<◌, ◌^◌, List}
+use Rattle.sn_fields.specs.Fields.{number_of, width_of}
+use Rattle.sn_fields.proofs.Ranges.{all_bytes, tuple_below}
 use Rattle.sn_fields.proofs.Walked.{tuple_is, field_at}
 use Rattle.sn_fields.proofs.Fronts.{tuple_front}
 use Rattle.sn_fields.proofs.tuple.tuple_of.Goals as goal
@@ -15,3 +16,9 @@ returns-clause-each c field =
 
 pub returns-clause-front : goal.returns-clause-front
 returns-clause-front c = returns-clause-fields c ∙ sym (tuple_front c.args.link c.args.wire c.args.bytes.now)
+
+pub returns-clause-widths : goal.returns-clause-widths
+returns-clause-widths c field =
+    let bytes : List ℕ = c.args.bytes.now in
+    subst (λ (numbers : List ℕ). slice_index numbers (number_of field) < 2 ^ width_of field) (sym (returns-clause-fields c))
+    (tuple_below c.args.link c.args.wire bytes c.ranges.wire.fits (all_bytes bytes (λ i. (c.type_inv.bytes i).fits)) field)

@@ -7,4 +7,4 @@ pub returns-in_err-text : goal.returns-in_err-text
 returns-in_err-text g c = let p = err_from_is_err_and c.from_residual.result c.from_residual.ensures.1 in rw (p.1, p.2) (text_refused c.in_err-text.ensures.works)
 
 pub returns : goal.returns
-returns g c = judged_text c.in_ok-text.ensures.works c.as_slice.ensures (queries_once c.as_slice.result.now) c.judge_queries.ensures
+returns g c = judged_text c.in_ok-text.ensures.works c.as_slice.ensures (queries_once c.as_slice.result.now) c.seeded_queries.ensures

@@ -1,5 +1,4 @@
-use Rattle.std.proofs.Common.{Ok, refl, sym, subst}
-use Rattle.sn_stage.specs.declared.refusal.Refusal.{Refusal}
+use Rattle.std.proofs.Common.{Ok, refl}
 use Rattle.sn_planned.proofs.Verdicts.{switch_refused}
 use Rattle.sn_planned.proofs.texts.judge_switch.Goals as goal
 

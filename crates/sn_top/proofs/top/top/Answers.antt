@@ -5,23 +5,31 @@ use Rattle.sn_stage.specs.declared.refusal.Refusal.TheVariants.{Usage}
 use Rattle.sn_stage.specs.Ends.{end_status}
 use Rattle.sn_stage.specs.Worlds.{World}
 use Rattle.sn_stage.proofs.EndLemmas.{two_is, ten_is, command_run, status_told}
-use Rattle.sn_top.proofs.TopLemmas.{by_command, live_work_of, usage_of, unbuilt_of, write_fault_of}
+use Rattle.sn_top.proofs.TopLemmas.{by_command, live_as_they_are, usage_of, unbuilt_of, write_fault_of}
 use Rattle.sn_top.proofs.top.top.Goals as goal
 
 pub returns-clause-usage : goal.returns-clause-usage
 returns-clause-usage g c = (
-  λ two command spells. (usage_of command (texts c.args.words.now) _ _ _ (c.run-answer.ensures.works command spells) (two_is c.run-answer.result (sym c.status_of.ensures ∙ two))).0,
+  λ two command spells. (usage_of g.M.Machine.told command (texts c.args.words.now) _ _ _ (c.run-answer.ensures.works command spells) (two_is c.run-answer.result (sym c.status_of.ensures ∙ two))).0,
   λ unbuilt. c.status_of.ensures ∙ ap end_status (by_command (texts c.args.words.now)
-      (λ command spells. unbuilt_of command (texts c.args.words.now) _ _ _ (c.run-answer.ensures.works command spells) (unbuilt command spells))
+      (λ command spells. unbuilt_of g.M.Machine.told command (texts c.args.words.now) _ _ _ (c.run-answer.ensures.works command spells) (unbuilt command spells))
       (λ none. (c.run-answer.ensures.usage none).0)),
 )
 
-pub returns-clause-nothing : goal.returns-clause-nothing
-returns-clause-nothing g c = λ two.
+pub returns-clause-nothing_read : goal.returns-clause-nothing_read
+returns-clause-nothing_read g c = λ two.
+    let files : c.files-1.given.0 ≡ c.run-answer.new.desk.files.now = search rules in
+    let usage : c.run-answer.result ≡ Err Usage = two_is c.run-answer.result (sym c.status_of.ensures ∙ two) in
+    rw files (ap (λ (w : World). w.files) (by_command (texts c.args.words.now)
+    (λ command spells. (usage_of g.M.Machine.told command (texts c.args.words.now) _ _ _ (c.run-answer.ensures.works command spells) usage).1)
+    (λ none. (c.run-answer.ensures.usage none).1)))
+
+pub returns-clause-nothing_written : goal.returns-clause-nothing_written
+returns-clause-nothing_written g c = λ two.
     let out : c.out-1.given.0 ≡ c.run-answer.new.desk.out.now = search rules in
     let usage : c.run-answer.result ≡ Err Usage = two_is c.run-answer.result (sym c.status_of.ensures ∙ two) in
-    rw out (ap (λ (w : World). w.out.written) (by_command (texts c.args.words.now)
-    (λ command spells. (usage_of command (texts c.args.words.now) _ _ _ (c.run-answer.ensures.works command spells) usage).1)
+    rw out (ap (λ (w : World). w.out) (by_command (texts c.args.words.now)
+    (λ command spells. (usage_of g.M.Machine.told command (texts c.args.words.now) _ _ _ (c.run-answer.ensures.works command spells) usage).1)
     (λ none. (c.run-answer.ensures.usage none).1)))
 
 pub returns-clause-write_fault : goal.returns-clause-write_fault
@@ -29,7 +37,7 @@ returns-clause-write_fault g c = λ ten.
     let out : c.out-1.given.0 ≡ c.run-answer.new.desk.out.now = search rules in
     let failed = ten_is c.run-answer.result (sym c.status_of.ensures ∙ ten) in
     rw out (by_command (texts c.args.words.now)
-    (λ command spells. write_fault_of command (texts c.args.words.now) _ _ _ (c.run-answer.ensures.works command spells) failed)
+    (λ command spells. write_fault_of g.M.Machine.told command (texts c.args.words.now) _ _ _ (c.run-answer.ensures.works command spells) failed)
     (λ none. absurd (let usage = sym (c.run-answer.ensures.usage none).0 ∙ failed in cc)))
 
 pub returns-clause-plain : goal.returns-clause-plain
@@ -75,17 +83,16 @@ returns-clause-planned g c = λ nodes spells.
     rw (c.status_of.ensures, files, out) (command_run _ _ c.run-answer.result _ _ _ _ (c.run-answer.ensures.works (commands.Plan nodes) spells) c.tell.ensures)
 
 pub returns-clause-live : goal.returns-clause-live
-returns-clause-live g c = λ nodes schedule spells unscheduled.
+returns-clause-live g c = λ nodes schedule spells.
     let files : c.files-1.given.0 ≡ c.run-answer.new.desk.files.now = search rules in
     let out : c.out-1.given.0 ≡ c.run-answer.new.desk.out.now = search rules in
-    rw (c.status_of.ensures, files, out) (command_run _ _ c.run-answer.result _ _ _ _ (live_work_of nodes schedule (texts c.args.words.now) unscheduled (c.run-answer.ensures.works (commands.Live nodes schedule false) spells)) c.tell.ensures)
+    rw (c.status_of.ensures, files, out) (command_run _ _ c.run-answer.result _ _ _ _ (c.run-answer.ensures.works (commands.Live nodes schedule false) spells) c.tell.ensures)
 
 pub returns-clause-headline : goal.returns-clause-headline
-returns-clause-headline g c = λ nodes schedule spells unscheduled.
+returns-clause-headline g c = λ as_they nodes schedule spells.
     let files : c.files-1.given.0 ≡ c.run-answer.new.desk.files.now = search rules in
     let out : c.out-1.given.0 ≡ c.run-answer.new.desk.out.now = search rules in
-    rw (c.status_of.ensures, files, out) (c.runs_of_live_keep_the_headline.ensures _ _ _ _ nodes _ _ _
-    (command_run _ _ c.run-answer.result _ _ _ _ (live_work_of nodes schedule (texts c.args.words.now) unscheduled (c.run-answer.ensures.works (commands.Live nodes schedule false) spells)) c.tell.ensures))
+    rw (c.status_of.ensures, files, out) (c.runs_of_live_keep_the_headline.ensures _ _ _ _ nodes _ _ _ (command_run _ _ c.run-answer.result _ _ _ _ (live_as_they_are nodes schedule (texts c.args.words.now) as_they (c.run-answer.ensures.works (commands.Live nodes schedule false) spells)) c.tell.ensures))
 
 pub returns-clause-job : goal.returns-clause-job
 returns-clause-job g c = λ number spells.

@@ -1,6 +1,5 @@
-use Rattle.std.proofs.Common.{refl}
-use Rattle.sn_emitted.proofs.StateLemmas.{made_idle}
+use Rattle.std.proofs.Common.{[]}
 use Rattle.sn_emitted.proofs.reporter.Reporter.make.Goals as goal
 
-pub returns-clause-idle : goal.returns-clause-idle
-returns-clause-idle c = let e = c.in_ok-driver.ensures in made_idle _ c.args.switch.now refl c.requires.switch c.requires.fits e.queries e.sources e.lanes e.empty e.many refl c.new-sent.ensures.items
+pub returns-clause-begun : goal.returns-clause-begun
+returns-clause-begun c = c.in_ok-begin.ensures.begun [] c.in_ok-reporter.ensures.idle (tt, tt)

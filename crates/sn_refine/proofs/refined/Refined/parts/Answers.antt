@@ -1,5 +1,6 @@
-use Rattle.std.proofs.Common.{◌≡◌, ℕ, List, [], ◌∷◌, ◌++◌, map, length, slice_index, ap, ◌∙◌, arith}
+use Rattle.std.proofs.Common.{◌≡◌, ℕ, List, [], ◌∷◌, ◌++◌, map, length, slice_index, sym, ap, ◌∙◌, arith}
 use Rattle.std.specs.List.{range_with_len}
+use Rattle.std.proofs.lemmas.List.FromFn.{take-map-range_with_len}
 use Rattle.sn_base.specs.Groups.{Row}
 use Rattle.sn_types.specs.declared.answers.Part.{Part}
 use Rattle.sn_types.specs.Typed.{query_at}
@@ -28,5 +29,7 @@ returns c =
     let f : ℕ → Part = part_at s.query s.path (rows_at (query_at c.args.t.now.queries s.query) s.path (kept_at s.last s.kept c.args.w) c.args.tuples.now) in
     let most = c.loop-place.auto.place-end in
     let least = c.loop-place-test.false in
-    let all : c.loop-place.place ≡ length c.as_slice-place-end.result.now = omega (arith, most, least) in
-    c.loop-place.invariant ∙ ap (λ (n : ℕ). map f (range_with_len 0 n)) (all ∙ ap length c.as_slice-place-end.ensures)
+    let all : c.loop-place.place ≡ c.args.count = omega (arith, most, least) in
+    c.loop-place.invariant
+    ∙ ap (λ (n : ℕ). map f (range_with_len 0 n)) all
+    ∙ sym (take-map-range_with_len f 0 (length s.path) c.args.count c.requires.count)

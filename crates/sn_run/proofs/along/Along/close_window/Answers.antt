@@ -1,31 +1,54 @@
-use Rattle.std.proofs.Common.{◌≡◌, ◌+◌, Some, ap, arith}
-use Rattle.sn_run.specs.Along.{plan_of}
-use Rattle.sn_run.proofs.StateLemmas.{answers_are, answers_fit, closed_answers, closed_idle, driver_after, idle_after}
+use Rattle.std.proofs.Common.{◌+◌, ap, sym, subst, ◌∙◌}
+use Rattle.std.specs.List.{AllByRecursion}
+use Rattle.sn_core.specs.declared.supply.Supply.TheVariants.{End}
+use Rattle.sn_drive.specs.Schedules.{answers_in}
+use Rattle.sn_out.specs.Text.{IsPartOf}
+use Rattle.sn_types.specs.declared.answers.Answers.{Answers}
+use Rattle.sn_run.proofs.HandLemmas.{Found, answers_fit, answers_right, end_found, end_idle, none_told, one_told, used_end, used_wants}
 use Rattle.sn_run.proofs.along.Along.close_window.Goals as goal
 
+pub advance-requires-clause-lanes : goal.advance-requires-clause-lanes
+advance-requires-clause-lanes g c = c.requires.3.fed.lanes
+
+pub advance-requires-clause-stands : goal.advance-requires-clause-stands
+advance-requires-clause-stands g c = c.requires.3.fed.stands
+
+pub advance-requires-clause-wants : goal.advance-requires-clause-wants
+advance-requires-clause-wants g c = used_wants c.args.number c.requires.1 (g.M.Machine.state c.args.self.now.machine) c.requires.3.used
+
+pub advance-requires-clause-rises : goal.advance-requires-clause-rises
+advance-requires-clause-rises g c = used_end c.args.number c.requires.1 (g.M.Machine.state c.args.self.now.machine) c.requires.3.used
+
+pub advance-requires-clause-taken : goal.advance-requires-clause-taken
+advance-requires-clause-taken g c = c.requires.3.fed.taken
+
+pub unreachable-requires : goal.unreachable-requires
+unreachable-requires g c =
+    let h = c.requires in
+    let e = c.in_ok-notes.ensures in
+    let found : Found g.M.Machine c.args.self.now End (answers_in c.in_ok-notes.notes) c.advance.new.machine = record { works = c.advance.ensures.works; stands = e.stands; lanes = e.lanes; taken = e.taken; moves = e.due } in
+    none_told _ _ _ c.last_told.ensures c.in_default.is (end_found g.M.Machine c.args.self.now h.0 c.args.number h.1 h.2 h.3 (g.met.M.Machine.lawful c.args.self.now.machine) _ c.advance.new.machine found e.behind)
+
 pub returns-clause-answers : goal.returns-clause-answers
-returns-clause-answers c = λ closed tuples h.
-    let a = c.args.self.now in
-    let answers = c.in_ok-answers.answers in
-    let are = answers_are (plan_of a) a.driver h.driver a.last c.args.number tuples h.widths h.work answers c.in_ok-answers.ensures.window c.in_ok-answers.ensures.answers in
-    ap Some (closed_answers a closed c.args.number tuples h answers are)
+returns-clause-answers g c = λ closed tuples some h.
+    let e = c.in_ok-notes.ensures in
+    let found : Found g.M.Machine c.args.self.now End (answers_in c.in_ok-notes.notes) c.advance.new.machine = record { works = c.advance.ensures.works; stands = e.stands; lanes = e.lanes; taken = e.taken; moves = e.due } in
+    one_told _ _ _ _ c.last_told.ensures c.in-Some.is (end_found g.M.Machine c.args.self.now closed c.args.number tuples some h (g.met.M.Machine.lawful c.args.self.now.machine) _ c.advance.new.machine found e.behind)
+    ∙ answers_right g.M.Machine c.args.self.now closed c.args.number tuples some h
 
 pub returns-clause-fit : goal.returns-clause-fit
-returns-clause-fit c =
-    let a = c.args.self.now in
-    let h = c.requires.2 in
-    let tuples = c.requires.1 in
-    let answers = c.in_ok-answers.answers in
-    let are = answers_are (plan_of a) a.driver h.driver a.last c.args.number tuples h.widths h.work answers c.in_ok-answers.ensures.window c.in_ok-answers.ensures.answers in
-    answers_fit (plan_of a) a.driver h.driver a.last c.args.number tuples h.widths h.work answers are
+returns-clause-fit g c =
+    let h = c.requires in
+    let e = c.in_ok-notes.ensures in
+    let found : Found g.M.Machine c.args.self.now End (answers_in c.in_ok-notes.notes) c.advance.new.machine = record { works = c.advance.ensures.works; stands = e.stands; lanes = e.lanes; taken = e.taken; moves = e.due } in
+    subst (λ (answers : Answers). AllByRecursion (IsPartOf c.args.self.now.typed.queries) answers.parts)
+    (sym (one_told _ _ _ _ c.last_told.ensures c.in-Some.is (end_found g.M.Machine c.args.self.now h.0 c.args.number h.1 h.2 h.3 (g.met.M.Machine.lawful c.args.self.now.machine) _ c.advance.new.machine found e.behind)))
+    (answers_fit g.M.Machine c.args.self.now h.0 c.args.number h.1 h.2 h.3 g.met.M.Machine.tells)
 
 pub returns-clause-closed : goal.returns-clause-closed
-returns-clause-closed c = λ closed tuples h.
-    let a = c.args.self.now in
-    let d = c.close.new.self in
-    let e = c.in_ok-answers.ensures in
-    let answers = c.in_ok-answers.answers in
-    let are = answers_are (plan_of a) a.driver h.driver a.last c.args.number tuples h.widths h.work answers e.window e.answers in
-    let sum_is : c.in-Some.emitted ≡ a.emitted + answers.emitted = omega (arith, c.in-Some.ensures) in
-    closed_idle a closed c.args.number tuples h answers d c.in-Some.emitted are sum_is (driver_after (plan_of a) a.driver h.driver d e.queries c.close.ensures.sources e.count)
-    (idle_after (plan_of a) a.driver h.driver a.last c.args.number tuples h.widths h.work d.emitter d.engine.lanes.items h.lanes e.empty)
+returns-clause-closed g c = λ closed tuples some h.
+    let e = c.in_ok-notes.ensures in
+    let found : Found g.M.Machine c.args.self.now End (answers_in c.in_ok-notes.notes) c.advance.new.machine = record { works = c.advance.ensures.works; stands = e.stands; lanes = e.lanes; taken = e.taken; moves = e.due } in
+    let same = one_told _ _ _ _ c.last_told.ensures c.in-Some.is (end_found g.M.Machine c.args.self.now closed c.args.number tuples some h (g.met.M.Machine.lawful c.args.self.now.machine) _ c.advance.new.machine found e.behind) in
+    end_idle g.M.Machine c.args.self.now closed c.args.number tuples some h (g.met.M.Machine.lawful c.args.self.now.machine) _ c.advance.new.machine found e.behind c.advance.new.draws _
+    (c.in_ok-self.ensures ∙ ap (λ (answers : Answers). c.args.self.now.emitted + answers.emitted) same)
