@@ -24,7 +24,10 @@ import run
 SWITCH, PLAN, FEW_PLAN = (os.path.join(run.HERE, name) for name in ('full.switch', 'full.plan', 'few.plan'))
 CHECKS = os.path.join(run.HERE, '..', 'checks')
 JOB_SWITCH = 'stages 16; actions 8; bits 8388608; meta 4096; chain 2; slots 256, 1024, 4096;\n'
-TIGHT_SWITCH = 'stages 8; actions 2; bits 65536; meta 1024; chain 1; slots 64, 256;\n'
+TIGHT_SWITCH = 'stages 4; actions 2; bits 65536; meta 512; chain 2; slots 64, 256;\n'
+# Eight queries that want more registers than the tight switch has.
+EIGHT = 'window 1000000\n' + ''.join('query q%d { refine ip.dst: 8, 16, 24, 32; packets | filter ip.len > %d | map ip.dst as d, 1 as n | reduce d: sum(n) width 32 | filter n > %d; }\n'
+                                     % (number, 40 + 100 * number, 50 + number) for number in range(8))
 GOALS = {('along', 'run'): 2, ('along', 'emit'): 2, ('training', 'training'): 15, ('job', 'job'): 40}
 
 sys.path.insert(0, CHECKS)
@@ -150,14 +153,14 @@ def job(given, measurer, folder):
 def search(given, measurer, folder):
     capture = run.generate('few', 20000, given.number, folder)
     part = Part(given, measurer, folder, 'search, a million nodes over a tight switch')
-    three = written(folder, 'tight.switch', TIGHT_SWITCH), run.QUERIES, capture
-    part.add('training', 'plan', *three, '--nodes', '1')
-    part.add('million', 'plan', *three, '--nodes', '1000000')
+    eight = written(folder, 'tight.switch', TIGHT_SWITCH), written(folder, 'eight.query', EIGHT), capture
+    part.add('training', 'plan', *eight, '--nodes', '1')
+    part.add('million', 'plan', *eight, '--nodes', '1000000')
     part.measure(1)
     part.tell(20000, over='training')
     one = part.found['million']
     print('  the search alone: %.2f s, peak %.0f MB, status %d' % (one.seconds - part.found['training'].seconds, one.peak_bytes / 1e6, one.status))
-    return one.status in (0, 8)
+    return one.status == 8
 
 
 def reading(given, measurer, folder):

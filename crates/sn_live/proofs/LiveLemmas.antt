@@ -9,9 +9,10 @@ use Rattle.sn_run.specs.Planned.{Telling, told_wording}
 use Rattle.sn_run.specs.Run.{planned, window_ns}
 use Rattle.sn_stage.specs.Outcomes.{HasOne}
 use Rattle.sn_stage.proofs.OneLemmas.{one_does, one_judges, one_text, one_then}
+use Rattle.sn_traced.specs.Wording.{traced_wording}
 use Rattle.sn_training.specs.Training.{TrainingIn}
 use Rattle.sn_training.proofs.TrainingLemmas.{one_training}
-use Rattle.sn_live.specs.Live.{Certifies, Live, Plan, trained_windows}
+use Rattle.sn_live.specs.Live.{Certifies, Live, Plan, TracedLive, trained_windows}
 
 one_certifies : (switch queries train : List ℕ) (nodes : ℕ) → HasOne (Certifies switch queries train nodes)
 one_certifies switch queries train nodes =
@@ -26,3 +27,7 @@ one_plan_run switch queries train nodes = one_then (one_certifies switch queries
 pub one_live_run : (told : Telling) (switch queries train capture : List ℕ) (nodes : ℕ) → HasOne (Live told switch queries train capture nodes)
 one_live_run told switch queries train capture nodes =
     one_then (one_certifies switch queries train nodes) (λ found. one_answered (told_wording told (planned found.read found.limits found.certificate.plan)) (window_ns found.read) capture)
+
+pub one_traced_run : (schedule : ℕ) (told : Telling) (switch queries train capture : List ℕ) (nodes : ℕ) → HasOne (TracedLive schedule told switch queries train capture nodes)
+one_traced_run schedule told switch queries train capture nodes =
+    one_then (one_certifies switch queries train nodes) (λ found. one_answered (traced_wording schedule (planned found.read found.limits found.certificate.plan) told) (window_ns found.read) capture)

@@ -12,6 +12,7 @@ use Rattle.sn_run.specs.Run.{AlongPlan, window_ns}
 use Rattle.sn_stage.specs.Outcomes.{Stage}
 use Rattle.sn_stage.specs.Stages.{Does, Gives, Judges, Text, Then}
 use Rattle.sn_switch.specs.declared.switch.Switch.{Switch}
+use Rattle.sn_traced.specs.Wording.{TracedAlong}
 use Rattle.sn_training.specs.declared.training.Training.{Training}
 use Rattle.sn_training.specs.Training.{TrainingIn}
 use Rattle.sn_live.specs.declared.certified.Certified.{Certified}
@@ -52,3 +53,7 @@ Plan switch queries train nodes = Then (Certifies switch queries train nodes) (�
 -- machine tells them.
 abbrev pub Live : Telling → List ℕ → List ℕ → List ℕ → List ℕ → ℕ → Stage (Unit {0})
 Live told switch queries train capture nodes = Then (Certifies switch queries train nodes) (λ found. AlongPlan told capture found.read found.limits found.certificate.plan)
+
+-- The same with `--schedule SCHEDULE --trace`: with the lines of what happens in a machine that is driven by draws that follow this number.
+abbrev pub TracedLive : ℕ → Telling → List ℕ → List ℕ → List ℕ → List ℕ → ℕ → Stage (Unit {0})
+TracedLive schedule told switch queries train capture nodes = Then (Certifies switch queries train nodes) (λ found. TracedAlong schedule told capture found.read found.limits found.certificate.plan)

@@ -3,7 +3,7 @@ ghost use Rattle.std.specs.Prelude.{◌≡◌, ℕ, List, [], ◌∷◌};
 ghost use Rattle.sn_answered.specs.Capture.{ending_verdict};
 ghost use Rattle.sn_io.specs.Counts.{ByName};
 ghost use Rattle.sn_live.specs.Headline.{AreAccepted, Headline, KeepsHeadline, KeepsLimits, cost_on};
-ghost use Rattle.sn_live.specs.Live.{Live, Plan};
+ghost use Rattle.sn_live.specs.Live.{Live, Plan, TracedLive};
 ghost use Rattle.sn_pcap.specs.declared.packet.Ending.{Ending};
 ghost use Rattle.sn_plan_rules.specs.declared.plan.Plan.{Plan as AnyPlan};
 ghost use Rattle.sn_run.specs.Planned.{Telling, as_they_are, emitted_in};
@@ -26,6 +26,12 @@ pub fn plan_has_one_outcome()
 #[tactic(auto, using(crate::proofs::LiveLemmas::one_live_run))]
 pub fn live_has_one_outcome()
     ensures { (told : Telling) (switch queries train capture : List ℕ) (nodes : ℕ) → HasOne (Live told switch queries train capture nodes) }
+{}
+
+/// Over each set of files `live` with a trace has exactly one outcome, by each schedule.
+#[tactic(auto, using(crate::proofs::LiveLemmas::one_traced_run))]
+pub fn traced_live_has_one_outcome()
+    ensures { (schedule : ℕ) (told : Telling) (switch queries train capture : List ℕ) (nodes : ℕ) → HasOne (TracedLive schedule told switch queries train capture nodes) }
 {}
 
 /// Of accepted queries, an accepted switch and two captures `live` prints a plan that fits, a tree that shows that no plan that fits costs less on the

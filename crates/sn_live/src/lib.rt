@@ -6,3 +6,4 @@ pub mod certify;
 pub mod law;
 pub mod live;
 pub mod plan;
+pub mod traced;

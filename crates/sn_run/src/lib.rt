@@ -8,6 +8,6 @@ pub mod form;
 pub mod law;
 pub mod run;
 mod texts;
-mod told;
+pub mod told;
 pub mod widths;
 pub mod windows;

@@ -8,7 +8,7 @@ use sn_drive::note::Note;
 use sn_types::answers::Answers;
 
 /// The last answers among notes.
-pub(crate) fn last_told(notes: Seq<Note>) -> Option<Answers>
+pub fn last_told(notes: Seq<Note>) -> Option<Answers>
     ensures { result ≡ last_from None (answers_in notes) }
 {
     let mut notes = notes;

@@ -2,7 +2,10 @@
 ghost use Rattle.std.specs.Prelude.{◌≡◌, ◌<◌, ◌+◌, ℕ, List, [], ◌∷◌, ◌++◌, length, IfOk, OnOk};
 ghost use Rattle.std.specs.List.{AllByRecursion};
 ghost use Rattle.sn_answered.specs.Wording.{Holds, HoldsSome, Window};
+ghost use Rattle.sn_core.specs.Calls.{made};
+ghost use Rattle.sn_emit.specs.Plans.{pieces_from};
 ghost use Rattle.sn_fit.specs.Fits.{Fits};
+ghost use Rattle.sn_net.specs.PlanWorkings.{AreLanesFor, workings};
 ghost use Rattle.sn_out.specs.Text.{IsPartOf};
 ghost use Rattle.sn_run.specs.Along.{IsAtHand, IsIdle, plan_of};
 ghost use Rattle.sn_run.specs.Planned.{told_at};
@@ -27,7 +30,7 @@ use sn_types::typed::Typed;
 const ROOM: u32 = 64;
 
 /// How many items were sent with those of one window more.
-fn sum_of(before: u64, more: u64) -> Result<u64, Memory>
+pub fn sum_of(before: u64, more: u64) -> Result<u64, Memory>
     ensures { IfOk result (λ sum. sum ≡ before + more) }
 {
     match before.checked_add(more) {
@@ -44,6 +47,9 @@ impl<M: Machine> Along<M> {
         ensures plan { IfOk result (λ a. plan_of a ≡ record { queries = typed.queries; depth = switch.now.chain; entries = plan.entries }) }
         ensures form { IfOk result (λ a. a.form ≡ form) }
         ensures begun { IfOk result (λ a. IsAtHand M.Machine a [] 0 []) }
+        ensures works { IfOk result (λ a. M.works a.machine ≡ workings typed.queries plan.entries) }
+        ensures new { IfOk result (λ a. M.state a.machine ≡ made (M.works a.machine) 64 (M.state a.machine).lanes) }
+        ensures pipes { IfOk result (λ a. AreLanesFor typed.queries switch.now.chain (pieces_from 0 plan.entries) (M.state a.machine).lanes) }
     {
         let (machine, lanes) = start(&typed, switch, &plan, ROOM)?;
         Ok(Along {

@@ -18,7 +18,7 @@ use Rattle.sn_stage.specs.Outcomes.{Stage}
 use Rattle.sn_stage.specs.Runs.{Works}
 use Rattle.sn_stage.specs.Worlds.{World, OutRose, Follows}
 use Rattle.sn_run.specs.Planned.{Telling, as_they_are}
-use Rattle.sn_top.specs.Top.{is_built, IsLiveWork, IsUsage, IsWork}
+use Rattle.sn_top.specs.Top.{IsLiveWork, IsWork}
 
 -- what holds of the words that were passed holds of the words
 pub of_two : (P : List ℕ → List ℕ → Type 0) {a b x y : List ℕ} → a ≡ x → b ≡ y → P a b → P x y
@@ -49,40 +49,33 @@ begun w = record { words = w.runs.words; write_fault = w.runs.write_fault; follo
 
 -- the work of `live`, where answers are told as they are
 pub live_as_they_are : {told : Telling} (nodes schedule : ℕ) (words : List (List ℕ)) {before now : World} {answer : Result (Unit {0}) Refusal} → told ≡ as_they_are → IsWork told (commands.Live nodes schedule false) words before answer now
-    → IsLiveWork as_they_are true nodes words before answer now
-live_as_they_are nodes schedule words {before} {now} {answer} as_they w = subst (λ (t : Telling). IsLiveWork t true nodes words before answer now) as_they w
+    → IsLiveWork as_they_are nodes schedule false words before answer now
+live_as_they_are nodes schedule words {before} {now} {answer} as_they w = subst (λ (t : Telling). IsLiveWork t nodes schedule false words before answer now) as_they w
 
--- the work of `live` was begun or refused
-by_live : (told : Telling) (built : Bool) (nodes : ℕ) (words : List (List ℕ)) {before now : World} {answer : Result (Unit {0}) Refusal} → IsLiveWork told built nodes words before answer now
-    → ((built ≡ true) × Begun before answer now) ⊎ ((built ≡ false) × IsUsage before answer now)
-by_live told true nodes words w = inl (refl, begun w)
-by_live told false nodes words w = inr (refl, w)
+by_live : (told : Telling) (nodes schedule : ℕ) (trace : Bool) (words : List (List ℕ)) {before now : World} {answer : Result (Unit {0}) Refusal} → IsLiveWork told nodes schedule trace words before answer now → Begun before answer now
+by_live told nodes schedule true words w = begun w
+by_live told nodes schedule false words w = begun w
 
--- the work of a command that is built was begun, and that of another is refused as a usage
-pub by_work : (told : Telling) (command : Command) (words : List (List ℕ)) {before now : World} {answer : Result (Unit {0}) Refusal} → IsWork told command words before answer now
-    → ((is_built command ≡ true) × Begun before answer now) ⊎ ((is_built command ≡ false) × IsUsage before answer now)
-by_work told commands.Plain words w = inl (refl, begun w)
-by_work told (commands.Plan nodes) words w = inl (refl, begun w)
-by_work told (commands.Run csv) words w = inl (refl, begun w)
-by_work told commands.Emit words w = inl (refl, begun w)
-by_work told commands.Finish words w = inl (refl, begun w)
-by_work told commands.Check words w = inl (refl, begun w)
-by_work told (commands.Live nodes schedule trace) words w = by_live told (is_built (commands.Live nodes schedule trace)) nodes words w
-by_work told (commands.Gen number) words w = inl (refl, begun w)
-by_work told (commands.Job number) words w = inl (refl, begun w)
+-- the work of each command was begun
+pub by_work : (told : Telling) (command : Command) (words : List (List ℕ)) {before now : World} {answer : Result (Unit {0}) Refusal} → IsWork told command words before answer now → Begun before answer now
+by_work told commands.Plain words w = begun w
+by_work told (commands.Plan nodes) words w = begun w
+by_work told (commands.Run csv) words w = begun w
+by_work told commands.Emit words w = begun w
+by_work told commands.Finish words w = begun w
+by_work told commands.Check words w = begun w
+by_work told (commands.Live nodes schedule trace) words w = by_live told nodes schedule trace words w
+by_work told (commands.Gen number) words w = begun w
+by_work told (commands.Job number) words w = begun w
 
--- where the answer is a usage, nothing was done, and the command isn't built
-pub usage_of : (told : Telling) (command : Command) (words : List (List ℕ)) (before : World) (answer : Result (Unit {0}) Refusal) (now : World) → IsWork told command words before answer now → answer ≡ Err Usage → (is_built command ≡ false) × (now ≡ before)
-usage_of told command words before answer now w e = elim (by_work told command words w) [ inl b ↦ absurd (b.1.words e) | inr u ↦ (u.0, u.1.1) ]
-
--- a command that isn't built is refused
-pub unbuilt_of : (told : Telling) (command : Command) (words : List (List ℕ)) (before : World) (answer : Result (Unit {0}) Refusal) (now : World) → IsWork told command words before answer now → is_built command ≡ false → answer ≡ Err Usage
-unbuilt_of told command words before answer now w e = elim (by_work told command words w) [ inl b ↦ absurd (true≢false (sym b.0 ∙ e)) | inr u ↦ u.1.0 ]
+-- so the answer is no usage
+pub no_usage : (told : Telling) (command : Command) (words : List (List ℕ)) (before : World) (answer : Result (Unit {0}) Refusal) (now : World) → IsWork told command words before answer now → answer ≡ Err Usage → ⊥
+no_usage told command words before answer now w e = (by_work told command words w).words e
 
 -- where a write failed, a count of the output rose
 pub write_fault_of : (told : Telling) (command : Command) (words : List (List ℕ)) (before : World) (answer : Result (Unit {0}) Refusal) (now : World) → IsWork told command words before answer now → answer ≡ Err WriteFault → OutRose before.out now.out
-write_fault_of told command words before answer now w e = elim (by_work told command words w) [ inl b ↦ b.1.write_fault e | inr u ↦ absurd (let other = sym u.1.0 ∙ e in cc) ]
+write_fault_of told command words before answer now w e = (by_work told command words w).write_fault e
 
 -- the files and the output stay where they stand
 pub places_of : (told : Telling) (command : Command) (words : List (List ℕ)) (before : World) (answer : Result (Unit {0}) Refusal) (now : World) → IsWork told command words before answer now → now.places ≡ before.places
-places_of told command words before answer now w = elim (by_work told command words w) [ inl b ↦ b.1.follows.places | inr u ↦ ap (λ (v : World). v.places) u.1.1 ]
+places_of told command words before answer now w = (by_work told command words w).follows.places

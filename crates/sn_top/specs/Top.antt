@@ -1,5 +1,5 @@
 -- What the top call is called with and leaves, and the work of each command.
-use Rattle.std.specs.Prelude.{◌≡◌, ℕ, List, [], ◌∷◌, Bool, true, false, not, Result, Err}
+use Rattle.std.specs.Prelude.{◌≡◌, ℕ, List, [], ◌∷◌, Bool, true, false, Result, Err}
 use Rattle.sn_io.specs.declared.inputs.Inputs.{Ghosts as InputsOf}
 use Rattle.sn_io.specs.declared.sink.Sink.{Ghosts as SinkOf}
 use Rattle.sn_cli.specs.declared.command.Command.{Command}
@@ -16,27 +16,23 @@ use Rattle.sn_emitted.specs.Emit.{Emit}
 use Rattle.sn_finished.specs.Finish.{Finish}
 use Rattle.sn_generated.specs.Gen.{Gen}
 use Rattle.sn_job.specs.Job.{Job}
-use Rattle.sn_live.specs.Live.{Live, Plan}
+use Rattle.sn_live.specs.Live.{Live, Plan, TracedLive}
 use Rattle.sn_run.specs.Planned.{Telling}
 use Rattle.sn_run.specs.Run.{Run}
 use Rattle.sn_top.specs.Plain.{Plain}
-
--- The commands that are built: all, but `live` with `--trace`. Words that spell another one are refused like words that spell none.
-abbrev pub is_built : Command → Bool
-is_built (commands.Live nodes schedule trace) = not trace
-is_built command = true
 
 -- refused as a usage, with nothing read or written
 abbrev pub IsUsage : World → Result (Unit {0}) Refusal → World → Type 0
 IsUsage before answer now = (answer ≡ Err Usage) × (now ≡ before)
 
--- `live`, if it is built
-abbrev pub IsLiveWork : Telling → Bool → ℕ → List (List ℕ) → World → Result (Unit {0}) Refusal → World → Type 0
-IsLiveWork told true nodes words before answer now =
+-- `live`, with a trace or without one; without one a schedule doesn't matter
+abbrev pub IsLiveWork : Telling → ℕ → ℕ → Bool → List (List ℕ) → World → Result (Unit {0}) Refusal → World → Type 0
+IsLiveWork told nodes schedule true words before answer now =
+    Works (word_at words 2 ∷ word_at words 1 ∷ word_at words 3 ∷ word_at words 4 ∷ []) (TracedLive schedule told (word_at words 1) (word_at words 2) (word_at words 3) (word_at words 4) nodes) before answer now
+IsLiveWork told nodes schedule false words before answer now =
     Works (word_at words 2 ∷ word_at words 1 ∷ word_at words 3 ∷ word_at words 4 ∷ []) (Live told (word_at words 1) (word_at words 2) (word_at words 3) (word_at words 4) nodes) before answer now
-IsLiveWork told false nodes words before answer now = IsUsage before answer now
 
--- the work of a command: its stages over the files that its words name, where it is built; of answers this is told
+-- the work of a command: its stages over the files that its words name; of answers this is told
 abbrev pub IsWork : Telling → Command → List (List ℕ) → World → Result (Unit {0}) Refusal → World → Type 0
 IsWork told commands.Plain words before answer now = Works (word_at words 1 ∷ word_at words 2 ∷ []) (Plain (word_at words 1) (word_at words 2)) before answer now
 IsWork told (commands.Plan nodes) words before answer now = Works (word_at words 2 ∷ word_at words 1 ∷ word_at words 3 ∷ []) (Plan (word_at words 1) (word_at words 2) (word_at words 3) nodes) before answer now
@@ -47,7 +43,7 @@ IsWork told commands.Emit words before answer now =
 IsWork told commands.Finish words before answer now = Works (word_at words 1 ∷ word_at words 2 ∷ word_at words 3 ∷ []) (Finish (word_at words 1) (word_at words 2) (word_at words 3)) before answer now
 IsWork told commands.Check words before answer now =
     Works (word_at words 2 ∷ word_at words 1 ∷ word_at words 3 ∷ word_at words 4 ∷ []) (Check (word_at words 1) (word_at words 2) (word_at words 3) (word_at words 4)) before answer now
-IsWork told (commands.Live nodes schedule trace) words before answer now = IsLiveWork told (is_built (commands.Live nodes schedule trace)) nodes words before answer now
+IsWork told (commands.Live nodes schedule trace) words before answer now = IsLiveWork told nodes schedule trace words before answer now
 IsWork told (commands.Gen number) words before answer now = Works [] (Gen number) before answer now
 IsWork told (commands.Job number) words before answer now = Works [] (Job told number) before answer now
 

@@ -1,5 +1,5 @@
 //! The top call: words in, texts and a status out.
-ghost use Rattle.std.specs.Prelude.{◌≡◌, ◌↔◌, [], ◌∷◌, ℕ, Bool, false, not};
+ghost use Rattle.std.specs.Prelude.{◌≡◌, ◌↔◌, [], ◌∷◌, ℕ, Bool, false, true};
 ghost use Rattle.sn_cli.specs.declared.command.Command.{Command};
 ghost use Rattle.sn_cli.specs.Grammar.{Spells};
 ghost use Rattle.sn_cli.specs.Words.{texts, word_at};
@@ -7,7 +7,7 @@ ghost use Rattle.sn_checked.specs.Check.{Check};
 ghost use Rattle.sn_emitted.specs.Emit.{Emit};
 ghost use Rattle.sn_finished.specs.Finish.{Finish};
 ghost use Rattle.sn_live.specs.Headline.{KeepsHeadline};
-ghost use Rattle.sn_live.specs.Live.{Live, Plan};
+ghost use Rattle.sn_live.specs.Live.{Live, Plan, TracedLive};
 ghost use Rattle.sn_generated.specs.Gen.{Gen};
 ghost use Rattle.sn_job.specs.Job.{Job};
 ghost use Rattle.sn_stage.specs.Desks.{files_of, sunk, world};
@@ -16,7 +16,7 @@ ghost use Rattle.sn_stage.specs.Worlds.{OutRose};
 ghost use Rattle.sn_top.specs.Plain.{Plain};
 ghost use Rattle.sn_run.specs.Run.{Run};
 ghost use Rattle.sn_run.specs.Planned.{as_they_are};
-ghost use Rattle.sn_top.specs.Top.{is_built, IsLiveWork, IsUsage, IsWork, around};
+ghost use Rattle.sn_top.specs.Top.{IsLiveWork, IsUsage, IsWork, around};
 
 use crate::plain::plain;
 use sn_checked::check::check;
@@ -32,6 +32,7 @@ use sn_job::job::job;
 use sn_live::law::runs_of_live_keep_the_headline;
 use sn_live::live::live;
 use sn_live::plan::plan;
+use sn_live::traced::live_traced;
 use sn_run::run::run as answer_along;
 use sn_stage::desk::Desk;
 use sn_stage::lines::tell;
@@ -57,24 +58,28 @@ fn word(given: &[String], place: usize) -> &str
     }
 }
 
-/// Does the work of `live`. With a trace it isn't built.
+/// Does the work of `live`, with a trace or without it.
 fn work_live<M: Machine, I: Inputs, O: Sink>(
     alloc: Global,
     nodes: u32,
+    schedule: u32,
     trace: bool,
     given: &[String],
     desk: &mut Desk<'_, I, O>,
 ) -> Result<(), Refusal>
-    ensures { IsLiveWork M.told (not trace) nodes (texts given.now) (world I.Inputs O.Sink desk.old) result (world I.Inputs O.Sink desk.new) }
+    ensures { IsLiveWork M.told nodes schedule trace (texts given.now) (world I.Inputs O.Sink desk.old) result (world I.Inputs O.Sink desk.new) }
 {
-    if trace {
-        return Err(Refusal::Usage);
-    }
     let switch = word(given, 1);
     let queries = word(given, 2);
     let train = word(given, 3);
     let capture = word(given, 4);
-    live::<M, I, O>(alloc, switch, queries, train, capture, nodes, desk)
+    if trace {
+        live_traced::<M, I, O>(
+            alloc, switch, queries, train, capture, nodes, schedule, desk,
+        )
+    } else {
+        live::<M, I, O>(alloc, switch, queries, train, capture, nodes, desk)
+    }
 }
 
 /// Does the work of a command.
@@ -99,9 +104,11 @@ fn work<M: Machine, I: Inputs, O: Sink>(
         Command::Emit => emit(alloc, first, second, third, fourth, desk),
         Command::Finish => finish(alloc, first, second, third, desk),
         Command::Check => check(alloc, first, second, third, fourth, desk),
-        Command::Live { nodes, trace, .. } => work_live::<M, I, O>(
-            alloc, nodes, trace, given, desk,
-        ),
+        Command::Live {
+            nodes,
+            schedule,
+            trace,
+        } => work_live::<M, I, O>(alloc, nodes, schedule, trace, given, desk),
         Command::Gen { number } => generate(alloc, number, desk),
         Command::Job { number } => job::<M, I, O>(alloc, number, desk),
     }
@@ -126,7 +133,7 @@ fn run<M: Machine, I: Inputs, O: Sink>(
 
 /// Runs a command: its text goes to `out`, a line on its status to `err`, and the status is the answer.
 ///
-/// The words are those after the program's name. All commands are built, but `live` with `--trace`. The windows of `run`, `live` and
+/// The words are those after the program's name. The windows of `run`, `live` and
 /// `job` are answered by a machine, and printed as it tells them. A fault in writing the line to `err` is dropped, and the status stays.
 pub fn top<M: Machine, I: Inputs, O: Sink, E: Sink>(
     alloc: Global,
@@ -135,8 +142,8 @@ pub fn top<M: Machine, I: Inputs, O: Sink, E: Sink>(
     out: &mut O,
     err: &mut E,
 ) -> u8
-    // 2: exactly where the words spell no command that is built. Then files and output are as they were, with their counts.
-    ensures usage { (result ≡ 2) ↔ ((command : Command) → Spells (texts words.now) command → is_built command ≡ false) }
+    // 2: exactly where the words spell no command. Then files and output are as they were, with their counts.
+    ensures usage { (result ≡ 2) ↔ ((command : Command) → Spells (texts words.now) command → ⊥) }
     ensures nothing_read { result ≡ 2 → files_of I.Inputs files.new ≡ files_of I.Inputs files.old }
     ensures nothing_written { result ≡ 2 → sunk O.Sink out.new ≡ sunk O.Sink out.old }
     // 10 over any sink: only where a write failed in this call, or took nothing of a rest that has bytes.
@@ -180,6 +187,12 @@ pub fn top<M: Machine, I: Inputs, O: Sink, E: Sink>(
     ensures live { (nodes schedule : ℕ) → Spells (texts words.now) (Command.Live nodes schedule false) →
         IsCommandRun (word_at (texts words.now) 2 ∷ word_at (texts words.now) 1 ∷ word_at (texts words.now) 3 ∷ word_at (texts words.now) 4 ∷ [])
         (Live M.told (word_at (texts words.now) 1) (word_at (texts words.now) 2) (word_at (texts words.now) 3) (word_at (texts words.now) 4) nodes) (around I.Inputs O.Sink E.Sink files.old out.old err.old) result (around I.Inputs O.Sink E.Sink files.new out.new err.new) }
+
+    // `live SWITCH QUERIES TRAIN CAPTURE`, with the numbers of `--nodes` and `--schedule` and with `--trace`: the run is that of its stages. The
+    // machine is driven by draws that follow the number of the schedule, and each of its events has a line.
+    ensures traced { (nodes schedule : ℕ) → Spells (texts words.now) (Command.Live nodes schedule true) →
+        IsCommandRun (word_at (texts words.now) 2 ∷ word_at (texts words.now) 1 ∷ word_at (texts words.now) 3 ∷ word_at (texts words.now) 4 ∷ [])
+        (TracedLive schedule M.told (word_at (texts words.now) 1) (word_at (texts words.now) 2) (word_at (texts words.now) 3) (word_at (texts words.now) 4) nodes) (around I.Inputs O.Sink E.Sink files.old out.old err.old) result (around I.Inputs O.Sink E.Sink files.new out.new err.new) }
 
     // The headline. Of accepted queries, an accepted switch and two captures it prints a plan that fits every limit of the switch, a
     // tree of bounds that shows that no plan that fits costs less on the first capture, and for each window of the second one exactly

@@ -480,8 +480,134 @@ train: 0 1 9, 1 1 9, 2 1 9, 3 2 9, 4 2 9
 syn: 0 7 1, 1 7 2, 2 7 1, 3 7 2, 4 7 3
 = sonata: budget 1 bound 4";
 
+/// `live` with a trace. The draws were made apart from this program.
+const TRACED: &str = "window 1000000
+query q { packets | filter tcp.flags == 4; }
+words: live s q t t --trace
+switch: stages 4; actions 2; bits 1000; meta 1000; chain 1; slots 1;
+train: 0 1 9
+= plan
+= query q path 0;
+= piece 0 0 cut 1;
+= cost 0;
+= tree
+= E 0
+= E 0
+= B 1
+= P 0
+= done
+= event packet
+= event read 0
+= event deliver 0
+= event close
+= window 0 emitted 0
+= query q level 0 rows 0
+= event install
+= total windows 1 emitted 0
+
+window 1000000
+query a { packets | map ip.dst as d, 1 as n | reduce d: sum(n) width 8; }
+query b { packets | map ip.src as s, 1 as n | reduce s: sum(n) width 8; }
+words: live s q t t --schedule 7 --trace
+switch: stages 2; actions 1; bits 41; meta 100; chain 1; slots 1;
+train: 0 1 9, 1 1 9, 2 1 9, 3 2 9, 4 2 9
+= plan
+= query a path 0;
+= piece 0 0 cut 2 slots 1 stages 1;
+= query b path 0;
+= piece 0 0 cut 0;
+= cost 6;
+= tree
+= E 4
+= E 4
+= B 8
+= B 8
+= E 4
+= E 4
+= E 4
+= P 6
+= B 6
+= E 4
+= X
+= done
+= event packet
+= event deliver 1
+= event packet
+= event deliver 1
+= event packet
+= event deliver 1
+= event packet
+= event packet
+= event read 1
+= event read 0
+= event deliver 0
+= event deliver 1
+= event read 0
+= event deliver 0
+= event deliver 1
+= event deliver 1
+= event close
+= window 0 emitted 6
+= query a level 0 rows 1
+= 10.0.0.9 5
+= query b level 0 rows 2
+= 10.0.0.1 3
+= 10.0.0.2 2
+= event install
+= total windows 1 emitted 6
+
+window 1000000
+query q { refine ip.dst: 8, 32; packets | map ip.dst as d, 1 as n | reduce d: sum(n) width 16 | filter n > 1; }
+words: live s q t t --trace --schedule 1
+switch: stages 4; actions 2; bits 1000; meta 1000; chain 1; slots 1;
+train: 0 1 9, 100000 1 9, 1000000 1 9, 1100000 1 9
+= plan
+= query q path 32;
+= piece 32 0 cut 2 slots 1 stages 1;
+= cost 2;
+= tree
+= E 2
+= E 2
+= B 4
+= B 4
+= E 2
+= P 2
+= B 2
+= B 2
+= B 2
+= B 3
+= done
+= event packet
+= event packet
+= event read 0
+= event read 0
+= event deliver 0
+= event deliver 0
+= event close
+= window 0 emitted 1
+= query q level 32 rows 1
+= 10.0.0.9 2
+= event install
+= event packet
+= event packet
+= event read 0
+= event read 0
+= event deliver 0
+= event deliver 0
+= event close
+= window 1 emitted 1
+= query q level 32 rows 1
+= 10.0.0.9 2
+= event install
+= total windows 2 emitted 2";
+
 #[test]
 fn answers_captures(rt: HostRuntime) -> Result<(), Fail> {
     expect(&rt, rt.alloc(), Form::Body, CALLS)?;
     expect(&rt, rt.alloc(), Form::Whole, TWO)
+}
+
+#[test]
+fn traces_events(rt: HostRuntime) -> Result<(), Fail> {
+    expect(&rt, rt.alloc(), Form::Whole, TRACED)
 }

@@ -1,19 +1,17 @@
-use Rattle.std.proofs.Common.{◌≡◌, Err, ap, false, sym, ◌∙◌, rules}
+use Rattle.std.proofs.Common.{◌≡◌, Err, ap, false, true, sym, ◌∙◌, rules}
 use Rattle.sn_cli.specs.declared.command.Command.TheVariants as commands
 use Rattle.sn_cli.specs.Words.{texts}
 use Rattle.sn_stage.specs.declared.refusal.Refusal.TheVariants.{Usage}
 use Rattle.sn_stage.specs.Ends.{end_status}
 use Rattle.sn_stage.specs.Worlds.{World}
 use Rattle.sn_stage.proofs.EndLemmas.{two_is, ten_is, command_run, status_told}
-use Rattle.sn_top.proofs.TopLemmas.{by_command, live_as_they_are, usage_of, unbuilt_of, write_fault_of}
+use Rattle.sn_top.proofs.TopLemmas.{by_command, live_as_they_are, no_usage, write_fault_of}
 use Rattle.sn_top.proofs.top.top.Goals as goal
 
 pub returns-clause-usage : goal.returns-clause-usage
 returns-clause-usage g c = (
-  λ two command spells. (usage_of g.M.Machine.told command (texts c.args.words.now) _ _ _ (c.run-answer.ensures.works command spells) (two_is c.run-answer.result (sym c.status_of.ensures ∙ two))).0,
-  λ unbuilt. c.status_of.ensures ∙ ap end_status (by_command (texts c.args.words.now)
-      (λ command spells. unbuilt_of g.M.Machine.told command (texts c.args.words.now) _ _ _ (c.run-answer.ensures.works command spells) (unbuilt command spells))
-      (λ none. (c.run-answer.ensures.usage none).0)),
+  λ two command spells. no_usage g.M.Machine.told command (texts c.args.words.now) _ _ _ (c.run-answer.ensures.works command spells) (two_is c.run-answer.result (sym c.status_of.ensures ∙ two)),
+  λ none. c.status_of.ensures ∙ ap end_status (c.run-answer.ensures.usage none).0,
 )
 
 pub returns-clause-nothing_read : goal.returns-clause-nothing_read
@@ -21,7 +19,7 @@ returns-clause-nothing_read g c = λ two.
     let files : c.files-1.given.0 ≡ c.run-answer.new.desk.files.now = search rules in
     let usage : c.run-answer.result ≡ Err Usage = two_is c.run-answer.result (sym c.status_of.ensures ∙ two) in
     rw files (ap (λ (w : World). w.files) (by_command (texts c.args.words.now)
-    (λ command spells. (usage_of g.M.Machine.told command (texts c.args.words.now) _ _ _ (c.run-answer.ensures.works command spells) usage).1)
+    (λ command spells. absurd (no_usage g.M.Machine.told command (texts c.args.words.now) _ _ _ (c.run-answer.ensures.works command spells) usage))
     (λ none. (c.run-answer.ensures.usage none).1)))
 
 pub returns-clause-nothing_written : goal.returns-clause-nothing_written
@@ -29,7 +27,7 @@ returns-clause-nothing_written g c = λ two.
     let out : c.out-1.given.0 ≡ c.run-answer.new.desk.out.now = search rules in
     let usage : c.run-answer.result ≡ Err Usage = two_is c.run-answer.result (sym c.status_of.ensures ∙ two) in
     rw out (ap (λ (w : World). w.out) (by_command (texts c.args.words.now)
-    (λ command spells. (usage_of g.M.Machine.told command (texts c.args.words.now) _ _ _ (c.run-answer.ensures.works command spells) usage).1)
+    (λ command spells. absurd (no_usage g.M.Machine.told command (texts c.args.words.now) _ _ _ (c.run-answer.ensures.works command spells) usage))
     (λ none. (c.run-answer.ensures.usage none).1)))
 
 pub returns-clause-write_fault : goal.returns-clause-write_fault
@@ -87,6 +85,12 @@ returns-clause-live g c = λ nodes schedule spells.
     let files : c.files-1.given.0 ≡ c.run-answer.new.desk.files.now = search rules in
     let out : c.out-1.given.0 ≡ c.run-answer.new.desk.out.now = search rules in
     rw (c.status_of.ensures, files, out) (command_run _ _ c.run-answer.result _ _ _ _ (c.run-answer.ensures.works (commands.Live nodes schedule false) spells) c.tell.ensures)
+
+pub returns-clause-traced : goal.returns-clause-traced
+returns-clause-traced g c = λ nodes schedule spells.
+    let files : c.files-1.given.0 ≡ c.run-answer.new.desk.files.now = search rules in
+    let out : c.out-1.given.0 ≡ c.run-answer.new.desk.out.now = search rules in
+    rw (c.status_of.ensures, files, out) (command_run _ _ c.run-answer.result _ _ _ _ (c.run-answer.ensures.works (commands.Live nodes schedule true) spells) c.tell.ensures)
 
 pub returns-clause-headline : goal.returns-clause-headline
 returns-clause-headline g c = λ as_they nodes schedule spells.

@@ -1,0 +1,39 @@
+//! The command `live` with a trace.
+ghost use Rattle.std.specs.Prelude.{[], ◌∷◌};
+ghost use Rattle.sn_live.specs.Live.{TracedLive};
+ghost use Rattle.sn_stage.specs.Desks.{world};
+ghost use Rattle.sn_stage.specs.Runs.{Works};
+
+use crate::certified::Certified;
+use crate::certify::certify;
+use sn_drive::machine::Machine;
+use sn_io::inputs::Inputs;
+use sn_io::sink::Sink;
+use sn_stage::desk::Desk;
+use sn_stage::refusal::Refusal;
+use sn_traced::answer::answer_traced;
+use std::alloc::Global;
+
+/// `live SWITCH QUERIES TRAIN CAPTURE --nodes NODES --schedule SCHEDULE --trace`: does what `live` does, by a machine that is driven by draws
+/// that follow the number of the schedule, and writes a line for each of its events.
+pub fn live_traced<M: Machine, I: Inputs, O: Sink>(
+    alloc: Global,
+    switch: &str,
+    queries: &str,
+    train: &str,
+    capture: &str,
+    nodes: u32,
+    schedule: u32,
+    desk: &mut Desk<'_, I, O>,
+) -> Result<(), Refusal>
+    ensures { Works (queries.now ∷ switch.now ∷ train.now ∷ capture.now ∷ []) (TracedLive schedule M.told switch.now queries.now train.now capture.now nodes) (world I.Inputs O.Sink desk.old) result (world I.Inputs O.Sink desk.new) }
+{
+    let certified = certify(alloc, switch, queries, train, nodes, desk)?;
+    let Certified {
+        typed,
+        limits,
+        certificate,
+    } = certified;
+    let plan = certificate.plan;
+    answer_traced::<M, I, O>(alloc, schedule, typed, &limits, plan, capture, desk)
+}

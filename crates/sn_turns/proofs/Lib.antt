@@ -1,0 +1,7 @@
+pub mod PickLemmas
+pub mod TurnLemmas
+pub mod CloseLemmas
+pub mod LineLemmas
+pub mod PipeLemmas
+pub mod StateLemmas
+pub mod MadeLemmas
