@@ -7,15 +7,13 @@ behind. Needs a C compiler."""
 
 import argparse
 import os
-import shutil
 import subprocess
 import sys
-import tempfile
 
 import run
 
 GOAL = 3
-GENERATOR = os.path.join(run.HERE, '..', 'checks', 'crafted.c')
+CHECKS = os.path.join(run.HERE, '..', 'checks')
 QUERIES = {
     'hash': ('addresses', 'map eth.src as a, eth.dst as b | distinct | map 1 as one, 1 as n | reduce one: sum(n) width 32'),
     'bits': ('ports', 'map ip.dst as d, ip.src as s, tcp.sport as p | distinct | map d as d, 1 as n | reduce d: sum(n) width 32'),
@@ -57,19 +55,12 @@ def compare(given, measurer, crafted, kind, folder):
 
 def main():
     given = words_given()
-    if not os.access(given.sonata, os.X_OK):
-        print('no program at %s; build it first, or name one with --sonata' % given.sonata, file=sys.stderr)
-        return 2
-    given.sonata = os.path.abspath(given.sonata)
-    folder = tempfile.mkdtemp(prefix='sonata-bench-')
-    try:
-        measurer = run.build('measure', folder)
-        crafted = os.path.join(folder, 'crafted')
-        subprocess.run([os.environ.get('CC', 'cc'), '-O2', '-o', crafted, GENERATOR], check=True)
-        good = [compare(given, measurer, crafted, kind, folder) for kind in QUERIES]
-    finally:
-        shutil.rmtree(folder)
-    return 0 if all(good) else 1
+
+    def kinds(measurer, folder):
+        crafted = run.build('crafted', folder, sources=CHECKS)
+        return [compare(given, measurer, crafted, kind, folder) for kind in QUERIES]
+
+    return run.measured(given, kinds)
 
 
 if __name__ == '__main__':

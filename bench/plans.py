@@ -14,10 +14,8 @@ What the program hasn't is left out. Nothing is left behind but with --keep. Nee
 
 import argparse
 import os
-import shutil
 import subprocess
 import sys
-import tempfile
 
 import run
 
@@ -197,25 +195,18 @@ def words_given():
 
 def main():
     given = words_given()
-    if not os.access(given.sonata, os.X_OK):
-        print('no program at %s; build it first, or name one with --sonata' % given.sonata, file=sys.stderr)
-        return 2
-    given.sonata = os.path.abspath(given.sonata)
-    given.built = program.built(given.sonata)
-    folder, good = given.keep or tempfile.mkdtemp(prefix='sonata-bench-'), []
-    os.makedirs(folder, exist_ok=True)
-    try:
-        measurer = run.build('measure', folder)
+
+    def parts(measurer, folder):
+        good, given.built = [], program.built(given.sonata)
         for name in given.parts:
             measure, needed = PARTS[name]
             if needed <= given.built:
                 good.append(measure(given, measurer, folder))
             else:
                 print('%s: left out, the program has no %s' % (name, ', '.join(sorted(needed - given.built))))
-    finally:
-        if not given.keep:
-            shutil.rmtree(folder)
-    return 0 if all(good) else 1
+        return good
+
+    return run.measured(given, parts, given.keep)
 
 
 if __name__ == '__main__':

@@ -48,9 +48,9 @@ def measure(measurer, words, outs, runs):
     return {label: best_of(found[label]) for label in words}
 
 
-def build(name, folder, *libraries):
+def build(name, folder, *libraries, sources=HERE):
     program = os.path.join(folder, name)
-    subprocess.run([os.environ.get('CC', 'cc'), '-O2', '-o', program, os.path.join(HERE, name + '.c'), *libraries], check=True)
+    subprocess.run([os.environ.get('CC', 'cc'), '-O2', '-o', program, os.path.join(sources, name + '.c'), *libraries], check=True)
     return program
 
 
@@ -118,20 +118,31 @@ def words_given():
     return words.parse_args()
 
 
-def main():
-    given = words_given()
+def measured(given, measure, keep=None):
+    """The status of a script: 2 where there is no program, and else 0 where all that measure(measurer, folder) gives is true. The folder is for its files, and is
+    removed behind it, unless one is named that is kept."""
     if not os.access(given.sonata, os.X_OK):
         print('no program at %s; build it first, or name one with --sonata' % given.sonata, file=sys.stderr)
         return 2
-    folder = given.keep or tempfile.mkdtemp(prefix='sonata-bench-')
+    given.sonata = os.path.abspath(given.sonata)
+    folder = keep or tempfile.mkdtemp(prefix='sonata-bench-')
     os.makedirs(folder, exist_ok=True)
     try:
-        programs = {'sonata': os.path.abspath(given.sonata), 'C': build('baseline', folder, '-lpcap'), 'measure': build('measure', folder)}
-        equal = [capture_figures(kind, given, programs, folder) for kind in given.kinds]
+        good = measure(build('measure', folder), folder)
     finally:
-        if not given.keep:
+        if not keep:
             shutil.rmtree(folder)
-    return 0 if all(equal) else 1
+    return 0 if all(good) else 1
+
+
+def main():
+    given = words_given()
+
+    def figures(measurer, folder):
+        programs = {'sonata': given.sonata, 'C': build('baseline', folder, '-lpcap'), 'measure': measurer}
+        return [capture_figures(kind, given, programs, folder) for kind in given.kinds]
+
+    return measured(given, figures, given.keep)
 
 
 if __name__ == '__main__':
