@@ -157,10 +157,21 @@ impl Engine {
         ensures queries { self.new.t.queries ≡ self.old.t.queries }
     {
         let answers = self.value()?;
+        self.empty(answers.window);
+        Ok(answers)
+    }
+
+    /// Closes the window that all lanes have ended, without its answers, which `value` gave. The engine is then empty, and keeps
+    /// the number of the window. Takes no memory.
+    pub fn empty(&mut self, window: u64)
+        requires { list_all (has_ended window) self.old.lanes.items ≡ true }
+        ensures emptied { self.new.lanes.items ≡ map emptied self.old.lanes.items }
+        ensures last { self.new.closed ≡ Some window }
+        ensures queries { self.new.t.queries ≡ self.old.t.queries }
+    {
         empty_all(self.alloc, &mut self.lanes);
         self.count = 0;
-        self.closed = Some(answers.window);
-        Ok(answers)
+        self.closed = Some(window);
     }
 
     /// Whether a lane has ended the window. A lane that is no piece of the plan never has.

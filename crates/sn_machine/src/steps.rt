@@ -1,12 +1,13 @@
 //! The events.
-ghost use Rattle.std.specs.Prelude.{◌≡◌, ◌<◌, suc, map, nat_eq, length, IfOk, OnOk, OnErr, None};
+ghost use Rattle.std.specs.Prelude.{◌≡◌, ◌<◌, suc, map, nat_eq, length, true, IfOk, OnOk, OnErr, None};
+ghost use Rattle.std.specs.List.{list_all};
 ghost use Rattle.sn_core.specs.Events.{after_event, kept_for_held, window_of_held};
 ghost use Rattle.sn_core.specs.Needs.{first_need_that_fails};
 ghost use Rattle.sn_core.specs.declared.event.Event.TheVariants as Event;
 ghost use Rattle.sn_core.specs.declared.supply.Window.TheVariants as Window;
 ghost use Rattle.sn_driver.specs.Sources.{prefixes_in};
 ghost use Rattle.sn_engine.specs.Answers.{answers_of};
-ghost use Rattle.sn_engine.specs.Intakes.{after_frame, emptied};
+ghost use Rattle.sn_engine.specs.Intakes.{after_frame, has_ended};
 ghost use Rattle.sn_machine.specs.Holders.{all_begun};
 ghost use Rattle.sn_machine.specs.Nets.{state, works};
 ghost use Rattle.sn_machine.specs.Reports.{window_number};
@@ -94,22 +95,11 @@ fn take(engine: &mut Engine, frame: &Report) -> Result<(), Memory>
 
 /// The answers of the window that all lanes have ended.
 fn value(engine: &Engine) -> Result<Answers, Memory>
-    ensures { IfOk result (λ answers. answers ≡ answers_of engine.now.t.queries engine.now.lanes.items) }
+    ensures answers { IfOk result (λ answers. answers ≡ answers_of engine.now.t.queries engine.now.lanes.items) }
+    ensures ended { IfOk result (λ answers. list_all (has_ended answers.window) engine.now.lanes.items ≡ true) }
 {
     match engine.value() {
         Ok(answers) => Ok(answers),
-        Err(_) => Err(Memory),
-    }
-}
-
-/// Closes the engine's window, whose answers are known.
-fn close(engine: &mut Engine) -> Result<(), Memory>
-    ensures ok { OnOk result (engine.new.lanes.items ≡ map emptied engine.old.lanes.items) }
-    ensures err { OnErr result (engine.new.lanes.items ≡ engine.old.lanes.items) }
-    ensures queries { engine.new.t.queries ≡ engine.old.t.queries }
-{
-    match engine.close_window() {
-        Ok(_) => Ok(()),
         Err(_) => Err(Memory),
     }
 }
@@ -160,6 +150,7 @@ impl Net {
     /// The answers of the window that all lanes have ended, and the prefixes that they keep for each lane.
     fn answer(&self) -> Result<(Answers, Vec<Members>), Memory>
         ensures answers { IfOk result (λ found. found.0 ≡ answers_of self.now.engine.t.queries self.now.engine.lanes.items) }
+        ensures ended { IfOk result (λ found. list_all (has_ended found.0.window) self.now.engine.lanes.items ≡ true) }
         ensures sets { IfOk result (λ found. found.1.items ≡ map (prefixes_in self.now.engine.t.queries found.0.parts) self.now.sources) }
     {
         let answers = value(&self.engine)?;
@@ -168,25 +159,19 @@ impl Net {
     }
 
     /// Closes the window, whose answers and prefixes these are.
-    fn close_with(
-        &mut self,
-        number: u64,
-        answers: Answers,
-        sets: Vec<Members>,
-    ) -> Result<(), Memory>
+    fn close_with(&mut self, number: u64, answers: Answers, sets: Vec<Members>)
         requires begun { self.old.window ≡ Window.Begun number }
         requires may { first_need_that_fails (state self.old) Event.CloseWindow ≡ None }
         requires answers { answers ≡ answers_of self.old.engine.t.queries self.old.engine.lanes.items }
+        requires ended { list_all (has_ended answers.window) self.old.engine.lanes.items ≡ true }
         requires sets { sets.items ≡ map (prefixes_in self.old.engine.t.queries answers.parts) self.old.sources }
-        ensures ok { OnOk result (state self.new ≡ after_event (works self.old) (state self.old) Event.CloseWindow) }
-        ensures err { OnErr result (state self.new ≡ state self.old) }
+        ensures state { state self.new ≡ after_event (works self.old) (state self.old) Event.CloseWindow }
         ensures works { works self.new ≡ works self.old }
     {
-        close(&mut self.engine)?;
+        self.engine.empty(answers.window);
         self.installs = sets;
         self.waiting = Some(answers);
         self.window = Window::Closed(number);
-        Ok(())
     }
 
     /// The engine answers the window. It is emptied once all is made that the answers need.
@@ -199,7 +184,8 @@ impl Net {
         match self.window {
             Window::Begun(number) => {
                 let (answers, sets) = self.answer()?;
-                self.close_with(number, answers, sets)
+                self.close_with(number, answers, sets);
+                Ok(())
             }
             _ => Ok(()),
         }

@@ -1,4 +1,4 @@
-use Rattle.std.proofs.Common.{◌≡◌, ◌∙◌, ◌||◌, ap, ap₂, sym, subst, length, map, true, Option, None, Some, ℕ, List, refl}
+use Rattle.std.proofs.Common.{◌≡◌, ◌∙◌, ◌||◌, ap, ap₂, sym, subst, length, map, None, Some, ℕ, List, refl}
 use Rattle.std.proofs.lemmas.List.{length-map}
 use Rattle.sn_base.proofs.Lists.{map_both}
 use Rattle.sn_core.specs.Events.{after_event}
@@ -6,7 +6,6 @@ use Rattle.sn_core.specs.Needs.{first_need_that_fails}
 use Rattle.sn_core.specs.declared.event.Event.TheVariants as event
 use Rattle.sn_core.specs.declared.supply.Window.TheVariants.{Begun, Closed}
 use Rattle.sn_driver.specs.Sources.{prefixes_in}
-use Rattle.sn_driver.specs.declared.source.Source.{Source}
 use Rattle.sn_engine.specs.Answers.{answers_of}
 use Rattle.sn_engine.specs.Intakes.{emptied}
 use Rattle.sn_engine.specs.declared.intake.Intake.{Intake}
@@ -14,12 +13,12 @@ use Rattle.sn_net.specs.PlanWorkings.{workings_of}
 use Rattle.sn_types.specs.declared.answers.Answers.{Answers}
 use Rattle.sn_types.specs.declared.typed_query.TypedQuery.{TypedQuery}
 use Rattle.sn_machine.specs.declared.net.Net.{Net}
-use Rattle.sn_machine.specs.Facts.{AreKnown, are_named, ends_agree, names_of}
+use Rattle.sn_machine.specs.Facts.{AreKnown, are_named, names_of}
 use Rattle.sn_machine.specs.Nets.{state, works}
-use Rattle.sn_machine.specs.States.{state_of, works_of}
+use Rattle.sn_machine.specs.States.{state_of}
 use Rattle.sn_machine.proofs.Both.{Set}
 use Rattle.sn_machine.proofs.Changes.{close_changes}
-use Rattle.sn_machine.proofs.Facts.{event_stands, same_stands}
+use Rattle.sn_machine.proofs.Facts.{event_stands}
 use Rattle.sn_machine.proofs.net.Net.close_with.Goals as goal
 
 emptied_twice : (xs : List Intake) → map emptied (map emptied xs) ≡ map emptied xs
@@ -36,25 +35,9 @@ changed net number answers sets ys is may value kept empty =
 pub invariant_of-self : goal.invariant_of-self
 invariant_of-self c =
     let net : Net = c.args.self.now in
-    let same : c.close.new.engine.lanes.items ≡ net.engine.lanes.items = c.in_err-close.ensures.err in
-    record {
-      matched = net.matched ∙ sym (ap (λ (zs : List Intake). length zs) same);
-      few = net.few;
-      roomy = net.roomy;
-      named = ap (λ (zs : List Intake). are_named (names_of net.lanes.items) (map emptied zs)) same ∙ net.named;
-      unread = net.unread;
-      agreed = ap (ends_agree net.window) same ∙ net.agreed;
-      known = subst (λ (qs : List TypedQuery). AreKnown qs net.sources) (sym c.close.ensures.queries) net.known;
-      standing = same_stands net.engine.t.queries c.close.new.engine.t.queries net.engine.lanes.items c.close.new.engine.lanes.items net.sources c.close.ensures.queries (ap (λ (zs : List Intake). map emptied zs) same)
-          (λ zs. state_of net.room net.held net.window net.lanes.items zs net.installs.items net.waiting) same net.standing;
-    }
-
-pub invariant_of-self-2 : goal.invariant_of-self-2
-invariant_of-self-2 c =
-    let net : Net = c.args.self.now in
     let xs : List Intake = net.engine.lanes.items in
-    let ys : List Intake = c.close.new.engine.lanes.items in
-    let gone : ys ≡ map emptied xs = c.in_ok-close.ensures.ok in
+    let ys : List Intake = c.empty.new.self.lanes.items in
+    let gone : ys ≡ map emptied xs = c.empty.ensures.emptied in
     let empty : map emptied ys ≡ map emptied xs = ap (λ (zs : List Intake). map emptied zs) gone ∙ emptied_twice xs in
     record {
       matched = net.matched ∙ sym (ap (λ (zs : List Intake). length zs) gone ∙ length-map xs emptied);
@@ -63,17 +46,17 @@ invariant_of-self-2 c =
       named = ap (are_named (names_of net.lanes.items)) empty ∙ net.named;
       unread = refl;
       agreed = refl;
-      known = subst (λ (qs : List TypedQuery). AreKnown qs net.sources) (sym c.close.ensures.queries) net.known;
-      standing = event_stands net.engine.t.queries c.close.new.engine.t.queries xs ys net.sources c.close.ensures.queries empty (state net)
+      known = subst (λ (qs : List TypedQuery). AreKnown qs net.sources) (sym c.empty.ensures.queries) net.known;
+      standing = event_stands net.engine.t.queries c.empty.new.self.t.queries xs ys net.sources c.empty.ensures.queries empty (state net)
           (state_of net.room net.held (Closed c.args.number) net.lanes.items ys c.args.sets.items (Some c.args.answers)) event.CloseWindow net.standing c.requires.may
           (changed net c.args.number c.args.answers c.args.sets.items ys c.requires.begun c.requires.may c.requires.answers c.requires.sets gone);
     }
 
-pub returns-clause-ok : goal.returns-clause-ok
-returns-clause-ok c =
-    changed c.args.self.now c.args.number c.args.answers c.args.sets.items c.close.new.engine.lanes.items c.requires.begun c.requires.may c.requires.answers c.requires.sets c.in_ok-close.ensures.ok
+pub returns-clause-state : goal.returns-clause-state
+returns-clause-state c =
+    changed c.args.self.now c.args.number c.args.answers c.args.sets.items c.empty.new.self.lanes.items c.requires.begun c.requires.may c.requires.answers c.requires.sets c.empty.ensures.emptied
 
 pub returns-clause-works : goal.returns-clause-works
 returns-clause-works c =
     let net : Net = c.args.self.now in
-    ap₂ (λ (qs : List TypedQuery) (es : List Intake). workings_of qs es net.sources) c.close.ensures.queries (ap (λ (zs : List Intake). map emptied zs) c.in_ok-close.ensures.ok ∙ emptied_twice net.engine.lanes.items)
+    ap₂ (λ (qs : List TypedQuery) (es : List Intake). workings_of qs es net.sources) c.empty.ensures.queries (ap (λ (zs : List Intake). map emptied zs) c.empty.ensures.emptied ∙ emptied_twice net.engine.lanes.items)
