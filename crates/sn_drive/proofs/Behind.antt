@@ -1,10 +1,9 @@
 -- What a run leaves: what was given is used up.
-use Rattle.std.proofs.Common.{◌≡◌, ℕ, ◌||◌, ◌&&◌, List, [], ◌∷◌, true, false, is_none, nat_eq, Option, None, Some, refl, ap, sym, ◌∙◌, subst}
+use Rattle.std.proofs.Common.{◌≡◌, ℕ, ◌||◌, ◌&&◌, List, [], ◌∷◌, true, is_none, Option, None, Some, refl, ap, sym, ◌∙◌, subst}
 use Rattle.std.proofs.lemmas.Bool.{false≢true, eqb-true}
 use Rattle.sn_core.proofs.Tests.{need_holds, some_not_none}
 use Rattle.sn_core.specs.Events.{after_close, after_event, after_install, after_packet, given, without_answers}
 use Rattle.sn_core.specs.Needs.{first_full, first_need_that_fails, is_begun_with, is_done, is_end, is_idle, is_of, is_tuple, needs, needs_of_all}
-use Rattle.sn_core.specs.declared.event.Event.{Event}
 use Rattle.sn_core.specs.declared.event.Event.TheVariants.{Packet, ReadOut, Deliver, CloseWindow, Install}
 use Rattle.sn_core.specs.declared.event.Why.TheVariants.{Full, NoInput, Reading}
 use Rattle.sn_core.specs.declared.supply.Supply.{Supply}
@@ -14,7 +13,7 @@ use Rattle.sn_core.specs.declared.supply.Window.TheVariants.{Idle, Begun, Closed
 use Rattle.sn_gen.specs.Generated.{drawn, next_number}
 use Rattle.sn_machine.specs.States.{State, Works}
 use Rattle.sn_types.specs.declared.answers.Answers.{Answers}
-use Rattle.sn_drive.specs.Schedules.{IsBehind, IsRun, is_still}
+use Rattle.sn_drive.specs.Schedules.{IsBehind, IsRun}
 use Rattle.sn_drive.specs.declared.note.Note.{Note}
 use Rattle.sn_drive.specs.declared.note.Note.TheVariants.{Happened, Told}
 use Rattle.sn_drive.proofs.Running.{picked_may}

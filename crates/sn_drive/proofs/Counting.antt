@@ -1,5 +1,5 @@
 -- How many lanes a plan has.
-use Rattle.std.proofs.Common.{◌≡◌, ℕ, zero, suc, ◌+◌, ◌<◌, ◌≤◌, List, [], ◌∷◌, ◌++◌, map, length, take, get_or, refl, ap, sym, ◌∙◌, arith}
+use Rattle.std.proofs.Common.{◌≡◌, ℕ, zero, suc, ◌+◌, ◌<◌, ◌≤◌, List, [], ◌∷◌, ◌++◌, map, length, take, get_or, refl, ap, arith}
 use Rattle.std.proofs.lemmas.List.{length-append, length-map, length-take}
 use Rattle.sn_core.specs.Nets.{Lane}
 use Rattle.sn_emit.proofs.PlanLanes.{pieces_more}

@@ -3,3 +3,4 @@ mod Listing
 mod Running
 mod Behind
 mod Counting
+mod Counted

@@ -1,12 +1,8 @@
 -- All events, and those that may happen.
-use Rattle.std.proofs.Common.{◌≡◌, ℕ, zero, suc, ◌+◌, ◌*◌, ◌-◌, ◌<◌, ◌≤◌, ◌==◌, ◌&&◌, List, [], ◌∷◌, ◌++◌, filter, map, length, take, drop, slice_get, get_or, Bool, true, false, cond, is_none, Option, None, Some, refl, ap, sym, ◌∙◌, subst, arith}
+use Rattle.std.proofs.Common.{◌≡◌, ℕ, zero, suc, ◌+◌, ◌*◌, ◌<◌, ◌≤◌, List, [], ◌∷◌, ◌++◌, filter, map, length, slice_get, Bool, true, false, cond, Some, refl, ap, sym, ◌∙◌, arith}
 use Rattle.std.specs.List.{AllByRecursion, range_with_len}
-use Rattle.std.proofs.Math.Seq.{drop-cons}
-use Rattle.std.proofs.lemmas.Bool.{false≢true}
-use Rattle.std.proofs.lemmas.List.{length-append, take_all, take_more}
-use Rattle.std.proofs.lemmas.List.Elements.{filter-append}
 use Rattle.std.proofs.lemmas.List.FromFn.{length-map-range_with_len}
-use Rattle.sn_base.proofs.Lists.{by_test, none_some, some_same}
+use Rattle.sn_base.proofs.Lists.{none_some, some_same}
 use Rattle.sn_core.specs.declared.event.Event.{Event}
 use Rattle.sn_core.specs.declared.event.Event.TheVariants.{Packet, ReadOut, Deliver, CloseWindow, Install}
 use Rattle.sn_driver.proofs.Changes.{all_get}
@@ -60,13 +56,10 @@ module _ (lanes : ℕ) where
   behind : (j : ℕ) (e : Event) → slice_get (reads ++ (delivers ++ lasts)) j ≡ Some e → (i : ℕ) → i ≡ suc j → slice_get (events_of lanes) i ≡ Some e
   behind j e h i is = ap (slice_get (events_of lanes)) is ∙ h
 
-  pub length_events : length (events_of lanes) ≡ 2 * lanes + 3
-  length_events = omega (arith, length-append reads (delivers ++ lasts), length-append delivers lasts, many_reads, many_delivers)
-
-  pub read_at : (i k : ℕ) → k < lanes → i ≡ suc k → slice_get (events_of lanes) i ≡ Some (ReadOut k)
+  read_at : (i k : ℕ) → k < lanes → i ≡ suc k → slice_get (events_of lanes) i ≡ Some (ReadOut k)
   read_at i k lt is = behind k (ReadOut k) (get_front reads (delivers ++ lasts) k (ReadOut k) (read_here k lt)) i is
 
-  pub deliver_at : (i k : ℕ) → k < lanes → i ≡ suc (lanes + k) → slice_get (events_of lanes) i ≡ Some (Deliver k)
+  deliver_at : (i k : ℕ) → k < lanes → i ≡ suc (lanes + k) → slice_get (events_of lanes) i ≡ Some (Deliver k)
   deliver_at i k lt is =
       behind (length reads + k) (Deliver k) (get_behind reads (delivers ++ lasts) k (Deliver k) (get_front delivers lasts k (Deliver k) (deliver_here k lt))) i (omega (arith, is, many_reads))
 
@@ -74,10 +67,10 @@ module _ (lanes : ℕ) where
   last_at i k e h is =
       behind (length reads + (length delivers + k)) e (get_behind reads (delivers ++ lasts) (length delivers + k) e (get_behind delivers lasts k e h)) i (omega (arith, is, many_reads, many_delivers))
 
-  pub close_at : (i : ℕ) → i ≡ 2 * lanes + 1 → slice_get (events_of lanes) i ≡ Some CloseWindow
+  close_at : (i : ℕ) → i ≡ 2 * lanes + 1 → slice_get (events_of lanes) i ≡ Some CloseWindow
   close_at i is = last_at i 0 CloseWindow refl (omega (arith, is))
 
-  pub install_at : (i : ℕ) → i ≡ 2 * lanes + 2 → slice_get (events_of lanes) i ≡ Some Install
+  install_at : (i : ℕ) → i ≡ 2 * lanes + 2 → slice_get (events_of lanes) i ≡ Some Install
   install_at i is = last_at i 1 Install refl (omega (arith, is))
 
   -- each event has a place
@@ -111,64 +104,6 @@ events_known lanes = (
 -- ---- those that pass a test
 
 module _ {X : Type 0} (p : X → Bool) where
-  got_within : (xs : List X) (i : ℕ) (x : X) → slice_get xs i ≡ Some x → i < length xs
-  got_within [] i x e = absurd (none_some e)
-  got_within (y ∷ xs) zero x e = omega arith
-  got_within (y ∷ xs) (suc i) x e = let rest = got_within xs i x e in omega (arith, rest)
-
-  got_or : (xs : List X) (i : ℕ) (x d : X) → slice_get xs i ≡ Some x → get_or xs i d ≡ x
-  got_or [] i x d e = absurd (none_some e)
-  got_or (y ∷ xs) zero x d e = some_same y x e
-  got_or (y ∷ xs) (suc i) x d e = got_or xs i x d e
-
-  one_if : (x : X) (b : Bool) → length (cond b (x ∷ []) []) ≡ cond b 1 0
-  one_if x true = refl
-  one_if x false = refl
-
-  -- one more is looked at
-  pub count_more : (xs : List X) (i : ℕ) (x : X) (b : Bool) → slice_get xs i ≡ Some x → p x ≡ b → length (filter p (take (i + 1) xs)) ≡ length (filter p (take i xs)) + cond b 1 0
-  count_more xs i x b got is =
-      ap (λ (ys : List X). length (filter p ys)) (take_more xs i x (got_within xs i x got) ∙ ap (λ y. take i xs ++ y ∷ []) (got_or xs i x x got))
-      ∙ ap (λ (ys : List X). length ys) (filter-append p (take i xs) (x ∷ []))
-      ∙ length-append (filter p (take i xs)) (filter p (x ∷ []))
-      ∙ ap (λ n. length (filter p (take i xs)) + n) (one_if x (p x) ∙ ap (λ c. cond c 1 0) is)
-
-  left_from : (xs : List X) (i : ℕ) (x : X) → slice_get xs i ≡ Some x → drop i xs ≡ x ∷ drop (i + 1) xs
-  left_from xs i x got =
-      drop-cons xs i x (got_within xs i x got) ∙ ap (λ y. y ∷ drop (suc i) xs) (got_or xs i x x got) ∙ ap (λ n. x ∷ drop n xs) next
-    where
-      next : suc i ≡ i + 1
-      next = omega arith
-
-  passed : (x : X) (xs : List X) (b : Bool) → p x ≡ b → filter p (x ∷ xs) ≡ cond b (x ∷ filter p xs) (filter p xs)
-  passed x xs b is = ap (λ c. cond c (x ∷ filter p xs) (filter p xs)) is
-
-  pub here_passes : (xs : List X) (i : ℕ) (x : X) → slice_get xs i ≡ Some x → p x ≡ true → slice_get (filter p (drop i xs)) 0 ≡ Some x
-  here_passes xs i x got is = ap (λ ys. slice_get (filter p ys) 0) (left_from xs i x got) ∙ ap (λ ys. slice_get ys 0) (passed x (drop (i + 1) xs) true is)
-
-  pub past_passes : (xs : List X) (i k : ℕ) (x : X) → slice_get xs i ≡ Some x → p x ≡ true → 0 < k → slice_get (filter p (drop (i + 1) xs)) (k - 1) ≡ slice_get (filter p (drop i xs)) k
-  past_passes xs i zero x got is some = absurd (omega (arith, some))
-  past_passes xs i (suc k) x got is some =
-      ap (slice_get (filter p (drop (i + 1) xs))) before ∙ sym (ap (λ ys. slice_get (filter p ys) (suc k)) (left_from xs i x got) ∙ ap (λ ys. slice_get ys (suc k)) (passed x (drop (i + 1) xs) true is))
-    where
-      before : suc k - 1 ≡ k
-      before = omega arith
-
-  pub past_fails : (xs : List X) (i k : ℕ) (x : X) → slice_get xs i ≡ Some x → p x ≡ false → slice_get (filter p (drop (i + 1) xs)) k ≡ slice_get (filter p (drop i xs)) k
-  past_fails xs i k x got is = sym (ap (λ ys. slice_get (filter p ys) k) (left_from xs i x got) ∙ ap (λ ys. slice_get ys k) (passed x (drop (i + 1) xs) false is))
-
-  past_zero : (k : ℕ) → (k == 0) ≡ false → 0 < k
-  past_zero zero e = absurd (false≢true (sym e))
-  past_zero (suc k) e = omega arith
-
-  -- one more is passed over
-  pub past_more : (xs : List X) (i k : ℕ) (x : X) (b : Bool) → slice_get xs i ≡ Some x → p x ≡ b → (b && (k == 0)) ≡ false → slice_get (filter p (drop (i + 1) xs)) (k - cond b 1 0) ≡ slice_get (filter p (drop i xs)) k
-  past_more xs i k x true got is more = past_passes xs i k x got is (past_zero k more)
-  past_more xs i k x false got is more = ap (slice_get (filter p (drop (i + 1) xs))) same ∙ past_fails xs i k x got is
-    where
-      same : k - 0 ≡ k
-      same = omega arith
-
   -- what is found passes
   passes_if : (x : X) (xs : List X) (k : ℕ) (y : X) (b : Bool) → p x ≡ b → ((n : ℕ) → slice_get (filter p xs) n ≡ Some y → p y ≡ true) → slice_get (cond b (x ∷ filter p xs) (filter p xs)) k ≡ Some y → p y ≡ true
   passes_if x xs zero y true is rest e = ap p (sym (some_same x y e)) ∙ is
@@ -204,8 +139,3 @@ pub none_enabled : (s : State) → length (enabled_events s) ≡ 0 → (event : 
 none_enabled s e event known =
     let place = place_of (length s.lanes) event known in
     all_get (λ x. may_happen s x ≡ false) (events_of (length s.lanes)) place.at event (all_fail (may_happen s) (events_of (length s.lanes)) e) place.is
-
-pub some_within : {X : Type 0} (xs : List X) (k : ℕ) → k < length xs → None ≡ slice_get xs k → ⊥
-some_within [] k lt e = omega (arith, lt)
-some_within (x ∷ xs) zero lt e = none_some e
-some_within (x ∷ xs) (suc k) lt e = some_within xs k (omega (arith, lt)) e

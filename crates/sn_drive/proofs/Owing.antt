@@ -1,5 +1,5 @@
 -- What is due over the turns of a driver.
-use Rattle.std.proofs.Common.{◌≡◌, ℕ, suc, ◌<◌, ◌≤◌, ◌||◌, ◌++◌, List, [], ◌∷◌, length, Bool, true, false, not, is_none, slice_get, zero, IsSome, Option, None, Some, refl, ap, sym, ◌∙◌, subst, arith, inl, inr}
+use Rattle.std.proofs.Common.{◌≡◌, ℕ, suc, ◌<◌, ◌||◌, List, [], ◌∷◌, length, Bool, true, false, not, is_none, slice_get, zero, IsSome, Option, None, Some, refl, ap, sym, ◌∙◌, subst, arith, inl, inr}
 use Rattle.std.specs.Option.{option_map_or}
 use Rattle.std.proofs.lemmas.Bool.{false≢true}
 use Rattle.std.proofs.lemmas.List.{length-map}
@@ -9,7 +9,6 @@ use Rattle.sn_core.proofs.GoesOn.{can_go_on}
 use Rattle.sn_core.proofs.StandingKept.{event_keeps_net, give_keeps_net, length_started, take_keeps_net}
 use Rattle.sn_core.proofs.Tests.{length_changed, need_holds}
 use Rattle.sn_core.specs.Debt.{CanGoOn, work}
-use Rattle.sn_core.specs.Due.{due}
 use Rattle.sn_core.specs.Events.{after_close, after_event, after_install, after_packet, given, kept_for_held, with_first, with_next, with_tuple, without_answers}
 use Rattle.sn_core.specs.Events as core
 use Rattle.sn_core.specs.Needs.{first_need_that_fails, has_room, is_begun_with, is_done, is_empty, is_over, needs, passes, wants}

@@ -1,5 +1,5 @@
 -- Runs: what they note, and what is due behind them.
-use Rattle.std.proofs.Common.{◌≡◌, ℕ, List, [], ◌∷◌, ◌++◌, map, Bool, true, false, is_none, Option, None, Some, refl, ap, sym, ◌∙◌, subst, append_assoc, append-nil}
+use Rattle.std.proofs.Common.{◌≡◌, ℕ, List, [], ◌∷◌, ◌++◌, map, true, false, Option, None, Some, refl, ap, sym, ◌∙◌, subst, append_assoc, append-nil}
 use Rattle.std.specs.Option.{option_map}
 use Rattle.sn_base.proofs.Lists.{none_some, some_same}
 use Rattle.sn_core.proofs.DueKept.{event_keeps_due, give_keeps_due}
@@ -14,7 +14,7 @@ use Rattle.sn_core.specs.declared.supply.Supply.{Supply}
 use Rattle.sn_gen.specs.Generated.{drawn, next_number}
 use Rattle.sn_machine.specs.States.{State, Works}
 use Rattle.sn_types.specs.declared.answers.Answers.{Answers}
-use Rattle.sn_drive.specs.Schedules.{IsRun, Leads, answers_in, enabled_events, events_of, is_still, may_happen, picked}
+use Rattle.sn_drive.specs.Schedules.{IsRun, Leads, answers_in, events_of, is_still, may_happen, picked}
 use Rattle.sn_drive.specs.declared.note.Note.{Note}
 use Rattle.sn_drive.specs.declared.note.Note.TheVariants.{Happened, Told}
 use Rattle.sn_drive.proofs.Listing.{got_passes}

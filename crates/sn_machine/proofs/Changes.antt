@@ -1,14 +1,12 @@
 -- What each event does to the state.
-use Rattle.std.proofs.Common.{◌≡◌, ℕ, suc, ◌<◌, List, [], ◌∷◌, ◌++◌, map, drop, length, Bool, true, not, is_none, nat_lt, get_or, set, slice_get, Option, None, Some, refl, ap, sym, ◌∙◌, subst}
-use Rattle.std.specs.FinSet as set
-use Rattle.sn_base.specs.declared.lane.Lane.{Lane as Name}
-use Rattle.sn_core.proofs.Tests.{all_hold, need_holds, none_passes, some_not_none}
+use Rattle.std.proofs.Common.{◌≡◌, ℕ, ◌<◌, List, [], map, drop, length, Bool, true, not, is_none, nat_lt, get_or, set, slice_get, Option, None, Some, refl, ap, sym, ◌∙◌, subst}
+use Rattle.sn_core.proofs.Tests.{all_hold, need_holds, none_passes}
 use Rattle.sn_core.specs.Events as core
 use Rattle.sn_core.specs.Events.{after_close, after_event, after_install, after_packet, all_started, closes_with, kept_for_held, window_of_held, with_first, with_next, with_tuple}
-use Rattle.sn_core.specs.Needs.{first_full, first_need_that_fails, first_open, has_room, is_begun_with, is_closed, is_empty, is_of, is_over, is_tuple, needs, needs_of_all, passes}
+use Rattle.sn_core.specs.Needs.{first_full, first_need_that_fails, first_open, has_room, is_begun_with, is_of, is_over, is_tuple, needs, needs_of_all, passes}
 use Rattle.sn_core.specs.Nets.{Lane}
 use Rattle.sn_core.specs.declared.event.Event.TheVariants as event
-use Rattle.sn_core.specs.declared.event.Why.TheVariants.{Empty, Ended, Full, NoAnswer, NoInput, NotReading, Reading, Unfinished, Waiting}
+use Rattle.sn_core.specs.declared.event.Why.TheVariants.{Ended, Full, NoInput, NotReading, Reading, Unfinished, Waiting}
 use Rattle.sn_core.specs.declared.supply.Frame.{Frame}
 use Rattle.sn_core.specs.declared.supply.Supply.{Supply}
 use Rattle.sn_core.specs.declared.supply.Supply.TheVariants.{Numbered}
@@ -27,12 +25,11 @@ use Rattle.sn_report.specs.declared.frame.Item.{Item}
 use Rattle.sn_types.specs.declared.answers.Answers.{Answers}
 use Rattle.sn_types.specs.declared.typed_query.TypedQuery.{TypedQuery}
 use Rattle.sn_machine.specs.declared.holder.Holder.{Holder}
-use Rattle.sn_machine.specs.Facts.{are_roomy, are_unread, ends_agree, may_be_read}
+use Rattle.sn_machine.specs.Facts.{are_roomy, are_unread, ends_agree}
 use Rattle.sn_machine.specs.Holders.{all_begun, all_took}
 use Rattle.sn_machine.specs.States.{State, Works, lane_of, lanes_of, state_of, works_of}
 use Rattle.sn_machine.specs.Reports.{report_of}
 use Rattle.sn_machine.proofs.Both.{Set, begun_lanes, emptied_lanes, ended_again, took_lanes}
-use Rattle.sn_machine.proofs.Facts.{packet_unread}
 use Rattle.sn_machine.proofs.Zips.{change_both, change_left, first_moves, passes_left}
 
 module _ (queries : List TypedQuery) (intakes : List Intake) (sources : List Source) where

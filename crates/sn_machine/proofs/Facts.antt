@@ -1,5 +1,5 @@
 -- What holds of every net is kept by each call.
-use Rattle.std.proofs.Common.{◌≡◌, ℕ, ◌||◌, ◌&&◌, List, [], ◌∷◌, map, length, Bool, true, false, is_none, is_some, nat_eq, nat_lt, Option, None, Some, refl, ap, sym, ◌∙◌, subst, arith}
+use Rattle.std.proofs.Common.{◌≡◌, ℕ, ◌||◌, ◌&&◌, List, [], ◌∷◌, map, length, Bool, true, false, is_none, is_some, nat_eq, Option, None, Some, refl, ap, sym, ◌∙◌, subst, arith}
 use Rattle.std.specs.List.{AllByRecursion, list_all}
 use Rattle.std.specs.Option.{option_map_or}
 use Rattle.std.proofs.Math.Logic.{∥∥₁_map}
@@ -15,7 +15,7 @@ use Rattle.sn_core.specs.declared.supply.Supply.TheVariants.{Numbered, End}
 use Rattle.sn_core.specs.declared.supply.Window.{Window}
 use Rattle.sn_core.specs.declared.supply.Window.TheVariants.{Idle, Begun, Closed}
 use Rattle.sn_core.proofs.StandingKept.{event_keeps_net, give_keeps_net, take_keeps_net}
-use Rattle.sn_core.proofs.Tests.{all_same, not_less, some_not_none}
+use Rattle.sn_core.proofs.Tests.{all_same, not_less}
 use Rattle.sn_driver.specs.declared.source.Source.{Source}
 use Rattle.sn_engine.specs.Intakes.{agrees, emptied}
 use Rattle.sn_engine.specs.declared.intake.Intake.{Intake}

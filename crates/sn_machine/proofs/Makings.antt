@@ -1,11 +1,11 @@
 -- A net as it is made.
-use Rattle.std.proofs.Common.{◌≡◌, ℕ, zero, suc, ◌+◌, ◌<◌, ◌≤◌, ◌^◌, ◌==◌, ◌&&◌, List, [], ◌∷◌, ◌++◌, map, length, Bool, true, false, not, Option, None, Some, refl, ap, ap₂, sym, ◌∙◌, subst, arith}
+use Rattle.std.proofs.Common.{◌≡◌, ℕ, suc, ◌<◌, ◌≤◌, ◌==◌, ◌&&◌, List, [], ◌∷◌, ◌++◌, map, length, Bool, true, false, not, Option, None, Some, refl, ap, ap₂, sym, ◌∙◌, arith}
 use Rattle.std.specs.FinSet as set
 use Rattle.std.specs.List.{AllByRecursion, list_all}
 use Rattle.std.proofs.Math.Bridge.{le_prop}
 use Rattle.std.proofs.Math.Logic.{∥∥₁_elim}
 use Rattle.std.proofs.lemmas.List.{length-append, length-map}
-use Rattle.circular_buffer.specs.Buffer.{Buffer, buffer}
+use Rattle.circular_buffer.specs.Buffer.{Buffer}
 use Rattle.sn_base.proofs.Lists.{map_both, nat_self}
 use Rattle.sn_base.specs.declared.lane.Lane.{Lane as Name}
 use Rattle.sn_core.proofs.StandingKept.{new_is_net}
@@ -14,18 +14,16 @@ use Rattle.sn_core.specs.Due.{fresh}
 use Rattle.sn_core.specs.Nets.{Lane}
 use Rattle.sn_core.specs.Standing.{IsNet}
 use Rattle.sn_core.specs.declared.supply.Frame.{Frame}
-use Rattle.sn_core.specs.declared.supply.Window.TheVariants.{Idle}
 use Rattle.sn_driver.proofs.Changes.{own_name}
-use Rattle.sn_driver.specs.Sources.{source_of}
 use Rattle.sn_driver.specs.Work.{AreApart, intake_of, name_of}
 use Rattle.sn_driver.specs.declared.source.Source.{Source}
 use Rattle.sn_emit.proofs.PlanLanes.{lanes_of_new}
-use Rattle.sn_emit.specs.Plans.{AreLanesOf, AreNewLanes, IsNewLane, IsNewPipeOf, Placed, pieces_from, placed}
+use Rattle.sn_emit.specs.Plans.{AreLanesOf, AreNewLanes, IsNewLane, Placed, pieces_from, placed}
 use Rattle.sn_emit.specs.declared.sender.Sender.{Sender}
 use Rattle.sn_engine.specs.Intakes.{emptied, is_lane}
 use Rattle.sn_engine.specs.declared.intake.Intake.{Intake}
 use Rattle.sn_fit.specs.Fits.{AreEntriesOf, IsEntryOf}
-use Rattle.sn_fit.specs.Paths.{Place, last_of, level_places, piece_place, places}
+use Rattle.sn_fit.specs.Paths.{Place, last_of, piece_place, places}
 use Rattle.sn_net.proofs.Lawful.{lawful_of}
 use Rattle.sn_net.proofs.Settling.{unread_settled}
 use Rattle.sn_net.specs.PlanWorkings.{AreLanesFor, workings_of}
@@ -33,7 +31,6 @@ use Rattle.sn_net.specs.Settled.{settled}
 use Rattle.sn_pipe.specs.Pipes.{IsNewPipe, PipeState, at_start}
 use Rattle.sn_pipe.specs.declared.stage.Stage.{Stage}
 use Rattle.sn_plan_rules.specs.declared.plan.Entry.{Entry}
-use Rattle.sn_plan_rules.specs.declared.plan.Piece.{Piece}
 use Rattle.sn_query_rules.specs.Limits.{AreJoined}
 use Rattle.sn_query_rules.specs.declared.ast.Branch.{Branch}
 use Rattle.sn_query_rules.specs.declared.ast.Join.{Join}
@@ -47,7 +44,7 @@ use Rattle.sn_types.specs.declared.typed_query.TypedQuery.{TypedQuery}
 use Rattle.sn_machine.specs.declared.holder.Holder.{Holder}
 use Rattle.sn_machine.specs.Facts.{are_named, are_roomy, are_unread, names_of}
 use Rattle.sn_machine.specs.Making.{AreNewHolders, IsNewHolder}
-use Rattle.sn_machine.specs.States.{lane_of, lanes_of, state_of, works_of}
+use Rattle.sn_machine.specs.States.{lane_of, lanes_of, works_of}
 use Rattle.sn_machine.proofs.Both.{Set}
 use Rattle.sn_machine.proofs.Facts.{both}
 

@@ -1,9 +1,8 @@
 -- What a lane appends when it is read out.
-use Rattle.std.proofs.Common.{◌≡◌, ℕ, List, [], ◌∷◌, ◌++◌, drop, slice_get, Bool, true, Option, None, Some, refl, ap, sym, ◌∙◌, subst}
+use Rattle.std.proofs.Common.{◌≡◌, ℕ, List, [], ◌∷◌, ◌++◌, drop, slice_get, true, None, Some, refl, ap, sym, ◌∙◌}
 use Rattle.sn_base.proofs.Lists.{none_some, some_same}
 use Rattle.sn_core.specs.Events.{with_next, with_next_of}
 use Rattle.sn_core.specs.Nets.{Lane}
-use Rattle.sn_core.specs.declared.supply.Frame.{Frame}
 use Rattle.sn_core.specs.declared.supply.Frame.TheVariants.{Row, Last}
 use Rattle.sn_driver.specs.declared.source.Source.{Source}
 use Rattle.sn_engine.specs.declared.intake.Intake.{Intake}

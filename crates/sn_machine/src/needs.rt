@@ -161,6 +161,12 @@ impl Net {
         requires { IsOneOf (length self.now.lanes.items) event }
         ensures { result ≡ is_none (first_need_that_fails (state self.now) event) }
     {
-        self.first_need(event).is_none()
+        match event {
+            Event::Packet => self.packet_need().is_none(),
+            Event::ReadOut(lane) => self.read_out_need(lane).is_none(),
+            Event::Deliver(lane) => self.deliver_need(lane).is_none(),
+            Event::CloseWindow => self.close_need().is_none(),
+            Event::Install => self.install_need().is_none(),
+        }
     }
 }

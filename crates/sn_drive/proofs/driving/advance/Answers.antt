@@ -1,4 +1,4 @@
-use Rattle.std.proofs.Common.{◌≡◌, ◌∙◌, refl, ap, sym, subst, length}
+use Rattle.std.proofs.Common.{◌∙◌, refl, ap, sym, subst, length}
 use Rattle.sn_core.specs.Events.{given}
 use Rattle.sn_core.specs.Standing.{IsNet}
 use Rattle.sn_machine.specs.States.{State, Works}

@@ -1,4 +1,4 @@
-use Rattle.sn_drive.proofs.Running.{none_leads, told_leads}
+use Rattle.sn_drive.proofs.Running.{none_leads}
 use Rattle.sn_drive.proofs.driving.gather.Goals as goal
 
 pub returns-in-None-clause-notes : goal.returns-in-None-clause-notes

@@ -1,5 +1,4 @@
-use Rattle.std.proofs.Common.{◌≡◌, ◌+◌, ◌<◌, ◌≤◌, ℕ, List, length, take, get_or, ap, ap₂, sym, subst, ◌∙◌, arith}
-use Rattle.sn_emit.specs.Plans.{pieces_from}
+use Rattle.std.proofs.Common.{◌≡◌, ◌+◌, ◌<◌, ℕ, List, length, get_or, ap, ap₂, subst, ◌∙◌, arith}
 use Rattle.sn_plan_rules.specs.declared.plan.Entry.{Entry}
 use Rattle.sn_plan_rules.specs.declared.plan.Piece.{Piece}
 use Rattle.sn_drive.proofs.Counting.{fewer_pieces, pieces_count}

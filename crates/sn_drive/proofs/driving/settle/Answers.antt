@@ -1,10 +1,8 @@
-use Rattle.std.proofs.Common.{◌∙◌, List, refl, sym, subst}
+use Rattle.std.proofs.Common.{◌∙◌, refl, sym, subst}
 use Rattle.sn_core.specs.Standing.{IsNet}
 use Rattle.sn_machine.specs.States.{Works}
-use Rattle.sn_drive.specs.Schedules.{Leads}
-use Rattle.sn_drive.specs.declared.note.Note.{Note}
 use Rattle.sn_drive.proofs.Owing.{same_work}
-use Rattle.sn_drive.proofs.Running.{none_lead, same_leads, still_run}
+use Rattle.sn_drive.proofs.Running.{same_leads, still_run}
 use Rattle.sn_drive.proofs.driving.settle.Goals as goal
 
 pub turn-requires-clause-stands : goal.turn-requires-clause-stands

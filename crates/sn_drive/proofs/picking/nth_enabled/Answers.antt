@@ -1,24 +1,14 @@
-use Rattle.std.proofs.Common.{◌≡◌, ◌∙◌, ◌+◌, ◌-◌, ◌==◌, ◌&&◌, true, ap, sym, subst, filter, drop, slice_get, ℕ}
-use Rattle.std.proofs.lemmas.Bool.{and_parts}
-use Rattle.sn_base.proofs.Lists.{nat_same}
-use Rattle.sn_drive.specs.Schedules.{events_of, may_happen}
-use Rattle.sn_drive.proofs.Listing.{here_passes, past_more}
+use Rattle.std.proofs.Common.{arith}
+use Rattle.sn_core.specs.declared.event.Event.TheVariants.{Packet}
+use Rattle.sn_drive.specs.Schedules.{enabled_events}
+use Rattle.sn_drive.proofs.Counted.{kept_at}
 use Rattle.sn_drive.proofs.picking.nth_enabled.Goals as goal
 
-pub returns-then-is_last : goal.returns-then-is_last
-returns-then-is_last g c =
-    let s = g.M.Machine.state c.args.machine.now in
-    let xs = events_of c.args.lanes in
-    let parts = and_parts c.enabled-enabled.result (c.loop-number.left == 0) (sym c.is_last.ensures ∙ c.if-is_last.true) in
-    sym (here_passes (may_happen s) xs c.loop-number.number c.event_at-event.result c.event_at-event.ensures.event (sym c.enabled-enabled.ensures ∙ parts.0))
-    ∙ ap (slice_get (filter (may_happen s) (drop c.loop-number.number xs))) (sym (nat_same c.loop-number.left 0 parts.1))
-    ∙ c.loop-number.invariant
-    ∙ ap (λ (n : ℕ). slice_get (filter (may_happen s) (events_of n)) c.args.n) c.requires
+pub returns-then-n-lt8 : goal.returns-then-n-lt8
+returns-then-n-lt8 g c =
+    kept_at (enabled_events (g.M.Machine.state c.args.machine.now)) c.args.first.now c.requires.first c.args.n c.args.n Packet (omega (arith, c.requires.none_passed)) c.if-n-lt8.true c.requires.within
 
-pub loop-number-preserved : goal.loop-number-preserved
-loop-number-preserved g c =
-    let s = g.M.Machine.state c.args.machine.now in
-    let xs = events_of c.args.lanes in
-    ap (λ (m : ℕ). slice_get (filter (may_happen s) (drop (c.loop-number.number + 1) xs)) (c.loop-number.left - m)) c.one_if-left.ensures.value
-    ∙ past_more (may_happen s) xs c.loop-number.number c.loop-number.left c.event_at-event.result c.enabled-enabled.result c.event_at-event.ensures.event (sym c.enabled-enabled.ensures) (sym c.is_last.ensures ∙ c.if-is_last.false)
-    ∙ c.loop-number.invariant
+pub returns : goal.returns
+returns g c =
+    kept_at (enabled_events (g.M.Machine.state c.args.machine.now)) c.look-later.result c.look-later.ensures.counted c.args.n 0 Packet (omega (arith, c.look-later.ensures.passed_over)) (omega arith)
+    (omega (arith, c.requires.within, c.requires.first.count, c.look-later.ensures.counted.count))

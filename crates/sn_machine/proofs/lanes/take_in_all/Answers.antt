@@ -1,5 +1,4 @@
-use Rattle.std.proofs.Common.{◌≡◌, ◌∙◌, ◌++◌, ℕ, ap, take, drop, length, true, List, subst, sym}
-use Rattle.sn_machine.specs.Facts.{are_unread}
+use Rattle.std.proofs.Common.{◌≡◌, ◌∙◌, ◌++◌, ℕ, ap, take, drop, length, List}
 use Rattle.sn_machine.specs.Holders.{all_took}
 use Rattle.sn_machine.specs.declared.holder.Holder.{Holder}
 use Rattle.sn_machine.proofs.Both.{length_took, whole}

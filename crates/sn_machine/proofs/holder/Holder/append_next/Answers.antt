@@ -1,4 +1,4 @@
-use Rattle.std.proofs.Common.{◌∙◌, ap, true, List, ℕ}
+use Rattle.std.proofs.Common.{◌∙◌, ap, true}
 use Rattle.circular_buffer.specs.Buffer.{Buffer}
 use Rattle.sn_core.specs.declared.supply.Frame.{Frame}
 use Rattle.sn_net.specs.Settled.{settled}

@@ -1,4 +1,4 @@
-use Rattle.std.proofs.Common.{◌≡◌, ◌∙◌, ◌||◌, ap, ap₂, sym, subst, length, map, None, Some, ℕ, List, refl}
+use Rattle.std.proofs.Common.{◌≡◌, ◌∙◌, ap, ap₂, sym, subst, length, map, None, Some, ℕ, List, refl}
 use Rattle.std.proofs.lemmas.List.{length-map}
 use Rattle.sn_base.proofs.Lists.{map_both}
 use Rattle.sn_core.specs.Events.{after_event}

@@ -1,6 +1,5 @@
-use Rattle.std.proofs.Common.{◌≡◌, ◌<◌, ◌^◌, ◌∙◌, ◌==◌, ◌||◌, ap, ap₂, sym, subst, length, map, drop, true, get_or, set, slice_get, Option, None, Some, ℕ, List, refl}
+use Rattle.std.proofs.Common.{◌≡◌, ◌<◌, ◌^◌, ◌∙◌, ◌==◌, ap, ap₂, sym, subst, length, map, drop, true, get_or, set, slice_get, None, Some, ℕ, List, refl}
 use Rattle.std.proofs.lemmas.List.{length-set}
-use Rattle.sn_base.specs.declared.lane.Lane.{Lane}
 use Rattle.sn_core.proofs.Tests.{length_changed}
 use Rattle.circular_buffer.specs.Buffer.{Buffer, buffer}
 use Rattle.std.specs.Option.{option_map}

@@ -1,7 +1,7 @@
 use Rattle.std.proofs.Common.{◌≡◌, ◌||◌, ap, sym, subst, true, Some, List, ℕ}
 use Rattle.std.proofs.Math.Bool.{Bool-set}
 use Rattle.std.proofs.Math.Logic.{∥∥₁_elim}
-use Rattle.sn_core.specs.Events.{given, window_from}
+use Rattle.sn_core.specs.Events.{window_from}
 use Rattle.sn_core.specs.Standing.{IsNet}
 use Rattle.sn_core.specs.declared.supply.Supply.{Supply}
 use Rattle.sn_core.specs.declared.supply.Window.{Window}

@@ -1,12 +1,11 @@
-use Rattle.std.proofs.Common.{◌≡◌, ◌≤◌, ◌<◌, ◌^◌, ℕ, List, [], map, length, Option, None, refl, ap, ap₂, sym, subst, ◌∙◌, arith}
+use Rattle.std.proofs.Common.{◌≡◌, ◌≤◌, ◌<◌, ◌^◌, ℕ, List, [], map, length, None, refl, ap, ap₂, sym, subst, ◌∙◌, arith}
 use Rattle.std.specs.FinSet as set
 use Rattle.std.proofs.lemmas.List.{length-map}
 use Rattle.sn_core.specs.Calls.{made}
 use Rattle.sn_core.specs.Due.{due, fresh}
-use Rattle.sn_core.specs.Nets.{Lane, Net as Standing}
+use Rattle.sn_core.specs.Nets.{Lane}
 use Rattle.sn_core.specs.Standing.{IsNet}
 use Rattle.sn_core.specs.declared.supply.Window.TheVariants.{Idle}
-use Rattle.sn_driver.proofs.Apart.{pieces_apart}
 use Rattle.sn_driver.proofs.Beginning.{has_shape, sources_are}
 use Rattle.sn_driver.proofs.Laws.{made_known, new_idle, plan_made}
 use Rattle.sn_driver.specs.Sources.{source_of, sources_of}
@@ -14,18 +13,14 @@ use Rattle.sn_driver.specs.Work.{intake_of}
 use Rattle.sn_driver.specs.declared.source.Source.{Source}
 use Rattle.sn_emit.specs.Plans.{Placed, pieces_from}
 use Rattle.sn_engine.proofs.Lanes.{as_many_entries, few_lanes}
-use Rattle.sn_engine.specs.Intakes.{emptied, intakes_of}
+use Rattle.sn_engine.specs.Intakes.{emptied}
 use Rattle.sn_engine.specs.declared.intake.Intake.{Intake}
-use Rattle.sn_fit.specs.Fits.{Fits}
 use Rattle.sn_net.proofs.PlanSchedules.{plan_due}
-use Rattle.sn_net.specs.PlanWorkings.{AreLanesFor, workings, workings_of}
+use Rattle.sn_net.specs.PlanWorkings.{workings, workings_of}
 use Rattle.sn_pipe.specs.Pipes.{PipeState}
 use Rattle.sn_plan_rules.specs.declared.plan.Entry.{Entry}
 use Rattle.sn_report.specs.declared.frame.Item.{Item}
-use Rattle.sn_switch.specs.Texts.{IsSwitch}
-use Rattle.sn_switch.specs.declared.switch.Switch.{Switch}
 use Rattle.sn_types.proofs.Facts.{few_queries}
-use Rattle.sn_types.specs.Typed.{IsTyped}
 use Rattle.sn_types.specs.declared.typed_query.TypedQuery.{TypedQuery}
 use Rattle.sn_machine.specs.declared.holder.Holder.{Holder}
 use Rattle.sn_machine.specs.Facts.{AreKnown}

@@ -1,4 +1,4 @@
-use Rattle.std.proofs.Common.{◌≡◌, ◌<◌, ◌^◌, ◌∙◌, ◌||◌, ap, sym, subst, length, map, true, Option, None, Some, ℕ, List, refl}
+use Rattle.std.proofs.Common.{◌≡◌, ◌<◌, ◌^◌, ◌∙◌, ap, sym, subst, length, map, true, None, Some, ℕ, List, refl}
 use Rattle.sn_core.specs.Events.{after_event}
 use Rattle.sn_core.specs.Needs.{first_need_that_fails}
 use Rattle.sn_core.specs.declared.event.Event.TheVariants as event

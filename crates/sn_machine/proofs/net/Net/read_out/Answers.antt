@@ -1,15 +1,14 @@
-use Rattle.std.proofs.Common.{◌≡◌, ◌<◌, ◌^◌, ◌∙◌, ◌==◌, ◌||◌, ap, sym, subst, length, map, true, get_or, set, None, ℕ, List, refl}
+use Rattle.std.proofs.Common.{◌≡◌, ◌<◌, ◌^◌, ◌∙◌, ◌==◌, ap, sym, subst, length, map, true, get_or, set, ℕ, List, refl}
 use Rattle.std.proofs.lemmas.List.{length-set}
 use Rattle.sn_base.specs.declared.lane.Lane.{Lane}
-use Rattle.sn_core.specs.Events.{with_next}
 use Rattle.sn_core.specs.declared.event.Event.TheVariants as event
 use Rattle.sn_engine.specs.Intakes.{emptied}
 use Rattle.sn_engine.specs.declared.intake.Intake.{Intake}
 use Rattle.sn_machine.specs.declared.holder.Holder.{Holder}
 use Rattle.sn_machine.specs.declared.net.Net.{Net}
-use Rattle.sn_machine.specs.Facts.{are_named, are_roomy, are_unread}
-use Rattle.sn_machine.specs.Nets.{state, works}
-use Rattle.sn_machine.specs.States.{lane_of, state_of}
+use Rattle.sn_machine.specs.Facts.{are_named, are_unread}
+use Rattle.sn_machine.specs.Nets.{state}
+use Rattle.sn_machine.specs.States.{state_of}
 use Rattle.sn_machine.proofs.Changes.{read_out_changes, read_out_may}
 use Rattle.sn_machine.proofs.Facts.{event_stands, late_unread}
 use Rattle.sn_machine.proofs.Named.{names_set}

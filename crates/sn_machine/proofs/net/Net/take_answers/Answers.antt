@@ -1,4 +1,4 @@
-use Rattle.std.proofs.Common.{◌≡◌, sym, subst, Option, None}
+use Rattle.std.proofs.Common.{sym, subst, Option}
 use Rattle.sn_core.specs.Standing.{IsNet}
 use Rattle.sn_types.specs.declared.answers.Answers.{Answers}
 use Rattle.sn_machine.specs.declared.net.Net.{Net}
