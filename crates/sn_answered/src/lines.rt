@@ -2,6 +2,7 @@
 ghost use Rattle.std.specs.Prelude.{◌≡◌, ◌++◌, IfOk};
 ghost use Rattle.sn_out.specs.Text.{damage_line, total_line};
 
+use sn_base::bytes::push_bytes;
 use sn_base::memory::Memory;
 use sn_base::seq::Seq;
 use sn_out::lines::{damage, total};
@@ -20,8 +21,6 @@ pub fn last_lines(
 {
     let mut text = damage(alloc, ending)?.into_vec();
     let line = total(alloc, windows, emitted)?;
-    match text.extend_from_slice(line.as_slice()) {
-        Ok(()) => Ok(Seq::from_vec(text)),
-        Err(_) => Err(Memory),
-    }
+    push_bytes(&mut text, line.as_slice())?;
+    Ok(Seq::from_vec(text))
 }

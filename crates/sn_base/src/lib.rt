@@ -3,6 +3,7 @@
 #![tactic(auto)]
 
 pub mod any_fold;
+pub mod bytes;
 pub mod column;
 pub mod fold;
 pub mod lane;

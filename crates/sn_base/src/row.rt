@@ -87,6 +87,15 @@ impl Row {
         self.as_slice().get(place).copied()
     }
 
+    /// Puts one more column behind the others, in place.
+    pub fn push(&mut self, value: u64)
+        requires { length self.old < 8 }
+        ensures { self.new ≡ self.old ++ value ∷ [] }
+    {
+        self.columns[self.count] = value;
+        self.count += 1;
+    }
+
     /// The row with one more column. `None` exactly where it has eight.
     pub fn with(self, value: u64) -> Option<Row>
         ensures some { IfSome result (λ row. row ≡ self ++ value ∷ []) }
@@ -95,12 +104,9 @@ impl Row {
         if self.count == 8 {
             return None;
         }
-        let mut columns = self.columns;
-        columns[self.count] = value;
-        Some(Row {
-            columns,
-            count: self.count + 1,
-        })
+        let mut row = self;
+        row.push(value);
+        Some(row)
     }
 }
 

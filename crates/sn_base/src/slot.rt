@@ -1,6 +1,6 @@
 //! The slot of a row in a register.
-ghost use Rattle.std.specs.Prelude.{◌≡◌, ◌≤◌, fold, bit_xor};
-ghost use Rattle.std.specs.Int.{w64, to_le_bytes};
+ghost use Rattle.std.specs.Prelude.{◌≡◌, ◌≤◌, ◌%◌, fold, bit_xor};
+ghost use Rattle.std.specs.Int.{to_le_bytes, w64};
 ghost use Rattle.sn_base.specs.Slot.{fnv_step, slot};
 
 use crate::row::Row;
@@ -9,21 +9,55 @@ const BASIS: u64 = 14695981039346656037;
 
 const PRIME: u64 = 1099511628211;
 
+/// A column's upper and lower half are below it.
+const HALF: u64 = 1 << 32;
+
+/// The prime's fourth power, modulo 2^64.
+const FOURTH_POWER: u64 = 11527715348014283921;
+
 fn mix_byte(hash: u64, byte: u8) -> u64
     ensures { result ≡ fnv_step hash byte }
 {
     (hash ^ u64::from(byte)).wrapping_mul(PRIME)
 }
 
-fn mix_column(hash: u64, column: u64) -> u64
-    ensures { result ≡ fold fnv_step hash (to_le_bytes w64 column) }
+/// Mixes the four bytes of a number in.
+fn mix_bytes(hash: u64, bytes: &[u8; 4]) -> u64
+    ensures { result ≡ fold fnv_step hash bytes.now }
 {
-    let bytes = column.to_le_bytes();
     let mut mixed = hash;
-    for byte in &bytes {
+    for byte in bytes {
         mixed = mix_byte(mixed, *byte);
     }
     mixed
+}
+
+/// Mixes a column in. Most columns are below 2^32, and a byte of 0 is a multiplication alone, so that four of them are one.
+fn mix_column(hash: u64, column: u64) -> u64
+    ensures { result ≡ fold fnv_step hash (to_le_bytes w64 column) }
+{
+    let low = mix_bytes(hash, &((column % HALF) as u32).to_le_bytes());
+    let high = (column / HALF) as u32;
+    if high == 0 {
+        low.wrapping_mul(FOURTH_POWER)
+    } else {
+        mix_bytes(low, &high.to_le_bytes())
+    }
+}
+
+/// What is left of a hash by a number of slots. That is mostly a power of two, and a division takes as long as all else.
+fn remainder(hash: u64, slots: u32) -> u32
+    requires { 1 ≤ slots }
+    ensures { result ≡ hash % slots }
+{
+    let size = u64::from(slots);
+    let zeros = size.trailing_zeros();
+    let left = if zeros < 32 && 1 << zeros == size {
+        hash & (size - 1)
+    } else {
+        hash % size
+    };
+    left as u32
 }
 
 /// The slot of a row in register number `index`, by the hash FNV-1a over its columns.
@@ -35,7 +69,7 @@ pub fn slot_of(index: u32, key: &Row, slots: u32) -> u32
     for column in key.as_slice() {
         hash = mix_column(hash, *column);
     }
-    (hash % u64::from(slots)) as u32
+    remainder(hash, slots)
 }
 
 #[cfg(test)]
@@ -57,6 +91,25 @@ mod tests {
                 continue;
             };
             assert_eq!(rt; slot_of(index, &key, 256), slot);
+        }
+        Ok(())
+    }
+    // By the formula in whole numbers, worked out elsewhere.
+    #[test]
+    fn gives_the_slots_of_wide_columns(rt: HostRuntime) -> Result<(), Fail> {
+        let table: [(u32, &[u64], u32, u32); 6] = [
+            (0, &[4294967295], 1000, 441),
+            (0, &[4294967296], 1000, 484),
+            (3, &[18446744073709551615, 7], 65535, 4042),
+            (2, &[167772169, 80, 1099511627781], 65536, 28986),
+            (1, &[5], 1, 0),
+            (0, &[9223372036854775808], 3, 2),
+        ];
+        for (index, columns, slots, slot) in table {
+            let Some(key) = Row::new(columns) else {
+                continue;
+            };
+            assert_eq!(rt; slot_of(index, &key, slots), slot);
         }
         Ok(())
     }

@@ -4,9 +4,10 @@ ghost use Rattle.sn_certified.specs.Certificates.{certificate_text};
 ghost use Rattle.sn_tree_text.specs.Printing.{nodes_text, tree_text};
 
 use crate::certificate::Certificate;
+use sn_base::bytes::push_bytes;
 use sn_base::memory::Memory;
 use sn_base::seq::Seq;
-use sn_out::pieces::{push_bytes, push_number};
+use sn_out::pieces::push_number;
 use sn_plan::print as print_plan;
 use sn_tree_text::print as print_tree;
 use sn_tree_text::tree::Tree;

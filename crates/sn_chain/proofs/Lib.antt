@@ -5,3 +5,4 @@ pub mod OfferLemmas
 pub mod Places
 pub mod RegisterLemmas
 pub mod ResidenceLemmas
+pub mod StandLemmas

@@ -1,11 +1,12 @@
 -- One offer, on the cells as they are stored.
-use Rattle.std.proofs.Common.{◌≡◌, ℕ, zero, suc, ◌+◌, ◌*◌, ◌≤◌, ◌<◌, List, [], ◌∷◌, ◌++◌, map, take, drop, length, append-nil, true, false, cond, nat_eq, Option, Some, None, get_or, set, replicate, refl, ap, sym, subst, ◌∙◌, arith}
-use Rattle.std.specs.List.{AllByRecursion}
-use Rattle.std.proofs.lemmas.List.{map-set, length-map}
+use Rattle.std.proofs.Common.{◌≡◌, ℕ, zero, suc, ◌+◌, ◌*◌, ◌≤◌, ◌<◌, List, [], ◌∷◌, ◌++◌, map, take, drop, length, append-nil, true, false, cond, nat_eq, Option, Some, None, get_or, set, length-set, replicate, refl, ap, sym, subst, ◌∙◌, arith}
+use Rattle.std.specs.List.{All, AllByRecursion}
+use Rattle.std.proofs.lemmas.List.{map-set, length-map, length-replicate}
+use Rattle.std.proofs.lemmas.List.Elements.{All-from_recursion, All-get_or, All-replicate, All-set, recursion_from_All}
 use Rattle.sn_base.specs.Groups.{Row}
 use Rattle.sn_base.proofs.Lists.{not_true, nat_same, nat_self}
 use Rattle.sn_chain.specs.Cells.{shown_by, all_shown_by, forgotten, IsCell, AreCells}
-use Rattle.sn_chain.specs.Chain.{ChainState, empty_chain, holder, vacancy, answer_at, after_offer}
+use Rattle.sn_chain.specs.Chain.{ChainState, KeysStand, empty_chain, holder, vacancy, answer_at, after_offer}
 use Rattle.sn_chain.specs.Found.{found_at}
 use Rattle.sn_chain.specs.Registers.{stepped, put}
 use Rattle.sn_chain.specs.declared.cell.Cell.{Cell}
@@ -13,6 +14,7 @@ use Rattle.sn_chain.specs.declared.offer.Offer.TheVariants.{Over}
 use Rattle.sn_chain.specs.declared.register.Found.{Found}
 use Rattle.sn_chain.specs.declared.register.Found.TheVariants as found
 use Rattle.sn_chain.proofs.Places.{read_cell}
+use Rattle.sn_chain.proofs.StandLemmas.{stand_bare, stand_put}
 
 -- a search that ended at the holder, at an empty place, or at neither
 held_from : (h e : Option ℕ) (p : ℕ) → found.Held p ≡ found_at h e → h ≡ Some p
@@ -156,6 +158,21 @@ empty_first : (n : ℕ) (key : Row) (value : ℕ) → all_shown_by 1 (replicate 
 empty_first zero key value = refl
 empty_first (suc n) key value = ap (λ cs. None ∷ cs) (empty_first n key value)
 
+pub made_cells : (has : ℕ → Type 0) (depth slots value : ℕ) (key : Row) (cells : List Cell) → 1 ≤ depth → depth ≤ 4 → 1 ≤ slots → slots ≤ 65536 → has value → cells ≡ replicate (depth * slots) (record { round = 0; key = key; value = value }) →
+    AreCells has depth slots 1 cells
+made_cells has depth slots value key cells some_depth most_depth some_slots most_slots had is =
+    let made : Cell = record { round = 0; key = key; value = value } in
+    record {
+      some_depth = some_depth;
+      most_depth = most_depth;
+      some_slots = some_slots;
+      most_slots = most_slots;
+      first_round = omega arith;
+      long = ap length is ∙ length-replicate (depth * slots) made;
+      each = recursion_from_All (IsCell has 1) cells (subst (λ (cs : List Cell). All (IsCell has 1) cs) (sym is) (All-replicate (IsCell has 1) (depth * slots) made (record { no_later = omega arith; had = had })));
+      stand = subst (λ (cs : List (Option (Row × ℕ))). KeysStand depth slots cs) (sym (ap (all_shown_by 1) is ∙ empty_first (depth * slots) key value)) (stand_bare depth slots (depth * slots));
+    }
+
 pub made_empty : {F : Type 0} (f : F) (depth slots value : ℕ) (key : Row) (cells : List Cell) → cells ≡ replicate (depth * slots) (record { round = 0; key = key; value = value }) → state_of f depth slots 1 cells ≡ empty_chain f depth slots
 made_empty f depth slots value key cells is = ap (state_with f depth slots) (ap (all_shown_by 1) is ∙ empty_first (depth * slots) key value)
 
@@ -169,6 +186,7 @@ module _ {has : ℕ → Type 0} {depth slots round : ℕ} {cells : List Cell} (c
     first_round = omega arith;
     long = c.long;
     each = cells_next has round cells c.each;
+    stand = subst (λ (cs : List (Option (Row × ℕ))). KeysStand depth slots cs) (sym (empty_next has round cells c.each)) (stand_bare depth slots (length cells));
   }
 
   pub are_forgotten : AreCells has depth slots 1 (map forgotten cells)
@@ -180,6 +198,34 @@ module _ {has : ℕ → Type 0} {depth slots round : ℕ} {cells : List Cell} (c
     first_round = omega arith;
     long = length-map cells forgotten ∙ c.long;
     each = cells_forgotten has round cells c.each;
+    stand = subst (λ (cs : List (Option (Row × ℕ))). KeysStand depth slots cs) (sym (empty_forgotten cells)) (stand_bare depth slots (length cells));
+  }
+
+  -- the keys stand after an offer too
+  stand_after : {F : Type 0} (join : F → ℕ → ℕ → ℕ) (f : F) (key : Row) (v : ℕ) (new : List Cell) → state_of f depth slots round new ≡ after_offer join (state_of f depth slots round cells) key v → KeysStand depth slots (all_shown_by round new)
+  stand_after {F = F} join f key v new is =
+      subst (λ (cs : List (Option (Row × ℕ))). KeysStand depth slots cs) (sym (ap (λ (s : ChainState F). s.cells) is))
+      (stand_put depth slots (all_shown_by round cells) c.stand c.some_slots (length-map cells (shown_by round) ∙ c.long) (join f) key v)
+
+  -- a cell with another value
+  pub one_offered : (at : ℕ) (x : Cell) (w : ℕ) → at < length cells → x ≡ get_or cells at x → has w → IsCell has round (record x { value = w })
+  one_offered at x w inside is had = record {
+    no_later = (subst (λ (y : Cell). IsCell has round y) (sym is) (All-get_or (IsCell has round) cells at x inside (All-from_recursion (IsCell has round) cells c.each))).no_later;
+    had = had;
+  }
+
+  -- the cells after an offer that was written to one of them
+  pub are_offered : {F : Type 0} (join : F → ℕ → ℕ → ℕ) (f : F) (key : Row) (v at : ℕ) (x : Cell) → state_of f depth slots round (set cells at x) ≡ after_offer join (state_of f depth slots round cells) key v → IsCell has round x →
+      AreCells has depth slots round (set cells at x)
+  are_offered join f key v at x is one = record {
+    some_depth = c.some_depth;
+    most_depth = c.most_depth;
+    some_slots = c.some_slots;
+    most_slots = c.most_slots;
+    first_round = c.first_round;
+    long = length-set cells at x ∙ c.long;
+    each = recursion_from_All (IsCell has round) (set cells at x) (All-set (IsCell has round) cells at x one (All-from_recursion (IsCell has round) cells c.each));
+    stand = stand_after join f key v (set cells at x) is;
   }
 
   -- a chain whose cells show nothing

@@ -9,7 +9,7 @@ use Rattle.sn_base.specs.Groups.{Row}
 use Rattle.sn_base.specs.Slot.{row_hash}
 use Rattle.sn_base.proofs.Lists.{by_test, nat_same}
 use Rattle.sn_chain.specs.Cells.{shown_by, all_shown_by}
-use Rattle.sn_chain.specs.Chain.{place_in, places_from, places_of}
+use Rattle.sn_chain.specs.Chain.{place_for, places_from, places_of}
 use Rattle.sn_chain.specs.Registers.{cell}
 use Rattle.sn_chain.specs.declared.cell.Cell.{Cell}
 
@@ -18,20 +18,20 @@ one_left depth register h = omega arith
 
 -- the search goes on behind a place that fails, and ends at one that passes
 place_first : (t : ℕ → Bool) (slots register depth : ℕ) (key : Row) → register < depth →
-    find t (places_from slots register (depth - register) key) ≡ cond (t (place_in slots key register)) (Some (place_in slots key register)) (find t (places_from slots (register + 1) (depth - (register + 1)) key))
+    find t (places_from slots register (depth - register) key) ≡ cond (t (place_for slots key register)) (Some (place_for slots key register)) (find t (places_from slots (register + 1) (depth - (register + 1)) key))
 place_first t slots register depth key within = ap (λ n. find t (places_from slots register n key)) (one_left depth register within)
 
-pub place_found : (t : ℕ → Bool) (slots register depth : ℕ) (key : Row) → register < depth → t (place_in slots key register) ≡ true →
-    find t (places_from slots register (depth - register) key) ≡ Some (place_in slots key register)
+pub place_found : (t : ℕ → Bool) (slots register depth : ℕ) (key : Row) → register < depth → t (place_for slots key register) ≡ true →
+    find t (places_from slots register (depth - register) key) ≡ Some (place_for slots key register)
 place_found t slots register depth key within passes =
     place_first t slots register depth key within
-    ∙ ap (λ b. cond b (Some (place_in slots key register)) (find t (places_from slots (register + 1) (depth - (register + 1)) key))) passes
+    ∙ ap (λ b. cond b (Some (place_for slots key register)) (find t (places_from slots (register + 1) (depth - (register + 1)) key))) passes
 
-pub place_passed : (t : ℕ → Bool) (slots register depth : ℕ) (key : Row) → register < depth → t (place_in slots key register) ≡ false →
+pub place_passed : (t : ℕ → Bool) (slots register depth : ℕ) (key : Row) → register < depth → t (place_for slots key register) ≡ false →
     find t (places_from slots (register + 1) (depth - (register + 1)) key) ≡ find t (places_from slots register (depth - register) key)
 place_passed t slots register depth key within fails =
     sym (place_first t slots register depth key within
-    ∙ ap (λ b. cond b (Some (place_in slots key register)) (find t (places_from slots (register + 1) (depth - (register + 1)) key))) fails)
+    ∙ ap (λ b. cond b (Some (place_for slots key register)) (find t (places_from slots (register + 1) (depth - (register + 1)) key))) fails)
 
 or_step : (o : Option ℕ) (b : Bool) (p : ℕ) (rest : Option ℕ) → option_or (option_or o (cond b (Some p) None)) rest ≡ option_or o (cond b (Some p) rest)
 or_step None true p rest = refl
@@ -40,10 +40,10 @@ or_step (Some x) b p rest = refl
 
 -- the first place that passes, with one place more
 pub first_so_far : (t : ℕ → Bool) (slots register depth : ℕ) (key : Row) → register < depth → (o : Option ℕ) →
-    option_or (option_or o (cond (t (place_in slots key register)) (Some (place_in slots key register)) None)) (find t (places_from slots (register + 1) (depth - (register + 1)) key))
+    option_or (option_or o (cond (t (place_for slots key register)) (Some (place_for slots key register)) None)) (find t (places_from slots (register + 1) (depth - (register + 1)) key))
     ≡ option_or o (find t (places_from slots register (depth - register) key))
 first_so_far t slots register depth key within o =
-    or_step o (t (place_in slots key register)) (place_in slots key register) (find t (places_from slots (register + 1) (depth - (register + 1)) key))
+    or_step o (t (place_for slots key register)) (place_for slots key register) (find t (places_from slots (register + 1) (depth - (register + 1)) key))
     ∙ ap (option_or o) (sym (place_first t slots register depth key within))
 
 pub or_within : (P : ℕ → Type 0) (o : Option ℕ) (b : Bool) (p : ℕ) → IfSome o P → P p → IfSome (option_or o (cond b (Some p) None)) P
@@ -69,8 +69,8 @@ register_within depth register slots h =
 places_within : (slots depth : ℕ) (key : Row) (p : ℕ) → 1 ≤ slots → (count register : ℕ) → register + count ≤ depth → list_any (nat_eq p) (places_from slots register count key) ≡ true → p < depth * slots
 places_within slots depth key p some zero register room among = absurd (false≢true among)
 places_within slots depth key p some (suc count) register room among =
-    by_test (nat_eq p (place_in slots key register))
-    (λ is. let here : p ≡ place_in slots key register = nat_same p (place_in slots key register) is in
+    by_test (nat_eq p (place_for slots key register))
+    (λ is. let here : p ≡ place_for slots key register = nat_same p (place_for slots key register) is in
     let low : register < depth = omega arith in
     omega (arith, register_within depth register slots low, mod_below (row_hash register key) slots some))
     (λ isnt. places_within slots depth key p some count (register + 1) (omega arith) (sym (ap (λ b. b || list_any (nat_eq p) (places_from slots (register + 1) count key)) isnt) ∙ among))

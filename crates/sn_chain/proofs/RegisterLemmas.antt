@@ -16,7 +16,7 @@ use Rattle.sn_chain.specs.Registers.{cell, holds, held_place, empty_place, stepp
 use Rattle.sn_chain.specs.Chain.{answer_at, answer_for}
 use Rattle.sn_chain.proofs.ResidenceLemmas.{seats, offered, Keeps, unplaced, residents_keep, residents_push, resides_later, among, empty_is, free_own, residents_seated}
 
-some_of : {X : Type 0} (o : Option X) → is_some o ≡ true → (x : X) × (o ≡ Some x)
+pub some_of : {X : Type 0} (o : Option X) → is_some o ≡ true → (x : X) × (o ≡ Some x)
 some_of None e = absurd (false≢true e)
 some_of (Some x) e = (x, refl)
 
@@ -28,7 +28,7 @@ none_map : {X Y : Type 0} (f : X → Y) (o : Option X) → is_none (option_map f
 none_map f None = refl
 none_map f (Some x) = refl
 
-none_at : {X : Type 0} (n p : ℕ) → get_or {A = Option X} (replicate n None) p None ≡ None
+pub none_at : {X : Type 0} (n p : ℕ) → get_or {A = Option X} (replicate n None) p None ≡ None
 none_at zero p = refl
 none_at (suc n) zero = refl
 none_at (suc n) (suc p) = none_at n p

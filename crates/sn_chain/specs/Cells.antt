@@ -1,6 +1,7 @@
 use Rattle.std.specs.Prelude.{◌≡◌, ℕ, ◌*◌, ◌≤◌, List, map, length, Option, Some, None, if◌then◌else◌, nat_eq}
 use Rattle.std.specs.List.{AllByRecursion}
 use Rattle.sn_base.specs.Groups.{Row}
+use Rattle.sn_chain.specs.Chain.{KeysStand}
 use Rattle.sn_chain.specs.declared.cell.Cell.{Cell}
 
 -- what a cell holds in a round: its key and value, where it was taken in that round
@@ -19,7 +20,7 @@ pub record IsCell (has : ℕ → Type 0) (round : ℕ) (c : Cell) : Type 0 where
   pub no_later : c.round ≤ round
   pub had : has c.value
 
--- the cells of so many registers with so many slots each
+-- the cells of so many registers with so many slots each. A key of the round stands at one of its places, and once
 pub record AreCells (has : ℕ → Type 0) (depth slots round : ℕ) (cells : List Cell) : Type 0 where
   pub some_depth : 1 ≤ depth
   pub most_depth : depth ≤ 4
@@ -28,3 +29,4 @@ pub record AreCells (has : ℕ → Type 0) (depth slots round : ℕ) (cells : Li
   pub first_round : 1 ≤ round
   pub long : length cells ≡ depth * slots
   pub each : AllByRecursion (IsCell has round) cells
+  pub stand : KeysStand depth slots (all_shown_by round cells)

@@ -1,18 +1,18 @@
 use Rattle.std.specs.Prelude.{◌≡◌, ℕ, ◌+◌, ◌*◌, ◌<◌, List, map, fold, replicate, Bool, true, false, nat_eq, slice_index, refl, Option, Some, None}
 use Rattle.std.specs.Option.{option_map}
 use Rattle.std.specs.Map.{lookup}
-use Rattle.std.specs.List.{range_with_len}
+use Rattle.std.specs.List.{list_any, range_with_len}
 use Rattle.std.specs.Coded.{Coded, code_by, coded×, coded_ℕ, coded_list, coded_option}
 use Rattle.sn_base.specs.Groups.{Row, same_row, values_at, paired}
 use Rattle.sn_base.specs.Slot.{slot}
 use Rattle.sn_chain.specs.Residence.{residents, resides}
-use Rattle.sn_chain.specs.Registers.{held_place, empty_place, put}
+use Rattle.sn_chain.specs.Registers.{cell, held_place, empty_place, put}
 use Rattle.sn_chain.specs.declared.offer.Offer.{Offer}
 use Rattle.sn_chain.specs.declared.offer.Offer.TheVariants.{New, Held, Over}
 
 -- a key's place in a register: slot s of register i is place i * slots + s
-abbrev pub place_in : ℕ → Row → ℕ → ℕ
-place_in slots key register = register * slots + slot register key slots
+abbrev pub place_for : ℕ → Row → ℕ → ℕ
+place_for slots key register = register * slots + slot register key slots
 
 -- the slots of a key, one for each register
 abbrev pub AreSlots : ℕ → ℕ → Row → List ℕ → Type 0
@@ -20,7 +20,7 @@ AreSlots depth slots key at = (register : ℕ) → register < depth → slice_in
 
 -- a key's places in so many registers from this one on
 abbrev pub places_from : ℕ → ℕ → ℕ → Row → List ℕ
-places_from slots register count key = map (place_in slots key) (range_with_len register count)
+places_from slots register count key = map (place_for slots key) (range_with_len register count)
 
 -- a key's places, register by register
 abbrev pub places_of : ℕ → ℕ → Row → List ℕ
@@ -52,6 +52,11 @@ chain_code {F = F} code =
 -- a chain that holds nothing
 abbrev pub empty_chain : {F : Type 0} → F → ℕ → ℕ → ChainState F
 empty_chain fold depth slots = record { fold = fold; depth = depth; slots = slots; cells = replicate (depth * slots) None }
+
+-- each key that the cells hold stands at one of its own places, and no two cells hold one key
+pub record KeysStand (depth slots : ℕ) (cells : List (Option (Row × ℕ))) : Type 0 where
+  pub own : (p : ℕ) (e : Row × ℕ) → cell cells p ≡ Some e → list_any (nat_eq p) (places_of depth slots e.0) ≡ true
+  pub once : (p q : ℕ) (d e : Row × ℕ) → cell cells p ≡ Some d → cell cells q ≡ Some e → d.0 ≡ e.0 → p ≡ q
 
 -- the place that holds a key
 abbrev pub holder : {F : Type 0} → ChainState F → Row → Option ℕ

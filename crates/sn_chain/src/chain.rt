@@ -1,8 +1,9 @@
 //! A chain of registers.
-ghost use Rattle.std.specs.Prelude.{◌≡◌, ◌≤◌, length, map, IfOk, IfSome};
+ghost use Rattle.std.specs.Prelude.{◌≡◌, ◌≤◌, ℕ, length, map, IfOk, IfSome};
 ghost use Rattle.sn_chain.specs.Cells.{forgotten};
 ghost use Rattle.std.specs.Option.{ForSome};
-ghost use Rattle.sn_chain.specs.Chain.{AreSlots, empty_chain, after_offer, answer_at, holder, vacancy};
+ghost use Rattle.sn_base.specs.Groups.{Row};
+ghost use Rattle.sn_chain.specs.Chain.{AreSlots, KeysStand, empty_chain, after_offer, answer_at, holder, vacancy};
 ghost use Rattle.sn_chain.specs.Registers.{cell};
 
 use crate::cell::Cell;
@@ -116,11 +117,21 @@ impl<F: Fold> Chain<F> {
     pub fn get(&self, place: u32) -> Option<(Row, u64)>
         ensures value { result ≡ cell self.now.cells place }
         ensures had { IfSome result (λ e. F.takes self.now.fold e.1) }
+        ensures held { IfSome result (λ e. holder self.now e.0 ≡ Some place) }
     {
         match self.cells.get(place as usize) {
             Some(cell) => cell.shown(self.round),
             None => None,
         }
+    }
+
+    /// What holds of every chain, however it came to be: each key that it holds stands at one of its own places, at no
+    /// other, and it is found there. This says so, and does nothing.
+    pub fn keys_stand(&self)
+        ensures stand { KeysStand self.now.depth self.now.slots self.now.cells }
+        ensures found { (p : ℕ) (e : Row × ℕ) → cell self.now.cells p ≡ Some e → holder self.now e.0 ≡ Some p }
+    {
+        let _ = &self.cells;
     }
 
     /// How many places there are: `slots` for each register. Takes no memory.

@@ -4,7 +4,7 @@ ghost use Rattle.std.specs.Option.{ForSome};
 ghost use Rattle.sn_base.specs.Groups.{same_row};
 ghost use Rattle.sn_base.specs.Slot.{slot};
 ghost use Rattle.sn_chain.specs.Cells.{all_shown_by};
-ghost use Rattle.sn_chain.specs.Chain.{AreSlots, place_in, places_of};
+ghost use Rattle.sn_chain.specs.Chain.{AreSlots, place_for, places_of};
 ghost use Rattle.sn_chain.specs.Found.{found_at, IsWithin};
 ghost use Rattle.sn_chain.specs.Registers.{held_place, empty_place};
 
@@ -28,7 +28,7 @@ fn place(register: u32, key: &Row, slots: u32, known: Option<&[u32; 4]>) -> usiz
     requires some { 1 ≤ slots }
     requires most { slots ≤ 65536 }
     requires known { ForSome known (λ at. slice_index at.now register ≡ slot register key.now slots) }
-    ensures value { result ≡ place_in slots key.now register }
+    ensures value { result ≡ place_for slots key.now register }
     ensures within { result < register * slots + slots }
 {
     let slot = match known {

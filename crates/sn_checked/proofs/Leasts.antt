@@ -1,7 +1,7 @@
 -- A cost and a tree without a fault leave no plan that fits and sends fewer items.
 use Rattle.std.proofs.Common.{◌≡◌, ℕ, ◌≤◌, List, Option, None, Some, Ok, refl, sym, ◌∙◌, arith}
 use Rattle.sn_chosen.specs.Chosen.{plan_choices}
-use Rattle.sn_chosen.specs.Theorems.{AreRising, IsNamed}
+use Rattle.sn_chosen.specs.Theorems.{HaveRisingNumbers, IsNamed}
 use Rattle.sn_chosen.proofs.Wholes.{plans_named}
 use Rattle.sn_choices.proofs.Easy.{plans_laws}
 use Rattle.sn_fit.proofs.FitLaws.{fits_none}
@@ -42,7 +42,7 @@ none_flawed : (o : Option TreeFault) → Ok tt ≡ flaw_verdict o → o ≡ None
 none_flawed None e = refl
 none_flawed (Some f) e = ok_err e
 
-module _ (s : Switch) (queries : List TypedQuery) (given : List Given) (rising : AreRising s queries) (entries : List Entry) (fits : Fits queries s entries) where
+module _ (s : Switch) (queries : List TypedQuery) (given : List Given) (rising : HaveRisingNumbers s queries) (entries : List Entry) (fits : Fits queries s entries) where
   abbrev plans : Space
   plans = trained_plans s queries given
 

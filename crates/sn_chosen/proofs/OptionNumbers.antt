@@ -10,7 +10,7 @@ use Rattle.sn_switch.specs.declared.switch.Switch.{Switch}
 use Rattle.sn_types.specs.declared.typed_query.TypedBranch.{TypedBranch}
 use Rattle.sn_types.specs.Cuts.{stateful}
 use Rattle.sn_fit.specs.Paths.{is_among}
-use Rattle.sn_fit.specs.Placing.{IsRising}
+use Rattle.sn_base.specs.Rising.{IsRising}
 use Rattle.sn_choices.specs.Options.{Setting, size_lists, options, option_at}
 use Rattle.sn_chosen.specs.Numbers.{is_setting, option_number}
 use Rattle.sn_chosen.proofs.PathNumbers.{equal_or, same_equal}

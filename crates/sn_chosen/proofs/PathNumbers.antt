@@ -5,7 +5,7 @@ use Rattle.std.specs.List.{AllByRecursion}
 use Rattle.std.proofs.Math.Nat.{eq-or-lt_of_le, pow-suc}
 use Rattle.std.proofs.lemmas.Bool.Decides.{nat_tests}
 use Rattle.sn_fit.specs.Paths.{is_among, last_from}
-use Rattle.sn_fit.specs.Placing.{IsRising}
+use Rattle.sn_base.specs.Rising.{IsRising}
 use Rattle.sn_fit.specs.Fits.{IsPath}
 use Rattle.sn_choices.specs.Options.{path_of}
 use Rattle.sn_chosen.specs.Numbers.{path_number}

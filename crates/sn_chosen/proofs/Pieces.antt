@@ -10,7 +10,8 @@ use Rattle.sn_types.specs.declared.typed_query.TypedBranch.{TypedBranch}
 use Rattle.sn_types.specs.Cuts.{stateful}
 use Rattle.sn_types.specs.Typed.{branch_of, blank_branch}
 use Rattle.sn_fit.specs.Paths.{Place, piece_place}
-use Rattle.sn_fit.specs.Placing.{IsRising, Table, stateless, HasPlacing, HasGaps}
+use Rattle.sn_fit.specs.Placing.{Table, stateless, HasPlacing, HasGaps}
+use Rattle.sn_base.specs.Rising.{IsRising}
 use Rattle.sn_fit.specs.Tables.{is_first, op_tables}
 use Rattle.sn_fit.specs.Registers.{Register, metadata, op_registers}
 use Rattle.sn_fit.specs.Pieces.{tables_of, registers_of, metadata_of, on_branch, piece_branch, entry_registers, entry_metadata}

@@ -8,7 +8,7 @@ use Rattle.std.proofs.lemmas.Bool.Decides.{nat_tests}
 use Rattle.sn_types.specs.declared.typed_query.TypedQuery.{TypedQuery}
 use Rattle.sn_types.specs.declared.typed_query.TypedBranch.{TypedBranch}
 use Rattle.sn_fit.specs.Paths.{is_among, Place, at_place}
-use Rattle.sn_fit.specs.Placing.{IsRising}
+use Rattle.sn_base.specs.Rising.{IsRising}
 use Rattle.sn_fit.specs.Tables.{is_first}
 use Rattle.sn_choices.specs.Options.{path_of}
 use Rattle.sn_choices.specs.Planning.{PieceTask, level_pieces, path_pieces}

@@ -22,13 +22,12 @@ use Rattle.sn_types.proofs.Levels.{level_some}
 use Rattle.sn_types.proofs.Sources.{source_of, later_none}
 use Rattle.sn_switch.specs.declared.switch.Switch.{Switch}
 use Rattle.sn_switch.specs.Texts.{IsSwitch}
-use Rattle.sn_switch_rules.specs.Wholes as wholes
-use Rattle.sn_fit.specs.Placing.{IsRising}
+use Rattle.sn_base.specs.Rising.{IsRising}
 use Rattle.sn_choices.specs.Settings.{IsNarrow}
 use Rattle.sn_choices.proofs.Narrow.{typed_narrow}
 use Rattle.sn_chosen.specs.Bounds.{HasBounds}
 use Rattle.sn_chosen.specs.Chosen.{HasLevels}
-use Rattle.sn_chosen.specs.Theorems.{AreRising}
+use Rattle.sn_chosen.specs.Theorems.{HaveRisingNumbers}
 use Rattle.sn_chosen.proofs.Places.{all_each}
 
 -- ---- lists by their places
@@ -96,9 +95,5 @@ module _ (window : ℕ) (queries : List TypedQuery) (t : ∥ IsTyped window quer
 pub typed_bounds : (window : ℕ) (queries : List TypedQuery) → ∥ IsTyped window queries ∥₁ → AllByRecursion HasBounds queries
 typed_bounds window queries t = all_places HasBounds blank_query queries (λ q lt. bounds window queries t q lt)
 
-pub all_rising : (s : Switch) (window : ℕ) (queries : List TypedQuery) → ∥ IsTyped window queries ∥₁ → IsSwitch s → AreRising s queries
-all_rising s window queries t is = record { levels = all_each HasBounds HasLevels (λ q h. h.levels) queries (typed_bounds window queries t); sizes = sizes s.slots is.slots.rising }
-  where
-    sizes : (xs : List ℕ) → wholes.IsRising xs → IsRising xs
-    sizes [] h = tt
-    sizes (x ∷ xs) h = (h.0, sizes xs h.1)
+pub all_rising : (s : Switch) (window : ℕ) (queries : List TypedQuery) → ∥ IsTyped window queries ∥₁ → IsSwitch s → HaveRisingNumbers s queries
+all_rising s window queries t is = record { levels = all_each HasBounds HasLevels (λ q h. h.levels) queries (typed_bounds window queries t); sizes = is.slots.rising }

@@ -6,7 +6,7 @@ use Rattle.std.proofs.Math.Nat.{eq-or-lt_of_le}
 use Rattle.sn_plan_rules.specs.declared.plan.Entry.{Entry}
 use Rattle.sn_switch.specs.declared.switch.Switch.{Switch}
 use Rattle.sn_types.specs.declared.typed_query.TypedQuery.{TypedQuery}
-use Rattle.sn_fit.specs.Placing.{IsRising}
+use Rattle.sn_base.specs.Rising.{IsRising}
 use Rattle.sn_fit.specs.Registers.{Register, count_in, bits_in}
 use Rattle.sn_fit.specs.Pieces.{entry_registers, entry_metadata, all_registers, all_metadata}
 use Rattle.sn_fit.specs.Fits.{IsPath, IsEntryOf, AreEntriesOf, PieceFits, PiecesFit, StageFits, Fits}
@@ -17,7 +17,7 @@ use Rattle.sn_choices.specs.Planning.{Taken, is_past, is_full, is_too_much, regi
 use Rattle.sn_chosen.specs.Numbers.{path_number}
 use Rattle.sn_chosen.specs.Chosen.{path_seats, plan_at, piece_choices, entry_choices, plan_choices, HasLevels}
 use Rattle.sn_chosen.specs.Costs.{entry_cost, plan_cost}
-use Rattle.sn_chosen.specs.Theorems.{plans_of, NamesPlan, IsNamed, AreRising}
+use Rattle.sn_chosen.specs.Theorems.{plans_of, NamesPlan, IsNamed, HaveRisingNumbers}
 use Rattle.sn_chosen.proofs.PathNumbers.{path_of_fits, number_below, number_of_path, path_of_number}
 use Rattle.sn_chosen.proofs.Pieces.{seat_of, ByGaps, pieces_run, pieces_split}
 use Rattle.sn_chosen.proofs.Readings.{seats_known, seats_placed, GoodEntry, good_entry, plan_read}
@@ -157,7 +157,7 @@ module _ (s : Switch) (entry : ℕ → ℕ → ℕ → ℕ → ℕ) (by_gaps : B
 
   -- ---- both ways
 
-  plan_is_named : (qs : List TypedQuery) (es : List Entry) → AreRising s qs → Fits qs s es → IsNamed s entry qs es
+  plan_is_named : (qs : List TypedQuery) (es : List Entry) → HaveRisingNumbers s qs → Fits qs s es → IsNamed s entry qs es
   plan_is_named qs es rising fits =
       let run = plan_run 0 qs es rising.levels fits.paths fits.pieces in
       record {
@@ -171,7 +171,7 @@ module _ (s : Switch) (entry : ℕ → ℕ → ℕ → ℕ → ℕ) (by_gaps : B
       }
 
   -- a list of choices that names this plan
-  named : (qs : List TypedQuery) (r : List ℕ) (es : List Entry) → AreRising s qs → r ≡ plan_choices s qs es → Fits qs s es → NamesPlan s entry qs r
+  named : (qs : List TypedQuery) (r : List ℕ) (es : List Entry) → HaveRisingNumbers s qs → r ≡ plan_choices s qs es → Fits qs s es → NamesPlan s entry qs r
   named qs r es rising is fits =
       let back : plan_at s qs r ≡ es = ap (plan_at s qs) is ∙ plan_read s qs es rising.levels fits.paths fits.pieces in
       let whole = plan_is_named qs es rising fits in
@@ -184,7 +184,7 @@ module _ (s : Switch) (entry : ℕ → ℕ → ℕ → ℕ → ℕ) (by_gaps : B
         };
       }
 
-  list_names_plan : (qs : List TypedQuery) (r : List ℕ) → AreRising s qs → IsPlan (plans_of s entry qs) r → NamesPlan s entry qs r
+  list_names_plan : (qs : List TypedQuery) (r : List ℕ) → HaveRisingNumbers s qs → IsPlan (plans_of s entry qs) r → NamesPlan s entry qs r
   list_names_plan qs r rising is =
       let run = plan_runs (planning s entry) chooses (first_tasks 0 qs) r is in
       let split = plan_split 0 qs r rising.levels rising.sizes run.0 (none_past s (taken_by (planning s entry) (first_tasks 0 qs) r) run.1) in
@@ -194,14 +194,14 @@ module _ (s : Switch) (entry : ℕ → ℕ → ℕ → ℕ → ℕ) (by_gaps : B
       kept s (taken_by (planning s entry) (first_tasks 0 qs) (plan_choices s qs split.entries)) (all_registers s.chain qs split.entries) (all_metadata qs split.entries) back.standing back.metadata fine in
       named qs r split.entries rising split.is (record { paths = split.paths; pieces = split.pieces; loads = limits.loads; meta = limits.meta })
 
-pub plans_named : (s : Switch) (entry : ℕ → ℕ → ℕ → ℕ → ℕ) (by_gaps : ByGaps) (qs : List TypedQuery) (es : List Entry) → AreRising s qs → Fits qs s es → IsNamed s entry qs es
+pub plans_named : (s : Switch) (entry : ℕ → ℕ → ℕ → ℕ → ℕ) (by_gaps : ByGaps) (qs : List TypedQuery) (es : List Entry) → HaveRisingNumbers s qs → Fits qs s es → IsNamed s entry qs es
 plans_named s entry by_gaps = plan_is_named s entry by_gaps
 
-pub lists_name_plans : (s : Switch) (entry : ℕ → ℕ → ℕ → ℕ → ℕ) (by_gaps : ByGaps) (qs : List TypedQuery) (r : List ℕ) → AreRising s qs → IsPlan (plans_of s entry qs) r → NamesPlan s entry qs r
+pub lists_name_plans : (s : Switch) (entry : ℕ → ℕ → ℕ → ℕ → ℕ) (by_gaps : ByGaps) (qs : List TypedQuery) (r : List ℕ) → HaveRisingNumbers s qs → IsPlan (plans_of s entry qs) r → NamesPlan s entry qs r
 lists_name_plans s entry by_gaps = list_names_plan s entry by_gaps
 
 -- no plan that fits costs less than that of a first least list
-pub least_is_cheapest : (s : Switch) (entry : ℕ → ℕ → ℕ → ℕ → ℕ) (by_gaps : ByGaps) (qs : List TypedQuery) (r : List ℕ) (es : List Entry) → AreRising s qs → IsFirstLeast (plans_of s entry qs) r
+pub least_is_cheapest : (s : Switch) (entry : ℕ → ℕ → ℕ → ℕ → ℕ) (by_gaps : ByGaps) (qs : List TypedQuery) (r : List ℕ) (es : List Entry) → HaveRisingNumbers s qs → IsFirstLeast (plans_of s entry qs) r
     → Fits qs s es → plan_cost s entry 0 qs (plan_at s qs r) ≤ plan_cost s entry 0 qs es
 least_is_cheapest s entry by_gaps qs r es rising least fits =
     let mine = (lists_name_plans s entry by_gaps qs r rising least.plan).one.cost in

@@ -8,7 +8,7 @@ use Rattle.sn_types.specs.declared.typed_query.TypedQuery.{TypedQuery}
 use Rattle.sn_types.specs.declared.typed_query.TypedBranch.{TypedBranch}
 use Rattle.sn_types.specs.Cuts.{stateful}
 use Rattle.sn_types.specs.Typed.{branch_of}
-use Rattle.sn_fit.specs.Placing.{IsRising}
+use Rattle.sn_base.specs.Rising.{IsRising}
 use Rattle.sn_choices.specs.Options.{Setting, option_at, path_of}
 use Rattle.sn_chosen.specs.Numbers.{path_number, option_number}
 

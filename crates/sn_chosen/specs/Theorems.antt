@@ -4,7 +4,7 @@ use Rattle.std.specs.List.{AllByRecursion}
 use Rattle.sn_plan_rules.specs.declared.plan.Entry.{Entry}
 use Rattle.sn_switch.specs.declared.switch.Switch.{Switch}
 use Rattle.sn_types.specs.declared.typed_query.TypedQuery.{TypedQuery}
-use Rattle.sn_fit.specs.Placing.{IsRising}
+use Rattle.sn_base.specs.Rising.{IsRising}
 use Rattle.sn_fit.specs.Fits.{Fits}
 use Rattle.sn_space.specs.Space.{Space, IsPlan}
 use Rattle.sn_space.specs.Agendas.{agenda_space}
@@ -33,6 +33,6 @@ pub record IsNamed (s : Switch) (entry : ℕ → ℕ → ℕ → ℕ → ℕ) (q
   pub one : AreOne s entry queries (plan_choices s queries entries) entries
 
 -- what queries and a switch keep: levels and sizes rise
-pub record AreRising (s : Switch) (queries : List TypedQuery) : Type 0 where
+pub record HaveRisingNumbers (s : Switch) (queries : List TypedQuery) : Type 0 where
   pub levels : AllByRecursion HasLevels queries
   pub sizes : IsRising s.slots

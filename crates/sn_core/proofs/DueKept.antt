@@ -11,7 +11,7 @@ use Rattle.sn_core.specs.declared.supply.Window.{Window}
 use Rattle.sn_core.specs.declared.supply.Supply.TheVariants.{Numbered, End}
 use Rattle.sn_core.specs.declared.supply.Window.TheVariants.{Idle, Begun, Closed}
 use Rattle.sn_core.specs.Needs.{first_full, first_need_that_fails, first_open, has_room, is_over, needs, needs_of_all, passes}
-use Rattle.sn_core.specs.Events.{after_event, all_started, change_at, emptied, given, kept_for, with_first, with_next, with_tuple}
+use Rattle.sn_core.specs.Events.{after_event, all_started, change_at, emptied, given, kept_for, delivered, with_next, with_tuple}
 use Rattle.sn_core.specs.Due.{all_items, and_later, answers_of, behind_window, due, fresh, items_from_start, of_window, windows_of}
 use Rattle.sn_core.specs.Standing.{IsAtWork, IsNet, Stands}
 use Rattle.sn_core.specs.Workings.{AreLawful, Workings, option_list}
@@ -77,15 +77,15 @@ module _ {Pipe Tuple Item Kept Answers : Type 0} (w : Workings Pipe Tuple Item K
 
     deliver : (lane : ℕ) (held : Option (Supply Tuple)) (window : Window) (following : List (Supply Tuple)) → Keeps (Deliver lane) held window following
     deliver lane held Idle following =
-        ap (λ ys. option_list waiting ++ ys) (same_answers w law (change_at with_first lanes lane) lanes None (windows_of (option_list held ++ following)) (change_same with_first (blank w) (blank_first w law) lanes lane))
+        ap (λ ys. option_list waiting ++ ys) (same_answers w law (change_at delivered lanes lane) lanes None (windows_of (option_list held ++ following)) (change_same delivered (blank w) (blank_first w law) lanes lane))
     deliver lane held (Closed number) following =
-        ap (λ ys. option_list waiting ++ ys) (same_answers w law (change_at with_first lanes lane) lanes (Some (number, installs)) (windows_of (option_list held ++ following)) (change_same with_first (blank w) (blank_first w law) lanes lane))
+        ap (λ ys. option_list waiting ++ ys) (same_answers w law (change_at delivered lanes lane) lanes (Some (number, installs)) (windows_of (option_list held ++ following)) (change_same delivered (blank w) (blank_first w law) lanes lane))
     deliver lane held (Begun number) following =
         let supplies : List (Supply Tuple) = option_list held ++ following in
-        ap (λ ys. option_list waiting ++ ys) (same_later (change_at with_first lanes lane) lanes number supplies supplies
-        (map (all_items w (of_window number supplies)) (change_at with_first lanes lane)) (map (all_items w (of_window number supplies)) lanes)
-        (change_same with_first (blank w) (blank_first w law) lanes lane) refl
-        (change_same with_first (all_items w (of_window number supplies)) (first_items w law (of_window number supplies)) lanes lane))
+        ap (λ ys. option_list waiting ++ ys) (same_later (change_at delivered lanes lane) lanes number supplies supplies
+        (map (all_items w (of_window number supplies)) (change_at delivered lanes lane)) (map (all_items w (of_window number supplies)) lanes)
+        (change_same delivered (blank w) (blank_first w law) lanes lane) refl
+        (change_same delivered (all_items w (of_window number supplies)) (first_items w law (of_window number supplies)) lanes lane))
 
     install : (held : Option (Supply Tuple)) (window : Window) (following : List (Supply Tuple)) → Stands w held lanes window → first_need_that_fails (with_parts held window) Install ≡ None → Keeps Install held window following
     install held Idle following stands may = some_not_none NoAnswer may

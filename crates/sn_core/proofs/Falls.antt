@@ -12,7 +12,7 @@ use Rattle.sn_core.specs.declared.supply.Window.{Window}
 use Rattle.sn_core.specs.declared.supply.Supply.TheVariants.{Numbered, End}
 use Rattle.sn_core.specs.declared.supply.Window.TheVariants.{Idle, Begun, Closed}
 use Rattle.sn_core.specs.Needs.{first_full, first_need_that_fails, first_open, has_room, is_empty, is_over, needs, needs_of_all, passes}
-use Rattle.sn_core.specs.Events.{after_event, all_started, change_at, emptied, given, kept_for, with_first, with_next, with_tuple}
+use Rattle.sn_core.specs.Events.{after_event, all_started, change_at, emptied, given, kept_for, delivered, with_next, with_tuple}
 use Rattle.sn_core.specs.Due.{behind_window, windows_of}
 use Rattle.sn_core.specs.Debt.{debt, debt_of_lanes, tuples_in, windows_in, work}
 use Rattle.sn_core.specs.Standing.{IsNet, Stands}
@@ -79,12 +79,12 @@ module _ {Pipe Tuple Item Kept Answers : Type 0} (w : Workings Pipe Tuple Item K
         (lower (debt_of_lanes w (Begun number) (change_at (with_next w) lanes lane) + 2) (debt_of_lanes w (Begun number) lanes + 2) ((2 * l + 1) * t) ((2 * l + 2) * k) (omega (arith, less)))
 
     delivers : (lane : ℕ) (window : Window) (c t k : ℕ) → passes (λ x. not (is_empty x)) lanes lane ≡ true →
-        suc (whole (debt_of_lanes w window (change_at with_first lanes lane) + c) (length (change_at with_first lanes lane)) t k) ≤ whole (debt_of_lanes w window lanes + c) (length lanes) t k
+        suc (whole (debt_of_lanes w window (change_at delivered lanes lane) + c) (length (change_at delivered lanes lane)) t k) ≤ whole (debt_of_lanes w window lanes + c) (length lanes) t k
     delivers lane window c t k some =
         let l : ℕ = length lanes in
-        let less = changed_one w law window with_first (λ x. not (is_empty x)) (first_debt w law window) lanes lane some in
-        subst (λ (m : ℕ). suc (whole (debt_of_lanes w window (change_at with_first lanes lane) + c) m t k) ≤ whole (debt_of_lanes w window lanes + c) l t k) (sym (length_changed with_first lanes lane))
-        (lower (debt_of_lanes w window (change_at with_first lanes lane) + c) (debt_of_lanes w window lanes + c) ((2 * l + 1) * t) ((2 * l + 2) * k) (omega (arith, less)))
+        let less = changed_one w law window delivered (λ x. not (is_empty x)) (first_debt w law window) lanes lane some in
+        subst (λ (m : ℕ). suc (whole (debt_of_lanes w window (change_at delivered lanes lane) + c) m t k) ≤ whole (debt_of_lanes w window lanes + c) l t k) (sym (length_changed delivered lanes lane))
+        (lower (debt_of_lanes w window (change_at delivered lanes lane) + c) (debt_of_lanes w window lanes + c) ((2 * l + 1) * t) ((2 * l + 2) * k) (omega (arith, less)))
 
     deliver : (lane : ℕ) (held : Option (Supply Tuple)) (window : Window) (following : List (Supply Tuple)) → Works (Deliver lane) held window following
     deliver lane held Idle following stands may =

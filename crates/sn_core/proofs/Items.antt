@@ -5,7 +5,7 @@ use Rattle.std.proofs.lemmas.Bool.{false≢true}
 use Rattle.sn_core.specs.Nets.{Lane}
 use Rattle.sn_core.specs.declared.supply.Frame.{Frame}
 use Rattle.sn_core.specs.declared.supply.Frame.TheVariants.{Row, Last}
-use Rattle.sn_core.specs.Events.{all_started, row_frames, with_first, with_first_of, with_next, with_next_of, with_start, with_tuple}
+use Rattle.sn_core.specs.Events.{all_started, row_frames, delivered, delivered_of, with_next, with_next_of, with_start, with_tuple}
 use Rattle.sn_core.specs.Due.{all_items, items_from_start, items_in}
 use Rattle.sn_core.specs.Standing.{HasEndLast, IsAtRest, IsAtWork}
 use Rattle.sn_core.specs.Workings.{AreLawful, Workings, after_all, gives, items_of, option_list}
@@ -41,13 +41,13 @@ module _ {Pipe Tuple Item Kept Answers : Type 0} (w : Workings Pipe Tuple Item K
   pub next_items : (lane : Lane Pipe Item) → all_items w [] (with_next w lane) ≡ all_items w [] lane
   next_items lane = next_items_of lane (w.left lane.pipe) refl
 
-  first_items_of : (tuples : List Tuple) (lane : Lane Pipe Item) (frames : List (Frame Item)) → lane.ring ≡ frames → all_items w tuples (with_first_of lane frames) ≡ all_items w tuples lane
+  first_items_of : (tuples : List Tuple) (lane : Lane Pipe Item) (frames : List (Frame Item)) → lane.ring ≡ frames → all_items w tuples (delivered_of lane frames) ≡ all_items w tuples lane
   first_items_of tuples lane [] e = refl
   first_items_of tuples lane (Row item ∷ frames) e =
       ap (λ xs. xs ++ items_of w lane.pipe tuples) (append_assoc lane.taken (item ∷ []) (items_in frames)) ∙ ap (λ fs. lane.taken ++ items_in fs ++ items_of w lane.pipe tuples) (sym e)
   first_items_of tuples lane (Last ∷ frames) e = ap (λ fs. lane.taken ++ items_in fs ++ items_of w lane.pipe tuples) (sym e)
 
-  pub first_items : (tuples : List Tuple) (lane : Lane Pipe Item) → all_items w tuples (with_first lane) ≡ all_items w tuples lane
+  pub first_items : (tuples : List Tuple) (lane : Lane Pipe Item) → all_items w tuples (delivered lane) ≡ all_items w tuples lane
   first_items tuples lane = first_items_of tuples lane lane.ring refl
 
   start_items : (tuples : List Tuple) (kept : Kept) (lane : Lane Pipe Item) → IsAtRest lane → all_items w tuples (with_start w kept lane) ≡ items_of w (w.start lane.pipe kept) tuples

@@ -14,7 +14,7 @@ use Rattle.sn_core.specs.declared.supply.Supply.TheVariants.{Numbered, End}
 use Rattle.sn_core.specs.declared.supply.Frame.TheVariants.{Row, Last}
 use Rattle.sn_core.specs.declared.supply.Window.TheVariants.{Idle, Begun, Closed}
 use Rattle.sn_core.specs.Needs.{first_full, first_need_that_fails, first_open, has_room, is_empty, is_over, needs, needs_of_all, passes}
-use Rattle.sn_core.specs.Events.{after_event, all_started, change_at, emptied, given, kept_for, row_frames, window_from, with_first, with_first_of, with_next, with_next_of, with_start, with_tuple, without_answers}
+use Rattle.sn_core.specs.Events.{after_event, all_started, change_at, emptied, given, kept_for, row_frames, window_from, delivered, delivered_of, with_next, with_next_of, with_start, with_tuple, without_answers}
 use Rattle.sn_core.specs.Due.{fresh}
 use Rattle.sn_core.specs.Standing.{HasEndLast, IsAtRest, IsAtWork, IsNet, IsNoEarlier, Stands}
 use Rattle.sn_core.specs.Workings.{AreLawful, Workings}
@@ -95,7 +95,7 @@ module _ {Pipe Tuple Item Kept Answers : Type 0} (w : Workings Pipe Tuple Item K
   next_work : (over : Bool) → over ≡ true → (lane : Lane Pipe Item) → not lane.ended ≡ true → IsAtWork w over lane → IsAtWork w over (with_next w lane)
   next_work over late lane is_open h = next_work_of over late lane (w.left lane.pipe) refl is_open h
 
-  first_work_of : (over : Bool) (lane : Lane Pipe Item) (frames : List (Frame Item)) → lane.ring ≡ frames → IsAtWork w over lane → IsAtWork w over (with_first_of lane frames)
+  first_work_of : (over : Bool) (lane : Lane Pipe Item) (frames : List (Frame Item)) → lane.ring ≡ frames → IsAtWork w over lane → IsAtWork w over (delivered_of lane frames)
   first_work_of over lane [] ring h = h
   first_work_of over lane (Row item ∷ frames) ring h = record {
     end = row_taken lane.ended lane.closed item frames (subst (HasEndLast lane.ended lane.closed) ring h.end);
@@ -110,7 +110,7 @@ module _ {Pipe Tuple Item Kept Answers : Type 0} (w : Workings Pipe Tuple Item K
     unread = h.unread;
   }
 
-  first_work : (over : Bool) (lane : Lane Pipe Item) → not (is_empty lane) ≡ true → IsAtWork w over lane → IsAtWork w over (with_first lane)
+  first_work : (over : Bool) (lane : Lane Pipe Item) → not (is_empty lane) ≡ true → IsAtWork w over lane → IsAtWork w over (delivered lane)
   first_work over lane some h = first_work_of over lane lane.ring refl h
 
   -- a lane at rest has no frame
@@ -210,22 +210,22 @@ module _ {Pipe Tuple Item Kept Answers : Type 0} (w : Workings Pipe Tuple Item K
         let some = need_holds (passes (λ x. not (is_empty x)) lanes lane) (Empty lane) None may in
         record {
           some_room = h.some_room;
-          some_lane = long (change_at with_first lanes lane) (length_changed with_first lanes lane) h.some_lane;
-          stands = (h.stands.0, all_changed (λ x. fresh w w.nothing x ≡ x) (λ x. not (is_empty x)) with_first (λ x full e. none_first x full (fresh_ring x e)) lanes lane some.0 h.stands.1);
+          some_lane = long (change_at delivered lanes lane) (length_changed delivered lanes lane) h.some_lane;
+          stands = (h.stands.0, all_changed (λ x. fresh w w.nothing x ≡ x) (λ x. not (is_empty x)) delivered (λ x full e. none_first x full (fresh_ring x e)) lanes lane some.0 h.stands.1);
         }
     deliver lane held (Closed number) h may =
         let some = need_holds (passes (λ x. not (is_empty x)) lanes lane) (Empty lane) None may in
         record {
           some_room = h.some_room;
-          some_lane = long (change_at with_first lanes lane) (length_changed with_first lanes lane) h.some_lane;
-          stands = (h.stands.0, all_changed IsAtRest (λ x. not (is_empty x)) with_first (λ x full rest. none_first x full rest.ring) lanes lane some.0 h.stands.1);
+          some_lane = long (change_at delivered lanes lane) (length_changed delivered lanes lane) h.some_lane;
+          stands = (h.stands.0, all_changed IsAtRest (λ x. not (is_empty x)) delivered (λ x full rest. none_first x full rest.ring) lanes lane some.0 h.stands.1);
         }
     deliver lane held (Begun number) h may =
         let some = need_holds (passes (λ x. not (is_empty x)) lanes lane) (Empty lane) None may in
         record {
           some_room = h.some_room;
-          some_lane = long (change_at with_first lanes lane) (length_changed with_first lanes lane) h.some_lane;
-          stands = (h.stands.0, all_changed (IsAtWork w (is_over number held)) (λ x. not (is_empty x)) with_first (first_work (is_over number held)) lanes lane some.0 h.stands.1);
+          some_lane = long (change_at delivered lanes lane) (length_changed delivered lanes lane) h.some_lane;
+          stands = (h.stands.0, all_changed (IsAtWork w (is_over number held)) (λ x. not (is_empty x)) delivered (first_work (is_over number held)) lanes lane some.0 h.stands.1);
         }
 
     close : (held : Option (Supply Tuple)) (window : Window) → Stays CloseWindow held window

@@ -3,7 +3,7 @@ use Rattle.std.proofs.Common.{◌≡◌, ℕ, List, [], ◌∷◌, map, Option, 
 use Rattle.sn_core.specs.Nets.{Lane}
 use Rattle.sn_core.specs.declared.supply.Frame.{Frame}
 use Rattle.sn_core.specs.declared.supply.Frame.TheVariants.{Row, Last}
-use Rattle.sn_core.specs.Events.{all_started, emptied, with_first, with_first_of, with_next, with_next_of, with_start, with_tuple}
+use Rattle.sn_core.specs.Events.{all_started, emptied, delivered, delivered_of, with_next, with_next_of, with_start, with_tuple}
 use Rattle.sn_core.specs.Due.{Tuples, answers_in, answers_of, fresh, items_from_start, kept_from}
 use Rattle.sn_core.specs.Workings.{AreLawful, Workings, items_of}
 
@@ -26,12 +26,12 @@ module _ {Pipe Tuple Item Kept Answers : Type 0} (w : Workings Pipe Tuple Item K
   pub blank_next : (lane : Lane Pipe Item) → blank w (with_next w lane) ≡ blank w lane
   blank_next lane = blank_next_of lane (w.left lane.pipe)
 
-  blank_first_of : (lane : Lane Pipe Item) (frames : List (Frame Item)) → blank w (with_first_of lane frames) ≡ blank w lane
+  blank_first_of : (lane : Lane Pipe Item) (frames : List (Frame Item)) → blank w (delivered_of lane frames) ≡ blank w lane
   blank_first_of lane [] = refl
   blank_first_of lane (Row item ∷ frames) = refl
   blank_first_of lane (Last ∷ frames) = refl
 
-  pub blank_first : (lane : Lane Pipe Item) → blank w (with_first lane) ≡ blank w lane
+  pub blank_first : (lane : Lane Pipe Item) → blank w (delivered lane) ≡ blank w lane
   blank_first lane = blank_first_of lane lane.ring
 
   pub blank_emptied : (lane : Lane Pipe Item) → blank w (emptied lane) ≡ blank w lane

@@ -9,7 +9,7 @@ use Rattle.sn_core.specs.declared.supply.Window.{Window}
 use Rattle.sn_core.specs.declared.supply.Frame.TheVariants.{Row, Last}
 use Rattle.sn_core.specs.declared.supply.Window.TheVariants.{Idle, Begun, Closed}
 use Rattle.sn_core.specs.Needs.{is_empty}
-use Rattle.sn_core.specs.Events.{all_started, change_at, emptied, row_frames, with_first, with_first_of, with_next, with_next_of, with_start, with_tuple}
+use Rattle.sn_core.specs.Events.{all_started, change_at, emptied, row_frames, delivered, delivered_of, with_next, with_next_of, with_start, with_tuple}
 use Rattle.sn_core.specs.Debt.{debt_of_lanes, end_debt, lane_debt}
 use Rattle.sn_core.specs.Workings.{AreLawful, Workings, may_add}
 
@@ -57,14 +57,14 @@ module _ {Pipe Tuple Item Kept Answers : Type 0} (w : Workings Pipe Tuple Item K
   pub next_debt : (number : ℕ) (lane : Lane Pipe Item) → not lane.ended ≡ true → suc (lane_debt w (Begun number) (with_next w lane)) ≤ lane_debt w (Begun number) lane
   next_debt number lane running = next_debt_of number lane (w.left lane.pipe) refl running
 
-  first_debt_of : (window : Window) (lane : Lane Pipe Item) (frames : List (Frame Item)) → lane.ring ≡ frames → not (is_empty lane) ≡ true → suc (lane_debt w window (with_first_of lane frames)) ≤ lane_debt w window lane
+  first_debt_of : (window : Window) (lane : Lane Pipe Item) (frames : List (Frame Item)) → lane.ring ≡ frames → not (is_empty lane) ≡ true → suc (lane_debt w window (delivered_of lane frames)) ≤ lane_debt w window lane
   first_debt_of window lane [] ring some = absurd (false≢true (sym (ap (λ (fs : List (Frame Item)). not (is_empty (record lane { ring = fs }))) ring) ∙ some))
   first_debt_of window lane (Row item ∷ frames) ring some =
       let long : length lane.ring ≡ suc (length frames) = ap length ring in omega (arith, long)
   first_debt_of window lane (Last ∷ frames) ring some =
       let long : length lane.ring ≡ suc (length frames) = ap length ring in omega (arith, long)
 
-  pub first_debt : (window : Window) (lane : Lane Pipe Item) → not (is_empty lane) ≡ true → suc (lane_debt w window (with_first lane)) ≤ lane_debt w window lane
+  pub first_debt : (window : Window) (lane : Lane Pipe Item) → not (is_empty lane) ≡ true → suc (lane_debt w window (delivered lane)) ≤ lane_debt w window lane
   first_debt window lane some = first_debt_of window lane lane.ring refl some
 
   pub emptied_debt : (number : ℕ) (lane : Lane Pipe Item) → lane_debt w (Closed number) (emptied lane) ≤ lane_debt w (Begun number) lane

@@ -25,13 +25,13 @@ row_frames (Some item) = Row item ∷ []
 
 module _ {Pipe Item : Type 0} where
   -- the first frame of a lane moves to the engine
-  abbrev pub with_first_of : Lane Pipe Item → List (Frame Item) → Lane Pipe Item
-  with_first_of lane [] = lane
-  with_first_of lane (Row item ∷ frames) = record lane { ring = frames; taken = lane.taken ++ item ∷ [] }
-  with_first_of lane (Last ∷ frames) = record lane { ring = frames; closed = true }
+  abbrev pub delivered_of : Lane Pipe Item → List (Frame Item) → Lane Pipe Item
+  delivered_of lane [] = lane
+  delivered_of lane (Row item ∷ frames) = record lane { ring = frames; taken = lane.taken ++ item ∷ [] }
+  delivered_of lane (Last ∷ frames) = record lane { ring = frames; closed = true }
 
-  abbrev pub with_first : Lane Pipe Item → Lane Pipe Item
-  with_first lane = with_first_of lane lane.ring
+  abbrev pub delivered : Lane Pipe Item → Lane Pipe Item
+  delivered lane = delivered_of lane lane.ring
 
   -- the engine has nothing of a lane
   abbrev pub emptied : Lane Pipe Item → Lane Pipe Item
@@ -100,7 +100,7 @@ module _ {Pipe Tuple Item Kept Answers : Type 0} (w : Workings Pipe Tuple Item K
   abbrev pub after_event : Net Pipe Tuple Item Kept Answers → Event → Net Pipe Tuple Item Kept Answers
   after_event net Packet = after_packet net net.held
   after_event net (ReadOut lane) = record net { lanes = change_at (with_next w) net.lanes lane }
-  after_event net (Deliver lane) = record net { lanes = change_at with_first net.lanes lane }
+  after_event net (Deliver lane) = record net { lanes = change_at delivered net.lanes lane }
   after_event net CloseWindow = after_close net net.window
   after_event net Install = after_install net net.window
 

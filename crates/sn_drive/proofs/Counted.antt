@@ -2,7 +2,7 @@
 use Rattle.std.proofs.Common.{◌≡◌, ℕ, zero, suc, ◌+◌, ◌-◌, ◌<◌, ◌≤◌, List, [], ◌∷◌, ◌++◌, filter, map, length, take, drop, slice_get, slice_set, get_or, Bool, true, false, cond, is_none, Option, None, Some, refl, ap, sym, ◌∙◌, arith}
 use Rattle.std.specs.List.{range_with_len}
 use Rattle.std.proofs.lemmas.Bool.{eqb-true, false≢true, le-ltb}
-use Rattle.std.proofs.lemmas.List.{append-nil, append_assoc, length-append, length-drop, take_all, take-append-le, drop-append-le}
+use Rattle.std.proofs.lemmas.List.{append_assoc, drop_all, length-append, length-drop, take_all, take_more_set, take-append-le, drop-append-le}
 use Rattle.std.proofs.lemmas.List.Elements.{filter-append}
 use Rattle.std.proofs.lemmas.List.FromFn.{filter_of_map_range_with_len_more}
 use Rattle.std.proofs.lemmas.Option.{slice_get-get_or}
@@ -15,22 +15,12 @@ use Rattle.sn_core.specs.declared.supply.Supply.{Supply}
 use Rattle.sn_core.specs.declared.supply.Supply.TheVariants.{Numbered, End}
 use Rattle.sn_core.specs.declared.supply.Window.{Window}
 use Rattle.sn_core.specs.declared.supply.Window.TheVariants.{Idle, Begun, Closed}
+use Rattle.sn_core.proofs.Tests.{need_holds}
 use Rattle.sn_machine.specs.States.{State}
 use Rattle.sn_drive.specs.Schedules.{events_of, may_happen}
 use Rattle.sn_drive.specs.Picking.{AreCounted}
 use Rattle.sn_drive.specs.declared.picking.Enabled.{Enabled}
-
--- one more is put behind so many
-take_set : {X : Type 0} (xs : List X) (n : ℕ) (x : X) → n < length xs → take (suc n) (slice_set xs n x) ≡ take n xs ++ x ∷ []
-take_set [] n x lt = absurd (omega (arith, lt))
-take_set (y ∷ ys) zero x lt = refl
-take_set (y ∷ ys) (suc n) x lt = ap (λ zs. y ∷ zs) (take_set ys n x (omega (arith, lt)))
-
-drop_all : {X : Type 0} (n : ℕ) (xs : List X) → length xs ≤ n → drop n xs ≡ []
-drop_all zero [] le = refl
-drop_all zero (x ∷ xs) le = absurd (omega (arith, le))
-drop_all (suc n) [] le = refl
-drop_all (suc n) (x ∷ xs) le = drop_all n xs (omega (arith, le))
+use Rattle.sn_drive.proofs.Owing.{is_none_none}
 
 module _ {X : Type 0} (events : List X) (event : X) (count over : ℕ) (next : List X) (is : count ≡ length events) (kept : take (count - over) next ≡ take 8 (drop over events)) (eight : length next ≡ 8) where
   both : length (events ++ event ∷ []) ≡ length events + 1
@@ -54,11 +44,11 @@ module _ {X : Type 0} (events : List X) (event : X) (count over : ℕ) (next : L
   pub put : (place : ℕ) → count ≡ over + place → place < 8 → take (count + 1 - over) (slice_set next place event) ≡ take 8 (drop over (events ++ event ∷ []))
   put place at few =
       ap (λ n. take n (slice_set next place event)) one
-      ∙ take_set next place event (omega (arith, few, eight))
+      ∙ take_more_set next place event (omega (arith, few, eight))
       ∙ ap (λ xs. xs ++ event ∷ []) (ap (λ n. take n next) same ∙ kept ∙ take_all 8 (drop over events) (omega (arith, left, is, at, few)))
       ∙ sym (ap (λ xs. take 8 xs) (one_more (omega (arith, at))) ∙ take_all 8 (drop over events ++ event ∷ []) (omega (arith, length-append (drop over events) (event ∷ []), left, is, at, few)))
     where
-      one : count + 1 - over ≡ suc place
+      one : count + 1 - over ≡ place + 1
       one = omega (arith, at)
 
       same : place ≡ count - over
@@ -89,10 +79,6 @@ not_over (Begun number) None e = refl
 not_over (Begun number) (Some End) e = absurd (false≢true e)
 not_over (Begun number) (Some (Numbered other tuple)) e = let same = eqb-true other number e in le-ltb number other (omega (arith, same))
 
-needs_hold : (b : Bool) (why : Why) (others : Option Why) → is_none (needs b why others) ≡ true → (b ≡ true) × (is_none others ≡ true)
-needs_hold true why others e = (refl, e)
-needs_hold false why others e = absurd (false≢true e)
-
 needs_fail : (b : Bool) (why : Why) (others : Option Why) → b ≡ false → is_none (needs b why others) ≡ false
 needs_fail false why others e = refl
 needs_fail true why others e = absurd (false≢true (sym e))
@@ -104,13 +90,6 @@ module _ (s : State) where
   passing_first : (event : Event) (events : List Event) (b : Bool) → may_happen s event ≡ b → passing (event ∷ events) ≡ cond b (event ∷ passing events) (passing events)
   passing_first event events b is = ap (λ c. cond c (event ∷ passing events) (passing events)) is
 
-  -- one that may happen, and one that may not
-  pub may : (events : List Event) (event : Event) → may_happen s event ≡ true → events ++ event ∷ [] ≡ events ++ passing (event ∷ [])
-  may events event is = ap (λ xs. events ++ xs) (sym (passing_first event [] true is))
-
-  pub may_not : (events : List Event) (event : Event) → may_happen s event ≡ false → events ≡ events ++ passing (event ∷ [])
-  may_not events event is = sym (ap (λ xs. events ++ xs) (passing_first event [] false is) ∙ append-nil events)
-
   -- behind one lane more
   pub lane_more : (of : ℕ → Event) (events : List Event) (lane : ℕ) → (events ++ passing (map of (range_with_len 0 lane))) ++ passing (of lane ∷ []) ≡ events ++ passing (map of (range_with_len 0 (lane + 1)))
   lane_more of events lane =
@@ -120,8 +99,8 @@ module _ (s : State) where
   -- where a packet may go in, no lane is read out
   no_read_out : may_happen s Packet ≡ true → (lane : ℕ) → may_happen s (ReadOut lane) ≡ false
   no_read_out is lane =
-      let begun = needs_hold (is_begun_with (λ number. is_tuple s.held) s.window) NoInput _ is in
-      let of_it = needs_hold (is_begun_with (λ number. is_of number s.held) s.window) Reading _ begun.1 in
+      let begun = need_holds (is_begun_with (λ number. is_tuple s.held) s.window) NoInput _ (is_none_none _ is) in
+      let of_it = need_holds (is_begun_with (λ number. is_of number s.held) s.window) Reading _ begun.1 in
       needs_fail (is_begun_with (λ number. is_over number s.held) s.window) NotReading _ (not_over s.window s.held of_it.0)
 
   none_read_out : may_happen s Packet ≡ true → (first count : ℕ) → passing (map ReadOut (range_with_len first count)) ≡ []

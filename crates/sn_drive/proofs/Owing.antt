@@ -9,7 +9,7 @@ use Rattle.sn_core.proofs.GoesOn.{can_go_on}
 use Rattle.sn_core.proofs.StandingKept.{event_keeps_net, give_keeps_net, length_started, take_keeps_net}
 use Rattle.sn_core.proofs.Tests.{length_changed, need_holds}
 use Rattle.sn_core.specs.Debt.{CanGoOn, work}
-use Rattle.sn_core.specs.Events.{after_close, after_event, after_install, after_packet, given, kept_for_held, with_first, with_next, with_tuple, without_answers}
+use Rattle.sn_core.specs.Events.{after_close, after_event, after_install, after_packet, given, kept_for_held, delivered, with_next, with_tuple, without_answers}
 use Rattle.sn_core.specs.Events as core
 use Rattle.sn_core.specs.Needs.{first_need_that_fails, has_room, is_begun_with, is_done, is_empty, is_over, needs, passes, wants}
 use Rattle.sn_core.specs.Standing.{IsNet, IsNoEarlier}
@@ -56,7 +56,7 @@ after_install_lanes w law s (Closed number) = length_started w law s.lanes (kept
 event_lanes : (w : Works) (law : AreLawful w) (s : State) (event : Event) → length (after_event w s event).lanes ≡ length s.lanes
 event_lanes w law s Packet = after_packet_lanes w s s.held
 event_lanes w law s (ReadOut lane) = length_changed (with_next w) s.lanes lane
-event_lanes w law s (Deliver lane) = length_changed with_first s.lanes lane
+event_lanes w law s (Deliver lane) = length_changed delivered s.lanes lane
 event_lanes w law s CloseWindow = after_close_lanes w s s.window
 event_lanes w law s Install = after_install_lanes w law s s.window
 

@@ -10,7 +10,7 @@ use Rattle.sn_base.specs.Groups.{Row}
 use Rattle.sn_emit.specs.Plans.{Placed, items_of, pieces_from, placed}
 use Rattle.sn_fit.specs.Fits.{AreEntriesOf, IsEntryOf}
 use Rattle.sn_fit.specs.Paths.{is_among, place_in}
-use Rattle.sn_fit.specs.Placing.{IsRising}
+use Rattle.sn_base.specs.Rising.{IsRising}
 use Rattle.sn_plan_rules.specs.declared.plan.Entry.{Entry}
 use Rattle.sn_plan_rules.specs.declared.plan.Piece.{Piece}
 use Rattle.sn_refine.specs.Refined.{Windows, answered, before, level_rows, part_at, refined_parts, refined_rows}

@@ -7,7 +7,7 @@ use Rattle.sn_emit.specs.Plans.{Placed, lane_of, pieces_from, placed}
 use Rattle.sn_engine.specs.Intakes.{intake_for, is_lane}
 use Rattle.sn_fit.specs.Fits.{AreEntriesOf, IsEntryOf}
 use Rattle.sn_fit.specs.Paths.{Place, is_among, level_places, piece_place, place_in, places}
-use Rattle.sn_fit.specs.Placing.{IsRising}
+use Rattle.sn_base.specs.Rising.{IsRising}
 use Rattle.sn_plan_rules.specs.declared.plan.Entry.{Entry}
 use Rattle.sn_plan_rules.specs.declared.plan.Piece.{Piece}
 use Rattle.sn_types.specs.declared.typed_query.TypedBranch.{TypedBranch}

@@ -5,7 +5,8 @@ use Rattle.sn_base.specs.declared.lane.Lane.{Lane}
 use Rattle.sn_base.proofs.Lists.{nat_self, some_same, none_some}
 use Rattle.sn_emit.specs.Plans.{Placed}
 use Rattle.sn_engine.specs.declared.intake.Intake.{Intake}
-use Rattle.sn_engine.specs.Intakes.{after_frame, is_lane, with_first}
+use Rattle.sn_engine.specs.Intakes.{after_frame, is_lane}
+use Rattle.sn_base.specs.Changed.{with_first}
 use Rattle.sn_report.specs.Frames.{lane_of as lane_in}
 use Rattle.sn_report.specs.declared.frame.Frame.{Frame}
 use Rattle.sn_report.specs.declared.frame.Frame.TheVariants.{Row, End}

@@ -16,7 +16,7 @@ use Rattle.sn_plan_rules.specs.declared.plan.Entry.{Entry}
 use Rattle.sn_plan_rules.specs.declared.plan.Piece.{Piece}
 use Rattle.sn_fit.specs.Fits.{AreEntriesOf, IsEntryOf, OnBranch, PieceFits, PiecesFit}
 use Rattle.sn_fit.specs.Paths.{Place, is_among, level_places, piece_place, place_in, places}
-use Rattle.sn_fit.specs.Placing.{IsRising}
+use Rattle.sn_base.specs.Rising.{IsRising}
 use Rattle.sn_fit.specs.Pieces.{piece_branch, prefix_of}
 use Rattle.sn_pipe.specs.Pipes.{IsCoarser}
 use Rattle.sn_types.specs.Cuts.{stateful}

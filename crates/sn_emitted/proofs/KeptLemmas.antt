@@ -11,7 +11,7 @@ use Rattle.sn_driver.proofs.Apart.{levels_known, place_is}
 use Rattle.sn_emit.specs.Plans.{Placed, level_before, pieces_from, placed}
 use Rattle.sn_fit.specs.Fits.{AreEntriesOf, IsEntryOf}
 use Rattle.sn_fit.specs.Paths.{is_among, place_in}
-use Rattle.sn_fit.specs.Placing.{IsRising}
+use Rattle.sn_base.specs.Rising.{IsRising}
 use Rattle.sn_plan_rules.specs.declared.plan.Entry.{Entry}
 use Rattle.sn_plan_rules.specs.declared.plan.Piece.{Piece}
 use Rattle.sn_refine.specs.Refined.{Windows, before, refined_rows}

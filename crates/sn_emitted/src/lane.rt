@@ -10,6 +10,7 @@ ghost use Rattle.sn_engine.specs.Intakes.{after_frame};
 ghost use Rattle.sn_report.specs.Frames.{spelling};
 ghost use Rattle.sn_types.specs.declared.typed_query.TypedQuery.{TypedQuery};
 
+use sn_base::bytes::push_bytes;
 use sn_base::memory::Memory;
 use sn_emit::lanes::Emitter;
 use sn_engine::engine::Engine;
@@ -24,10 +25,7 @@ fn push_frame(text: &mut Vec<u8>, frame: &Frame) -> Result<(), Memory>
 {
     let mut spelled = [0; MOST_BYTES];
     let length = encode(frame, &mut spelled);
-    match text.extend_from_slice(&spelled[..length]) {
-        Ok(()) => Ok(()),
-        Err(_) => Err(Memory),
-    }
+    push_bytes(text, &spelled[..length])
 }
 
 /// The engine takes a frame of a lane, and its bytes are added to the text.

@@ -4,7 +4,8 @@ use Rattle.sn_report.specs.declared.frame.Frame.{Frame}
 use Rattle.sn_report.specs.declared.frame.Frame.TheVariants.{Row, End}
 use Rattle.sn_types.specs.declared.typed_query.TypedQuery.{TypedQuery}
 use Rattle.sn_engine.specs.declared.intake.Intake.{Intake}
-use Rattle.sn_engine.specs.Intakes.{after_frame, is_lane, is_row, total, with_end, with_first, with_item}
+use Rattle.sn_engine.specs.Intakes.{after_frame, is_lane, is_row, total, with_end, with_item}
+use Rattle.sn_base.specs.Changed.{with_first}
 use Rattle.sn_engine.specs.Taking.{AreTaken}
 use Rattle.sn_engine.proofs.Firsts.{sum_same}
 use Rattle.sn_engine.proofs.Lanes.{item_counted}

@@ -14,7 +14,8 @@ use Rattle.sn_engine.specs.declared.fault.TakeFault.{TakeFault}
 use Rattle.sn_engine.specs.declared.fault.TakeFault.TheVariants.{Stranger, AfterEnd, Window}
 use Rattle.sn_engine.specs.declared.intake.Intake.{Intake}
 use Rattle.sn_engine.specs.Answers.{window_of}
-use Rattle.sn_engine.specs.Intakes.{intake_for, intakes_of, is_lane, with_first, with_item, with_end, emptied, has_ended, agrees, first_open, EndsAgree}
+use Rattle.sn_engine.specs.Intakes.{intake_for, intakes_of, is_lane, with_item, with_end, emptied, has_ended, agrees, first_open, EndsAgree}
+use Rattle.sn_base.specs.Changed.{with_first}
 use Rattle.sn_engine.specs.Taking.{is_above, end_fault, take_fault}
 use Rattle.sn_engine.proofs.Firsts.{found_none}
 

@@ -17,7 +17,8 @@ use Rattle.sn_fit.specs.Fits.{AreEntriesOf, IsEntryOf, HasShape}
 use Rattle.sn_fit.proofs.Bounds.{few_in_all}
 use Rattle.sn_fit.specs.Paths.{Place, piece_place, level_places, places}
 use Rattle.sn_engine.specs.declared.intake.Intake.{Intake}
-use Rattle.sn_engine.specs.Intakes.{intake_for, intakes_of, is_lane, items_at, with_first, with_item, with_end, emptied, total, IsIntake, AreIntakes}
+use Rattle.sn_engine.specs.Intakes.{intake_for, intakes_of, is_lane, items_at, with_item, with_end, emptied, total, IsIntake, AreIntakes}
+use Rattle.sn_base.specs.Changed.{with_first}
 use Rattle.sn_engine.proofs.Firsts.{all_changed, all_found, all_kept, found_passes, sum_changed, sum_cons, three_parts}
 use Rattle.sn_engine.proofs.Columns.{columns_of}
 use Rattle.sn_engine.specs.Taking.{has_columns, row_fault, take_fault}

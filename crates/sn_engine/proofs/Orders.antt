@@ -19,7 +19,8 @@ use Rattle.sn_types.specs.declared.typed_query.TypedQuery.{TypedQuery}
 use Rattle.sn_types.specs.Typed.{IsTyped, branch_at, query_at}
 use Rattle.sn_engine.specs.declared.intake.Intake.{Intake}
 use Rattle.sn_engine.specs.Answers.{part_of, parts_of}
-use Rattle.sn_engine.specs.Intakes.{after_frame, is_lane, items_at, lane_at, total, with_end, with_first, with_item, AreIntakes, IsIntake}
+use Rattle.sn_engine.specs.Intakes.{after_frame, is_lane, items_at, lane_at, total, with_end, with_item, AreIntakes, IsIntake}
+use Rattle.sn_base.specs.Changed.{with_first}
 use Rattle.sn_engine.proofs.Firsts.{sum_cons}
 use Rattle.sn_engine.proofs.Lanes.{items_at_of}
 

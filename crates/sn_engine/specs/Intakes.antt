@@ -1,10 +1,12 @@
 -- What came of the lanes of a plan.
-use Rattle.std.specs.Prelude.{◌≡◌, ℕ, ◌+◌, ◌<◌, List, [], ◌∷◌, ◌++◌, map, length, sum_by, Bool, true, false, not, ◌&&◌, ◌||◌, ◌==◌, position, unwrap_or, Option, None, Some, is_none, is_some, if◌then◌else◌}
+use Rattle.std.specs.Prelude.{◌≡◌, ℕ, ◌+◌, ◌<◌, List, [], ◌∷◌, ◌++◌, map, length, sum_by, Bool, true, false, not, ◌&&◌, ◌||◌, ◌==◌, position, Option, None, Some, is_none, is_some, if◌then◌else◌}
 use Rattle.std.specs.List.{AllByRecursion, AllByRecursion-prop, find, list_all, list_any}
 use Rattle.std.proofs.Math.Bool.{Bool-set}
 use Rattle.std.proofs.Math.Bridge.{le_prop}
 use Rattle.std.specs.Option.{option_map_or}
+use Rattle.sn_base.specs.Changed.{with_first}
 use Rattle.sn_base.specs.declared.lane.Lane.{Lane}
+use Rattle.sn_fit.specs.Paths.{place_in}
 use Rattle.sn_plan_rules.specs.declared.plan.Entry.{Entry}
 use Rattle.sn_plan_rules.specs.declared.plan.Piece.{Piece}
 use Rattle.sn_report.specs.declared.frame.Frame.{Frame}
@@ -17,10 +19,6 @@ use Rattle.sn_types.proofs.RowsAfter.{of_prop}
 use Rattle.sn_engine.specs.declared.intake.Intake.{Intake}
 
 -- ---- the lanes of a plan
-
--- the place of a level in a path
-abbrev pub place_in : List ℕ → ℕ → ℕ
-place_in path level = unwrap_or (position (λ other. level == other) path) 0
 
 -- a lane of which nothing has come
 abbrev pub intake_for : ℕ → List ℕ → Piece → Intake
@@ -48,11 +46,6 @@ with_end window x = record x { end = Some window }
 
 abbrev pub emptied : Intake → Intake
 emptied x = record x { items = []; end = None }
-
--- the first for which a test holds is changed
-abbrev pub with_first : {X : Type 0} → (X → Bool) → (X → X) → List X → List X
-with_first test change [] = []
-with_first test change (x ∷ xs) = if test x then change x ∷ xs else x ∷ with_first test change xs
 
 -- the lanes after a frame
 abbrev pub after_frame : List Intake → Frame → List Intake

@@ -11,7 +11,8 @@ use Rattle.sn_base.specs.declared.lane.Lane.{Lane}
 use Rattle.sn_base.proofs.Lists.{by_test, nat_same, nat_self}
 use Rattle.sn_engine.specs.declared.fault.TakeFault.TheVariants as takes
 use Rattle.sn_engine.specs.declared.intake.Intake.{Intake}
-use Rattle.sn_engine.specs.Intakes.{after_frame, agrees, emptied, first_open, has_started, is_lane, with_end, with_first, with_item}
+use Rattle.sn_engine.specs.Intakes.{after_frame, agrees, emptied, first_open, has_started, is_lane, with_end, with_item}
+use Rattle.sn_base.specs.Changed.{with_first}
 use Rattle.sn_engine.specs.Taking.{end_fault, is_above, row_fault, take_fault}
 use Rattle.sn_engine.proofs.Firsts.{found_none, three_parts}
 use Rattle.sn_report.specs.declared.frame.Frame.{Frame}

@@ -28,7 +28,7 @@ use Rattle.sn_types.specs.Typing.{typed_query, typed_branch, levels_of}
 use Rattle.sn_types.proofs.Facts.{length-typed_ops}
 use Rattle.sn_fit.specs.Capped.{AreSmall}
 use Rattle.sn_fit.specs.Paths.{path_misfit, is_among, piece_place, level_places, places}
-use Rattle.sn_fit.specs.Placing.{IsRising}
+use Rattle.sn_base.specs.Rising.{IsRising}
 use Rattle.sn_types.specs.Cuts.{is_stateful, stateful}
 use Rattle.sn_fit.specs.Registers.{Register, in_stage, register_bits, taken, op_registers, standing_in, count_in, bits_in, row_width, width_if, is_map_op, metadata}
 use Rattle.sn_fit.specs.Pieces.{piece_misfit, first_misfit, prefix_of, registers_of, metadata_of, on_branch, piece_branch, entry_registers, all_registers, entry_metadata, all_metadata}

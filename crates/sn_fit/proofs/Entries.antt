@@ -10,7 +10,7 @@ use Rattle.sn_plan_rules.specs.declared.plan.Piece.{Piece}
 use Rattle.sn_types.specs.declared.typed_query.TypedQuery.{TypedQuery}
 use Rattle.sn_walk.specs.Names.{same_name}
 use Rattle.sn_fit.specs.declared.misfit.Misfit.{Misfit}
-use Rattle.sn_fit.specs.Placing.{IsRising}
+use Rattle.sn_base.specs.Rising.{IsRising}
 use Rattle.sn_fit.specs.Paths.{rises, rises_from, is_among, last_of, same_level, is_path, Place, piece_place, places, is_at, are_at, is_entry, wrong_entry, path_misfit}
 use Rattle.sn_fit.specs.Fits.{IsPath, IsEntryOf, AreEntriesOf}
 use Rattle.sn_fit.proofs.Tests.{both, then, and_true, all_true, is_below, is_equal}

@@ -7,7 +7,8 @@ use Rattle.sn_switch.specs.declared.switch.Switch.{Switch}
 use Rattle.sn_types.specs.declared.typed_query.TypedQuery.{TypedQuery}
 use Rattle.sn_types.specs.declared.typed_query.TypedBranch.{TypedBranch}
 use Rattle.sn_fit.specs.Paths.{is_among, last_of, piece_place, places}
-use Rattle.sn_fit.specs.Placing.{HasPlacing, IsRising}
+use Rattle.sn_fit.specs.Placing.{HasPlacing}
+use Rattle.sn_base.specs.Rising.{IsRising}
 use Rattle.sn_types.specs.Cuts.{stateful}
 use Rattle.sn_fit.specs.Pieces.{prefix_of, tables_of, piece_branch, all_registers, all_metadata}
 use Rattle.sn_fit.specs.Registers.{Register, count_in, bits_in}

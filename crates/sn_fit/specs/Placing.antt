@@ -1,6 +1,7 @@
 -- Placing the tables of a piece in the stages of a switch.
 use Rattle.std.specs.Prelude.{◌≡◌, ℕ, suc, ◌≤◌, ◌<◌, List, [], ◌∷◌}
 use Rattle.std.specs.List.{AllByRecursion}
+use Rattle.sn_base.specs.Rising.{IsRising}
 
 -- a table of a piece: one without state, or a register with its written stage
 pub data Table : Type 0 where
@@ -18,11 +19,6 @@ StandAt [] [] = Unit {0}
 StandAt [] (p ∷ ps) = ⊥
 StandAt (t ∷ ts) [] = ⊥
 StandAt (t ∷ ts) (p ∷ ps) = MayStand t p × StandAt ts ps
-
--- each stage is below all behind it
-abbrev pub IsRising : List ℕ → Type 0
-IsRising [] = Unit {0}
-IsRising (p ∷ ps) = AllByRecursion (λ q. p < q) ps × IsRising ps
 
 -- A placing: a strictly rising list of stages of the switch, one for each table in order, with the written stage at each register.
 pub record IsPlacing (stages : ℕ) (tables : List Table) (places : List ℕ) : Type 0 where

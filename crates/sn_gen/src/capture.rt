@@ -4,8 +4,9 @@ ghost use Rattle.std.specs.List.{flat_map};
 ghost use Rattle.sn_gen.specs.Generated.{capture_bytes, first_packets, packet_count, record_bytes};
 
 use crate::draws::Draws;
-use crate::frame::{push_bytes, push_record};
+use crate::frame::push_record;
 use crate::packet::next_packet;
+use sn_base::bytes::push_bytes;
 use sn_base::memory::Memory;
 use sn_base::seq::Seq;
 use std::alloc::Global;

@@ -5,6 +5,7 @@ ghost use Rattle.sn_gen.specs.Generated.{frame_bytes, ip_bytes, record_bytes, re
 
 use crate::packet::Packet;
 use crate::segment::Segment;
+use sn_base::bytes::push_bytes;
 use sn_base::memory::Memory;
 
 /// How many bytes are captured of each packet.
@@ -12,16 +13,6 @@ const CAPTURED: u32 = 54;
 
 /// From 02:00:00:00:00:01 to 02:00:00:00:00:02, IPv4.
 const ETHERNET: [u8; 14] = [2, 0, 0, 0, 0, 2, 2, 0, 0, 0, 0, 1, 8, 0];
-
-/// Adds these bytes.
-pub fn push_bytes(file: &mut Vec<u8>, bytes: &[u8]) -> Result<(), Memory>
-    ensures { OnOk result (file.new.items ≡ file.old.items ++ bytes.now) }
-{
-    match file.extend_from_slice(bytes) {
-        Ok(()) => Ok(()),
-        Err(_) => Err(Memory),
-    }
-}
 
 fn push_ip(file: &mut Vec<u8>, segment: &Segment) -> Result<(), Memory>
     ensures { OnOk result (file.new.items ≡ file.old.items ++ ip_bytes segment.now) }

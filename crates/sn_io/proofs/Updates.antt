@@ -4,7 +4,7 @@ use Rattle.std.proofs.lemmas.List.Quantifiers.{position-Some}
 use Rattle.std.proofs.lemmas.List.Sums.{fails_before_first}
 use Rattle.std.proofs.lemmas.Bool.{false≢true, ltb-false}
 use Rattle.std.proofs.lemmas.List.Folds.{Any-from_list_any}
-use Rattle.sn_io.specs.Known.{with_first}
+use Rattle.sn_base.specs.Changed.{with_first}
 
 here : {X : Type 0} (test : X → Bool) (change : X → X) (x : X) (xs : List X) → test x ≡ true → with_first test change (x ∷ xs) ≡ change x ∷ xs
 here test change x xs passes = ap (λ b. cond b (change x ∷ xs) (x ∷ with_first test change xs)) passes

@@ -1,6 +1,7 @@
 use Rattle.std.specs.Prelude.{◌≡◌, ℕ, ◌+◌, ◌-◌, ◌^◌, List, [], ◌∷◌, Bool, nat_eq, nat_lt, if◌then◌else◌, None, Some}
 use Rattle.std.specs.Cmp.Lexicographic.{pointwise}
 use Rattle.std.specs.FinMap.{from_entries}
+use Rattle.sn_base.specs.Changed.{with_first}
 use Rattle.sn_io.specs.Counts.{ByName}
 
 -- names, each with its count
@@ -18,11 +19,6 @@ counted n = if nat_lt n (2 ^ 64 - 1) then n + 1 else n
 -- whether an entry has this name
 abbrev pub is_named : {X : Type 0} → List ℕ → (List ℕ × X) → Bool
 is_named name entry = pointwise nat_eq entry.0 name
-
--- the list with its first item that passes a test changed
-abbrev pub with_first : {X : Type 0} → (X → Bool) → (X → X) → List X → List X
-with_first test change [] = []
-with_first test change (x ∷ xs) = if test x then change x ∷ xs else x ∷ with_first test change xs
 
 -- the first count of this name is one more
 abbrev pub raised : List ℕ → Known → Known

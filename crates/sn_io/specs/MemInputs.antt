@@ -7,7 +7,8 @@ use Rattle.std.specs.List.{list_any}
 use Rattle.sn_io.specs.declared.inputs.InputFault.{InputFault}
 use Rattle.sn_io.specs.declared.inputs.InputFault.TheVariants.{Failed, Missing}
 use Rattle.sn_io.specs.Counts.{ByName}
-use Rattle.sn_io.specs.Known.{Known, counts_of, counted, with_first}
+use Rattle.sn_io.specs.Known.{Known, counts_of, counted}
+use Rattle.sn_base.specs.Changed.{with_first}
 
 -- a file: its name, its count of faults, and its bytes
 pub record FileState : Type 0 where

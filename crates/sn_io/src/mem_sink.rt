@@ -65,10 +65,18 @@ impl MemSink {
     {
         self.held.as_slice()
     }
+}
+
+impl Sink for MemSink {
+    ghost written = { λ s. Some s.bytes };
+
+    ghost faults = { λ s. s.faults };
+
+    ghost empty_takes = { λ _. 0 };
 
     /// Takes as much of the piece as the room holds. It fails exactly where it is to, or where bytes come and the
     /// room is used up.
-    pub fn take_front(&mut self, piece: &[u8]) -> Result<usize, Failed>
+    fn write(&mut self, piece: &[u8]) -> Result<usize, Failed>
         ensures answer { result ≡ write_answer self.old piece.now }
         ensures after { self.new ≡ after_write self.old piece.now }
     {
@@ -85,17 +93,5 @@ impl MemSink {
             Ok(()) => Ok(count),
             Err(_) => unreachable!(),
         }
-    }
-}
-
-impl Sink for MemSink {
-    ghost written = { λ s. Some s.bytes };
-
-    ghost faults = { λ s. s.faults };
-
-    ghost empty_takes = { λ _. 0 };
-
-    fn write(&mut self, piece: &[u8]) -> Result<usize, Failed> {
-        self.take_front(piece)
     }
 }

@@ -10,23 +10,14 @@ use sn_gen::capture::capture;
 use sn_gen::job::{job_queries, job_switch};
 use std::alloc::Global;
 
-fn copy_of(alloc: Global, text: &[u8]) -> Result<Seq<u8>, Memory>
-    ensures { IfOk result (λ copy. copy ≡ text.now) }
-{
-    match Vec::from_slice(alloc, text) {
-        Ok(copy) => Ok(Seq::from_vec(copy)),
-        Err(_) => Err(Memory),
-    }
-}
-
 /// Makes the files of a job: the switch and the queries of all jobs, the capture of this number to train on, and that of the
 /// next number to be answered.
 pub fn job_files(alloc: Global, number: u32) -> Result<MadeFiles, Memory>
     ensures { IfOk result (λ files. held_by files ≡ job_files number) }
 {
     let mut files = MadeFiles::new(alloc);
-    files.put("switch", copy_of(alloc, job_switch())?)?;
-    files.put("queries", copy_of(alloc, job_queries())?)?;
+    files.put("switch", Seq::from_slice(alloc, job_switch())?)?;
+    files.put("queries", Seq::from_slice(alloc, job_queries())?)?;
     files.put("training", capture(alloc, number as u64)?)?;
     files.put("capture", capture(alloc, number as u64 + 1)?)?;
     Ok(files)

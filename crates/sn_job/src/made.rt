@@ -56,6 +56,6 @@ impl Inputs for MadeFiles {
     ghost same_names = { made_known };
 
     fn read_at(&mut self, name: &str, at: u64, into: &mut [u8]) -> Result<usize, InputFault> {
-        self.files.read(name, at, into)
+        self.files.read_at(name, at, into)
     }
 }

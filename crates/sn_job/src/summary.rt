@@ -8,10 +8,11 @@ ghost use Rattle.sn_types.specs.Typed.{query_at};
 ghost use Rattle.sn_job.specs.Summary.{job_line, number_line, rows_text, shown, shown_part, summary_text};
 
 use crate::summing::Summing;
+use sn_base::bytes::push_bytes;
 use sn_base::memory::Memory;
 use sn_base::seq::Seq;
 use sn_gen::capture::packet_count;
-use sn_out::pieces::{push_bytes, push_number};
+use sn_out::pieces::push_number;
 use sn_out::rows::push_rows;
 use sn_types::answers::{Answers, Part};
 use sn_types::typed::Typed;

@@ -2,7 +2,7 @@
 use Rattle.std.proofs.Common.{◌≡◌, ℕ, ◌<◌, List, [], map, drop, length, Bool, true, not, is_none, nat_lt, get_or, set, slice_get, Option, None, Some, refl, ap, sym, ◌∙◌, subst}
 use Rattle.sn_core.proofs.Tests.{all_hold, need_holds, none_passes}
 use Rattle.sn_core.specs.Events as core
-use Rattle.sn_core.specs.Events.{after_close, after_event, after_install, after_packet, all_started, closes_with, kept_for_held, window_of_held, with_first, with_next, with_tuple}
+use Rattle.sn_core.specs.Events.{after_close, after_event, after_install, after_packet, all_started, closes_with, kept_for_held, window_of_held, delivered, with_next, with_tuple}
 use Rattle.sn_core.specs.Needs.{first_full, first_need_that_fails, first_open, has_room, is_begun_with, is_of, is_over, is_tuple, needs, needs_of_all, passes}
 use Rattle.sn_core.specs.Nets.{Lane}
 use Rattle.sn_core.specs.declared.event.Event.TheVariants as event
@@ -77,8 +77,8 @@ module _ (queries : List TypedQuery) (intakes : List Intake) (sources : List Sou
           state_of room held window (set hs n next) (core.change_at (λ x. taken x (report_of h.name number frame)) xs n) installs waiting ≡ after_event works (at held window) (event.Deliver n)
       deliver_changes next number frame first pipe end ring =
           ap (λ (lanes : List (Lane PipeState Item)). record (at held window) { lanes = lanes })
-          (change_both with_first (λ x. taken x (report_of h.name number frame)) hs xs n h next matched within (λ x.
-          ap (λ (k : Holder). with_first (lane_of k x)) (sym own) ∙ first_moves h.name number h x frame h.ring.items first
+          (change_both delivered (λ x. taken x (report_of h.name number frame)) hs xs n h next matched within (λ x.
+          ap (λ (k : Holder). delivered (lane_of k x)) (sym own) ∙ first_moves h.name number h x frame h.ring.items first
           ∙ ap (λ (p : PipeState). record (lane_of next (taken x (report_of h.name number frame))) { pipe = settled p; ended = h.ended; ring = drop 1 h.ring.items }) (sym pipe)
           ∙ ap (λ (b : Bool). record (lane_of next (taken x (report_of h.name number frame))) { ended = b; ring = drop 1 h.ring.items }) (sym end)
           ∙ ap (λ (frames : List (Frame Item)). record (lane_of next (taken x (report_of h.name number frame))) { ring = frames }) (sym ring)))

@@ -13,7 +13,8 @@ use Rattle.sn_core.specs.declared.supply.Window.{Window}
 use Rattle.sn_core.specs.declared.supply.Window.TheVariants.{Idle, Begun, Closed}
 use Rattle.sn_core.proofs.Tests.{change_same}
 use Rattle.sn_driver.specs.Work.{taken}
-use Rattle.sn_engine.specs.Intakes.{after_frame, agrees, emptied, is_lane, with_first}
+use Rattle.sn_engine.specs.Intakes.{after_frame, agrees, emptied, is_lane}
+use Rattle.sn_base.specs.Changed.{with_first}
 use Rattle.sn_engine.specs.declared.intake.Intake.{Intake}
 use Rattle.sn_engine.proofs.Firsts.{three_parts}
 use Rattle.sn_report.specs.declared.frame.Frame.{Frame as Report}

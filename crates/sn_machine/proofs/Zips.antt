@@ -7,7 +7,7 @@ use Rattle.sn_base.proofs.Lists.{and_parts}
 use Rattle.sn_base.specs.declared.lane.Lane.{Lane as Name}
 use Rattle.sn_core.specs.Nets.{Lane}
 use Rattle.sn_core.proofs.Tests.{some_not_none}
-use Rattle.sn_core.specs.Events.{change_at, with_first, with_first_of}
+use Rattle.sn_core.specs.Events.{change_at, delivered, delivered_of}
 use Rattle.sn_core.specs.declared.supply.Frame.{Frame}
 use Rattle.sn_core.specs.declared.supply.Frame.TheVariants.{Row, Last}
 use Rattle.sn_core.specs.Needs.{passes}
@@ -97,11 +97,11 @@ get_same [] n d e within = absurd (omega arith)
 get_same (x ∷ xs) zero d e within = refl
 get_same (x ∷ xs) (suc n) d e within = get_same xs n d e (omega arith)
 
-none_moves : (lane : Lane PipeState Item) (frames : List (Frame Item)) → slice_get frames 0 ≡ None → with_first_of lane frames ≡ lane
+none_moves : (lane : Lane PipeState Item) (frames : List (Frame Item)) → slice_get frames 0 ≡ None → delivered_of lane frames ≡ lane
 none_moves lane [] e = refl
 none_moves lane (frame ∷ frames) e = some_not_none frame e
 
-pub nothing_moves : (hs : List Holder) (xs : List Intake) (n : ℕ) (d : Holder) → length hs ≡ length xs → n < length hs → slice_get (get_or hs n d).ring.items 0 ≡ None → change_at with_first (lanes_of hs xs) n ≡ lanes_of hs xs
+pub nothing_moves : (hs : List Holder) (xs : List Intake) (n : ℕ) (d : Holder) → length hs ≡ length xs → n < length hs → slice_get (get_or hs n d).ring.items 0 ≡ None → change_at delivered (lanes_of hs xs) n ≡ lanes_of hs xs
 nothing_moves [] xs n d e within none = absurd (omega arith)
 nothing_moves (h ∷ hs) [] n d e within none = absurd (omega (arith, e))
 nothing_moves (h ∷ hs) (x ∷ xs) zero d e within none = ap (λ lane. lane ∷ lanes_of hs xs) (none_moves (lane_of h x) h.ring.items none)
@@ -111,7 +111,7 @@ abbrev lane_with : Holder → List (Frame Item) → Intake → Lane PipeState It
 lane_with h frames x = record { pipe = settled h.pipe; ended = h.ended; ring = frames; taken = x.items; closed = is_some x.end }
 
 module _ (name : Name) (window : ℕ) (h : Holder) (x : Intake) where
-  pub first_moves : (frame : Frame Item) (frames : List (Frame Item)) → slice_get frames 0 ≡ Some frame → with_first_of (lane_of h x) frames ≡ lane_with h (drop 1 frames) (taken x (report_of name window frame))
+  pub first_moves : (frame : Frame Item) (frames : List (Frame Item)) → slice_get frames 0 ≡ Some frame → delivered_of (lane_of h x) frames ≡ lane_with h (drop 1 frames) (taken x (report_of name window frame))
   first_moves frame [] e = some_not_none frame (sym e)
-  first_moves frame (Row item ∷ frames) e = subst (λ (f : Frame Item). with_first_of (lane_of h x) (Row item ∷ frames) ≡ lane_with h frames (taken x (report_of name window f))) (ap (λ o. unwrap_or o frame) e) refl
-  first_moves frame (Last ∷ frames) e = subst (λ (f : Frame Item). with_first_of (lane_of h x) (Last ∷ frames) ≡ lane_with h frames (taken x (report_of name window f))) (ap (λ o. unwrap_or o frame) e) refl
+  first_moves frame (Row item ∷ frames) e = subst (λ (f : Frame Item). delivered_of (lane_of h x) (Row item ∷ frames) ≡ lane_with h frames (taken x (report_of name window f))) (ap (λ o. unwrap_or o frame) e) refl
+  first_moves frame (Last ∷ frames) e = subst (λ (f : Frame Item). delivered_of (lane_of h x) (Last ∷ frames) ≡ lane_with h frames (taken x (report_of name window f))) (ap (λ o. unwrap_or o frame) e) refl

@@ -156,7 +156,8 @@ impl Net {
         }
     }
 
-    /// Whether every need of an event holds, which names one of the lanes if it names one. Takes no memory.
+    /// Whether every need of an event holds, which names one of the lanes if it names one. Takes no memory. It is asked of each event
+    /// whenever one is picked, so it looks at the needs without saying which one fails.
     pub fn enabled(&self, event: Event) -> bool
         requires { IsOneOf (length self.now.lanes.items) event }
         ensures { result ≡ is_none (first_need_that_fails (state self.now) event) }

@@ -3,8 +3,9 @@ ghost use Rattle.std.specs.Prelude.{◌≡◌, ◌++◌, ◌<◌, length, OnOk, 
 ghost use Rattle.std.specs.List.{flat_map, AllByRecursion};
 ghost use Rattle.sn_out.specs.Text.{IsPartOf, window_words, query_words, level_words, rows_words, window_line, level_text, count_text, query_line, part_text, block_text};
 
-use crate::pieces::{push_bytes, push_emitted, push_number};
+use crate::pieces::{push_emitted, push_number};
 use crate::rows::push_rows;
+use sn_base::bytes::push_bytes;
 use sn_base::memory::Memory;
 use sn_base::name::Name;
 use sn_base::seq::Seq;

@@ -8,7 +8,7 @@ ghost use Rattle.sn_out.specs.Text.{IsPartOf};
 ghost use Rattle.sn_out.specs.Records.{eight_fields, heading_line, number_fields, part_records, record_fields, record_text, window_records};
 
 use crate::fields::{Fields, with_empty_fields, with_number, with_values};
-use crate::pieces::push_bytes;
+use sn_base::bytes::push_bytes;
 use sn_base::column::Column;
 use sn_base::memory::Memory;
 use sn_base::name::Name;

@@ -2,7 +2,8 @@
 ghost use Rattle.std.specs.Prelude.{◌≡◌, ◌++◌, OnOk, IfOk};
 ghost use Rattle.sn_out.specs.Text.{total_words, cut_words, bad_words, total_line, damage_line};
 
-use crate::pieces::{push_bytes, push_emitted, push_number};
+use crate::pieces::{push_emitted, push_number};
+use sn_base::bytes::push_bytes;
 use sn_base::memory::Memory;
 use sn_base::seq::Seq;
 use sn_pcap::packet::Ending;

@@ -4,17 +4,8 @@ ghost use Rattle.std.specs.Fmt.{decimal};
 ghost use Rattle.sn_out.specs.Text.{dotted, emitted_words, emitted_text};
 
 use itoa::Buffer;
+use sn_base::bytes::push_bytes;
 use sn_base::memory::Memory;
-
-/// Adds these bytes.
-pub fn push_bytes(text: &mut Vec<u8>, bytes: &[u8]) -> Result<(), Memory>
-    ensures { OnOk result (text.new.items ≡ text.old.items ++ bytes.now) }
-{
-    match text.extend_from_slice(bytes) {
-        Ok(()) => Ok(()),
-        Err(_) => Err(Memory),
-    }
-}
 
 /// Adds a number in decimal.
 pub fn push_number(text: &mut Vec<u8>, number: u64) -> Result<(), Memory>
@@ -32,7 +23,7 @@ fn push_dot(text: &mut Vec<u8>, number: u64) -> Result<(), Memory>
 }
 
 /// Adds an address of 32 bits, dotted.
-pub fn push_address(text: &mut Vec<u8>, address: u64) -> Result<(), Memory>
+pub(crate) fn push_address(text: &mut Vec<u8>, address: u64) -> Result<(), Memory>
     ensures { OnOk result (text.new.items ≡ text.old.items ++ dotted address) }
 {
     push_number(text, (address >> 24) % 256)?;
@@ -49,7 +40,7 @@ fn push_emitted_words(text: &mut Vec<u8>) -> Result<(), Memory>
 }
 
 /// Adds how many tuples were emitted, where that is counted.
-pub fn push_emitted(text: &mut Vec<u8>, emitted: Option<u64>) -> Result<(), Memory>
+pub(crate) fn push_emitted(text: &mut Vec<u8>, emitted: Option<u64>) -> Result<(), Memory>
     ensures { OnOk result (text.new.items ≡ text.old.items ++ emitted_text emitted) }
 {
     match emitted {

@@ -4,13 +4,14 @@ ghost use Rattle.std.specs.List.{flat_map, AllByRecursion};
 ghost use Rattle.sn_base.specs.Columns.{IsOf};
 ghost use Rattle.sn_out.specs.Text.{number_text, spaced_text, spaced_texts, numbers_text, row_line};
 
-use crate::pieces::{push_address, push_bytes, push_number};
+use crate::pieces::{push_address, push_number};
+use sn_base::bytes::push_bytes;
 use sn_base::column::Column;
 use sn_base::memory::Memory;
 use sn_base::row::Row;
 
 /// Adds a number of a column: an address dotted, another number in decimal.
-pub fn push_value(text: &mut Vec<u8>, column: &Column, number: u64) -> Result<(), Memory>
+pub(crate) fn push_value(text: &mut Vec<u8>, column: &Column, number: u64) -> Result<(), Memory>
     ensures { OnOk result (text.new.items ≡ text.old.items ++ number_text column.now number) }
 {
     if column.address {

@@ -10,7 +10,7 @@ use Rattle.sn_chosen.specs.Costs.{bits_of, is_upto}
 use Rattle.sn_cost.specs.Entries.{front_of}
 use Rattle.sn_driver.proofs.Apart.{all_index}
 use Rattle.sn_fit.specs.Paths.{is_among}
-use Rattle.sn_fit.specs.Placing.{IsRising}
+use Rattle.sn_base.specs.Rising.{IsRising}
 
 -- ---- levels by their bits
 

@@ -5,7 +5,7 @@ use Rattle.std.proofs.lemmas.List.{length-take-le, map-append}
 use Rattle.std.proofs.lemmas.List.Sums.{sum_by-append, sum_by-cons}
 use Rattle.sn_chosen.specs.Chosen.{HasLevels, option_of}
 use Rattle.sn_chosen.specs.Costs.{bits_of, entry_cost, is_upto, piece_cost, plan_cost}
-use Rattle.sn_chosen.specs.Theorems.{AreRising}
+use Rattle.sn_chosen.specs.Theorems.{HaveRisingNumbers}
 use Rattle.sn_chosen.proofs.OptionNumbers.{number_of_option}
 use Rattle.sn_chosen.proofs.Pieces.{GoodPiece, is_option}
 use Rattle.sn_chosen.proofs.Readings.{good_entry}
@@ -18,7 +18,7 @@ use Rattle.sn_emit.specs.Plans.{Placed, pieces_from, placed}
 use Rattle.sn_fit.specs.Fits.{AreEntriesOf, Fits, IsEntryOf, OnBranch, PieceFits, PiecesFit}
 use Rattle.sn_fit.specs.Paths.{is_among, place_in}
 use Rattle.sn_fit.specs.Pieces.{piece_branch}
-use Rattle.sn_fit.specs.Placing.{IsRising}
+use Rattle.sn_base.specs.Rising.{IsRising}
 use Rattle.sn_plan_rules.specs.declared.plan.Entry.{Entry}
 use Rattle.sn_plan_rules.specs.declared.plan.Piece.{Piece}
 use Rattle.sn_paid.specs.Sent.{sent_over}
@@ -136,11 +136,11 @@ module _ (s : Switch) (queries : List TypedQuery) (given : List Given) (entry : 
       ∙ ap (λ (m : ℕ). sum_by (λ (g : Given). sent own g.0) given + m) rest ∙ both
 
 -- the cost of a plan that fits is the number of items that its pieces send over the windows
-pub plan_priced : (s : Switch) (queries : List TypedQuery) (given : List Given) (entry : ℕ → ℕ → ℕ → ℕ → ℕ) (entries : List Entry) → AreRising s queries → AreCounted s queries given entry
+pub plan_priced : (s : Switch) (queries : List TypedQuery) (given : List Given) (entry : ℕ → ℕ → ℕ → ℕ → ℕ) (entries : List Entry) → HaveRisingNumbers s queries → AreCounted s queries given entry
     → Fits queries s entries → plan_cost s entry 0 queries entries ≡ sent_over s.chain queries entries given
 plan_priced s queries given entry entries rising counted fits = entries_priced s queries given entry counted 0 queries entries refl rising.levels fits.paths fits.pieces
 
 -- over the windows themselves
-pub trained_priced : (s : Switch) (queries : List TypedQuery) (given : List Given) (entries : List Entry) → AreRising s queries → Fits queries s entries
+pub trained_priced : (s : Switch) (queries : List TypedQuery) (given : List Given) (entries : List Entry) → HaveRisingNumbers s queries → Fits queries s entries
     → plan_cost s (trained_entry s queries given) 0 queries entries ≡ sent_over s.chain queries entries given
 trained_priced s queries given entries rising fits = plan_priced s queries given (trained_entry s queries given) entries rising (λ q prefix b n is. refl) fits

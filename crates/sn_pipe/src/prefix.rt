@@ -74,12 +74,12 @@ impl Prefix {
         self.level
     }
 
-    /// Takes a row, before any read-out. The answer is the item that it gives. Takes no memory.
-    pub fn take(&mut self, row: &Row) -> Option<Item>
+    /// Takes a row, before any read-out; `row` changes on the way. The answer is the item that it gives. Takes no memory.
+    pub fn take(&mut self, row: &mut Row) -> Option<Item>
         requires unread { self.old.place ≡ 0 }
-        requires can { CanPass self.old.level self.old.stages row.now }
-        ensures item { result ≡ item_from self.old.level 0 self.old.stages row.now }
-        ensures after { self.new ≡ record self.old { stages = stages_after self.old.level self.old.stages row.now } }
+        requires can { CanPass self.old.level self.old.stages row.old }
+        ensures item { result ≡ item_from self.old.level 0 self.old.stages row.old }
+        ensures after { self.new ≡ record self.old { stages = stages_after self.old.level self.old.stages row.old } }
         ensures operator { IfSome result (λ item. operator_of item.tag ≤ 12) }
     {
         pass(&mut self.stages, self.level, 0, row)

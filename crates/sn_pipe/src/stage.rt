@@ -1,5 +1,5 @@
 //! The operators of a pipe, with their registers.
-ghost use Rattle.std.specs.Prelude.{◌≡◌, Some, None, false, if◌then◌else◌};
+ghost use Rattle.std.specs.Prelude.{◌≡◌, ℕ, List, Some, None, false, unwrap_or, if◌then◌else◌};
 ghost use Rattle.sn_pipe.specs.Passing.{CanTake, passed_as};
 ghost use Rattle.sn_pipe.specs.Stages.{after_row, cleared, flows, is_new, is_over, overflows};
 
@@ -26,30 +26,27 @@ pub enum Stage {
 }
 
 /// What became of a row at a stage.
+#[derive(Clone, Copy)]
 pub(crate) enum Passed {
-    /// It flows on, as this row.
-    On(Row),
+    /// It flows on, as the row that then stands there.
+    On,
     /// It goes no further.
     Stays,
     /// Its key overflows.
     Over,
 }
 
-fn on_if(goes: bool, row: &Row) -> Passed
-    ensures { result ≡ passed_as false (if goes then Some row.now else None) }
+fn on_if(goes: bool) -> Passed
+    ensures { (row : List ℕ) → result ≡ passed_as false (if goes then Some row else None) }
 {
-    if goes {
-        Passed::On(*row)
-    } else {
-        Passed::Stays
-    }
+    if goes { Passed::On } else { Passed::Stays }
 }
 
-fn first_only(answer: Offer, row: &Row) -> Passed
-    ensures { result ≡ passed_as (is_over answer) (if is_new answer then Some row.now else None) }
+fn first_only(answer: Offer) -> Passed
+    ensures { (row : List ℕ) → result ≡ passed_as (is_over answer) (if is_new answer then Some row else None) }
 {
     match answer {
-        Offer::New => Passed::On(*row),
+        Offer::New => Passed::On,
         Offer::Held => Passed::Stays,
         Offer::Over => Passed::Over,
     }
@@ -65,19 +62,23 @@ fn folded(answer: Offer) -> Passed
 }
 
 impl Stage {
-    /// Takes a row that comes to it.
-    pub(crate) fn pass(&mut self, level: u32, row: &Row) -> Passed
-        requires { CanTake self.old row.now }
-        ensures passed { result ≡ passed_as (overflows self.old row.now) (flows level self.old row.now) }
-        ensures after { self.new ≡ after_row self.old row.now }
+    /// Takes a row that comes to it. Where it flows on, `row` is then the row that does; else it stays as it came.
+    pub(crate) fn pass(&mut self, level: u32, row: &mut Row) -> Passed
+        requires { CanTake self.old row.old }
+        ensures passed { result ≡ passed_as (overflows self.old row.old) (flows level self.old row.old) }
+        ensures row { row.new ≡ unwrap_or (flows level self.old row.old) row.old }
+        ensures after { self.new ≡ after_row self.old row.old }
     {
         match self {
-            Stage::Filter(conds) => on_if(passes(conds.as_slice(), level, row), row),
-            Stage::Map(exprs) => Passed::On(mapped(row, exprs.as_slice())),
+            Stage::Filter(conds) => on_if(passes(conds.as_slice(), level, row)),
+            Stage::Map(exprs) => {
+                *row = mapped(row, exprs.as_slice());
+                Passed::On
+            }
             Stage::Distinct(chain, spilled) => {
                 let answer = chain.offer(row, 0);
                 *spilled = *spilled || answer == Offer::Over;
-                first_only(answer, row)
+                first_only(answer)
             }
             Stage::Reduce(r, chain) => {
                 let key = columns_of(row, r.keys.as_slice());

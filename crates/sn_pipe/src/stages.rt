@@ -8,12 +8,13 @@ use crate::stage::{Passed, Stage};
 use sn_base::row::Row;
 use sn_report::frame::{Item, Tag};
 
-/// Takes a row through stages, the first of which has number `first`. The answer is the item that it gives.
-pub(crate) fn pass(stages: &mut [Stage], level: u32, first: u8, row: &Row) -> Option<Item>
+/// Takes a row through stages, the first of which has number `first`; `row` changes on the way. The answer is the item that it
+/// gives.
+pub(crate) fn pass(stages: &mut [Stage], level: u32, first: u8, row: &mut Row) -> Option<Item>
     requires few { first + length stages.old ≤ 12 }
-    requires can { CanPass level stages.old row.now }
-    ensures item { result ≡ item_from level first stages.old row.now }
-    ensures stages { stages.new ≡ stages_after level stages.old row.now }
+    requires can { CanPass level stages.old row.old }
+    ensures item { result ≡ item_from level first stages.old row.old }
+    ensures stages { stages.new ≡ stages_after level stages.old row.old }
     ensures operator { IfSome result (λ item. operator_of item.tag ≤ 12) }
 {
     let tag = Tag::At(first);
@@ -21,7 +22,7 @@ pub(crate) fn pass(stages: &mut [Stage], level: u32, first: u8, row: &Row) -> Op
         return Some(Item { tag, row: *row });
     };
     match stage.pass(level, row) {
-        Passed::On(next) => pass(behind, level, first + 1, &next),
+        Passed::On => pass(behind, level, first + 1, row),
         Passed::Stays => None,
         Passed::Over => Some(Item { tag, row: *row }),
     }

@@ -5,28 +5,20 @@ ghost use Rattle.sn_plan.specs.Texts.{IsParsed, StandsAgain};
 ghost use Rattle.sn_plan.specs.Printing.{texts, next_text, list_text, sizes_text, piece_text, entry_text, plan_text};
 
 use crate::plan::{Entry, Piece, Plan};
+use sn_base::bytes::push_bytes;
 use sn_base::memory::Memory;
 use sn_base::seq::Seq;
 use std::alloc::Global;
-
-fn put(out: &mut Vec<u8>, text: &[u8]) -> Result<(), Memory>
-    ensures { OnOk result (out.new.items ≡ out.old.items ++ text.now) }
-{
-    match out.extend_from_slice(text) {
-        Ok(()) => Ok(()),
-        Err(_) => Err(Memory),
-    }
-}
 
 /// Writes a text and then a number.
 fn put_number(alloc: Global, out: &mut Vec<u8>, text: &[u8], number: u32) -> Result<(), Memory>
     ensures { OnOk result (out.new.items ≡ out.old.items ++ text.now ++ decimal number) }
 {
-    put(out, text)?;
+    push_bytes(out, text)?;
     let Ok(digits) = number.to_string(alloc) else {
         return Err(Memory);
     };
-    put(out, digits.as_bytes())
+    push_bytes(out, digits.as_bytes())
 }
 
 fn put_more(alloc: Global, out: &mut Vec<u8>, numbers: &[u32]) -> Result<(), Memory>
@@ -43,7 +35,7 @@ fn put_list(alloc: Global, out: &mut Vec<u8>, text: &[u8], numbers: &[u32]) -> R
     ensures { OnOk result (out.new.items ≡ out.old.items ++ text.now ++ list_text numbers.now) }
 {
     match numbers {
-        [] => put(out, text),
+        [] => push_bytes(out, text),
         [first, rest @ ..] => {
             put_number(alloc, out, text, *first)?;
             put_more(alloc, out, rest)
@@ -70,7 +62,7 @@ fn put_piece(alloc: Global, out: &mut Vec<u8>, piece: &Piece) -> Result<(), Memo
     put_number(alloc, out, b" ", piece.branch)?;
     put_number(alloc, out, b" cut ", piece.cut)?;
     put_sizes(alloc, out, piece.slots.as_slice(), piece.stages.as_slice())?;
-    put(out, b";\n")
+    push_bytes(out, b";\n")
 }
 
 fn put_pieces(alloc: Global, out: &mut Vec<u8>, pieces: &[Piece]) -> Result<(), Memory>
@@ -85,10 +77,10 @@ fn put_pieces(alloc: Global, out: &mut Vec<u8>, pieces: &[Piece]) -> Result<(), 
 fn put_entry(alloc: Global, out: &mut Vec<u8>, entry: &Entry) -> Result<(), Memory>
     ensures { OnOk result (out.new.items ≡ out.old.items ++ entry_text entry.now) }
 {
-    put(out, b"query ")?;
-    put(out, entry.name.as_bytes())?;
+    push_bytes(out, b"query ")?;
+    push_bytes(out, entry.name.as_bytes())?;
     put_list(alloc, out, b" path ", entry.levels.as_slice())?;
-    put(out, b";\n")?;
+    push_bytes(out, b";\n")?;
     put_pieces(alloc, out, entry.pieces.as_slice())
 }
 
@@ -112,7 +104,7 @@ pub fn print(alloc: Global, plan: &Plan) -> Result<Seq<u8>, Memory>
     ensures again { IsParsed plan.now → IfOk result (λ text. StandsAgain text plan.now) }
 {
     let mut out = Vec::new(alloc);
-    put(&mut out, b"plan\n")?;
+    push_bytes(&mut out, b"plan\n")?;
     put_entries(alloc, &mut out, plan.entries.as_slice())?;
     Ok(Seq::from_vec(out))
 }

@@ -7,6 +7,7 @@ ghost use Rattle.sn_print.specs.Layout.{word_gap, symbol_gap, gap, last_of, put,
 ghost use Rattle.sn_print.specs.Printing.{state};
 ghost use Rattle.sn_print.specs.Layout.{word_lexeme};
 
+use sn_base::bytes::push_bytes;
 use sn_base::memory::Memory;
 use std::alloc::Global;
 
@@ -156,13 +157,8 @@ fn last_symbol(place: u8) -> Last
 fn add(text: &mut Vec<u8>, gap: &[u8], token: &[u8]) -> Result<(), Memory>
     ensures { OnOk result (text.new.items ≡ text.old.items ++ gap.now ++ token.now) }
 {
-    let Ok(()) = text.extend_from_slice(gap) else {
-        return Err(Memory);
-    };
-    let Ok(()) = text.extend_from_slice(token) else {
-        return Err(Memory);
-    };
-    Ok(())
+    push_bytes(text, gap)?;
+    push_bytes(text, token)
 }
 
 impl Printer {

@@ -1,5 +1,5 @@
 -- A typed file keeps the counts of its text.
-use Rattle.std.proofs.Common.{◌≡◌, ℕ, zero, suc, ◌<◌, ◌≤◌, List, [], ◌∷◌, map, length, true, false, not, ◌||◌, ◌&&◌, nat_lt, ◌==◌, cond, ◌⊎◌, slice_index, Option, None, Some, is_none, is_some, IfSome, inl, inr, refl, ap, sym, ◌∙◌, subst, arith}
+use Rattle.std.proofs.Common.{◌≡◌, ℕ, zero, suc, ◌<◌, ◌≤◌, List, [], ◌∷◌, map, length, true, false, not, ◌||◌, nat_lt, ◌==◌, cond, ◌⊎◌, slice_index, Option, None, Some, is_none, is_some, IfSome, inl, inr, refl, ap, sym, ◌∙◌, subst, arith}
 use Rattle.std.specs.List.{AllByRecursion, list_all, list_any}
 use Rattle.std.specs.Option.{option_map_or}
 use Rattle.std.proofs.lemmas.Bool.Decides.{nat_tests}

@@ -1,3 +1,6 @@
 pub mod CutLemmas
 pub mod CountLemmas
 pub mod TupleBags
+pub mod ShiftLemmas
+pub mod CarriedRows
+pub mod CarriedQueries

@@ -2,6 +2,8 @@
 #![tactic(auto)]
 
 pub mod bags;
+pub mod carried;
 pub mod counts;
 pub mod cuts;
 pub mod levels;
+pub mod shifts;

@@ -5,7 +5,7 @@ use Rattle.sn_rules.specs.declared.Flaw.{Flaw}
 use Rattle.sn_rules.specs.declared.Flaw.TheVariants.{Lex, Expected}
 use Rattle.sn_rules.specs.Tokens.{Lexeme, word, number, symbol, finish, bad, is_last, Tok, Mark, plain, lined, Read, got, fails, short, bind}
 use Rattle.sn_rules.specs.Rules.{Limits, kept, Rule, Accepts, FirstFault, judged, one, pair_on, pair, embedded, renamed, maybe, either, closed, links, many, series, past, either_rule}
-use Rattle.sn_rules.specs.Words.{wrong, is_word, is_symbol, is_finish, passed, the, keyword, sign, the_end, line_at, line_of_word, line_of_sign, judged_as, judged_by, leaf, word_in, number_at, word_by, number_by, number_in, in_range, second, with_first, first, with_second, ◌▸◌, ◌◂◌, full, commas}
+use Rattle.sn_rules.specs.Words.{wrong, is_word, is_symbol, is_finish, passed, the, keyword, sign, the_end, line_at, line_of_word, line_of_sign, judged_as, judged_by, leaf, word_in, number_at, word_by, number_by, number_in, in_range, second, as_second, first, with_second, ◌▸◌, ◌◂◌, full, commas}
 use Rattle.sn_rules.proofs.Common.{either_way}
 use Rattle.sn_rules.proofs.Laws.{Good}
 use Rattle.sn_rules.proofs.Series.{Alike, some_or_none, fewer, links_go, links_fail, links_shut, links_over}
@@ -143,7 +143,7 @@ pub renamed_bounded : {A B : Type 0} {o : Flaws} (to : A → B) (from : B → A)
 renamed_bounded to from h = embedded_bounded to (λ b. Some (from b)) h
 
 pub behind_bounded : {A : Type 0} {o : Flaws} {p : Rule (Unit {0})} {q : Rule A} → Bounded o p → Bounded o q → Bounded o (p ▸ q)
-behind_bounded h k = renamed_bounded second with_first (pair_bounded h k)
+behind_bounded h k = renamed_bounded second as_second (pair_bounded h k)
 
 pub before_bounded : {A : Type 0} {o : Flaws} {p : Rule A} {q : Rule (Unit {0})} → Bounded o p → Bounded o q → Bounded o (p ◂ q)
 before_bounded h k = renamed_bounded first with_second (pair_bounded h k)
@@ -275,7 +275,7 @@ pub renamed_whole : {A B : Type 0} {o : Flaws} (to : A → B) (from : B → A) {
 renamed_whole {o = o} to from {p = p} h = record { done = λ ts e. kept_done o (p.read kept ts) to (h.done ts e) }
 
 pub behind_whole : {A : Type 0} {o : Flaws} {p : Rule (Unit {0})} {q : Rule A} → Bounded o p → Whole o q → Whole o (p ▸ q)
-behind_whole h k = renamed_whole second with_first (pair_whole h k)
+behind_whole h k = renamed_whole second as_second (pair_whole h k)
 
 pub before_whole : {A : Type 0} {o : Flaws} {p : Rule A} {q : Rule (Unit {0})} → Bounded o p → Whole o q → Whole o (p ◂ q)
 before_whole h k = renamed_whole first with_second (pair_whole h k)

@@ -7,7 +7,7 @@ use Rattle.std.proofs.lemmas.List.{length-map}
 use Rattle.sn_rules.specs.declared.Flaw.{Flaw}
 use Rattle.sn_rules.specs.Tokens.{Lexeme, word, number, symbol, finish, bad, Tok, Mark, plain, lined, Spelled}
 use Rattle.sn_rules.specs.Rules.{Limits, kept, aside, is_limit, Rule, closed, past, either_rule}
-use Rattle.sn_rules.specs.Words.{same, wrong, is_word, is_symbol, is_finish, passed, the, keyword, sign, the_end, line_at, line_of_word, line_of_sign, judged_as, judged_by, leaf, word_in, number_at, word_by, number_by, in_range, number_in, second, with_first, first, with_second, ◌▸◌, ◌◂◌, never, behind_comma, commas}
+use Rattle.sn_rules.specs.Words.{same, wrong, is_word, is_symbol, is_finish, passed, the, keyword, sign, the_end, line_at, line_of_word, line_of_sign, judged_as, judged_by, leaf, word_in, number_at, word_by, number_by, in_range, number_in, second, as_second, first, with_second, ◌▸◌, ◌◂◌, never, behind_comma, commas}
 use Rattle.sn_rules.proofs.Common.{bearers, bearers_spelled, remarked}
 use Rattle.sn_rules.proofs.Laws.{Good, one_good, token_good, Follows, pair_good, free_pair}
 use Rattle.sn_rules.proofs.Choices.{renamed_good, Past, past_good, Starts}
@@ -182,7 +182,7 @@ number_in_good low high le = number_by_good (in_range low high) (low, (let a : n
 -- ---- words and signs before and behind a part
 
 pub behind_good : {A : Type 0} {p : Rule (Unit {0})} {q : Rule A} → Good p → Good q → ((us : List Tok) → p.follow us ≡ true) → Good (p ▸ q)
-behind_good gp gq h = renamed_good second with_first (λ a. refl) (λ b. refl) (free_pair gp gq h)
+behind_good gp gq h = renamed_good second as_second (λ a. refl) (λ b. refl) (free_pair gp gq h)
 
 pub before_good : {A : Type 0} {p : Rule A} {q : Rule (Unit {0})} → Good p → Good q → Follows p q → Good (p ◂ q)
 before_good gp gq m = renamed_good first with_second (λ a. refl) (λ b. refl) (pair_good gp gq m)

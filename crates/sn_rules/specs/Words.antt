@@ -97,8 +97,8 @@ number_in low high = number_by (in_range low high)
 abbrev pub second : {A : Type 0} → Unit {0} × A → A
 second x = x.1
 
-abbrev pub with_first : {A : Type 0} → A → Unit {0} × A
-with_first a = (tt, a)
+abbrev pub as_second : {A : Type 0} → A → Unit {0} × A
+as_second a = (tt, a)
 
 abbrev pub first : {A : Type 0} → A × Unit {0} → A
 first x = x.0
@@ -108,7 +108,7 @@ with_second a = (a, tt)
 
 infixr 5 ◌▸◌
 abbrev pub ◌▸◌ : {A : Type 0} → Rule (Unit {0}) → Rule A → Rule A
-p ▸ q = renamed second with_first (pair p q)
+p ▸ q = renamed second as_second (pair p q)
 
 infixr 5 ◌◂◌
 abbrev pub ◌◂◌ : {A : Type 0} → Rule A → Rule (Unit {0}) → Rule A

@@ -22,10 +22,7 @@ pub(crate) fn first_text(alloc: Global, form: Form) -> Result<Seq<u8>, Memory>
 {
     match form {
         Form::Blocks => Ok(Seq::new(alloc)),
-        Form::Records => match Vec::from_slice(alloc, heading()) {
-            Ok(text) => Ok(Seq::from_vec(text)),
-            Err(_) => Err(Memory),
-        },
+        Form::Records => Seq::from_slice(alloc, heading()),
     }
 }
 

@@ -15,7 +15,8 @@ use Rattle.sn_switch_rules.specs.declared.item.Setting.TheVariants as settings
 use Rattle.sn_switch_rules.specs.declared.item.Item.{Item}
 use Rattle.sn_switch_rules.specs.Settings.{place, is, sets, has}
 use Rattle.sn_switch_rules.specs.Grammar.{within, one_number, below, size_test, past_size, size_rule, sizes, numbers, item_rule, items_rule, is_whole, switch_rule}
-use Rattle.sn_switch_rules.specs.Wholes.{numbers_in, first_of, IsIn, IsRising, IsSizes}
+use Rattle.sn_switch_rules.specs.Wholes.{numbers_in, first_of, IsIn, IsSizes}
+use Rattle.sn_base.specs.Rising.{IsRising}
 
 -- ---- settings
 

@@ -1,6 +1,7 @@
 -- What the items of a whole text set, and the limits.
-use Rattle.std.specs.Prelude.{ℕ, ◌≤◌, ◌<◌, List, [], ◌∷◌, length, Option, Some, None}
+use Rattle.std.specs.Prelude.{ℕ, ◌≤◌, List, [], ◌∷◌, length, Option, Some, None}
 use Rattle.std.specs.List.{AllByRecursion, find}
+use Rattle.sn_base.specs.Rising.{IsRising}
 use Rattle.sn_switch_rules.specs.declared.item.Setting.{Setting}
 use Rattle.sn_switch_rules.specs.declared.item.Item.{Item}
 use Rattle.sn_switch_rules.specs.Settings.{sets}
@@ -19,11 +20,6 @@ first_of (n ∷ ns) = n
 
 abbrev pub IsIn : ℕ → ℕ → ℕ → Type 0
 IsIn low high n = (low ≤ n) × (n ≤ high)
-
--- each number is below all behind it
-abbrev pub IsRising : List ℕ → Type 0
-IsRising [] = Unit {0}
-IsRising (n ∷ ns) = AllByRecursion (λ m. n < m) ns × IsRising ns
 
 -- one to four sizes of 1 to 65536, strictly rising
 pub record IsSizes (ns : List ℕ) : Type 0 where

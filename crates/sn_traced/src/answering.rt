@@ -1,6 +1,6 @@
 //! A plan answers the windows of a capture by a machine that is watched.
 
-use crate::texts::{behind_lines, copied, with_block};
+use crate::texts::{behind_lines, with_block};
 use crate::traced::Traced;
 use sn_answered::answering::Answering;
 use sn_answered::lines::last_lines;
@@ -41,7 +41,7 @@ impl<M: Machine> Answering for Traced<M> {
     }
 
     fn unfinished(&self, _: u64) -> Result<Seq<u8>, Memory> {
-        copied(self.along.alloc, self.lines.as_slice())
+        Seq::from_slice(self.along.alloc, self.lines.as_slice())
     }
 
     fn last(&self, windows: u64, ending: Ending) -> Result<Seq<u8>, Memory> {

@@ -3,6 +3,7 @@ ghost use Rattle.std.specs.Prelude.{◌≡◌, ◌++◌, IfOk, true};
 ghost use Rattle.std.specs.List.{AllByRecursion};
 ghost use Rattle.sn_out.specs.Text.{IsPartOf, block_text};
 
+use sn_base::bytes::push_bytes;
 use sn_base::memory::Memory;
 use sn_base::seq::Seq;
 use sn_out::block::block;
@@ -15,27 +16,15 @@ fn joined(front: Vec<u8>, behind: &[u8]) -> Result<Seq<u8>, Memory>
     ensures { IfOk result (λ text. text ≡ front.items ++ behind.now) }
 {
     let mut text = front;
-    match text.extend_from_slice(behind) {
-        Ok(()) => Ok(Seq::from_vec(text)),
-        Err(_) => Err(Memory),
-    }
-}
-
-/// A copy of lines.
-pub(crate) fn copied(alloc: Global, lines: &[u8]) -> Result<Seq<u8>, Memory>
-    ensures { IfOk result (λ text. text ≡ lines.now) }
-{
-    match Vec::from_slice(alloc, lines) {
-        Ok(text) => Ok(Seq::from_vec(text)),
-        Err(_) => Err(Memory),
-    }
+    push_bytes(&mut text, behind)?;
+    Ok(Seq::from_vec(text))
 }
 
 /// A text behind a copy of lines.
 pub(crate) fn behind_lines(alloc: Global, lines: &[u8], text: &[u8]) -> Result<Seq<u8>, Memory>
     ensures { IfOk result (λ whole. whole ≡ lines.now ++ text.now) }
 {
-    let front = copied(alloc, lines)?;
+    let front = Seq::from_slice(alloc, lines)?;
     joined(front.into_vec(), text)
 }
 

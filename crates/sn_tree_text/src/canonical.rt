@@ -7,30 +7,22 @@ ghost use Rattle.sn_tree_text.specs.Texts.{StandsFor};
 ghost use Rattle.sn_tree_text.specs.Printing.{node_text, nodes_text, tree_text, IsSmall};
 
 use crate::tree::Tree;
+use sn_base::bytes::push_bytes;
 use sn_base::memory::Memory;
 use sn_base::seq::Seq;
 use sn_space::node::Node;
 use std::alloc::Global;
 
-fn put(out: &mut Vec<u8>, text: &[u8]) -> Result<(), Memory>
-    ensures { OnOk result (out.new.items ≡ out.old.items ++ text.now) }
-{
-    match out.extend_from_slice(text) {
-        Ok(()) => Ok(()),
-        Err(_) => Err(Memory),
-    }
-}
-
 /// Writes a line of a letter and a number.
 fn put_line(alloc: Global, out: &mut Vec<u8>, letter: &[u8], number: u64) -> Result<(), Memory>
     ensures { OnOk result (out.new.items ≡ out.old.items ++ (letter.now ++ decimal number ++ codes "\n")) }
 {
-    put(out, letter)?;
+    push_bytes(out, letter)?;
     let Ok(digits) = number.to_string(alloc) else {
         return Err(Memory);
     };
-    put(out, digits.as_bytes())?;
-    put(out, b"\n")
+    push_bytes(out, digits.as_bytes())?;
+    push_bytes(out, b"\n")
 }
 
 fn put_node(alloc: Global, out: &mut Vec<u8>, node: Node) -> Result<(), Memory>
@@ -40,7 +32,7 @@ fn put_node(alloc: Global, out: &mut Vec<u8>, node: Node) -> Result<(), Memory>
     match node {
         Node::Expand(bound) => put_line(alloc, out, b"E ", bound),
         Node::Bound(bound) => put_line(alloc, out, b"B ", bound),
-        Node::Broken => put(out, b"X\n"),
+        Node::Broken => push_bytes(out, b"X\n"),
         Node::Chosen(cost) => put_line(alloc, out, b"P ", cost),
     }
 }

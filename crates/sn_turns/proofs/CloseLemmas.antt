@@ -6,7 +6,7 @@ use Rattle.sn_core.proofs.Falls.{step_works}
 use Rattle.sn_core.proofs.StandingKept.{event_keeps_net, take_keeps_net}
 use Rattle.sn_core.proofs.Tests.{some_not_none}
 use Rattle.sn_core.specs.Debt.{work}
-use Rattle.sn_core.specs.Events.{after_event, change_at, given, window_from, with_first, with_next, without_answers}
+use Rattle.sn_core.specs.Events.{after_event, change_at, given, window_from, delivered, with_next, without_answers}
 use Rattle.sn_core.specs.Needs.{has_room, is_over, needs, passes}
 use Rattle.sn_core.specs.Standing.{IsNet}
 use Rattle.sn_core.specs.Workings.{AreLawful}
@@ -104,7 +104,7 @@ module _ (number : ℕ) where
               let may = picked_may (at s one) draw (Deliver lane) e in
               let might = picked_may (at s two) draw (Deliver lane) f in
               ap cut (one_turn w n x (at s one) (Deliver lane) (goes s one first) e)
-              ∙ again (since ++ Deliver lane ∷ []) (record s { lanes = change_at with_first s.lanes lane; waiting = None })
+              ∙ again (since ++ Deliver lane ∷ []) (record s { lanes = change_at delivered s.lanes lane; waiting = None })
               (take_keeps_net w law (after_event w (at s one) (Deliver lane)) (event_keeps_net w law (at s one) (Deliver lane) net may))
               (take_keeps_net w law (after_event w (at s two) (Deliver lane)) (event_keeps_net w law (at s two) (Deliver lane) also might))
               (lower _ _ n (step_works w law (at s one) (Deliver lane) [] net may) le)

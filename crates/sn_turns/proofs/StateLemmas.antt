@@ -8,7 +8,7 @@ use Rattle.std.proofs.lemmas.List.{length-map}
 use Rattle.sn_base.proofs.Lists.{map_both}
 use Rattle.sn_core.specs.Debt.{debt_of_lanes, end_debt, tuples_in, window_debt, windows_in, work}
 use Rattle.sn_core.specs.Due.{coming}
-use Rattle.sn_core.specs.Events.{after_close, after_event, after_install, after_packet, all_started, change_at, emptied, given, kept_for_held, row_frames, with_first, with_first_of, with_next, with_next_of, with_start, with_tuple, without_answers}
+use Rattle.sn_core.specs.Events.{after_close, after_event, after_install, after_packet, all_started, change_at, emptied, given, kept_for_held, row_frames, delivered, delivered_of, with_next, with_next_of, with_start, with_tuple, without_answers}
 use Rattle.sn_core.specs.Needs.{first_full, first_need_that_fails, first_open, has_room, is_begun_with, is_empty, is_of, is_over, is_tuple, needs, needs_of_all}
 use Rattle.sn_core.specs.Nets.{Lane}
 use Rattle.sn_core.specs.declared.event.Event.{Event}
@@ -105,10 +105,10 @@ module _ (queries : List TypedQuery) (intakes : List Intake) (sources : List Sou
       by [] = refl
       by (item ∷ items) = ap (λ (pipe : PipeState). record lane { pipe = pipe; ring = lane.ring ++ Row item ∷ [] }) (plain_read lane.pipe)
 
-  first_same : (lane : One) → with_first (plain_lane lane) ≡ plain_lane (with_first lane)
+  first_same : (lane : One) → delivered (plain_lane lane) ≡ plain_lane (delivered lane)
   first_same lane = by lane.ring
     where
-      by : (frames : List (Frame Item)) → with_first_of (plain_lane lane) frames ≡ plain_lane (with_first_of lane frames)
+      by : (frames : List (Frame Item)) → delivered_of (plain_lane lane) frames ≡ plain_lane (delivered_of lane frames)
       by [] = refl
       by (Row item ∷ frames) = refl
       by (Last ∷ frames) = refl
@@ -144,7 +144,7 @@ module _ (queries : List TypedQuery) (intakes : List Intake) (sources : List Sou
   event_same : (s : State) (event : Event) → after_event w (plain_state s) event ≡ plain_state (after_event w s event)
   event_same s Packet = packet_same s s.held
   event_same s (ReadOut lane) = ap (λ (lanes : List One). record s { lanes = lanes }) (changed plain_lane (with_next w) (with_next w) next_same s.lanes lane)
-  event_same s (Deliver lane) = ap (λ (lanes : List One). record s { lanes = lanes }) (changed plain_lane with_first with_first first_same s.lanes lane)
+  event_same s (Deliver lane) = ap (λ (lanes : List One). record s { lanes = lanes }) (changed plain_lane delivered delivered first_same s.lanes lane)
   event_same s CloseWindow = close_same s s.window
   event_same s Install = install_same s s.window
 

@@ -5,10 +5,11 @@ ghost use Rattle.sn_core.specs.declared.event.Event.{Event as Happening};
 ghost use Rattle.sn_turns.specs.Lines.{close_words, deliver_words, event_line, event_words, install_words, lines_of, note_lines, packet_words, read_words};
 ghost use Rattle.sn_turns.specs.Turns.{events_in, note_closes, parted};
 
+use sn_base::bytes::push_bytes;
 use sn_base::memory::Memory;
 use sn_core::event::Event;
 use sn_drive::note::Note;
-use sn_out::pieces::{push_bytes, push_number};
+use sn_out::pieces::push_number;
 use std::alloc::Global;
 use std::mem;
 

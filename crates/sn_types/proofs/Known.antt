@@ -94,7 +94,7 @@ reads_within : (columns : List Column) (e : Expr) → IsPostExpr e → AllByRecu
 reads_within columns (Const n) s h = tt
 reads_within columns (Copy a) s h = known_place columns a h.0
 reads_within columns (Mask a bits) s h = known_place columns a h.0
-reads_within columns (Shift a k) s h = (known_place columns a h.0, s)
+reads_within columns (Shift a k) s h = known_place columns a h.0
 reads_within columns (Sum a b) s h = (known_place columns a h.0, known_place columns b h.1.0)
 reads_within columns (Ratio a k b) s h = (known_place columns a h.0, known_place columns b h.1.0)
 

@@ -48,12 +48,12 @@ value_of (Shift a k) row = slice_index row a / 2 ^ k
 value_of (Sum a b) row = min (slice_index row a + slice_index row b) greatest
 value_of (Ratio a k b) row = ratio (slice_index row a) k (slice_index row b)
 
--- an expression reads columns of the first so many, and shifts by less than 64
+-- an expression reads columns of the first so many
 abbrev pub ReadsWithin : ℕ → TExpr → Type 0
 ReadsWithin count (Const n) = Unit {0}
 ReadsWithin count (Copy a) = a < count
 ReadsWithin count (Mask a bits) = a < count
-ReadsWithin count (Shift a k) = (a < count) × (k < 64)
+ReadsWithin count (Shift a k) = a < count
 ReadsWithin count (Sum a b) = (a < count) × (b < count)
 ReadsWithin count (Ratio a k b) = (a < count) × (b < count)
 

@@ -1,5 +1,5 @@
 //! What conditions and expressions say of one row, and its columns at places.
-ghost use Rattle.std.specs.Prelude.{◌≡◌, ◌==◌, ◌<◌, ◌≤◌, All, length, map};
+ghost use Rattle.std.specs.Prelude.{◌≡◌, ◌==◌, ◌<◌, ◌≤◌, ◌/◌, ◌^◌, All, length, map};
 ghost use Rattle.std.specs.List.{find, list_all};
 ghost use Rattle.sn_base.specs.Groups.{columns_at};
 ghost use Rattle.sn_types.specs.Values.{compared, constant_at, holds, ratio, value_of, ReadsWithin};
@@ -59,6 +59,13 @@ fn ratio(a: u64, times: u64, b: u64) -> u64
     u64::try_from(whole).unwrap_or(u64::MAX)
 }
 
+/// A column shifted to the right. By its 64 bits and more nothing is left.
+fn shifted(column: u64, places: u32) -> u64
+    ensures { result ≡ column / 2 ^ places }
+{
+    if places < 64 { column >> places } else { 0 }
+}
+
 /// The value of an expression at a row.
 pub fn expr(e: &TExpr, row: &Row) -> u64
     requires { ReadsWithin (length row.now) e.now }
@@ -69,7 +76,7 @@ pub fn expr(e: &TExpr, row: &Row) -> u64
         TExpr::Const(number) => number,
         TExpr::Copy(a) => columns[a as usize],
         TExpr::Mask(a, bits) => columns[a as usize] & bits,
-        TExpr::Shift(a, places) => columns[a as usize] >> places,
+        TExpr::Shift(a, places) => shifted(columns[a as usize], places),
         TExpr::Sum(a, b) => columns[a as usize].saturating_add(columns[b as usize]),
         TExpr::Ratio(a, times, b) => ratio(columns[a as usize], times, columns[b as usize]),
     }
@@ -94,13 +101,10 @@ pub fn mapped(row: &Row, cols: &[TExpr]) -> Row
     requires reads { All (λ e. ReadsWithin (length row.now) e) cols.now }
     ensures { result ≡ map (λ e. value_of e row.now) cols.now }
 {
-    let mut numbers = [0u64; 8];
-    for (place, col) in cols.iter().enumerate() {
-        numbers[place] = expr(col, row);
+    let mut out = Row::empty();
+    for col in cols {
+        out.push(expr(col, row));
     }
-    let Some(out) = Row::new(&numbers[..cols.len()]) else {
-        unreachable!();
-    };
     out
 }
 
@@ -111,12 +115,9 @@ pub fn columns_of(row: &Row, places: &[u32]) -> Row
     ensures { result ≡ columns_at places.now row.now }
 {
     let columns = row.as_slice();
-    let mut numbers = [0u64; 8];
-    for (number, place) in places.iter().enumerate() {
-        numbers[number] = columns[*place as usize];
+    let mut key = Row::empty();
+    for place in places {
+        key.push(columns[*place as usize]);
     }
-    let Some(key) = Row::new(&numbers[..places.len()]) else {
-        unreachable!();
-    };
     key
 }

@@ -39,12 +39,9 @@ pub fn row_of(refined: Option<Field>, level: u32, fields: &[Field], tuple: &Tupl
     ensures row { result ≡ packet_row refined level fields.now tuple.now }
     ensures columns { IsOf (map field_column fields.now) result }
 {
-    let mut numbers = [0u64; 8];
-    for (place, field) in fields.iter().enumerate() {
-        numbers[place] = read_at(refined, level, tuple, *field);
+    let mut row = Row::empty();
+    for field in fields {
+        row.push(read_at(refined, level, tuple, *field));
     }
-    let Some(row) = Row::new(&numbers[..fields.len()]) else {
-        unreachable!();
-    };
     row
 }

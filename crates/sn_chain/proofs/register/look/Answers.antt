@@ -2,7 +2,7 @@ use Rattle.std.proofs.Common.{◌≡◌, ◌+◌, ◌-◌, ◌<◌, ℕ, Option,
 use Rattle.std.specs.Option.{option_or}
 use Rattle.sn_base.specs.Groups.{same_row}
 use Rattle.sn_chain.specs.Cells.{shown_by, all_shown_by}
-use Rattle.sn_chain.specs.Chain.{place_in, places_from, places_of}
+use Rattle.sn_chain.specs.Chain.{place_for, places_from, places_of}
 use Rattle.sn_chain.specs.Found.{found_at}
 use Rattle.sn_chain.specs.Registers.{cell, holds, held_place, empty_place}
 use Rattle.sn_chain.proofs.Places.{place_found, place_passed, first_so_far, or_within, read_cell, register_within}
@@ -20,7 +20,7 @@ returns-then-holds-clause-found c =
     let register = c.loop-register.register in
     let below : register < c.args.depth = omega arith in
     let inside : at < length c.args.cells.now = omega (arith, register_within c.args.depth register slots below) in
-    let passes : holds same_row key (cell cells (place_in slots key register)) ≡ true =
+    let passes : holds same_row key (cell cells (place_for slots key register)) ≡ true =
     ap (λ (p : ℕ). holds same_row key (cell cells p)) (sym c.place-at.ensures.value)
     ∙ ap (holds same_row key) (read_cell c.args.round c.args.cells.now at c.index-cells-at.result inside c.index-cells-at.is)
     ∙ sym c.holds.ensures ∙ c.if-holds.true in
@@ -40,7 +40,7 @@ loop-register-preserved c =
     let below : register < c.args.depth = omega arith in
     let inside : at < length c.args.cells.now = omega (arith, register_within c.args.depth register slots below) in
     let shows : cell cells at ≡ shown_by c.args.round c.index-cells-at.result = read_cell c.args.round c.args.cells.now at c.index-cells-at.result inside c.index-cells-at.is in
-    let fails : holds same_row key (cell cells (place_in slots key register)) ≡ false =
+    let fails : holds same_row key (cell cells (place_for slots key register)) ≡ false =
     ap (λ (p : ℕ). holds same_row key (cell cells p)) (sym c.place-at.ensures.value)
     ∙ ap (holds same_row key) shows ∙ sym c.holds.ensures ∙ c.if-holds.false in
     let here : c.empty_at.result ≡ cond (is_none (cell cells at)) (Some at) None =

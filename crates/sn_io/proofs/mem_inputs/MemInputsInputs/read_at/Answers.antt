@@ -1,4 +1,4 @@
-use Rattle.std.proofs.Common.{◌≡◌, ℕ, ◌↔◌, None, Some, Err, Result, ap, sym, subst, length, ◌∙◌}
+use Rattle.std.proofs.Common.{◌≡◌, ℕ, ◌↔◌, None, Some, Err, Result, ap, sym, subst, ◌∙◌}
 use Rattle.std.specs.FinMap.{get}
 use Rattle.sn_io.specs.declared.inputs.InputFault.{InputFault}
 use Rattle.sn_io.specs.declared.inputs.InputFault.TheVariants.{Missing}
@@ -20,10 +20,10 @@ pub returns-clause-missing : goal.returns-clause-missing
 returns-clause-missing c =
     let s = c.args.self.now in
     let name = c.args.name.now in
-    subst (λ (r : Result ℕ InputFault). (r ≡ Err Missing) ↔ (get (faults_of s.files) name ≡ None)) (sym c.read.ensures.answer) (answer_missing s name c.args.at (length c.args.into.now))
+    subst (λ (r : Result ℕ InputFault). (r ≡ Err Missing) ↔ (get (faults_of s.files) name ≡ None)) (sym c.read.ensures.answer) (answer_missing s name _ _)
 
 pub returns-clause-failed : goal.returns-clause-failed
 returns-clause-failed c is =
     let s = c.args.self.now in
     let name = c.args.name.now in
-    subst (λ (t : MemInputsState). RoseAt name (faults_of s.files) (faults_of t.files)) (sym c.read.ensures.after) (failed_rose s name c.args.at (length c.args.into.now) (sym c.read.ensures.answer ∙ is))
+    subst (λ (t : MemInputsState). RoseAt name (faults_of s.files) (faults_of t.files)) (sym c.read.ensures.after) (failed_rose s name _ _ (sym c.read.ensures.answer ∙ is))

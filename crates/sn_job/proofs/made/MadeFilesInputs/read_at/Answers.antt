@@ -11,5 +11,5 @@ pub returns-clause-missing : goal.returns-clause-missing
 returns-clause-missing c =
     let s = c.self.inside.files in
     let name = c.args.name.now in
-    let where_is = subst (λ (r : Result ℕ InputFault). (r ≡ Err Missing) ↔ (get (no_faults s.files) name ≡ None)) (sym c.read.ensures.answer) (missing_where s name c.args.at (length c.args.into.now)) in
-    subst (λ (files : List FileState). (c.read.result ≡ Err Missing) ↔ (get (no_faults files) name ≡ None)) c.self.view_is where_is
+    let where_is = subst (λ (r : Result ℕ InputFault). (r ≡ Err Missing) ↔ (get (no_faults s.files) name ≡ None)) (sym c.read_at.ensures.answer) (missing_where s name c.args.at (length c.args.into.now)) in
+    subst (λ (files : List FileState). (c.read_at.result ≡ Err Missing) ↔ (get (no_faults files) name ≡ None)) c.self.view_is where_is
