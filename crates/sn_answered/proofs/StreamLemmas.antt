@@ -16,6 +16,7 @@ use Rattle.sn_pcap.specs.declared.header.Header.{Header}
 use Rattle.sn_pcap.specs.declared.header.HeadFault.{HeadFault}
 use Rattle.sn_pcap.specs.declared.packet.Packet.{Packet}
 use Rattle.sn_pcap.specs.declared.packet.Ending.{Ending}
+use Rattle.sn_pcap.specs.declared.packet.Ending.TheVariants as endings
 use Rattle.sn_pcap.specs.declared.seen.Seen.{Seen}
 use Rattle.sn_pcap.specs.declared.seen.Next.{Next}
 use Rattle.sn_pcap.specs.declared.seen.Next.TheVariants as next
@@ -31,14 +32,14 @@ use Rattle.sn_stage.specs.Refusals.{refusing}
 use Rattle.sn_stage.specs.Outcomes.{Outcome, silent, Stage, Keeps}
 use Rattle.sn_stage.specs.Runs.{Runs, Leads}
 use Rattle.sn_stage.specs.Stages.{Does, Adds, Gives, GoesOn, named, Then}
-use Rattle.sn_stage.specs.Worlds.{World, Sunk, AnyUnknown, AnyRose, Follows}
+use Rattle.sn_stage.specs.Worlds.{World, Sunk, AnyUnknown, AnyRose, Spares, Follows}
 use Rattle.sn_stage.proofs.OutcomeLemmas.{silent_keeps, chance_keeps}
-use Rattle.sn_stage.proofs.StageLemmas.{runs_chance, runs_gives, runs_stops, runs_then, runs_earlier, text_stops, text_then}
-use Rattle.sn_stage.proofs.WorldLemmas.{follows_self}
+use Rattle.sn_stage.proofs.StageLemmas.{MayCome, runs_chance, runs_gives, runs_stops, runs_then, runs_earlier, text_stops, text_then}
+use Rattle.sn_stage.proofs.WorldLemmas.{follows_self, spares_none, spares_self}
 use Rattle.sn_windows.specs.Numbering.{next_number, next_count}
 use Rattle.sn_windows.specs.Windows.{numbered}
 use Rattle.sn_answered.specs.Wording.{IsCausal, Window, Wording}
-use Rattle.sn_answered.specs.Capture.{known_bytes, Whole, Head, Found, RecordsIn, packet_tuple, time_of, windows_outcome, WindowsIn, WindowsOf}
+use Rattle.sn_answered.specs.Capture.{known_bytes, Whole, Head, Found, RecordsIn, packet_tuple, time_of, ending_verdict, windows_outcome, WindowsIn, WindowsOf}
 use Rattle.sn_answered.specs.Gathering.{Gathering, after, all_of, begins, closing, closing_of, hand_text, joined, none_gathered, refused, taken}
 use Rattle.sn_pcap.proofs.OneCapture.{below_or_not}
 use Rattle.sn_pcap.proofs.ToldLemmas.{at_told}
@@ -53,12 +54,15 @@ runs_told within r = record {
   read_fault = r.read_fault;
   write_fault = r.write_fault;
   words = r.words;
+  others = r.others;
+  queries = r.queries;
+  switch = r.switch;
   follows = r.follows;
 }
 
 -- one file was read, nothing was written, and the answer is what is due, or a chance
-module _ {A : Type 0} (name : List ℕ) (stage : Stage A) (answer : Result A Refusal) (before now : World) (follows : Follows before now) (out : now.out ≡ before.out)
-    (no_usage : answer ≡ Err Usage → ⊥) (no_write : answer ≡ Err WriteFault → ⊥) (missing : answer ≡ Err Missing → get before.files.faults name ≡ None) (fault : answer ≡ Err ReadFault → RoseAt name before.files.faults now.files.faults) where
+module _ {A : Type 0} (name : List ℕ) (stage : Stage A) (answer : Result A Refusal) (before now : World) (follows : Follows before now) (spares : Spares (name ∷ []) before.files now.files) (out : now.out ≡ before.out)
+    (no_usage : answer ≡ Err Usage → ⊥) (no_write : answer ≡ Err WriteFault → ⊥) (missing : answer ≡ Err Missing → get before.files.faults name ≡ None) (fault : answer ≡ Err ReadFault → RoseAt name before.files.faults now.files.faults) (late : (fault : Fault) → answer ≡ Err (Refused fault) → MayCome {A = A} 0 (Err fault)) where
   kept : Keeps (silent answer) answer before.out.written now.out.written
   kept = subst (λ (o : Sunk). Keeps (silent answer) answer before.out.written o.written) (sym out) (silent_keeps answer before.out.written)
 
@@ -69,8 +73,15 @@ module _ {A : Type 0} (name : List ℕ) (stage : Stage A) (answer : Result A Ref
     read_fault = λ e. inl (fault e);
     write_fault = λ e. absurd (no_write e);
     words = no_usage;
+    others = spares;
+    queries = λ fault e. absurd (let no : 0 ≡ 2 = late (faults.Queries fault) e in omega arith);
+    switch = λ fault e. absurd (let no : 1 ≤ 0 = late (faults.Switch fault) e in omega arith);
     follows = follows;
   }
+
+-- a refused header refuses neither the queries nor the switch
+pub head_may : (found : HeadFault) (fault : Fault) → ◌≡◌ {A = Result Header Refusal} (Err (Refused (faults.Head found))) (Err (Refused fault)) → MayCome {A = Header} 0 (Err fault)
+head_may found fault e = subst (λ (f : Fault). MayCome {A = Header} 0 (Err f)) (let same : faults.Head found ≡ fault = cc in same) tt
 
 -- a read of one file leaves all else
 pub read_follows : (name : List ℕ) (before now : World) → now.files.told ≡ before.files.told → OnlyRises name before.files.faults now.files.faults → now.out ≡ before.out → now.places ≡ before.places → Follows before now
@@ -99,6 +110,9 @@ runs_memory names stage w = record {
   read_fault = λ e. absurd cc;
   write_fault = λ e. absurd cc;
   words = λ e. absurd cc;
+  others = spares_self names w.files;
+  queries = λ fault e. absurd cc;
+  switch = λ fault e. absurd cc;
   follows = follows_self w;
 }
 
@@ -271,22 +285,25 @@ module _ (wording : Wording) (link : Link) (capture : List ℕ) (reader after : 
 
 -- ---- the turn of the loop
 
-module _ {A B : Type 0} {names : List (List ℕ)} {left whole : Stage B} {due : Outcome A} {later : A → Stage B} {first before mid after : World} (follows : Follows before mid) (out : mid.out ≡ before.out)
+module _ {A B : Type 0} {names : List (List ℕ)} {left whole : Stage B} {due : Outcome A} {later : A → Stage B} {first before mid after : World} (follows : Follows before mid) (spares : Spares names before.files mid.files) (out : mid.out ≡ before.out)
     (goes : (files : ByName (List ℕ)) → before.files.told ≡ Some files → (outcome : Outcome B) → left files outcome → Then (Does due) later files outcome) (leads : Leads names left whole first before) where
   pub turn_goes : {value : A} → Runs [] (Does due) mid (Ok value) after → Leads names (later value) whole first after
-  turn_goes r = λ answer end s. leads answer end (runs_told goes (runs_earlier follows out (runs_then names r s)))
+  turn_goes r = λ answer end s. leads answer end (runs_told goes (runs_earlier follows spares out (runs_then names r s)))
 
   pub turn_stops : {refusal : Refusal} → Runs [] (Does due) mid (Err refusal) after → Runs names whole first (Err refusal) after
-  turn_stops {refusal} r = leads (Err refusal) after (runs_told goes (runs_earlier follows out (runs_stops names r)))
+  turn_stops {refusal} r = leads (Err refusal) after (runs_told goes (runs_earlier follows spares out (runs_stops names r)))
 
 -- a run that reads no file is one that may read a file
 pub with_name : {A : Type 0} {stage : Stage A} {before now : World} {answer : Result A Refusal} (name : List ℕ) → Runs [] stage before answer now → Runs (name ∷ []) stage before answer now
-with_name name r = record {
+with_name {before = before} {now} name r = record {
   keeps = r.keeps;
   missing = λ e. absurd (r.missing e);
   read_fault = λ e. absurd (r.read_fault e);
   write_fault = r.write_fault;
   words = r.words;
+  others = spares_none (name ∷ []) before.files now.files r.others;
+  queries = λ fault e. let q = r.queries fault e in (q.0, spares_none (name ∷ []) before.files now.files q.1);
+  switch = λ fault e. let q = r.switch fault e in (q.0, λ other none. q.1 other tt);
   follows = r.follows;
 }
 
@@ -298,9 +315,15 @@ same_name {before = before} {now} {name = name} r = record {
   read_fault = λ e. once_rose (r.read_fault e);
   write_fault = r.write_fault;
   words = r.words;
+  others = once_spared r.others;
+  queries = r.queries;
+  switch = λ fault e. let q = r.switch fault e in (q.0, λ other none. q.1 other tt);
   follows = r.follows;
 }
   where
+    once_spared : Spares (name ∷ name ∷ []) before.files now.files → Spares (name ∷ []) before.files now.files
+    once_spared s other none = s other (none.0, none)
+
     once_unknown : AnyUnknown (name ∷ name ∷ []) before.files → AnyUnknown (name ∷ []) before.files
     once_unknown (inl none) = inl none
     once_unknown (inr (inl none)) = inl none
@@ -312,9 +335,9 @@ same_name {before = before} {now} {name = name} r = record {
     once_rose (inr (inr none)) = absurd none
 
 -- the last turn
-pub turn_ends : {B : Type 0} {name : List ℕ} {left whole : Stage B} {due : Outcome B} {first before mid after : World} {answer : Result B Refusal} → Follows before mid → mid.out ≡ before.out
+pub turn_ends : {B : Type 0} {name : List ℕ} {left whole : Stage B} {due : Outcome B} {first before mid after : World} {answer : Result B Refusal} → Follows before mid → Spares (name ∷ []) before.files mid.files → mid.out ≡ before.out
     → ((files : ByName (List ℕ)) → before.files.told ≡ Some files → (outcome : Outcome B) → left files outcome → Does due files outcome) → Leads (name ∷ []) left whole first before → Runs [] (Does due) mid answer after → Runs (name ∷ []) whole first answer after
-turn_ends {name = name} {after = after} {answer = answer} follows out is leads r = leads answer after (runs_told is (runs_earlier follows out (with_name name r)))
+turn_ends {name = name} {after = after} {answer = answer} follows spares out is leads r = leads answer after (runs_told is (runs_earlier follows spares out (with_name name r)))
 
 -- ---- one packet, in code
 
@@ -341,7 +364,7 @@ module _ (wording : Wording) (g : Gathering) (time : ℕ) (shown : List ℕ) whe
   pub runs_joined : (w : World) → next_count g.numbering time < 4194304 → next_number g.numbering time ≡ g.numbering.number → Runs [] (Does (taken wording g time shown)) w (Ok (after g time shown)) w
   runs_joined w few same =
       let is : taken wording g time shown ≡ silent (Ok (joined g time shown)) = few_is few ∙ ap (λ (b : Bool). if b then silent (Ok (joined g time shown)) else text_end (hand_text wording g) (begins g time shown)) (eq-eqb (next_number g.numbering time) g.numbering.number same) in
-      subst (λ (o : Outcome Gathering). Runs [] (Does o) w (Ok (after g time shown)) w) (sym (is ∙ ap (λ (v : Gathering). silent (Ok v)) (sym (after_here same)))) (runs_gives (Ok (after g time shown)) w)
+      subst (λ (o : Outcome Gathering). Runs [] (Does o) w (Ok (after g time shown)) w) (sym (is ∙ ap (λ (v : Gathering). silent (Ok v)) (sym (after_here same)))) (runs_gives (Ok (after g time shown)) w tt)
 
   begun_is : next_count g.numbering time < 4194304 → (next_number g.numbering time ≡ g.numbering.number → ⊥) → taken wording g time shown ≡ put_before (hand_text wording g) (silent (Ok (begins g time shown)))
   begun_is few other =
@@ -353,7 +376,7 @@ module _ (wording : Wording) (g : Gathering) (time : ℕ) (shown : List ℕ) whe
       → Runs [] (Does (taken wording g time shown)) w (Ok (after g time shown)) later
   runs_begun w later few other r =
       subst (λ (o : Outcome Gathering). Runs [] (Does o) w (Ok (after g time shown)) later) (sym (begun_is few other ∙ ap (λ (v : Gathering). put_before (hand_text wording g) (silent (Ok v))) (sym (after_next other))))
-      (text_then (hand_text wording g) (silent (Ok (after g time shown))) r (runs_gives (Ok (after g time shown)) later))
+      (text_then (hand_text wording g) (silent (Ok (after g time shown))) r (runs_gives (Ok (after g time shown)) later tt))
 
   pub runs_wanting : (w later : World) → next_count g.numbering time < 4194304 → (next_number g.numbering time ≡ g.numbering.number → ⊥) → Runs [] (Adds (hand_text wording g)) w (Ok tt) later
       → Runs [] (Does (taken wording g time shown)) w (Err Memory) later
@@ -374,7 +397,7 @@ module _ {A : Type 0} (text : List ℕ) (before now : World) where
   pub runs_refused : Runs [] (Adds text) before (Ok tt) now → Runs [] (Does refused_then) before (Err (Refused faults.TooLarge)) now
   runs_refused r =
       subst (λ (bytes : List ℕ). Runs {A = A} [] (Does (record { text = bytes; end = Err (Refused faults.TooLarge) })) before (Err (Refused faults.TooLarge)) now) (append-nil text)
-      (text_then text (silent (Err (Refused faults.TooLarge))) r (runs_gives (Err faults.TooLarge) now))
+      (text_then text (silent (Err (Refused faults.TooLarge))) r (runs_gives (Err faults.TooLarge) now tt))
 
   pub runs_unrefused : {refusal : Refusal} → Runs [] (Adds text) before (Err refusal) now → Runs [] (Does refused_then) before (Err refusal) now
   runs_unrefused {refusal} r =
@@ -395,6 +418,9 @@ refused_elsewhere {A} {B} {text} {due} {refusal} {before} {now} r = record {
   read_fault = λ e. r.read_fault (same_refusal e);
   write_fault = λ e. r.write_fault (same_refusal e);
   words = λ e. r.words (same_refusal e);
+  others = r.others;
+  queries = λ fault e. r.queries fault (same_refusal e);
+  switch = λ fault e. r.switch fault (same_refusal e);
   follows = r.follows;
 }
 
@@ -417,14 +443,14 @@ module _ (wording : Wording) (number : ℕ) (closed : List Window) (ending : End
 
   -- there is no window
   pub runs_none : (tuples : List (List ℕ)) (w : World) → tuples ≡ [] → Runs [] (Does (closing_of wording number closed ending tuples)) w (Ok (all_of number closed tuples, ending)) w
-  runs_none tuples w none = rw none (runs_gives (Ok (closed, ending)) w)
+  runs_none tuples w none = rw none (runs_gives (Ok (closed, ending)) w tt)
 
   -- the block of the window at hand went out, or couldn't
   pub runs_closed : (tuples : List (List ℕ)) (w later : World) → 0 < length tuples → Runs [] (Adds (wording.block (shut tuples) number tuples)) w (Ok tt) later
       → Runs [] (Does (closing_of wording number closed ending tuples)) w (Ok (all_of number closed tuples, ending)) later
   runs_closed tuples w later some r =
       subst (λ (o : Outcome (List Window × Ending)). Runs [] (Does o) w (Ok (all_of number closed tuples, ending)) later) (sym (some_closing tuples some))
-      (text_then (wording.block (shut tuples) number tuples) (silent (Ok (all_of number closed tuples, ending))) r (runs_gives (Ok (all_of number closed tuples, ending)) later))
+      (text_then (wording.block (shut tuples) number tuples) (silent (Ok (all_of number closed tuples, ending))) r (runs_gives (Ok (all_of number closed tuples, ending)) later tt))
 
   pub runs_unclosed : (tuples : List (List ℕ)) (w later : World) (refusal : Refusal) → 0 < length tuples → Runs [] (Adds (wording.block (shut tuples) number tuples)) w (Err refusal) later
       → Runs [] (Does (closing_of wording number closed ending tuples)) w (Err refusal) later
@@ -433,3 +459,9 @@ module _ (wording : Wording) (number : ℕ) (closed : List Window) (ending : End
 
 pub few_of : (count : ℕ) → (4194304 ≤ count → false ≡ true) → count < 4194304
 few_of count many = below_or_not count 4194304 (λ few. few) (λ more. absurd (false≢true (many more)))
+
+-- how records end never refuses the queries or the switch
+pub ending_may : (ending : Ending) → MayCome 0 (ending_verdict ending)
+ending_may endings.Clean = tt
+ending_may (endings.Cut at) = tt
+ending_may (endings.Bad at) = tt

@@ -20,7 +20,8 @@ use Rattle.sn_stage.specs.declared.refusal.Refusal.TheVariants.{ReadFault}
 use Rattle.sn_stage.specs.Outcomes.{Outcome, Stage}
 use Rattle.sn_stage.specs.Runs.{Runs, Leads}
 use Rattle.sn_stage.specs.Stages.{Does}
-use Rattle.sn_stage.specs.Worlds.{Files, World, Follows}
+use Rattle.sn_stage.specs.Worlds.{Files, World, Spares, Follows}
+use Rattle.sn_stage.proofs.FileLemmas.{none_other}
 use Rattle.sn_stage.proofs.OutcomeLemmas.{chance_keeps}
 use Rattle.sn_answered.specs.Wording.{IsCausal, Window, Wording}
 use Rattle.sn_answered.specs.Capture.{WindowsOf}
@@ -60,22 +61,25 @@ module _ (wording : Wording) (link : Link) (capture : List ℕ) (reader after : 
   follows : Follows before (read_on before files)
   follows = read_follows capture before (read_on before files) told rises refl refl
 
+  spares : Spares (capture ∷ []) before.files files
+  spares = none_other capture before.files.faults files.faults rises
+
   -- a packet is taken, and the capture goes on
   pub packet_goes : (seen : Seen) (later : Gathering) (now : World) → TakesHere (packet_answer seen) → Runs [] (Does (taking seen)) (read_on before files) (Ok later) now → Leads (capture ∷ []) (LeftOver wording link capture after later) whole first now
-  packet_goes seen later now takes r = turn_goes follows refl (λ held same outcome l. left_packet wording link capture reader after g before.files.told held outcome same l seen takes) leads r
+  packet_goes seen later now takes r = turn_goes follows spares refl (λ held same outcome l. left_packet wording link capture reader after g before.files.told held outcome same l seen takes) leads r
 
   -- a packet is taken, and that is refused
   pub packet_stops : (seen : Seen) (refusal : Refusal) (now : World) → TakesHere (packet_answer seen) → Runs [] (Does (taking seen)) (read_on before files) (Err refusal) now → Runs (capture ∷ []) whole first (Err refusal) now
-  packet_stops seen refusal now takes r = turn_stops follows refl (λ held same outcome l. left_packet wording link capture reader after g before.files.told held outcome same l seen takes) leads r
+  packet_stops seen refusal now takes r = turn_stops follows spares refl (λ held same outcome l. left_packet wording link capture reader after g before.files.told held outcome same l seen takes) leads r
 
   -- the records end
   pub end_stops : (ending : Ending) (answer : Result (List Window × Ending) Refusal) (now : World) → TakesHere (end_answer ending) → Runs [] (Does (closing wording g ending)) (read_on before files) answer now → Runs (capture ∷ []) whole first answer now
-  end_stops ending answer now takes r = turn_ends follows refl (λ held same outcome l. left_end wording link capture reader after g before.files.told held outcome same l ending takes) leads r
+  end_stops ending answer now takes r = turn_ends follows spares refl (λ held same outcome l. left_end wording link capture reader after g before.files.told held outcome same l ending takes) leads r
 
   -- the capture has too many bytes
   large_stops : (refusal : Refusal) (now : World) → TakesHere large_answer → Runs [] (Does (refused {A = Gathering} wording g)) (read_on before files) (Err refusal) now → Runs (capture ∷ []) whole first (Err refusal) now
   large_stops refusal now takes r =
-      turn_ends {due = refused wording g} follows refl (λ held same outcome l. left_large wording link capture reader after g before.files.told held outcome same l takes) leads (refused_elsewhere r)
+      turn_ends {due = refused wording g} follows spares refl (λ held same outcome l. left_large wording link capture reader after g before.files.told held outcome same l takes) leads (refused_elsewhere r)
 
   -- a read failed
   fault_stops : RoseAt capture before.files.faults files.faults → Runs (capture ∷ []) whole first (Err ReadFault) (read_on before files)
@@ -85,6 +89,9 @@ module _ (wording : Wording) (link : Link) (capture : List ℕ) (reader after : 
     read_fault = λ e. inl rose;
     write_fault = λ e. absurd cc;
     words = λ e. absurd cc;
+    others = spares;
+    queries = λ fault e. absurd cc;
+    switch = λ fault e. absurd cc;
     follows = follows;
   })
 

@@ -1,5 +1,5 @@
 -- A search answers in one way.
-use Rattle.std.proofs.Common.{◌≡◌, ℕ, List, Result, Ok, Err, refl, ap, sym, ◌∙◌, arith}
+use Rattle.std.proofs.Common.{◌≡◌, ℕ, List, Result, Ok, Err, refl, ap, sym, subst, ◌∙◌, arith}
 use Rattle.std.specs.Prelude.{nat_lt}
 use Rattle.std.proofs.lemmas.Bool.{ltb-true, ltb-false}
 use Rattle.sn_base.proofs.Lists.{by_test}
@@ -16,6 +16,7 @@ use Rattle.sn_space.proofs.Existence.{some_first_least}
 use Rattle.sn_stage.specs.declared.fault.Fault.{Fault}
 use Rattle.sn_stage.specs.declared.fault.Fault.TheVariants.{Budget}
 use Rattle.sn_stage.specs.Stages.{HasVerdict}
+use Rattle.sn_stage.proofs.StageLemmas.{MayCome}
 use Rattle.sn_switch.specs.declared.switch.Switch.{Switch}
 use Rattle.sn_types.specs.declared.typed_query.TypedQuery.{TypedQuery}
 use Rattle.sn_certified.specs.declared.certificate.Certificate.{Certificate}
@@ -55,6 +56,11 @@ module _ (s : Switch) (queries : List TypedQuery) (given : List Given) (nodes : 
       let past = E.is.past c.choices C.first in
       let within = C.within in
       let same = ap (count_expands any_bound) C.tree in omega arith
+
+  -- a search never refuses the queries or the switch
+  pub search_may : (verdict : Result Certificate Fault) → SearchedIn s queries given nodes verdict → MayCome 0 verdict
+  search_may (Ok c) is = tt
+  search_may (Err e) is = subst (λ (f : Fault). MayCome {A = Certificate} 0 (Err f)) (sym is.same) tt
 
   pub search_once : (first second : Result Certificate Fault) → SearchedIn s queries given nodes first → SearchedIn s queries given nodes second → first ≡ second
   search_once (Ok c) (Ok d) C D = ap Ok (one_certificate c d C D)

@@ -1,17 +1,20 @@
 -- A text with a plan and its tree is judged in one way.
-use Rattle.std.proofs.Common.{◌≡◌, ℕ, List, Option, Some, Result, Ok, Err, refl, ap, sym, ◌∙◌, inl, inr}
+use Rattle.std.proofs.Common.{◌≡◌, ℕ, List, Option, None, Some, Result, Ok, Err, refl, ap, sym, subst, ◌∙◌, inl, inr}
 use Rattle.sn_planned.specs.Texts.{plan_fault, plan_refusal}
 use Rattle.sn_plan.specs.Texts as plans
 use Rattle.sn_plan.specs.declared.fault.PlanFault.{PlanFault}
 use Rattle.sn_plan.specs.declared.fault.PlanFault.TheVariants as plan_faults
 use Rattle.sn_plan.proofs.Readings as plan_readings
 use Rattle.sn_plan_rules.specs.declared.plan.Plan.{Plan}
+use Rattle.sn_chosen.specs.Chosen.{plan_choices}
+use Rattle.sn_priced.specs.Space.{trained_plans}
 use Rattle.sn_refine.specs.Steps.{Given}
 use Rattle.sn_space.specs.declared.node.Node.{Node}
 use Rattle.sn_stage.specs.declared.fault.Fault.{Fault}
 use Rattle.sn_stage.specs.Runs.{Answers}
 use Rattle.sn_stage.specs.Stages.{HasVerdict}
 use Rattle.sn_stage.proofs.OneLemmas.{one_reading, read_once}
+use Rattle.sn_stage.proofs.StageLemmas.{MayCome}
 use Rattle.sn_switch.specs.declared.switch.Switch.{Switch}
 use Rattle.sn_text.specs.Cutting.{tokens_of}
 use Rattle.sn_tree.specs.Faults as tree
@@ -44,6 +47,12 @@ plan_refused text plan_faults.Memory h = tt
 pub tree_once : (text : List ℕ) (byte : ℕ) (first second : Result (ℕ × List Node) Fault) → TreeBehind text byte first → TreeBehind text byte second → first ≡ second
 tree_once text byte = read_once tree_text_fault (trees.IsRead text byte) (tree_readings.reading_once text byte)
 
+-- the faults of a cost and a tree may come where the queries and the switch were read before
+pub tree_may : (A : Type 0) (fault : TextFault) → MayCome {A = A} 0 (Err (tree_text_fault fault))
+tree_may A (tree_faults.Lex line) = tt
+tree_may A (tree_faults.Expected line) = tt
+tree_may A tree_faults.Memory = tt
+
 pub one_tree_behind : (text : List ℕ) (byte : ℕ) → HasVerdict (TreeBehind text byte)
 one_tree_behind text byte =
     one_reading tree_text_fault (trees.IsRead text byte) (tree_readings.reading_once text byte) (tree_readings.reading_some text byte).reading (tree_readings.reading_some text byte).is
@@ -55,9 +64,22 @@ tree_refused text byte tree_faults.Memory h = tt
 
 -- ---- what they show
 
+flaw_may : (fault : Option TreeFault) → MayCome 0 (flaw_verdict fault)
+flaw_may None = tt
+flaw_may (Some (flaws.Cost node want got)) = tt
+flaw_may (Some (flaws.Shape node want got)) = tt
+flaw_may (Some (flaws.Bound node want got)) = tt
+flaw_may (Some (flaws.NotBroken node want got)) = tt
+flaw_may (Some (flaws.NoPlan node want got)) = tt
+flaw_may (Some flaws.Memory) = tt
+
 module _ (s : Switch) (queries : List TypedQuery) (given : List Given) (plan : Plan) (cost : ℕ) (nodes : List Node) where
   pub shown_once : (first second : Result (Unit {0}) Fault) → ShownFor s queries given plan cost nodes first → ShownFor s queries given plan cost nodes second → first ≡ second
   shown_once first second a b = a ∙ sym b
+
+  -- what a tree shows refuses neither the queries nor the switch
+  pub shown_may : (verdict : Result (Unit {0}) Fault) → ShownFor s queries given plan cost nodes verdict → MayCome 0 verdict
+  shown_may verdict is = subst (λ (v : Result (Unit {0}) Fault). MayCome 0 v) (sym is) (flaw_may (tree.tree_fault (trained_plans s queries given) (plan_choices s queries plan.entries) cost nodes))
 
   pub one_shown : HasVerdict (ShownFor s queries given plan cost nodes)
   one_shown = record { verdict = _; is = refl; once = shown_once }

@@ -3,7 +3,7 @@ ghost use Rattle.std.specs.Prelude.{◌≤◌, ◌^◌, [], ◌∷◌, length};
 ghost use Rattle.sn_checked.specs.Check.{Check, PlanTree};
 ghost use Rattle.sn_planned.specs.Queries.{queries_of};
 ghost use Rattle.sn_stage.specs.Desks.{world};
-ghost use Rattle.sn_stage.specs.Runs.{Runs, Works};
+ghost use Rattle.sn_stage.specs.Runs.{Runs, WorksFrom};
 ghost use Rattle.sn_switch.specs.Texts.{IsSwitch};
 ghost use Rattle.sn_training.specs.Training.{IsInOrder};
 
@@ -56,7 +56,7 @@ pub fn check<I: Inputs, O: Sink>(
     plantree: &str,
     desk: &mut Desk<'_, I, O>,
 ) -> Result<(), Refusal>
-    ensures { Works (queries.now ∷ switch.now ∷ train.now ∷ plantree.now ∷ []) (Check switch.now queries.now train.now plantree.now) (world I.Inputs O.Sink desk.old) result (world I.Inputs O.Sink desk.new) }
+    ensures { WorksFrom 2 (queries.now ∷ switch.now ∷ train.now ∷ plantree.now ∷ []) (Check switch.now queries.now train.now plantree.now) (world I.Inputs O.Sink desk.old) result (world I.Inputs O.Sink desk.new) }
 {
     let typed = read_queries(alloc, desk, queries)?;
     let limits = read_switch(alloc, desk, switch)?;

@@ -2,7 +2,7 @@
 ghost use Rattle.std.specs.Prelude.{[], ◌∷◌};
 ghost use Rattle.sn_emitted.specs.Emit.{Emit};
 ghost use Rattle.sn_stage.specs.Desks.{world};
-ghost use Rattle.sn_stage.specs.Runs.{Works};
+ghost use Rattle.sn_stage.specs.Runs.{WorksFrom};
 
 use crate::reporter::Reporter;
 use sn_answered::capture::answer_capture;
@@ -25,7 +25,7 @@ pub fn emit<I: Inputs, O: Sink>(
     capture: &str,
     desk: &mut Desk<'_, I, O>,
 ) -> Result<(), Refusal>
-    ensures { Works (queries.now ∷ switch.now ∷ plan.now ∷ capture.now ∷ []) (Emit switch.now queries.now plan.now capture.now) (world I.Inputs O.Sink desk.old) result (world I.Inputs O.Sink desk.new) }
+    ensures { WorksFrom 2 (queries.now ∷ switch.now ∷ plan.now ∷ capture.now ∷ []) (Emit switch.now queries.now plan.now capture.now) (world I.Inputs O.Sink desk.old) result (world I.Inputs O.Sink desk.new) }
 {
     let typed = read_queries(alloc, desk, queries)?;
     let limits = read_switch(alloc, desk, switch)?;

@@ -59,11 +59,11 @@ fn put_end(lanes: &mut Vec<Intake>, at: usize, lane: Lane, window: u64)
 }
 
 /// Empties all lanes.
-fn empty_all(alloc: Global, lanes: &mut [Intake])
+fn empty_all(lanes: &mut [Intake])
     ensures { lanes.new ≡ map emptied lanes.old }
 {
     for x in lanes.iter_mut() {
-        x.empty(alloc);
+        x.empty();
     }
 }
 
@@ -170,7 +170,7 @@ impl Engine {
         ensures last { self.new.closed ≡ Some window }
         ensures queries { self.new.t.queries ≡ self.old.t.queries }
     {
-        empty_all(self.alloc, &mut self.lanes);
+        empty_all(&mut self.lanes);
         self.count = 0;
         self.closed = Some(window);
     }

@@ -59,6 +59,49 @@ impl Model for Tuple {
     } };
 }
 
+// The bounds that the types of a header's numbers keep.
+
+fn link_fits(link: &LinkHeader)
+    ensures { link.now.kind < 2 ^ 16 }
+{
+    let _kind = link.kind;
+}
+
+fn ip_fits(ip: &IpHeader)
+    ensures { (ip.now.length < 2 ^ 16) × (ip.now.ttl < 2 ^ 8) × (ip.now.protocol < 2 ^ 8) × (ip.now.source < 2 ^ 32) × (ip.now.destination < 2 ^ 32) }
+{
+    let _length = ip.length;
+    let _ttl = ip.ttl;
+    let _protocol = ip.protocol;
+    let _source = ip.source;
+    let _destination = ip.destination;
+}
+
+fn tcp_fits(tcp: &TcpHeader)
+    ensures { (tcp.now.source < 2 ^ 16) × (tcp.now.destination < 2 ^ 16) × (tcp.now.sequence < 2 ^ 32) × (tcp.now.acknowledgment < 2 ^ 32) × (tcp.now.flags < 2 ^ 8) }
+{
+    let _source = tcp.source;
+    let _destination = tcp.destination;
+    let _sequence = tcp.sequence;
+    let _acknowledgment = tcp.acknowledgment;
+    let _flags = tcp.flags;
+}
+
+fn udp_fits(udp: &UdpHeader)
+    ensures { (udp.now.source < 2 ^ 16) × (udp.now.destination < 2 ^ 16) × (udp.now.length < 2 ^ 16) }
+{
+    let _source = udp.source;
+    let _destination = udp.destination;
+    let _length = udp.length;
+}
+
+fn icmp_fits(icmp: &IcmpHeader)
+    ensures { (icmp.now.kind < 2 ^ 8) × (icmp.now.code < 2 ^ 8) }
+{
+    let _kind = icmp.kind;
+    let _code = icmp.code;
+}
+
 impl Tuple {
     /// The number of a field, which is below 2 to its width.
     pub fn get(&self, field: Field) -> u64
@@ -91,6 +134,18 @@ impl Tuple {
             Field::IcmpType => u64::from(self.icmp.kind),
             Field::IcmpCode => u64::from(self.icmp.code),
         }
+    }
+
+    /// Each number is below 2 to its field's width.
+    pub fn widths(&self)
+        ensures { (field : Field) → slice_index self.now (number_of field) < 2 ^ width_of field }
+    {
+        let _wire = self.wire;
+        link_fits(&self.link);
+        ip_fits(&self.ip);
+        tcp_fits(&self.tcp);
+        udp_fits(&self.udp);
+        icmp_fits(&self.icmp);
     }
 }
 

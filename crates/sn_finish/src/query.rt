@@ -3,16 +3,14 @@ ghost use Rattle.std.specs.Prelude.{◌≡◌, ◌<◌, length, IfOk};
 ghost use Rattle.std.specs.List.{AllByRecursion};
 ghost use Rattle.sn_base.specs.Columns.{IsOf};
 ghost use Rattle.sn_base.specs.Sorted.{sorted_rows};
-ghost use Rattle.sn_ops.specs.Joins.{joined};
 ghost use Rattle.sn_split.specs.Branches.{branch_value, query_value, IsItemOf};
-ghost use Rattle.sn_types.specs.Typed.{query_at, branch_at, schema_at, end_columns, final_columns};
+ghost use Rattle.sn_types.specs.Typed.{query_at, branch_at, end_columns, final_columns};
 
 use crate::value::value;
 use sn_base::memory::Memory;
 use sn_base::row::Row;
 use sn_base::seq::Seq;
-use sn_ops::flow::run;
-use sn_ops::join::join_by;
+use sn_ops::plain::join_branches;
 use sn_report::frame::Item;
 use sn_types::typed::Typed;
 use std::alloc::Global;
@@ -35,33 +33,6 @@ fn branch_value(
     value(alloc, t.seed, t.operators(q, b), level, items)
 }
 
-/// The values of the items of both branches, joined.
-fn joined_value(
-    alloc: Global,
-    t: &Typed,
-    q: u32,
-    level: u32,
-    left: &[Item],
-    right: &[Item],
-) -> Result<Seq<Row>, Memory>
-    requires query { q < length t.now.queries }
-    requires branches { length (query_at t.now.queries q).branches ≡ 2 }
-    requires left { AllByRecursion (IsItemOf (branch_at t.now.queries q 0)) left.now }
-    requires right { AllByRecursion (IsItemOf (branch_at t.now.queries q 1)) right.now }
-    ensures rows { IfOk result (λ rows. rows ≡ joined (query_at t.now.queries q).keys (branch_value (query_at t.now.queries q) 0 level left.now) (branch_value (query_at t.now.queries q) 1 level right.now)) }
-    ensures columns { IfOk result (λ rows. AllByRecursion (IsOf (schema_at (query_at t.now.queries q).schemas 0)) rows) }
-{
-    let left = branch_value(alloc, t, q, 0, level, left)?;
-    let right = branch_value(alloc, t, q, 1, level, right)?;
-    join_by(
-        alloc,
-        t.seed,
-        left.as_slice(),
-        right.as_slice(),
-        t.join_keys(q),
-    )
-}
-
 /// The value of the items of a query at a level: of its branch, or of its two branches joined and taken through the
 /// operators behind the join. A query of one branch doesn't look at `right`.
 pub fn query_value(
@@ -79,8 +50,9 @@ pub fn query_value(
     ensures columns { IfOk result (λ rows. AllByRecursion (IsOf (final_columns (query_at t.now.queries q))) rows) }
 {
     if t.branches(q) == 2 {
-        let rows = joined_value(alloc, t, q, level, left, right)?;
-        run(alloc, t.seed, t.query(q).posts.as_slice(), level, rows)
+        let left = branch_value(alloc, t, q, 0, level, left)?;
+        let right = branch_value(alloc, t, q, 1, level, right)?;
+        join_branches(alloc, t, q, level, left.as_slice(), right.as_slice())
     } else {
         branch_value(alloc, t, q, 0, level, left)
     }

@@ -16,7 +16,7 @@ use Rattle.sn_stage.specs.Outcomes.{Outcome, silent}
 use Rattle.sn_stage.specs.Runs.{Answers, Runs}
 use Rattle.sn_stage.specs.Stages.{Adds, Does}
 use Rattle.sn_stage.specs.Worlds.{World}
-use Rattle.sn_stage.proofs.StageLemmas.{runs_chance, runs_gives, text_stops, text_then}
+use Rattle.sn_stage.proofs.StageLemmas.{MayCome, runs_chance, runs_gives, text_stops, text_then}
 use Rattle.sn_types.specs.declared.typed_query.TypedQuery.{TypedQuery}
 use Rattle.sn_finished.specs.Taken.{Standing, close, close_ended, fault_at, kind_of, take_frame, take_verdict, taken_unless}
 
@@ -28,7 +28,7 @@ module _ {A : Type 0} (text : List ℕ) (end : Result A Refusal) {before now : W
 
 pub block_then : {A : Type 0} (text : List ℕ) (value : A) {before now : World} → Runs [] (Adds text) before (Ok tt) now → Runs [] (Does (record { text = text; end = Ok value })) before (Ok value) now
 block_then text value {before} {now} r =
-    subst (λ (t : List ℕ). Runs [] (Does (record { text = t; end = Ok value })) before (Ok value) now) (append-nil text) (text_then text (silent (Ok value)) r (runs_gives (Ok value) now))
+    subst (λ (t : List ℕ). Runs [] (Does (record { text = t; end = Ok value })) before (Ok value) now) (append-nil text) (text_then text (silent (Ok value)) r (runs_gives (Ok value) now tt))
 
 -- ---- a frame that isn't taken
 
@@ -47,13 +47,18 @@ ok_is : (fault : Option TakeFault) (at : ℕ) → Ok tt ≡ take_verdict at faul
 ok_is None at e taken = refl
 ok_is (Some g) at e taken = absurd cc
 
+-- a frame that isn't taken refuses neither the queries nor the switch
+refused_may : (at : ℕ) (fault : Option TakeFault) (f : Fault) → Err f ≡ take_verdict at fault → MayCome {A = Standing} 0 (Err f)
+refused_may at None f e = absurd cc
+refused_may at (Some g) f e = subst (λ (x : Fault). MayCome {A = Standing} 0 (Err x)) (let same : fault_at (kind_of g) at ≡ f = cc in same) tt
+
 pub none_is : (fault : Option TakeFault) (at : ℕ) → Ok tt ≡ take_verdict at fault → fault ≡ None
 none_is None at e = refl
 none_is (Some g) at e = absurd cc
 
 pub take_stops : (at : ℕ) (fault : Option TakeFault) (taken : Outcome Standing) (refusal : Refusal) (w : World) → Answers {A = Unit {0}} (λ verdict. verdict ≡ take_verdict at fault) (Err refusal) → Runs [] (Does (taken_unless at fault taken)) w (Err refusal) w
 take_stops at fault taken Memory w h = runs_chance (Does (taken_unless at fault taken)) w
-take_stops at fault taken (Refused f) w h = subst (λ (o : Outcome Standing). Runs [] (Does o) w (Err (Refused f)) w) (sym (err_is fault at f h taken)) (runs_gives (Err f) w)
+take_stops at fault taken (Refused f) w h = subst (λ (o : Outcome Standing). Runs [] (Does o) w (Err (Refused f)) w) (sym (err_is fault at f h taken)) (runs_gives (Err f) w (refused_may at fault f h))
 take_stops at fault taken Usage w h = absurd h
 take_stops at fault taken Missing w h = absurd h
 take_stops at fault taken ReadFault w h = absurd h
@@ -91,7 +96,7 @@ close_goes queries s after {before} {now} none is r =
 
 pub stays_open : (queries : List TypedQuery) (s after : Standing) (lane : ℕ) (w : World) → first_open s.lanes ≡ Some lane → after ≡ s → Runs [] (Does (close_ended queries s)) w (Ok after) w
 stays_open queries s after lane w some same =
-    subst (λ (o : Outcome Standing). Runs [] (Does o) w (Ok after) w) (ap (λ (x : Standing). silent (Ok x)) same ∙ sym (open_is queries s lane some)) (runs_gives (Ok after) w)
+    subst (λ (o : Outcome Standing). Runs [] (Does o) w (Ok after) w) (ap (λ (x : Standing). silent (Ok x)) same ∙ sym (open_is queries s lane some)) (runs_gives (Ok after) w tt)
 
 -- ---- one item more at most
 

@@ -122,13 +122,13 @@ module _ (queries : List TypedQuery) (at size : ℕ) (rest : List ℕ) (s : Stan
 
     -- no frame has this byte
     pub bad_stops : (n : ℕ) → Stands rest (Bad n) → Runs [] whole before (Err (Refused (fault_at kinds.Bad (at + n)))) now
-    bad_stops n stands = ends_so (Bad n) (refused_at kinds.Bad (at + n)) stands tt refl (runs_gives (Err (fault_at kinds.Bad (at + n))) now)
+    bad_stops n stands = ends_so (Bad n) (refused_at kinds.Bad (at + n)) stands tt refl (runs_gives (Err (fault_at kinds.Bad (at + n))) now tt)
 
     -- the reports end within a frame
     pub cut_stops : at < size → Stands rest More → Runs [] whole before (Err (Refused (fault_at kinds.Cut at))) now
     cut_stops lt stands =
         let other : (at == size) ≡ false = ne_eqb at size (λ e. omega arith) in
-        ends_so More (refused_at kinds.Cut at) stands tt (ap (λ b. cond b (ended size s) (refused_at kinds.Cut at)) other) (runs_gives (Err (fault_at kinds.Cut at)) now)
+        ends_so More (refused_at kinds.Cut at) stands tt (ap (λ b. cond b (ended size s) (refused_at kinds.Cut at)) other) (runs_gives (Err (fault_at kinds.Cut at)) now tt)
 
     -- the reports end behind a frame
     pub end_goes : at ≡ size → rest ≡ [] → {answer : Result (Unit {0}) Refusal} {after : World} → Runs [] (Does (ended size s)) now answer after → Runs [] whole before answer after

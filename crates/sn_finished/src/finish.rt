@@ -2,7 +2,7 @@
 ghost use Rattle.std.specs.Prelude.{[], ◌∷◌};
 ghost use Rattle.sn_finished.specs.Finish.{Finish};
 ghost use Rattle.sn_stage.specs.Desks.{world};
-ghost use Rattle.sn_stage.specs.Runs.{Works};
+ghost use Rattle.sn_stage.specs.Runs.{WorksFrom};
 
 use crate::reports::answer_reports;
 use sn_io::inputs::Inputs;
@@ -24,7 +24,7 @@ pub fn finish<I: Inputs, O: Sink>(
     reports: &str,
     desk: &mut Desk<'_, I, O>,
 ) -> Result<(), Refusal>
-    ensures { Works (queries.now ∷ plan.now ∷ reports.now ∷ []) (Finish queries.now plan.now reports.now) (world I.Inputs O.Sink desk.old) result (world I.Inputs O.Sink desk.new) }
+    ensures { WorksFrom 2 (queries.now ∷ plan.now ∷ reports.now ∷ []) (Finish queries.now plan.now reports.now) (world I.Inputs O.Sink desk.old) result (world I.Inputs O.Sink desk.new) }
 {
     let typed = read_queries(alloc, desk, queries)?;
     let chosen = read_plan(alloc, desk, plan)?;

@@ -2,7 +2,7 @@
 ghost use Rattle.std.specs.Prelude.{[]};
 ghost use Rattle.sn_generated.specs.Gen.{Gen};
 ghost use Rattle.sn_stage.specs.Desks.{world};
-ghost use Rattle.sn_stage.specs.Runs.{Works};
+ghost use Rattle.sn_stage.specs.Runs.{WorksFrom};
 
 use sn_gen::capture::capture;
 use sn_io::inputs::Inputs;
@@ -18,7 +18,7 @@ pub fn generate<I: Inputs, O: Sink>(
     number: u32,
     desk: &mut Desk<'_, I, O>,
 ) -> Result<(), Refusal>
-    ensures { Works [] (Gen number) (world I.Inputs O.Sink desk.old) result (world I.Inputs O.Sink desk.new) }
+    ensures { WorksFrom 2 [] (Gen number) (world I.Inputs O.Sink desk.old) result (world I.Inputs O.Sink desk.new) }
 {
     let file = capture(alloc, u64::from(number))?;
     write_text(file.as_slice(), desk)

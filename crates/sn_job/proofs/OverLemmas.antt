@@ -13,7 +13,7 @@ use Rattle.sn_job.proofs.MadeLemmas.{none_rose}
 use Rattle.sn_run.specs.Planned.{Telling}
 use Rattle.sn_stage.specs.declared.refusal.Refusal.{Refusal}
 use Rattle.sn_stage.specs.Outcomes.{Keeps}
-use Rattle.sn_stage.specs.Runs.{Works}
+use Rattle.sn_stage.specs.Runs.{WorksFrom}
 use Rattle.sn_stage.specs.Worlds.{AnyRose, AnyUnknown, Files, OutRose, Sunk, World}
 use Rattle.sn_stage.proofs.StageLemmas.{works_alone}
 
@@ -46,7 +46,7 @@ none_failed (name ∷ more) before now first last e f (inr rose) = none_failed m
 pub works_over : (telling : Telling) (number : ℕ) (files later : List FileState) → held_by files ≡ job_files number → (before now inner after : World) (answer : Result (Unit {0}) Refusal)
     → inner.files.told ≡ Some (held_by files) → inner.files.faults ≡ no_faults files → after.files.faults ≡ no_faults later
     → inner.out ≡ before.out → after.out ≡ now.out → now.files ≡ before.files → now.places ≡ before.places
-    → Works (codes "queries" ∷ codes "switch" ∷ codes "training" ∷ codes "capture" ∷ []) (Summed telling number) inner answer after → Works [] (Job telling number) before answer now
+    → WorksFrom 2 (codes "queries" ∷ codes "switch" ∷ codes "training" ∷ codes "capture" ∷ []) (Summed telling number) inner answer after → WorksFrom 2 [] (Job telling number) before answer now
 works_over telling number files later are before now inner after answer told_is faults_is later_is first last same places w =
     let r = w.runs in
     let told : inner.files.told ≡ Some (job_files number) = told_is ∙ ap Some are in
@@ -58,6 +58,9 @@ works_over telling number files later are before now inner after answer told_is 
       read_fault = λ e. absurd (none_failed (names number files are) files later inner.files after.files faults_is later_is (r.read_fault e));
       write_fault = λ e. subst (λ (o : Sunk). OutRose o now.out) first (subst (λ (o : Sunk). OutRose inner.out o) last (r.write_fault e));
       words = r.words;
+      others = λ other none. ap (λ (f : Files). get f.faults other) same;
+      queries = λ fault e. ((r.queries fault e).0, λ other none. ap (λ (f : Files). get f.faults other) same);
+      switch = λ fault e. ((r.switch fault e).0, λ other none. ap (λ (f : Files). get f.faults other) same);
       follows = record {
         told = ap (λ (f : Files). f.told) same;
         known = λ name. ap (λ (f : Files). is_some (get f.faults name)) same;

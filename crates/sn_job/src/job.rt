@@ -2,7 +2,7 @@
 ghost use Rattle.std.specs.Prelude.{[], ◌∷◌, codes};
 ghost use Rattle.sn_job.specs.Job.{Job, Summed};
 ghost use Rattle.sn_stage.specs.Desks.{world};
-ghost use Rattle.sn_stage.specs.Runs.{Works};
+ghost use Rattle.sn_stage.specs.Runs.{WorksFrom};
 
 use crate::files::job_files;
 use crate::made::MadeFiles;
@@ -31,7 +31,7 @@ fn sum_up<M: Machine, I: Inputs, O: Sink>(
     number: u32,
     desk: &mut Desk<'_, I, O>,
 ) -> Result<(), Refusal>
-    ensures { Works (codes "queries" ∷ codes "switch" ∷ codes "training" ∷ codes "capture" ∷ []) (Summed M.told number) (world I.Inputs O.Sink desk.old) result (world I.Inputs O.Sink desk.new) }
+    ensures { WorksFrom 2 (codes "queries" ∷ codes "switch" ∷ codes "training" ∷ codes "capture" ∷ []) (Summed M.told number) (world I.Inputs O.Sink desk.old) result (world I.Inputs O.Sink desk.new) }
 {
     let typed = read_queries(alloc, desk, "queries")?;
     let limits = read_switch(alloc, desk, "switch")?;
@@ -57,7 +57,7 @@ pub fn job<M: Machine, I: Inputs, O: Sink>(
     number: u32,
     desk: &mut Desk<'_, I, O>,
 ) -> Result<(), Refusal>
-    ensures { Works [] (Job M.told number) (world I.Inputs O.Sink desk.old) result (world I.Inputs O.Sink desk.new) }
+    ensures { WorksFrom 2 [] (Job M.told number) (world I.Inputs O.Sink desk.old) result (world I.Inputs O.Sink desk.new) }
 {
     let mut files = job_files(alloc, number)?;
     let mut made = Desk {

@@ -4,13 +4,13 @@ use Rattle.std.specs.Io.KnownBytes.{append_known}
 use Rattle.sn_io.specs.Counts.{ByName}
 use Rattle.sn_certified.specs.Certificates.{SearchedIn, certificate_text}
 use Rattle.sn_certified.specs.declared.certificate.Certificate.{Certificate}
-use Rattle.sn_certified.proofs.Verdicts.{search_once}
+use Rattle.sn_certified.proofs.Verdicts.{search_may, search_once}
 use Rattle.sn_read_queries.specs.Texts.{Queries}
 use Rattle.sn_stage.specs.declared.fault.Fault.{Fault}
 use Rattle.sn_stage.specs.declared.refusal.Refusal.{Refusal}
 use Rattle.sn_stage.specs.Outcomes.{Keeps, Outcome, Stage}
 use Rattle.sn_stage.specs.Refusals.{by_chance, seen_as}
-use Rattle.sn_stage.specs.Runs.{Answers, Runs, Works}
+use Rattle.sn_stage.specs.Runs.{Answers, Runs, WorksFrom}
 use Rattle.sn_stage.specs.Stages.{Adds, Does, Judges, Text, Then}
 use Rattle.sn_stage.specs.Worlds.{World}
 use Rattle.sn_stage.proofs.StageLemmas.{runs_judges, runs_stops, runs_then, stage_stops, stage_then}
@@ -36,6 +36,9 @@ module _ {A : Type 0} (text : List ℕ) (value : A) where
     read_fault = λ e. r.read_fault (seen_err answer e);
     write_fault = λ e. r.write_fault (seen_err answer e);
     words = λ e. r.words (seen_err answer e);
+    others = r.others;
+    queries = λ fault e. r.queries fault (seen_err answer e);
+    switch = λ fault e. r.switch fault (seen_err answer e);
     follows = r.follows;
   }
     where
@@ -44,11 +47,11 @@ module _ {A : Type 0} (text : List ℕ) (value : A) where
       seen_err (Err r) e = err_err e
 
 -- work that began with a file, and read some more
-module _ {A B : Type 0} {first : Stage A} {second : A → Stage B} {before now : World} {name : List ℕ} {names : List (List ℕ)} (more : List (List ℕ)) where
-  pub work_stops : {refusal : Refusal} → Works (name ∷ names) first before (Err refusal) now → Works (name ∷ (names ++ more)) (Then first second) before (Err refusal) now
+module _ {A B : Type 0} {first : Stage A} {second : A → Stage B} {unread : ℕ} {before now : World} {name : List ℕ} {names : List (List ℕ)} (more : List (List ℕ)) where
+  pub work_stops : {refusal : Refusal} → WorksFrom unread (name ∷ names) first before (Err refusal) now → WorksFrom unread (name ∷ (names ++ more)) (Then first second) before (Err refusal) now
   work_stops w = record { runs = runs_stops more w.runs; unknown = λ e. err_err (w.unknown e) }
 
-  pub work_then : {value : A} {answer : Result B Refusal} {later : World} → Works (name ∷ names) first before (Ok value) now → Runs more (second value) now answer later → Works (name ∷ (names ++ more)) (Then first second) before answer later
+  pub work_then : {value : A} {answer : Result B Refusal} {later : World} → WorksFrom unread (name ∷ names) first before (Ok value) now → Runs more (second value) now answer later → WorksFrom unread (name ∷ (names ++ more)) (Then first second) before answer later
   work_then w r = record { runs = runs_then more w.runs r; unknown = λ e. absurd (let other = w.unknown e in cc) }
 
 -- ---- training and search
@@ -62,7 +65,7 @@ module _ (read : Queries) (limits : Switch) (training : Training) (nodes : ℕ) 
   judgement = SearchedIn limits read.queries (trained_windows training) nodes
 
   judged : {here : World} (answer : Result Certificate Refusal) → Answers judgement answer → Runs [] (Judges judgement) here answer here
-  judged {here} answer is = runs_judges judgement (search_once limits read.queries (trained_windows training) nodes) here answer is
+  judged {here} answer is = runs_judges judgement (search_once limits read.queries (trained_windows training) nodes) here (search_may limits read.queries (trained_windows training) nodes) answer is
 
   -- the search refused
   pub search_stops : {here : World} {refusal : Refusal} → Answers judgement (Err refusal) → Runs [] (Searches read limits training nodes) here (Err refusal) here

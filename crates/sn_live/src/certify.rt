@@ -5,7 +5,7 @@ ghost use Rattle.sn_fit.specs.Fits.{Fits};
 ghost use Rattle.sn_live.specs.Live.{Certifies, searched_of};
 ghost use Rattle.sn_stage.specs.Desks.{world};
 ghost use Rattle.sn_stage.specs.Refusals.{seen_as};
-ghost use Rattle.sn_stage.specs.Runs.{Runs, Works};
+ghost use Rattle.sn_stage.specs.Runs.{Runs, WorksFrom};
 ghost use Rattle.sn_stage.specs.Stages.{Adds};
 ghost use Rattle.sn_switch.specs.Texts.{IsSwitch};
 
@@ -45,7 +45,7 @@ pub fn certify<I: Inputs, O: Sink>(
     nodes: u32,
     desk: &mut Desk<'_, I, O>,
 ) -> Result<Certified, Refusal>
-    ensures works { Works (queries.now ∷ switch.now ∷ train.now ∷ []) (Certifies switch.now queries.now train.now nodes) (world I.Inputs O.Sink desk.old) (seen_as searched_of result) (world I.Inputs O.Sink desk.new) }
+    ensures works { WorksFrom 2 (queries.now ∷ switch.now ∷ train.now ∷ []) (Certifies switch.now queries.now train.now nodes) (world I.Inputs O.Sink desk.old) (seen_as searched_of result) (world I.Inputs O.Sink desk.new) }
     ensures limits { IfOk result (λ c. IsSwitch c.limits) }
     ensures fits { IfOk result (λ c. Fits c.typed.queries c.limits c.certificate.plan.entries) }
 {

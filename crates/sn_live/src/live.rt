@@ -2,7 +2,7 @@
 ghost use Rattle.std.specs.Prelude.{[], ◌∷◌};
 ghost use Rattle.sn_live.specs.Live.{Live};
 ghost use Rattle.sn_stage.specs.Desks.{world};
-ghost use Rattle.sn_stage.specs.Runs.{Works};
+ghost use Rattle.sn_stage.specs.Runs.{WorksFrom};
 
 use crate::certified::Certified;
 use crate::certify::certify;
@@ -26,7 +26,7 @@ pub fn live<M: Machine, I: Inputs, O: Sink>(
     nodes: u32,
     desk: &mut Desk<'_, I, O>,
 ) -> Result<(), Refusal>
-    ensures { Works (queries.now ∷ switch.now ∷ train.now ∷ capture.now ∷ []) (Live M.told switch.now queries.now train.now capture.now nodes) (world I.Inputs O.Sink desk.old) result (world I.Inputs O.Sink desk.new) }
+    ensures { WorksFrom 2 (queries.now ∷ switch.now ∷ train.now ∷ capture.now ∷ []) (Live M.told switch.now queries.now train.now capture.now nodes) (world I.Inputs O.Sink desk.old) result (world I.Inputs O.Sink desk.new) }
 {
     let certified = certify(alloc, switch, queries, train, nodes, desk)?;
     let Certified {

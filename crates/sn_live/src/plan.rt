@@ -2,7 +2,7 @@
 ghost use Rattle.std.specs.Prelude.{[], ◌∷◌};
 ghost use Rattle.sn_live.specs.Live.{Plan};
 ghost use Rattle.sn_stage.specs.Desks.{world};
-ghost use Rattle.sn_stage.specs.Runs.{Works};
+ghost use Rattle.sn_stage.specs.Runs.{WorksFrom};
 
 use crate::certify::certify;
 use sn_io::inputs::Inputs;
@@ -21,7 +21,7 @@ pub fn plan<I: Inputs, O: Sink>(
     nodes: u32,
     desk: &mut Desk<'_, I, O>,
 ) -> Result<(), Refusal>
-    ensures { Works (queries.now ∷ switch.now ∷ train.now ∷ []) (Plan switch.now queries.now train.now nodes) (world I.Inputs O.Sink desk.old) result (world I.Inputs O.Sink desk.new) }
+    ensures { WorksFrom 2 (queries.now ∷ switch.now ∷ train.now ∷ []) (Plan switch.now queries.now train.now nodes) (world I.Inputs O.Sink desk.old) result (world I.Inputs O.Sink desk.new) }
 {
     certify(alloc, switch, queries, train, nodes, desk)?;
     Ok(())

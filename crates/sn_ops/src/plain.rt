@@ -1,17 +1,19 @@
 //! Whole queries on tuples, with no switch.
-ghost use Rattle.std.specs.Prelude.{◌≡◌, ◌<◌, length, nat_eq, true, IfOk};
+ghost use Rattle.std.specs.Prelude.{◌≡◌, ◌<◌, length, map, nat_eq, true, IfOk};
 ghost use Rattle.std.specs.List.{list_any, AllByRecursion};
 ghost use Rattle.sn_base.specs.Columns.{IsOf};
+ghost use Rattle.sn_base.specs.Operators.{through};
 ghost use Rattle.sn_ops.specs.Packets.{OfALevel};
-ghost use Rattle.sn_ops.specs.Plain.{branch_rows, joined_rows, query_rows};
-ghost use Rattle.sn_types.specs.Typed.{branch_of, branch_at, query_at, end_columns, final_columns, schema_at};
+ghost use Rattle.sn_ops.specs.Joins.{joined};
+ghost use Rattle.sn_ops.specs.Plain.{branch_rows, query_rows};
+ghost use Rattle.sn_types.specs.Typed.{branch_of, branch_at, query_at, end_columns, final_columns};
+ghost use Rattle.sn_types.specs.Values.{op_at};
 
 use crate::finish::finish;
-use crate::flow::run;
-use crate::join::join_by;
+use crate::join::join_through;
 use crate::packets::{Kept, is_kept};
 use crate::seen::unseen;
-use crate::take::take;
+use crate::start::start;
 use sn_base::memory::Memory;
 use sn_base::row::Row;
 use sn_base::seq::Seq;
@@ -39,40 +41,41 @@ pub fn branch_rows(
 {
     let ops = t.operators(q, b);
     let mut seen = unseen(alloc, t.seed, ops)?;
+    let mut row = Row::empty();
     let mut out = Seq::new(alloc);
     for tuple in tuples {
         if is_kept(t, q, kept, tuple) {
-            let mut row = t.packet_row(q, b, level, tuple);
-            take(ops, &mut seen, level, &mut row, &mut out)?;
+            let packet = t.packet(q, b, level, tuple);
+            start(ops, &mut seen, level, &packet, &mut row, &mut out)?;
         }
     }
     finish(alloc, t.seed, ops, &seen, level, out)
 }
 
-/// The two branches of a query on these tuples, joined.
-fn joined_rows(
+/// Rows of the two branches of a query, joined and taken through the operators after the join.
+pub fn join_branches(
     alloc: Global,
     t: &Typed,
     q: u32,
     level: u32,
-    kept: Option<Kept>,
-    tuples: &[Tuple],
+    left: &[Row],
+    right: &[Row],
 ) -> Result<Seq<Row>, Memory>
     requires query { q < length t.now.queries }
     requires branches { length (query_at t.now.queries q).branches ≡ 2 }
-    requires level { list_any (nat_eq level) (query_at t.now.queries q).levels ≡ true }
-    requires kept { OfALevel (query_at t.now.queries q) kept }
-    ensures rows { IfOk result (λ rows. rows ≡ joined_rows (query_at t.now.queries q) level kept.entry tuples.now) }
-    ensures columns { IfOk result (λ rows. AllByRecursion (IsOf (schema_at (query_at t.now.queries q).schemas 0)) rows) }
+    requires left { AllByRecursion (IsOf (end_columns (branch_at t.now.queries q 0))) left.now }
+    requires right { AllByRecursion (IsOf (end_columns (branch_at t.now.queries q 1))) right.now }
+    ensures rows { let query = query_at t.now.queries q in IfOk result (λ rows. rows ≡ through (map (op_at level) query.posts) (joined query.keys left.now right.now)) }
+    ensures columns { IfOk result (λ rows. AllByRecursion (IsOf (final_columns (query_at t.now.queries q))) rows) }
 {
-    let left = branch_rows(alloc, t, q, 0, level, kept, tuples)?;
-    let right = branch_rows(alloc, t, q, 1, level, kept, tuples)?;
-    join_by(
+    join_through(
         alloc,
         t.seed,
-        left.as_slice(),
-        right.as_slice(),
+        left,
+        right,
         t.join_keys(q),
+        t.query(q).posts.as_slice(),
+        level,
     )
 }
 
@@ -94,8 +97,9 @@ pub fn plain(
     ensures columns { IfOk result (λ rows. AllByRecursion (IsOf (final_columns (query_at t.now.queries q))) rows) }
 {
     if t.branches(q) == 2 {
-        let rows = joined_rows(alloc, t, q, level, kept, tuples)?;
-        run(alloc, t.seed, t.query(q).posts.as_slice(), level, rows)
+        let left = branch_rows(alloc, t, q, 0, level, kept, tuples)?;
+        let right = branch_rows(alloc, t, q, 1, level, kept, tuples)?;
+        join_branches(alloc, t, q, level, left.as_slice(), right.as_slice())
     } else {
         branch_rows(alloc, t, q, 0, level, kept, tuples)
     }

@@ -1,12 +1,12 @@
 //! What an operator has seen.
-ghost use Rattle.std.specs.Prelude.{◌≡◌, ℕ, ◌≤◌, ◌<◌, ◌∷◌, [], All, length, not, slice_index, unwrap_or, IfOk, OnOk, Some, None, if◌then◌else◌};
+ghost use Rattle.std.specs.Prelude.{◌≡◌, ℕ, List, ◌≤◌, ◌<◌, ◌∷◌, [], All, length, not, slice_index, unwrap_or, IfOk, OnOk, Some, None, if◌then◌else◌};
 ghost use Rattle.std.specs.List.{list_any};
 ghost use Rattle.std.specs.Map.{lookup};
 ghost use Rattle.indexmap.specs.IndexMap.{insert_entry};
 ghost use Rattle.indexmap.specs.IndexSet.{insert_key};
 ghost use Rattle.sn_base.specs.AnyFold.{any_has, any_step, any_unit};
 ghost use Rattle.sn_base.specs.Groups.{columns_at, same_row};
-ghost use Rattle.sn_ops.specs.Passing.{CanMeet, flows};
+ghost use Rattle.sn_ops.specs.Passing.{CanMeet, flows, gone_as};
 ghost use Rattle.sn_ops.specs.Standing.{Stands, groups_after, rows_after};
 
 use crate::group::{add_to, is_new};
@@ -15,6 +15,7 @@ use sn_base::memory::Memory;
 use sn_base::row::Row;
 use sn_seed::Seed;
 use sn_types::evaluate::{columns_of, mapped, passes};
+use sn_types::packet::PacketRow;
 use sn_types::typed_op::{TOp, TReduce};
 use std::alloc::Global;
 
@@ -23,6 +24,23 @@ use std::alloc::Global;
 pub struct Seen {
     pub(crate) rows: IndexSet<Row, Seed>,
     pub(crate) groups: IndexMap<Row, u64, Seed>,
+}
+
+/// What becomes of a packet row at an operator.
+#[derive(Clone, Copy)]
+pub(crate) enum Passage {
+    /// It goes on as it is.
+    Same,
+    /// Another row goes on.
+    Other,
+    /// It goes no further.
+    Stays,
+}
+
+fn same_if(goes: bool) -> Passage
+    ensures { (packet other : List ℕ) → gone_as result packet other ≡ (if goes then Some packet else None) }
+{
+    if goes { Passage::Same } else { Passage::Stays }
 }
 
 /// Puts a row's value to its key's fold.
@@ -76,6 +94,37 @@ impl Seen {
             TOp::Reduce(r) => {
                 add_row(r, &mut self.groups, row)?;
                 Ok(false)
+            }
+        }
+    }
+
+    /// What becomes of a packet row at the operator that has seen this. It is seen then, and `row` is the other row, where
+    /// there is one. No row is made of it for a filter or a map.
+    pub(crate) fn begin(
+        &mut self,
+        op: &TOp,
+        level: u32,
+        packet: &PacketRow<'_>,
+        row: &mut Row,
+    ) -> Result<Passage, Memory>
+        requires { CanMeet op.now self.old.groups.entries packet.now }
+        ensures passed { IfOk result (λ passage. gone_as passage packet.now row.new ≡ flows level op.now self.old.rows.keys packet.now) }
+        ensures rows { OnOk result (self.new.rows.keys ≡ rows_after op.now self.old.rows.keys packet.now) }
+        ensures groups { OnOk result (self.new.groups.entries ≡ groups_after op.now self.old.groups.entries packet.now) }
+    {
+        match op {
+            TOp::Filter(conds) => Ok(same_if(passes(conds.as_slice(), level, packet))),
+            TOp::Map(exprs) => {
+                *row = mapped(packet, exprs.as_slice());
+                Ok(Passage::Other)
+            }
+            TOp::Distinct | TOp::Reduce(_) => {
+                *row = packet.row();
+                if self.pass(op, level, row)? {
+                    Ok(Passage::Other)
+                } else {
+                    Ok(Passage::Stays)
+                }
             }
         }
     }

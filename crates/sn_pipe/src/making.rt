@@ -8,7 +8,7 @@ use sn_base::fold::Or;
 use sn_base::memory::Memory;
 use sn_base::seq::Seq;
 use sn_chain::chain::Chain;
-use sn_types::copies::{copy_all, copy_conds, copy_reduce};
+use sn_types::copies::{copy_conds, copy_reduce};
 use sn_types::cuts::is_stateful;
 use sn_types::typed_op::TOp;
 use std::alloc::Global;
@@ -23,7 +23,7 @@ fn stage_of(alloc: Global, op: &TOp, depth: u32, slots: u32) -> Result<Stage, Me
 {
     match op {
         TOp::Filter(conds) => Ok(Stage::Filter(copy_conds(alloc, conds.as_slice())?)),
-        TOp::Map(exprs) => Ok(Stage::Map(copy_all(alloc, exprs.as_slice())?)),
+        TOp::Map(exprs) => Ok(Stage::Map(Seq::from_slice(alloc, exprs.as_slice())?)),
         TOp::Distinct => Ok(Stage::Distinct(Chain::make(alloc, Or { v: 1 }, depth, slots)?, false)),
         TOp::Reduce(r) => {
             let chain = Chain::make(alloc, r.fold, depth, slots)?;

@@ -19,6 +19,7 @@ use Rattle.sn_read.proofs.Tokens.{Next, halts}
 use Rattle.sn_plan_rules.specs.declared.plan.Plan.{Plan}
 use Rattle.sn_plan_rules.specs.Grammar.{end_in, any_end, end_rule, plan_rule, file_rule}
 use Rattle.sn_plan_rules.proofs.Goods.{plan_good, end_good, file_good, ends}
+use Rattle.sn_plan_rules.proofs.Starts.{file_starts}
 use Rattle.sn_plan_rules.proofs.Bounded.{flaws, file_telling}
 use Rattle.sn_plan.specs.declared.fault.PlanFault.{PlanFault}
 use Rattle.sn_plan.specs.declared.fault.PlanFault.TheVariants as faults
@@ -157,7 +158,7 @@ fault_so text ls (stops.Fault x l) f g h k =
     let e = here ts ls (fails x (left l)) g h in
     let s = file_good.stands kept ts (left l) x e in
     let ok = told_ok file_telling ts (left l) x (tokens_ended text) e in
-    subst (λ (r : PlanFault). IsFault ts r) (sym (k ∙ ap (λ (us : List Tok). fault_of x (line_of us)) s.head)) (shown ts x s.at.line s.at.column ok (first_fault file_rule file_good ends ts (left l) s.rest s.at x e s.head))
+    subst (λ (r : PlanFault). IsFault ts r) (sym (k ∙ ap (λ (us : List Tok). fault_of x (line_of us)) s.head)) (shown ts x s.at.line s.at.column ok (first_fault file_rule file_good file_starts ends ts (left l) s.rest s.at x e s.head))
 
 pub none_so : (ts ls : List Tok) (e : Stop) (f : PlanFault) (p : Plan) (byte : ℕ) → ls ≡ ts → Halts e (file_rule.read kept ls) → Answers e f → StandsFor ts p byte → f ≡ faults.Memory
 none_so ts ls stops.NoMemory f p byte g h k j = k

@@ -13,6 +13,7 @@ use Rattle.sn_text.proofs.Ends.{tokens_ended}
 use Rattle.sn_plan_rules.specs.declared.plan.Plan.{Plan}
 use Rattle.sn_plan_rules.specs.Grammar.{plan_rule, end_rule, file_rule}
 use Rattle.sn_plan_rules.proofs.Goods.{file_good, ends}
+use Rattle.sn_plan_rules.proofs.Starts.{file_starts}
 use Rattle.sn_plan_rules.proofs.Bounded.{flaws, file_telling}
 use Rattle.sn_plan.specs.declared.fault.PlanFault.{PlanFault}
 use Rattle.sn_plan.specs.declared.fault.PlanFault.TheVariants as faults
@@ -53,7 +54,7 @@ stands ts us p b e =
 reading : (text : List ℕ) (r : Read (Plan × Bool)) → file_rule.read kept (tokens_of text) ≡ r → Tells flaws r → HasReading text
 reading text (got x us) e d = let s = stands (tokens_of text) us x.0 x.1 e in record { reading = Ok (x.0, s.0); is = s.1 }
 reading text (fails x us) e d =
-    let f = fault_at {o = flaws} file_good ends (tokens_of text) us x e d in
+    let f = fault_at {o = flaws} file_good file_starts ends (tokens_of text) us x e d in
     record { reading = Err (fault_of f.flaw f.line); is = (shown (tokens_of text) f.flaw f.line f.column f.ok f.first, real f.flaw f.line) }
 reading text short e d = absurd d
 

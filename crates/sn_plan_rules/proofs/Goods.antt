@@ -18,7 +18,7 @@ use Rattle.sn_plan_rules.specs.Grammar.{name_test, name, numbers, Sizes, to_size
 
 -- ---- tokens
 
-name_good : Good name
+pub name_good : Good name
 name_good = word_by_good name_test (codes "a", refl)
 
 more_good : (low high : ℕ) → low ≤ high → Good (sign 3 ▸ number_in low high)
@@ -34,7 +34,7 @@ unfolding numbers
 numbers_good limit low high le = series_good (numbers_alike limit low high le) (record { good = number_in_good low high le; marked = λ t us e. refl; bares = λ a. refl })
 
 -- what may stand behind numbers: no comma
-numbers_end : (limit low high : ℕ) (t : Tok) (us : List Tok) → is_symbol 3 t.face ≡ false → (numbers limit low high).follow (t ∷ us) ≡ true
+pub numbers_end : (limit low high : ℕ) (t : Tok) (us : List Tok) → is_symbol 3 t.face ≡ false → (numbers limit low high).follow (t ∷ us) ≡ true
 unfolding numbers
 numbers_end limit low high t us e = rw e refl
 
@@ -65,7 +65,7 @@ both_some [] ts f = absurd (numbers_some 2 1 65536 f.1.0)
 both_some (s ∷ ss) [] f = absurd (numbers_some 8 0 31 f.1.1.1)
 both_some (s ∷ ss) (t ∷ ts) f = refl
 
-sizes_undone : Undoes to_sizes from_sizes (maybe (is_word (codes "slots")) both_rule)
+pub sizes_undone : Undoes to_sizes from_sizes (maybe (is_word (codes "slots")) both_rule)
 sizes_undone = record { back = back; forth = λ b a e. forth b.0 b.1 a e }
   where
     back : (a : Option Sizes) → (maybe (is_word (codes "slots")) both_rule).fits aside a → from_sizes (to_sizes a) ≡ Some a
@@ -78,7 +78,7 @@ sizes_undone = record { back = back; forth = λ b a e. forth b.0 b.1 a e }
     forth (s ∷ ss) [] a e = absurd cc
     forth (s ∷ ss) (t ∷ ts) a e = let h : Some (s ∷ ss, t ∷ ts) ≡ a = cc in ap to_sizes (sym h)
 
-both_starts : (a : Sizes) → Heads (is_word (codes "slots")) (both_rule.spell a)
+pub both_starts : (a : Sizes) → Heads (is_word (codes "slots")) (both_rule.spell a)
 unfolding both_rule
 both_starts a = same_self (codes "slots")
 
@@ -86,11 +86,11 @@ both_end : (t : Tok) (us : List Tok) → is_symbol 3 t.face ≡ false → both_r
 unfolding both_rule
 both_end t us e = numbers_end 8 0 31 t us e
 
-sizes_good : Good sizes_rule
+pub sizes_good : Good sizes_rule
 unfolding sizes_rule
 sizes_good = embedded_good to_sizes from_sizes sizes_undone (maybe_good (is_word (codes "slots")) both_good (record { heads = λ a f. both_starts a }))
 
-sizes_end : (t : Tok) (us : List Tok) → t.face ≡ symbol 2 → sizes_rule.follow (t ∷ us) ≡ true
+pub sizes_end : (t : Tok) (us : List Tok) → t.face ≡ symbol 2 → sizes_rule.follow (t ∷ us) ≡ true
 unfolding sizes_rule
 sizes_end t us e = ends (not (is_word (codes "slots") t.face)) (both_rule.follow (t ∷ us)) (ap (λ (x : Lexeme). not (is_word (codes "slots") x)) e) (both_end t us (ap (is_symbol 3) e))
   where
@@ -130,7 +130,7 @@ piece_opens t e =
 pub pieces_alike : Alike (is_word (codes "piece")) (full 8 Expected) (λ (seen : List Piece). piece_rule)
 pieces_alike = always_alike (is_word (codes "piece")) 8 Expected piece_good (λ t us e. piece_free (t ∷ us)) (λ a f. piece_heads a) piece_opens
 
-pieces_good : Good pieces_rule
+pub pieces_good : Good pieces_rule
 unfolding pieces_rule
 pieces_good = many_good pieces_alike
 

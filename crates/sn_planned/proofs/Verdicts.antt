@@ -1,6 +1,7 @@
 -- Each query, switch and plan text is judged in one way.
-use Rattle.std.proofs.Common.{◌≡◌, ℕ, List, [], ◌∷◌, Result, Ok, Err, refl, sym, subst}
+use Rattle.std.proofs.Common.{◌≡◌, ℕ, List, [], ◌∷◌, Option, None, Some, Result, Ok, Err, refl, sym, subst, arith}
 use Rattle.sn_text.specs.Cutting.{tokens_of}
+use Rattle.sn_fit.specs.declared.misfit.Misfit.{Misfit}
 use Rattle.sn_plan.specs.Texts as plans
 use Rattle.sn_plan.specs.declared.fault.PlanFault.{PlanFault}
 use Rattle.sn_plan.specs.declared.fault.PlanFault.TheVariants as plan_faults
@@ -18,11 +19,13 @@ use Rattle.sn_switch.specs.declared.switch.Switch.{Switch}
 use Rattle.sn_stage.specs.declared.fault.Fault.{Fault}
 use Rattle.sn_stage.specs.declared.fault.Fault.TheVariants as faults
 use Rattle.sn_stage.specs.declared.refusal.Refusal.{Refusal}
-use Rattle.sn_stage.specs.Runs.{Answers, Works}
-use Rattle.sn_stage.specs.Stages.{Bytes, HasVerdict, Text, most_text}
+use Rattle.sn_stage.specs.Runs.{Answers, Runs, Works, WorksFrom}
+use Rattle.sn_stage.specs.Stages.{Bytes, Gives, HasVerdict, Text, most_text}
 use Rattle.sn_stage.specs.Worlds.{World}
 use Rattle.sn_stage.proofs.OneLemmas.{one_reading, read_once}
-use Rattle.sn_stage.proofs.StageLemmas.{text_judged}
+use Rattle.sn_stage.proofs.StageLemmas.{MayCome, gives_as, named_may, text_judged}
+use Rattle.sn_stage.specs.Refusals.{refusing}
+use Rattle.sn_planned.specs.Fitting.{misfit_verdict}
 use Rattle.sn_planned.specs.Queries.{QueriesIn}
 use Rattle.sn_planned.specs.Texts.{IsPlanRead, PlanIn, SwitchIn, plan_fault, plan_refusal, switch_fault, switch_refusal}
 
@@ -31,6 +34,10 @@ use Rattle.sn_planned.specs.Texts.{IsPlanRead, PlanIn, SwitchIn, plan_fault, pla
 pub queries_once : (text : List ℕ) (first second : Result Queries Fault) → QueriesIn text first → QueriesIn text second → first ≡ second
 queries_once text = read_once faults.Queries (query_texts.IsRead text) (reading_once text)
 
+-- a query text may be refused where neither the queries nor the switch were read before
+pub queries_may : (text : List ℕ) (verdict : Result Queries Fault) → QueriesIn text verdict → MayCome 2 verdict
+queries_may text = named_may 2 (λ fault. refl)
+
 pub one_queries : (text : List ℕ) → HasVerdict (QueriesIn text)
 one_queries text = let h : query_texts.HasReading text = reading_some text in one_reading faults.Queries (query_texts.IsRead text) (reading_once text) h.reading h.is
 
@@ -38,6 +45,18 @@ one_queries text = let h : query_texts.HasReading text = reading_some text in on
 
 pub switch_once : (text : List ℕ) (first second : Result Switch Fault) → SwitchIn text first → SwitchIn text second → first ≡ second
 switch_once text = read_once switch_fault (switches.IsRead text) (switch_readings.reading_once text)
+
+-- a switch text may be refused where the switch wasn't read before
+pub switch_may : (text : List ℕ) (verdict : Result Switch Fault) → SwitchIn text verdict → MayCome 1 verdict
+switch_may text = named_may 1 of
+  where
+    of : (fault : SwitchFault) → MayCome {A = Switch} 1 (Err (switch_fault fault))
+    of (switch_faults.Lex line) = omega arith
+    of (switch_faults.Expected line) = omega arith
+    of (switch_faults.Range line) = omega arith
+    of (switch_faults.Twice line) = omega arith
+    of (switch_faults.Missing line) = omega arith
+    of switch_faults.Memory = tt
 
 pub one_switch : (text : List ℕ) → HasVerdict (SwitchIn text)
 one_switch text = let h : switches.HasReading text = switch_readings.reading_some text in one_reading switch_fault (switches.IsRead text) (switch_readings.reading_once text) h.reading h.is
@@ -71,6 +90,12 @@ plan_reading_once text (Err e) (Err f) h k = rw (err_same e f (plan_readings.rea
 pub plan_once : (text : List ℕ) (first second : Result Plan Fault) → PlanIn text first → PlanIn text second → first ≡ second
 plan_once text = read_once plan_fault (IsPlanRead text) (plan_reading_once text)
 
+-- the faults of a plan may come where the queries and the switch were read before
+pub plan_may : (A : Type 0) (fault : PlanFault) → MayCome {A = A} 0 (Err (plan_fault fault))
+plan_may A (plan_faults.Lex line) = tt
+plan_may A (plan_faults.Expected line) = tt
+plan_may A plan_faults.Memory = tt
+
 pub one_plan : (text : List ℕ) → HasVerdict (PlanIn text)
 one_plan text = by_reading (plan_readings.reading_some text).reading (plan_readings.reading_some text).is
   where
@@ -83,8 +108,19 @@ plan_refused text (plan_faults.Lex line) h = record { found = Err (plan_faults.L
 plan_refused text (plan_faults.Expected line) h = record { found = Err (plan_faults.Expected line); is = (h, λ e. cc); same = refl }
 plan_refused text plan_faults.Memory h = tt
 
+-- ---- whether a plan is refused
+
+misfit_may : (misfit : Option Misfit) → MayCome 0 (misfit_verdict misfit)
+misfit_may None = tt
+misfit_may (Some misfit) = tt
+
+-- what a test of a plan answers is given
+pub gives_misfit : (misfit : Option Misfit) {answer : Result (Unit {0}) Refusal} {w : World} → answer ≡ refusing (misfit_verdict misfit) → Runs [] (Gives (misfit_verdict misfit)) w answer w
+gives_misfit misfit e = gives_as (misfit_verdict misfit) (misfit_may misfit) e
+
 -- ---- a file whose bytes are judged
 
 module _ {A : Type 0} {judgement : List ℕ → Result A Fault → Type 0} {name : List ℕ} {before now : World} where
-  pub judged_text : {bytes text : List ℕ} {answer : Result A Refusal} → Works (name ∷ []) (Bytes most_text name) before (Ok bytes) now → text ≡ bytes → ((first second : Result A Fault) → judgement text first → judgement text second → first ≡ second) → Answers (judgement text) answer → Works (name ∷ []) (Text name judgement) before answer now
-  judged_text w same once a = text_judged (subst (λ (bytes : List ℕ). Works (name ∷ []) (Bytes most_text name) before (Ok bytes) now) (sym same) w) once a
+  pub judged_text : {unread : ℕ} {bytes text : List ℕ} {answer : Result A Refusal} → Works (name ∷ []) (Bytes most_text name) before (Ok bytes) now → text ≡ bytes → ((first second : Result A Fault) → judgement text first → judgement text second → first ≡ second)
+      → ((verdict : Result A Fault) → judgement text verdict → MayCome unread verdict) → Answers (judgement text) answer → WorksFrom unread (name ∷ []) (Text name judgement) before answer now
+  judged_text w same once may a = text_judged (subst (λ (bytes : List ℕ). Works (name ∷ []) (Bytes most_text name) before (Ok bytes) now) (sym same) w) once may a

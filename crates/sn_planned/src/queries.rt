@@ -2,7 +2,7 @@
 ghost use Rattle.std.specs.Prelude.{◌≤◌, ◌^◌, [], ◌∷◌, length};
 ghost use Rattle.sn_stage.specs.Desks.{world};
 ghost use Rattle.sn_stage.specs.Refusals.{seen_as};
-ghost use Rattle.sn_stage.specs.Runs.{Works, Answers};
+ghost use Rattle.sn_stage.specs.Runs.{Answers, WorksFrom};
 ghost use Rattle.sn_stage.specs.Stages.{Text};
 ghost use Rattle.sn_planned.specs.Queries.{queries_of, QueriesIn};
 
@@ -45,7 +45,7 @@ pub fn read_queries<I: Inputs, O: Sink>(
     desk: &mut Desk<'_, I, O>,
     name: &str,
 ) -> Result<Typed, Refusal>
-    ensures { Works (name.now ∷ []) (Text name.now QueriesIn) (world I.Inputs O.Sink desk.old) (seen_as queries_of result) (world I.Inputs O.Sink desk.new) }
+    ensures { WorksFrom 2 (name.now ∷ []) (Text name.now QueriesIn) (world I.Inputs O.Sink desk.old) (seen_as queries_of result) (world I.Inputs O.Sink desk.new) }
 {
     let text = read_file(alloc, desk, name, MOST_TEXT)?;
     seeded_queries(alloc, desk.files.seed(), text.as_slice())

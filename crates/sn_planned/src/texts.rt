@@ -2,7 +2,7 @@
 ghost use Rattle.std.specs.Prelude.{◌≡◌, ◌≤◌, ◌^◌, [], ◌∷◌, length, IfOk};
 ghost use Rattle.sn_planned.specs.Texts.{PlanIn, SwitchIn, plan_refusal, switch_refusal};
 ghost use Rattle.sn_stage.specs.Desks.{world};
-ghost use Rattle.sn_stage.specs.Runs.{Answers, Works};
+ghost use Rattle.sn_stage.specs.Runs.{Answers, Works, WorksFrom};
 ghost use Rattle.sn_stage.specs.Stages.{Text};
 ghost use Rattle.sn_switch.specs.Texts.{IsSwitch};
 
@@ -52,7 +52,7 @@ pub fn read_switch<I: Inputs, O: Sink>(
     desk: &mut Desk<'_, I, O>,
     name: &str,
 ) -> Result<Switch, Refusal>
-    ensures works { Works (name.now ∷ []) (Text name.now SwitchIn) (world I.Inputs O.Sink desk.old) result (world I.Inputs O.Sink desk.new) }
+    ensures works { WorksFrom 1 (name.now ∷ []) (Text name.now SwitchIn) (world I.Inputs O.Sink desk.old) result (world I.Inputs O.Sink desk.new) }
     ensures limits { IfOk result (λ switch. IsSwitch switch) }
 {
     let text = read_file(alloc, desk, name, MOST_TEXT)?;

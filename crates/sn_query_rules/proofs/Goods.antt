@@ -39,22 +39,22 @@ relax_past = embedded_past (past_number 0 64) to_relax (λ b. Some (from_relax b
 pub relax_listed : Listed (past_number 0 64) (λ (seen : List Relax). relax_rule)
 relax_listed = always_listed (past_number 0 64) relax_good (λ t us e. relax_free t us) relax_past
 
-abbrev relaxes : Rule (List Relax)
+abbrev pub relaxes : Rule (List Relax)
 relaxes = commas 4 (past_number 0 64) (λ seen. relax_rule)
 
-relaxes_good_in : Good relaxes
+pub relaxes_good_in : Good relaxes
 relaxes_good_in = commas_good 4 relax_listed
 
 relaxes_sign : (t : Tok) (us : List Tok) → t.face ≡ symbol 6 → relaxes.follow (t ∷ us) ≡ true
 relaxes_sign t us e = commas_sign 4 (past_number 0 64) (λ seen. relax_rule) t us (ap (is_symbol 3) e) (relax_free t us)
 
-abbrev at_rule : Rule (List Relax)
+abbrev pub at_rule : Rule (List Relax)
 at_rule = keyword (codes "at") ▸ sign 5 ▸ (relaxes ◂ sign 6)
 
-at_good : Good at_rule
+pub at_good : Good at_rule
 at_good = after_word (codes "at") (after_sign 5 (before_sign 6 relaxes_good_in relaxes_sign))
 
-relaxes_undone : Undoes to_relaxes from_relaxes (maybe (is_word (codes "at")) at_rule)
+pub relaxes_undone : Undoes to_relaxes from_relaxes (maybe (is_word (codes "at")) at_rule)
 relaxes_undone = record { back = back; forth = forth }
   where
     back : (a : Option (List Relax)) → (maybe (is_word (codes "at")) at_rule).fits aside a → from_relaxes (to_relaxes a) ≡ Some a
@@ -75,13 +75,13 @@ relaxes_end : (k : ℕ) (t : Tok) (us : List Tok) → t.face ≡ symbol k → re
 unfolding relaxes_rule
 relaxes_end k t us e = rw e refl
 
-abbrev and_rule : Rule (Option ℕ)
+abbrev pub and_rule : Rule (Option ℕ)
 and_rule = maybe (is_symbol 8) (sign 8 ▸ any_number)
 
-abbrev own_rule : Rule (ℕ × List Relax)
+abbrev pub own_rule : Rule (ℕ × List Relax)
 own_rule = pair any_number relaxes_rule
 
-abbrev test_rule : Rule (Cmp × (ℕ × List Relax))
+abbrev pub test_rule : Rule (Cmp × (ℕ × List Relax))
 test_rule = pair comparison own_rule
 
 abbrev no_and : Lexeme → Bool
@@ -134,19 +134,19 @@ filter_end k n t us e = commas_sign 8 past_name (λ seen. cond_rule) t us (ap (i
 
 -- ---- maps
 
-abbrev mask_rule : Rule ℕ
+abbrev pub mask_rule : Rule ℕ
 mask_rule = sign 8 ▸ any_number
 
-abbrev shift_rule : Rule ℕ
+abbrev pub shift_rule : Rule ℕ
 shift_rule = sign 18 ▸ number_in 0 63
 
-abbrev tail_rule : Rule Tail
+abbrev pub tail_rule : Rule Tail
 tail_rule = maybe goes_tail (either (is_symbol 8) mask_rule shift_rule)
 
-shift_good : Good shift_rule
+pub shift_good : Good shift_rule
 shift_good = after_sign 18 (number_in_good 0 63 (omega arith))
 
-mask_good : Good mask_rule
+pub mask_good : Good mask_rule
 mask_good = after_sign 8 any_good
 
 tail_good : Good tail_rule
@@ -159,19 +159,19 @@ tail_good = maybe_good goes_tail (either_good (is_symbol 8) mask_good shift_good
 abbrev no_number : Lexeme → Bool
 no_number x = not (is_number x)
 
-abbrev copied_rule : Rule (Name × Tail)
+abbrev pub copied_rule : Rule (Name × Tail)
 copied_rule = pair name tail_rule
 
-copied_good : Good copied_rule
+pub copied_good : Good copied_rule
 copied_good = free_pair (name_good []) tail_good (λ us. refl)
 
-abbrev expr_in : Rule (ℕ ⊎ (Name × Tail))
+abbrev pub expr_in : Rule (ℕ ⊎ (Name × Tail))
 expr_in = either is_number any_number copied_rule
 
-expr_in_good : Good expr_in
+pub expr_in_good : Good expr_in
 expr_in_good = either_good is_number any_good copied_good (record { heads = λ a f. refl }) (record { heads = λ a f. refl })
 
-expr_undone : Undoes to_expr from_expr expr_in
+pub expr_undone : Undoes to_expr from_expr expr_in
 expr_undone = record { back = back; forth = forth }
   where
     back : (a : ℕ ⊎ (Name × Tail)) → expr_in.fits aside a → from_expr (to_expr a) ≡ Some a
@@ -248,7 +248,7 @@ unfolding expr_rule
 expr_end t us e = rw e refl
 
 -- "as" behind what a column holds
-abbrev as_rule : List Name → Rule Name
+abbrev pub as_rule : List Name → Rule Name
 as_rule seen = keyword (codes "as") ▸ name_not seen
 
 as_good : (seen : List Name) → Good (as_rule seen)
@@ -301,19 +301,19 @@ sum_tail = sign 9 ▸ name
 abbrev ratio_tail : Rule (ℕ × Name)
 ratio_tail = sign 10 ▸ pair any_number (sign 11 ▸ name)
 
-abbrev join_tail : Rule (Name ⊎ (ℕ × Name))
+abbrev pub join_tail : Rule (Name ⊎ (ℕ × Name))
 join_tail = either (is_symbol 9) sum_tail ratio_tail
 
-abbrev shift_on : Rule (ℕ ⊎ (Name ⊎ (ℕ × Name)))
+abbrev pub shift_on : Rule (ℕ ⊎ (Name ⊎ (ℕ × Name)))
 shift_on = either (is_symbol 18) shift_rule join_tail
 
-abbrev mask_on : Rule (ℕ ⊎ (ℕ ⊎ (Name ⊎ (ℕ × Name))))
+abbrev pub mask_on : Rule (ℕ ⊎ (ℕ ⊎ (Name ⊎ (ℕ × Name))))
 mask_on = either (is_symbol 8) mask_rule shift_on
 
-abbrev post_tail : Rule PostTail
+abbrev pub post_tail : Rule PostTail
 post_tail = maybe goes_post_tail mask_on
 
-ratio_good : Good ratio_tail
+pub ratio_good : Good ratio_tail
 ratio_good = after_sign 10 (free_pair any_good (after_sign 11 (name_good [])) (λ us. refl))
 
 join_tail_good : Good join_tail
@@ -343,19 +343,19 @@ mask_heads (inr (inr (inr a))) = refl
 post_tail_good : Good post_tail
 post_tail_good = maybe_good goes_post_tail mask_on_good (record { heads = λ a f. mask_heads a })
 
-abbrev post_copied : Rule (Name × PostTail)
+abbrev pub post_copied : Rule (Name × PostTail)
 post_copied = pair name post_tail
 
 post_copied_good : Good post_copied
 post_copied_good = free_pair (name_good []) post_tail_good (λ us. refl)
 
-abbrev post_expr_in : Rule (ℕ ⊎ (Name × PostTail))
+abbrev pub post_expr_in : Rule (ℕ ⊎ (Name × PostTail))
 post_expr_in = either is_number any_number post_copied
 
 post_expr_in_good : Good post_expr_in
 post_expr_in_good = either_good is_number any_good post_copied_good (record { heads = λ a f. refl }) (record { heads = λ a f. refl })
 
-post_back : (a : ℕ ⊎ (Name × PostTail)) → from_post_expr (to_post_expr a) ≡ a
+pub post_back : (a : ℕ ⊎ (Name × PostTail)) → from_post_expr (to_post_expr a) ≡ a
 post_back (inl k) = refl
 post_back (inr (n, None)) = refl
 post_back (inr (n, Some (inl k))) = refl

@@ -1,6 +1,8 @@
 pub mod Names
 pub mod Goods
 pub mod Queries
+pub mod Fresh
+pub mod Starts
 pub mod Bounded
 pub mod TokenLimits
 pub mod ItemLimits

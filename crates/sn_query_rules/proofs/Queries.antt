@@ -60,28 +60,28 @@ keys_same : (a b : List Name) → keys_rule.bare a ≡ keys_rule.bare b → a �
 unfolding keys_rule
 keys_same a b e = unmapped (behind_comma 8 past_name (λ seen. name_not seen) []).bare (λ n. refl) a b e
 
-abbrev column_rule : List Name → Rule Name
+abbrev pub column_rule : List Name → Rule Name
 column_rule seen = sign 5 ▸ (name_not seen ◂ sign 6)
 
-column_good : (seen : List Name) → Good (column_rule seen)
+pub column_good : (seen : List Name) → Good (column_rule seen)
 column_good seen = after_sign 5 (before_sign 6 (name_good seen) (λ t us e. refl))
 
-abbrev width_rule : Rule ℕ
+abbrev pub width_rule : Rule ℕ
 width_rule = keyword (codes "width") ▸ number_in 1 64
 
-width_good : Good width_rule
+pub width_good : Good width_rule
 width_good = after_word (codes "width") (number_in_good 1 64 (omega arith))
 
 abbrev sum_rule : List Name → Rule (Name × ℕ)
 sum_rule seen = keyword (codes "sum") ▸ pair (column_rule seen) width_rule
 
-sum_good : (seen : List Name) → Good (sum_rule seen)
+pub sum_good : (seen : List Name) → Good (sum_rule seen)
 sum_good seen = after_word (codes "sum") (free_pair (column_good seen) width_good (λ us. refl))
 
 abbrev plain_rule : List Name → Rule (FoldWord × Name)
 plain_rule seen = pair plain_fold (column_rule seen)
 
-plain_good : (seen : List Name) → Good (plain_rule seen)
+pub plain_good : (seen : List Name) → Good (plain_rule seen)
 plain_good seen = free_pair plain_fold_good (column_good seen) (λ us. refl)
 
 abbrev not_sum : Lexeme → Bool
@@ -101,13 +101,13 @@ fold_free : (seen : List Name) (us : List Tok) → (fold_rule seen).follow us �
 unfolding fold_rule
 fold_free seen us = refl
 
-abbrev folded_rule : Rule (List Name × ((Name × ℕ) ⊎ (FoldWord × Name)))
+abbrev pub folded_rule : Rule (List Name × ((Name × ℕ) ⊎ (FoldWord × Name)))
 folded_rule = pair_on keys_rule (λ seen. sign 7 ▸ fold_rule seen) anything
 
 steady_if_same : {A B : Type 0} (q : A → Rule B) (a c : A) (b : B) → a ≡ c → ((q a).spell b ≡ (q c).spell b) × ((q a).fits kept b → (q c).fits kept b) × ((q a).bare b ≡ (q c).bare b)
 steady_if_same q a c b e = (ap (λ x. (q x).spell b) e, λ f. subst (λ x. (q x).fits kept b) e f, ap (λ x. (q x).bare b) e)
 
-folded_good : Good folded_rule
+pub folded_good : Good folded_rule
 folded_good = pair_on_good keys_good (λ seen. after_sign 7 (fold_good seen)) (record {
   meets = λ a front us b f s e. (headed_follows keys_rule (sign 7 ▸ fold_rule a) (is_symbol 7) (λ b f. refl) (λ t us e. keys_end 7 refl t us ((symbol_mark 7).only t.face e))).meets front us b f s (fold_free a us);
   ends = λ a us e. fold_free a us;
@@ -137,7 +137,7 @@ forth seen folds.Min v (suc w) a e = absurd cc
 forth seen folds.Or v zero a e = let h : (seen, inr (folds.Or, v)) ≡ a = cc in ap to_reduce (sym h)
 forth seen folds.Or v (suc w) a e = absurd cc
 
-folded_undone : Undoes to_reduce from_reduce folded_rule
+pub folded_undone : Undoes to_reduce from_reduce folded_rule
 unfolding fold_rule
 folded_undone = record { back = λ a f. back a.0 a.1 f.1.1; forth = λ b a e. forth b.keys b.fold b.value b.width a e }
 
@@ -208,7 +208,7 @@ after_filter (inr (inr r)) = other_head (is_word (codes "reduce")) no_filter (re
 filter_on_good : Good filter_on
 filter_on_good = either_good (is_word (codes "filter")) filter_good map_on_good (record { heads = λ a f. filter_heads a }) (record { heads = λ a f. after_filter a })
 
-what_back : (a : List Cond ⊎ (List MapCol ⊎ (Unit {0} ⊎ Reduce))) → from_what (to_what a) ≡ a
+pub what_back : (a : List Cond ⊎ (List MapCol ⊎ (Unit {0} ⊎ Reduce))) → from_what (to_what a) ≡ a
 what_back (inl conds) = refl
 what_back (inr (inl cols)) = refl
 what_back (inr (inr (inl u))) = refl
@@ -256,14 +256,14 @@ op_heads a = refl
 pub ops_alike : Alike (is_symbol 4) (full 12 TooMany) (λ (seen : List Op). op_rule)
 ops_alike = always_alike (is_symbol 4) 12 TooMany op_good (λ t us e. op_end 4 refl t us ((symbol_mark 4).only t.face e)) (λ a f. op_heads a) op_opens
 
-abbrev post_on : Rule (List Cond ⊎ List MapCol)
+abbrev pub post_on : Rule (List Cond ⊎ List MapCol)
 post_on = either (is_word (codes "filter")) filter_rule post_map_rule
 
-post_on_good : Good post_on
+pub post_on_good : Good post_on
 post_on_good = either_good (is_word (codes "filter")) filter_good post_map_good (record { heads = λ a f. filter_heads a })
     (record { heads = λ a f. other_head (is_word (codes "map")) no_filter (post_map_rule.spell a) (is_only (codes "map") no_filter refl) (post_map_heads a) })
 
-post_undone : Undoes to_post_what from_post_what post_on
+pub post_undone : Undoes to_post_what from_post_what post_on
 post_undone = record { back = λ a f. there a; forth = again }
   where
     there : (a : List Cond ⊎ List MapCol) → from_post_what (to_post_what a) ≡ Some a
@@ -336,10 +336,10 @@ refine_free us = refl
 
 -- ---- branches and joins
 
-abbrev ops_rule : Rule (List Op)
+abbrev pub ops_rule : Rule (List Op)
 ops_rule = series op_rule (is_symbol 4) (full 12 TooMany) (λ seen. op_rule)
 
-ops_good : Good ops_rule
+pub ops_good : Good ops_rule
 ops_good = series_good ops_alike (record { good = op_good; marked = λ t us e. op_end 4 refl t us ((symbol_mark 4).only t.face e); bares = λ a. refl })
 
 ends_both : (c a b : Bool) → c ≡ true → a ≡ true → b ≡ true → cond c (cond a b false) false ≡ true
@@ -363,10 +363,10 @@ branch_heads : (a : Branch) → Heads (is_word (codes "packets")) (branch_rule.s
 unfolding branch_rule
 branch_heads a = refl
 
-abbrev post_rule : Rule (List Op)
+abbrev pub post_rule : Rule (List Op)
 post_rule = many (is_symbol 4) (full 12 TooMany) (λ seen. post_op_rule)
 
-post_good : Good post_rule
+pub post_good : Good post_rule
 post_good = many_good post_ops_alike
 
 post_end : (t : Tok) (us : List Tok) → t.face ≡ symbol 2 → post_rule.follow (t ∷ us) ≡ true
@@ -410,10 +410,10 @@ join_free us = refl
 
 -- ---- queries
 
-abbrev joined_rule : Rule (Branch × Join)
+abbrev pub joined_rule : Rule (Branch × Join)
 joined_rule = pair branch_rule join_rule
 
-joined_good : Good joined_rule
+pub joined_good : Good joined_rule
 joined_good = free_pair branch_good join_good branch_free
 
 joined_starts : Starts (is_word (codes "packets")) joined_rule
@@ -431,26 +431,26 @@ body_heads : (b : Body) → Heads (is_word (codes "packets")) (body_rule.spell b
 unfolding body_rule
 body_heads b = heads_append (is_word (codes "packets")) (branch_rule.spell b.0) ((maybe (is_word (codes "packets")) joined_rule).spell b.1) (branch_heads b.0)
 
-abbrev refined_rule : Rule (Option Refine)
+abbrev pub refined_rule : Rule (Option Refine)
 refined_rule = maybe (is_word (codes "refine")) refine_rule
 
-refined_good : Good refined_rule
+pub refined_good : Good refined_rule
 refined_good = maybe_good (is_word (codes "refine")) refine_good (record { heads = λ a f. refine_heads a })
 
 refined_follows : Follows refined_rule body_rule
 refined_follows = headed_follows refined_rule body_rule (is_word (codes "packets")) (λ b f. body_heads b)
     (λ t us e. both (not (is_word (codes "refine") t.face)) (refine_rule.follow (t ∷ us)) (ap (λ (x : Lexeme). not (is_word (codes "refine") x)) ((word_mark (codes "packets")).only t.face e)) (refine_free (t ∷ us)))
 
-abbrev inner_rule : Rule (Option Refine × Body)
+abbrev pub inner_rule : Rule (Option Refine × Body)
 inner_rule = pair refined_rule body_rule
 
-inner_good : Good inner_rule
+pub inner_good : Good inner_rule
 inner_good = pair_good refined_good body_good refined_follows
 
-abbrev named_rule : List Name → Rule (Name × (Option Refine × Body))
+abbrev pub named_rule : List Name → Rule (Name × (Option Refine × Body))
 named_rule names = pair (name_not names) (sign 0 ▸ (inner_rule ◂ sign 1))
 
-named_good : (names : List Name) → Good (named_rule names)
+pub named_good : (names : List Name) → Good (named_rule names)
 named_good names = free_pair (name_good names) (after_sign 0 (before_sign 1 inner_good body_end)) (λ us. refl)
 
 abbrev Named : Type 0
@@ -472,10 +472,10 @@ query_forth n r (b ∷ c ∷ []) (Some j) a e = let h : (n, (r, (b, Some (c, j))
 query_forth n r (b ∷ c ∷ d ∷ bs) None a e = absurd cc
 query_forth n r (b ∷ c ∷ d ∷ bs) (Some j) a e = absurd cc
 
-abbrev behind_query : List Name → Rule Named
+abbrev pub behind_query : List Name → Rule Named
 behind_query names = keyword (codes "query") ▸ named_rule names
 
-query_undone : (names : List Name) → Undoes to_query from_query (behind_query names)
+pub query_undone : (names : List Name) → Undoes to_query from_query (behind_query names)
 query_undone names = record { back = λ a f. query_back a.0 a.1.0 a.1.1.0 a.1.1.1; forth = λ b a e. query_forth b.name b.refine b.branches b.join a e }
 
 pub query_good : (names : List Name) → Good (query_rule names)
@@ -533,10 +533,10 @@ queries_alike = record {
 
 -- ---- the file
 
-abbrev queries_rule : Rule (List Query)
+abbrev pub queries_rule : Rule (List Query)
 queries_rule = series (query_rule []) (is_word (codes "query")) (full 8 TooMany) (λ seen. query_rule (query_names seen))
 
-queries_good : Good queries_rule
+pub queries_good : Good queries_rule
 queries_good = series_good queries_alike (record { good = query_good []; marked = λ t us e. query_free [] (t ∷ us); bares = λ a. refl })
 
 queries_end : (t : Tok) (us : List Tok) → t.face ≡ finish → queries_rule.follow (t ∷ us) ≡ true
@@ -549,7 +549,7 @@ end_follows = record { meets = meets }
     meets [] us b f s e = absurd s
     meets (t ∷ ts) us b f s e = queries_end t (ts ++ us) s.0.0
 
-abbrev window_rule : Rule ℕ
+abbrev pub window_rule : Rule ℕ
 window_rule = number_in 1 3600000000
 
 pub file_good : Good file_rule

@@ -10,6 +10,7 @@ use Rattle.sn_text.proofs.Ends.{tokens_ended}
 use Rattle.sn_query_rules.specs.declared.ast.QueryFile.{QueryFile}
 use Rattle.sn_query_rules.specs.Grammar.{file_rule}
 use Rattle.sn_query_rules.proofs.Queries.{file_good, file_ends}
+use Rattle.sn_query_rules.proofs.Starts.{file_starts}
 use Rattle.sn_query_rules.proofs.Bounded.{flaws, file_whole}
 use Rattle.sn_query.specs.Texts.{shown}
 use Rattle.sn_query.proofs.Files.{fault_is}
@@ -53,7 +54,7 @@ of_file text file h (Some f) e =
     record { reading = Err q.0; is = inr (file, f, h, e, q.1) }
 
 pub reading_some : (text : List ℕ) → HasReading text
-reading_some text = elim (what_it_is file_good file_ends file_whole (tokens_of text) (tokens_ended text)) [
+reading_some text = elim (what_it_is file_good file_starts file_ends file_whole (tokens_of text) (tokens_ended text)) [
   | inl v ↦ of_file text v.0 v.1 (first_fault (walk v.0)) refl
   | inr f ↦ (let q = shown_as f.flaw f.line f.column f.ok in
       record { reading = Err q.0; is = inl (shown f.flaw f.line f.column, fault_is (tokens_of text) (shown f.flaw f.line f.column) f.flaw f.line f.column refl f.ok f.first, q.1) })

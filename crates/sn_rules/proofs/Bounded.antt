@@ -10,6 +10,7 @@ use Rattle.sn_rules.proofs.Common.{either_way}
 use Rattle.sn_rules.proofs.Laws.{Good}
 use Rattle.sn_rules.proofs.Series.{Alike, some_or_none, fewer, links_go, links_fail, links_shut, links_over}
 use Rattle.sn_rules.proofs.Faults.{found_of, fault_of}
+use Rattle.sn_rules.proofs.Starts.{Starting}
 use Rattle.sn_rules.proofs.Words.{IsMark, word_mark, symbol_mark, Stands_for, words_stand, numbers_stand, Listed, comma_alike}
 
 -- the flaws of a format: those that ok passes, with both of a token that can't stand
@@ -327,18 +328,18 @@ pub record Faulty {A : Type 0} (o : Flaws) (r : Rule A) (ts : List Tok) : Type 0
   pub ok : o.ok flaw ≡ true
   pub first : FirstFault r ts flaw line column
 
-pub fault_at : {A : Type 0} {o : Flaws} {r : Rule A} → Good r → r.follow [] ≡ true → (ts us : List Tok) (x : Flaw) → r.read kept ts ≡ fails x us → o.ok x ≡ true → Faulty o r ts
-fault_at {r = r} g ends ts us x e h =
+pub fault_at : {A : Type 0} {o : Flaws} {r : Rule A} → Good r → Starting r → r.follow [] ≡ true → (ts us : List Tok) (x : Flaw) → r.read kept ts ≡ fails x us → o.ok x ≡ true → Faulty o r ts
+fault_at {r = r} g starts ends ts us x e h =
     let s = g.stands kept ts us x e in
-    record { flaw = x; line = s.at.line; column = s.at.column; ok = h; first = fault_of r g ends ts us s.rest s.at x e s.head }
+    record { flaw = x; line = s.at.line; column = s.at.column; ok = h; first = fault_of r g starts ends ts us s.rest s.at x e s.head }
 
 -- the value of a text, or its first fault
-pub what_it_is : {A : Type 0} {o : Flaws} {r : Rule A} → Good r → r.follow [] ≡ true → Whole o r → (ts : List Tok) → Ended ts → ((a : A) × Accepts r ts a) ⊎ Faulty o r ts
-what_it_is {A} {o = o} {r = r} g ends w ts e = go (r.read kept ts) refl (w.done ts e)
+pub what_it_is : {A : Type 0} {o : Flaws} {r : Rule A} → Good r → Starting r → r.follow [] ≡ true → Whole o r → (ts : List Tok) → Ended ts → ((a : A) × Accepts r ts a) ⊎ Faulty o r ts
+what_it_is {A} {o = o} {r = r} g starts ends w ts e = go (r.read kept ts) refl (w.done ts e)
   where
     go : (x : Read A) → r.read kept ts ≡ x → Done o x → ((a : A) × Accepts r ts a) ⊎ Faulty o r ts
     go (got a us) q d = inl (a, found_of r g ts a (q ∙ ap (got a) d))
-    go (fails x us) q d = inr (fault_at g ends ts us x q d)
+    go (fails x us) q d = inr (fault_at g starts ends ts us x q d)
     go short q d = absurd d
 
 pub whole_ok : {A : Type 0} {o : Flaws} {r : Rule A} → Whole o r → (ts us : List Tok) (x : Flaw) → Ended ts → r.read kept ts ≡ fails x us → o.ok x ≡ true

@@ -1,11 +1,15 @@
 -- What a reading says of a whole text, for every good rule.
-use Rattle.std.proofs.Common.{◌≡◌, ℕ, suc, true, List, [], ◌∷◌, ◌++◌, length, refl, sym, ap, subst, ◌∙◌, arith, length-append}
+use Rattle.std.proofs.Common.{◌≡◌, ℕ, suc, true, List, [], ◌∷◌, ◌++◌, length, refl, sym, ap, subst, ◌∙◌, arith, inl, inr, length-append}
 use Rattle.std.proofs.lemmas.List.{append-nil, append_cancel_right}
 use Rattle.sn_rules.specs.declared.Flaw.{Flaw}
 use Rattle.sn_rules.specs.Tokens.{Tok, Spelled, Read, got, fails, short}
-use Rattle.sn_rules.specs.Rules.{Limits, kept, aside, is_limit, Rule, Begins, Accepts, FirstFault}
+use Rattle.sn_rules.specs.Rules.{Limits, kept, aside, is_limit, Rule, Begins, Accepts, Started, FirstFault}
 use Rattle.sn_rules.proofs.Common.{left, fails_same, same_value, respelled}
 use Rattle.sn_rules.proofs.Laws.{Good}
+use Rattle.sn_rules.proofs.Starts.{Start, Starting}
+
+pub again_of : {A : Type 0} (r : Rule A) → Good r → r.follow [] ≡ true → (ts : List Tok) (a : A) → Accepts r ts a → r.read kept ts ≡ got a []
+again_of r g ends ts a h = ap (r.read kept) (sym (append-nil ts)) ∙ g.again kept ts [] a h.fits h.spelled ends
 
 known_at_once : {A : Type 0} (r : Rule A) → Good r → (l : Limits) (front rest more : List Tok) (t : Tok) (x : Flaw) (s : Read A) → r.read l (front ++ t ∷ []) ≡ s → r.read l ((front ++ t ∷ []) ++ rest) ≡ fails x (t ∷ rest) → (y : Flaw) × (us : List Tok) × (r.read l ((front ++ t ∷ []) ++ more) ≡ fails y us)
 known_at_once r g l front rest more t x (got a us) e f = (let k : got a (us ++ rest) ≡ fails x (t ∷ rest) = sym (g.got_more l (front ++ t ∷ []) rest us a e) ∙ f in absurd cc)
@@ -30,17 +34,37 @@ fault_refuses r g ends l front rest more t x e a fits spelled =
     let j : fails k.0 k.1 ≡ got a [] = sym k.2 ∙ ap (r.read l) (sym (append-nil (cut front t more))) ∙ h in
     absurd cc
 
--- the tokens before it begin a text of the grammar, limits aside
-pub fault_begins : {A : Type 0} (r : Rule A) → Good r → (front rest : List Tok) (t : Tok) (x : Flaw) → r.read kept (front ++ t ∷ rest) ≡ fails x (t ∷ rest) → Begins r front
-fault_begins {A} r g front rest t x e = go (r.read kept front) refl
+-- the tokens before it are read without a fault
+before_fault : {A : Type 0} (r : Rule A) → Good r → (front rest : List Tok) (t : Tok) (x : Flaw) → r.read kept (front ++ t ∷ rest) ≡ fails x (t ∷ rest) → r.read kept front ≡ short
+before_fault {A} r g front rest t x e = go (r.read kept front) refl
   where
-    go : (s : Read A) → r.read kept front ≡ s → Begins r front
+    go : (s : Read A) → r.read kept front ≡ s → r.read kept front ≡ short
     go (got a us) f = (let k : got a (us ++ t ∷ rest) ≡ fails x (t ∷ rest) = sym (g.got_more kept front (t ∷ rest) us a f) ∙ e in absurd cc)
     go (fails y us) f =
         let k = fails_same {A = A} y x (us ++ t ∷ rest) (t ∷ rest) (sym (g.fails_more kept front (t ∷ rest) us y f) ∙ e) in
         let s = g.stands kept front us y f in
         absurd (omega (arith, ap length k.1, length-append us (t ∷ rest), ap length s.head))
-    go short f = g.begins kept front f
+    go short f = f
+
+-- they begin a text of the grammar, limits aside
+pub fault_begins : {A : Type 0} (r : Rule A) → Good r → (front rest : List Tok) (t : Tok) (x : Flaw) → r.read kept (front ++ t ∷ rest) ≡ fails x (t ∷ rest) → Begins r front
+fault_begins r g front rest t x e = g.begins kept front (before_fault r g front rest t x e)
+
+-- no accepted text goes on behind a comma where no token can stand
+started_of : {A : Type 0} (r : Rule A) → Good r → r.follow [] ≡ true → (ts : List Tok) → r.read kept ts ≡ short → Start r ts → Started r ts
+started_of r g ends ts e (inl b) = inl b
+started_of {A} r g ends ts e (inr h) = inr (record { fore = h.fore; comma = h.comma; parts = h.parts; is_comma = h.is_comma; begins = h.begins; stops = λ b. stops b.more b.value b.accepted })
+  where
+    stops : (more : List Tok) (a : A) → Accepts r (ts ++ more) a → ⊥
+    stops [] a k = let j : got a [] ≡ short = sym (again_of r g ends (ts ++ []) a k) ∙ ap (r.read kept) (append-nil ts) ∙ e in cc
+    stops (t ∷ rest) a k =
+        let s = h.shut t rest in
+        let j : got a [] ≡ fails s.0 (t ∷ rest) = sym (again_of r g ends (ts ++ t ∷ rest) a k) ∙ s.1 in
+        cc
+
+-- and within the limits too
+fault_within : {A : Type 0} (r : Rule A) → Good r → Starting r → r.follow [] ≡ true → (front rest : List Tok) (t : Tok) (x : Flaw) → r.read kept (front ++ t ∷ rest) ≡ fails x (t ∷ rest) → Started r front
+fault_within r g s ends front rest t x e = let k = before_fault r g front rest t x e in started_of r g ends front k (s.starts front k)
 
 rest_is : (t u : Tok) (ts us : List Tok) → t ∷ ts ≡ u ∷ us → us ≡ ts
 rest_is t u ts us e = cc
@@ -56,8 +80,8 @@ fault_limit r g front rest t x n e =
 tail_is : (us : List Tok) (t : Tok) (l : List Tok) (at : Tok) (rest : List Tok) → us ≡ t ∷ l → us ≡ at ∷ rest → at ≡ t
 tail_is us t l at rest e f = let k : at ∷ rest ≡ t ∷ l = sym f ∙ e in cc
 
-pub fault_of : {A : Type 0} (r : Rule A) → Good r → r.follow [] ≡ true → (ts us l : List Tok) (t : Tok) (x : Flaw) → r.read kept ts ≡ fails x us → us ≡ t ∷ l → FirstFault r ts x t.line t.column
-fault_of r g ends ts us l t x e h =
+pub fault_of : {A : Type 0} (r : Rule A) → Good r → Starting r → r.follow [] ≡ true → (ts us l : List Tok) (t : Tok) (x : Flaw) → r.read kept ts ≡ fails x us → us ≡ t ∷ l → FirstFault r ts x t.line t.column
+fault_of r g starts ends ts us l t x e h =
     let s = g.stands kept ts us x e in
     let same = tail_is us t l s.at s.rest h s.head in
     let whole : ts ≡ s.front ++ s.at ∷ s.rest = s.parts ∙ ap (λ (v : List Tok). s.front ++ v) s.head in
@@ -72,6 +96,7 @@ fault_of r g ends ts us l t x e h =
       column_is = ap (λ (a : Tok). a.column) same;
       refuses = λ more v a. fault_refuses r g ends kept s.front s.rest more s.at x there v a.fits a.spelled;
       begins = fault_begins r g s.front s.rest s.at x here;
+      within = fault_within r g starts ends s.front s.rest s.at x here;
       form = λ n more v f a. fault_refuses r g ends aside s.front s.rest more s.at x (g.refuses (cut s.front s.at s.rest) (s.at ∷ s.rest) x n there) v f a;
       limit = λ n. fault_limit r g s.front s.rest s.at x n there;
       kind = e ∙ ap (fails x) s.head;
@@ -83,9 +108,6 @@ pub found_of : {A : Type 0} (r : Rule A) → Good r → (ts : List Tok) (a : A) 
 found_of r g ts a e =
     let k = g.takes kept ts [] a e in
     record { spelled = respelled k.front ts (r.spell a) (sym (k.parts ∙ append-nil k.front)) k.spelled; fits = g.fitting kept ts [] a e }
-
-pub again_of : {A : Type 0} (r : Rule A) → Good r → r.follow [] ≡ true → (ts : List Tok) (a : A) → Accepts r ts a → r.read kept ts ≡ got a []
-again_of r g ends ts a h = ap (r.read kept) (sym (append-nil ts)) ∙ g.again kept ts [] a h.fits h.spelled ends
 
 pub only_of : {A : Type 0} (r : Rule A) → Good r → r.follow [] ≡ true → (ts : List Tok) (a b : A) → r.read kept ts ≡ got a [] → Accepts r ts b → a ≡ b
 only_of r g ends ts a b e h = same_value a b [] [] (sym e ∙ again_of r g ends ts b h)

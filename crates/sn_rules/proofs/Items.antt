@@ -18,7 +18,7 @@ Behind F seen (a ∷ rest) = F seen a × Behind F (seen ++ a ∷ []) rest
 abbrev pub Item : {A : Type 0} → ℕ → (List A → Rule A) → List A → A → Type 0
 Item limit p seen a = (length seen < limit) × (p seen).fits kept a
 
-not_full : (limit n : ℕ) (x : Flaw) → cond (nat_le limit n) (Some x) None ≡ None → n < limit
+pub not_full : (limit n : ℕ) (x : Flaw) → cond (nat_le limit n) (Some x) None ≡ None → n < limit
 not_full limit n x h = grind (arith, nat_tests)
 
 -- ---- what the rules say
@@ -27,7 +27,7 @@ pub from_full : {A : Type 0} (limit : ℕ) (x : Flaw) (p : List A → Rule A) (s
 from_full limit x p seen [] h = tt
 from_full limit x p seen (a ∷ rest) h = ((not_full limit (length seen) x h.0, h.1), from_full limit x p (seen ++ a ∷ []) rest h.2)
 
-below_limit : (limit n : ℕ) → nat_le limit n ≡ false → n < limit
+pub below_limit : (limit n : ℕ) → nat_le limit n ≡ false → n < limit
 below_limit limit n h = grind (arith, nat_tests)
 
 picked : {A : Type 0} (b : Bool) (begun : Lexeme → Flaw) (past_it p : Rule A) (a : A) → (either_rule b (past begun past_it) p).fits kept a → (b ≡ false) × p.fits kept a

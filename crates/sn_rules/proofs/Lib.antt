@@ -5,5 +5,6 @@ pub mod Series
 pub mod Words
 pub mod Lists
 pub mod Faults
+pub mod Starts
 pub mod Bounded
 pub mod Items

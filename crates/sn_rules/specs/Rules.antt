@@ -3,7 +3,7 @@ use Rattle.std.specs.Prelude.{◌≡◌, ℕ, zero, suc, Bool, true, false, List
 use Rattle.std.proofs.Common.{inl, inr}
 use Rattle.sn_rules.specs.declared.Flaw.{Flaw}
 use Rattle.sn_rules.specs.declared.Flaw.TheVariants.{Lex, Expected, TooMany, Range, Twice, Missing}
-use Rattle.sn_rules.specs.Tokens.{Lexeme, Tok, Mark, plain, Spelled, Read, got, fails, short, bind}
+use Rattle.sn_rules.specs.Tokens.{Lexeme, symbol, Tok, Mark, plain, Spelled, Read, got, fails, short, bind}
 
 -- A grammar has limits besides its form: how many items a list may have, how long a name is, what may stand once.
 -- kept: with the limits. aside: by the form alone.
@@ -243,6 +243,27 @@ pub record Accepts {A : Type 0} (r : Rule A) (ts : List Tok) (value : A) : Type 
   pub spelled : Spelled ts (r.spell value)
   pub fits : r.fits kept value
 
+-- an accepted text begins so
+pub record BeginsAccepted {A : Type 0} (r : Rule A) (ts : List Tok) : Type 0 where
+  pub value : A
+  pub more : List Tok
+  pub accepted : Accepts r (ts ++ more) value
+
+-- The last token is a comma behind a list that takes no further item: the comma passes, and the token after it is judged.
+-- So no accepted text begins with these tokens, and one begins with those before the comma.
+pub record BeginsToComma {A : Type 0} (r : Rule A) (ts : List Tok) : Type 0 where
+  pub fore : List Tok
+  pub comma : Tok
+  pub parts : ts ≡ fore ++ comma ∷ []
+  -- sign 3 is the comma
+  pub is_comma : comma.face ≡ symbol 3
+  pub begins : BeginsAccepted r fore
+  pub stops : BeginsAccepted r ts → ⊥
+
+-- an accepted text begins so, or with all but the comma behind a list that takes no further item
+abbrev pub Started : {A : Type 0} → Rule A → List Tok → Type 0
+Started r ts = BeginsAccepted r ts ⊎ BeginsToComma r ts
+
 -- The first fault of a text stands at the token at.
 pub record FirstFault {A : Type 0} (r : Rule A) (ts : List Tok) (flaw : Flaw) (line column : ℕ) : Type 0 where
   pub front : List Tok
@@ -255,6 +276,9 @@ pub record FirstFault {A : Type 0} (r : Rule A) (ts : List Tok) (flaw : Flaw) (l
   pub refuses : (more : List Tok) (value : A) → Accepts r ((front ++ at ∷ []) ++ more) value → ⊥
   -- the tokens before it begin a text of the grammar, limits aside
   pub begins : Begins r front
+  -- The tokens before it begin an accepted text: no fault against a limit is noticed late. Where the last of them is the
+  -- comma behind a list that takes no further item, those before that comma do.
+  pub within : Started r front
   -- A fault against the form: no text of the grammar begins with the tokens up to it, even limits aside.
   pub form : is_limit flaw ≡ false → (more : List Tok) (value : A) → r.fits aside value → Spelled ((front ++ at ∷ []) ++ more) (r.spell value) → ⊥
   -- A fault against a limit: limits aside, a text does.

@@ -3,14 +3,17 @@ use Rattle.std.proofs.Common.{◌≡◌, ◌≢◌, ℕ, ◌⊎◌, List, true, 
 use Rattle.std.proofs.lemmas.Bool.{false≢true}
 use Rattle.sn_base.proofs.Lists.{by_test}
 use Rattle.std.specs.Io.KnownBytes.{append_known}
+use Rattle.sn_read_queries.specs.declared.fault.QueryFault.{QueryFault}
+use Rattle.sn_stage.specs.declared.fault.TextFault.{TextFault}
+use Rattle.sn_stage.specs.declared.fault.Fault.TheVariants.{Queries, Switch}
 use Rattle.sn_stage.specs.declared.refusal.Refusal.{Refusal}
 use Rattle.sn_stage.specs.declared.refusal.Refusal.TheVariants.{Memory, Usage, Missing, ReadFault, WriteFault, Refused}
 use Rattle.sn_stage.specs.Refusals.{by_chance}
 use Rattle.sn_stage.specs.Worlds.{Sunk, World, AnyRose, OutRose}
 use Rattle.sn_stage.specs.Outcomes.{Outcome, Stage, Keeps}
-use Rattle.sn_stage.specs.Runs.{Works}
+use Rattle.sn_stage.specs.Runs.{WorksFrom}
 use Rattle.sn_stage.specs.Ends.{end_status, end_line, Excused, Comes, IsRun, IsTold, IsStatusTold, IsCommandRun}
-use Rattle.sn_stage.proofs.FaultLemmas.{faults_own}
+use Rattle.sn_stage.proofs.FaultLemmas.{faults_own, three_of, four_of}
 
 -- status 1 is that of want of memory alone
 one_is : (answer : Result (Unit {0}) Refusal) → end_status answer ≡ 1 → answer ≡ Err Memory
@@ -31,6 +34,26 @@ two_is (Err Missing) e = absurd (omega arith)
 two_is (Err ReadFault) e = absurd (omega arith)
 two_is (Err WriteFault) e = absurd (omega arith)
 two_is (Err (Refused f)) e = absurd (let own = (faults_own f).above in omega arith)
+
+-- status 3 is that of refused queries alone
+three_is : (answer : Result (Unit {0}) Refusal) → end_status answer ≡ 3 → (fault : QueryFault) × (answer ≡ Err (Refused (Queries fault)))
+three_is (Ok u) e = absurd (omega arith)
+three_is (Err Memory) e = absurd (omega arith)
+three_is (Err Usage) e = absurd (omega arith)
+three_is (Err Missing) e = absurd (omega arith)
+three_is (Err ReadFault) e = absurd (omega arith)
+three_is (Err WriteFault) e = absurd (omega arith)
+three_is (Err (Refused f)) e = let of = three_of f e in (of.0, ap (λ g. Err (Refused g)) of.1)
+
+-- status 4 is that of a refused switch alone
+four_is : (answer : Result (Unit {0}) Refusal) → end_status answer ≡ 4 → (fault : TextFault) × (answer ≡ Err (Refused (Switch fault)))
+four_is (Ok u) e = absurd (omega arith)
+four_is (Err Memory) e = absurd (omega arith)
+four_is (Err Usage) e = absurd (omega arith)
+four_is (Err Missing) e = absurd (omega arith)
+four_is (Err ReadFault) e = absurd (omega arith)
+four_is (Err WriteFault) e = absurd (omega arith)
+four_is (Err (Refused f)) e = let of = four_of f e in (of.0, ap (λ g. Err (Refused g)) of.1)
 
 -- status 9 is that of a read that failed, or of a word that isn't known
 pub nine_is : (answer : Result (Unit {0}) Refusal) → end_status answer ≡ 9 → (answer ≡ Err ReadFault) ⊎ (answer ≡ Err Missing)
@@ -131,11 +154,17 @@ pub status_told : (answer : Result (Unit {0}) Refusal) (before now : Sunk) → I
 status_told answer before now told = (answer, refl, told)
 
 -- the call of a command, from the run of its work and the line on its answer
-pub command_run : (names : List (List ℕ)) (work : Stage (Unit {0})) (answer : Result (Unit {0}) Refusal) (before now : World) (err_before err_now : Sunk) → Works names work before answer now → IsTold (end_line answer) err_before err_now
+pub command_run : (names : List (List ℕ)) (work : Stage (Unit {0})) (answer : Result (Unit {0}) Refusal) (before now : World) (err_before err_now : Sunk) → WorksFrom 2 names work before answer now → IsTold (end_line answer) err_before err_now
     → IsCommandRun names work (record { files = before.files; out = before.out; err = err_before }) (end_status answer) (record { files = now.files; out = now.out; err = err_now })
 command_run names work answer before now err_before err_now w told = record {
   run = λ files same outcome is. is_run (AnyRose names before.files now.files) (OutRose before.out now.out) answer w.runs.read_fault w.runs.write_fault outcome before.out.written now.out.written (w.runs.keeps files same outcome is);
   due_line = λ files same outcome is due. subst (λ (line : List ℕ). IsTold line err_before err_now) (line_due outcome answer before.out.written now.out.written (w.runs.keeps files same outcome is) due) told;
   read_fault = λ is. elim (nine_is answer is) [ inl read ↦ inl (w.runs.read_fault read) | inr none ↦ inr (w.runs.missing none) ];
   unknown = λ none. ap end_status (w.unknown none);
+  told = w.runs.follows.told;
+  known = w.runs.follows.known;
+  faults = w.runs.follows.faults;
+  others = w.runs.others;
+  queries_first = λ is. let queries = three_is answer is in (w.runs.queries queries.0 queries.1).1;
+  switch_second = λ is. let switch = four_is answer is in (w.runs.switch switch.0 switch.1).1;
 }

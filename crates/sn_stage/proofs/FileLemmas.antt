@@ -1,5 +1,5 @@
 -- Files that are read whole, over plain values.
-use Rattle.std.proofs.Common.{◌≡◌, ℕ, ◌<◌, ◌≤◌, List, [], ◌∷◌, true, false, cond, Option, Some, None, unwrap_or, Result, Ok, Err, length, is_some, IfSome, refl, ap, sym, ◌∙◌, subst, arith}
+use Rattle.std.proofs.Common.{◌≡◌, ◌≢◌, ℕ, ◌<◌, ◌≤◌, List, [], ◌∷◌, true, false, cond, Option, Some, None, unwrap_or, Result, Ok, Err, length, is_some, IfSome, refl, ap, sym, ◌∙◌, subst, arith}
 use Rattle.std.specs.Prelude.{nat_lt, nat_eq}
 use Rattle.std.specs.FinMap.{get}
 use Rattle.std.specs.Cmp.Lexicographic.{pointwise, bytes_decides}
@@ -7,7 +7,8 @@ use Rattle.std.proofs.lemmas.Bool.{lt-ltb, le-ltb, false≢true, true≢false}
 use Rattle.sn_base.proofs.Lists.{by_test}
 use Rattle.sn_io.specs.Counts.{ByName, OnlyRises, count_of}
 use Rattle.sn_io.specs.Inputs.{told_file}
-use Rattle.sn_stage.specs.declared.fault.Fault.TheVariants.{TooLarge}
+use Rattle.sn_stage.specs.declared.fault.Fault.{Fault}
+use Rattle.sn_stage.specs.declared.fault.Fault.TheVariants.{Queries, Switch, TooLarge}
 use Rattle.sn_stage.specs.declared.refusal.Refusal.{Refusal}
 use Rattle.sn_stage.specs.declared.refusal.Refusal.TheVariants.{Usage, Missing, Refused}
 use Rattle.sn_stage.specs.Refusals.{by_chance}
@@ -15,10 +16,13 @@ use Rattle.sn_stage.specs.Outcomes.{Outcome, silent, Keeps}
 use Rattle.sn_stage.specs.Runs.{Works}
 use Rattle.sn_stage.proofs.OutcomeLemmas.{silent_keeps}
 use Rattle.sn_stage.specs.Stages.{within_limit, Bytes}
-use Rattle.sn_stage.specs.Worlds.{Sunk, World}
+use Rattle.sn_stage.specs.Worlds.{Sunk, World, Spares}
 
 -- after a read of one file all names are known that were, and no count fell
 module _ (name : List ℕ) (old new : ByName ℕ) (rises : OnlyRises name old new) where
+  pub none_other : Spares (name ∷ []) (record { told = None; faults = old }) (record { told = None; faults = new })
+  none_other other none = rises.others other none.0
+
   pub known_still : (other : List ℕ) → is_some (get new other) ≡ is_some (get old other)
   known_still other =
       by_test (pointwise nat_eq other name)
@@ -57,9 +61,9 @@ pub file_missing : (most : ℕ) (held : ByName (List ℕ)) (name : List ℕ) →
 file_missing most held name e = sym (ap (within_limit most) e)
 
 -- a file was read, or is too large, and nothing was written
-module _ (most : ℕ) (name : List ℕ) (answer : Result (List ℕ) Refusal) (before now : World) (known_name : get before.files.faults name ≡ None → ⊥) (no_chance : by_chance answer ≡ false) (no_usage : answer ≡ Err Usage → ⊥) (no_missing : answer ≡ Err Missing → ⊥)
+module _ (most : ℕ) (name : List ℕ) (answer : Result (List ℕ) Refusal) (before now : World) (known_name : get before.files.faults name ≡ None → ⊥) (no_chance : by_chance answer ≡ false) (no_usage : answer ≡ Err Usage → ⊥) (no_missing : answer ≡ Err Missing → ⊥) (no_refusal : (fault : Fault) → fault ≢ TooLarge → answer ≡ Err (Refused fault) → ⊥)
     (told : now.files.told ≡ before.files.told) (known : (other : List ℕ) → is_some (get now.files.faults other) ≡ is_some (get before.files.faults other)) (fell : (other : List ℕ) → count_of before.files.faults other ≤ count_of now.files.faults other)
-    (out : now.out ≡ before.out) (places : now.places ≡ before.places) (due : (files : ByName (List ℕ)) → before.files.told ≡ Some files → answer ≡ within_limit most (get files name)) where
+    (spares : Spares (name ∷ []) before.files now.files) (out : now.out ≡ before.out) (places : now.places ≡ before.places) (due : (files : ByName (List ℕ)) → before.files.told ≡ Some files → answer ≡ within_limit most (get files name)) where
   pub works_bytes : Works (name ∷ []) (Bytes most name) before answer now
   works_bytes = record {
     runs = record {
@@ -72,6 +76,9 @@ module _ (most : ℕ) (name : List ℕ) (answer : Result (List ℕ) Refusal) (be
       read_fault = λ e. absurd (true≢false (sym (ap by_chance e) ∙ no_chance));
       write_fault = λ e. absurd (true≢false (sym (ap by_chance e) ∙ no_chance));
       words = no_usage;
+      others = spares;
+      queries = λ fault e. absurd (no_refusal (Queries fault) (λ is. cc) e);
+      switch = λ fault e. absurd (no_refusal (Switch fault) (λ is. cc) e);
       follows = record { told = told; known = known; faults = fell; write_faults = let e = ap (λ (s : Sunk). s.faults) out in omega arith; empty_takes = let e = ap (λ (s : Sunk). s.empty_takes) out in omega arith; places = places };
     };
     unknown = λ e. absurd (known_name e);

@@ -1,11 +1,12 @@
 -- How a command ends, and why.
-use Rattle.std.specs.Prelude.{◌≡◌, ℕ, ◌⊎◌, List, [], Option, Some, Result, Ok, Err}
+use Rattle.std.specs.Prelude.{◌≡◌, ℕ, ◌⊎◌, List, [], Option, Some, is_some, Result, Ok, Err, ◌≤◌, take}
 use Rattle.std.specs.Io.KnownBytes.{append_known}
-use Rattle.sn_io.specs.Counts.{ByName}
+use Rattle.std.specs.FinMap.{get}
+use Rattle.sn_io.specs.Counts.{ByName, count_of}
 use Rattle.sn_stage.specs.declared.refusal.Refusal.{Refusal}
 use Rattle.sn_stage.specs.Refusals.{status_of}
 use Rattle.sn_stage.specs.Lines.{line_of}
-use Rattle.sn_stage.specs.Worlds.{Files, Sunk, AnyRose, AnyUnknown, FirstUnknown, OutRose}
+use Rattle.sn_stage.specs.Worlds.{Files, Sunk, AnyRose, AnyUnknown, FirstUnknown, Spares, OutRose}
 use Rattle.sn_stage.specs.Outcomes.{Outcome, Stage, WentOutFront}
 
 -- the exit status of an end, and the line on it
@@ -84,3 +85,13 @@ pub record IsCommandRun (names : List (List ℕ)) (work : Stage (Unit {0})) (bef
   -- 9 over any files: only where the count of a file word rose, or a file word isn't known; always where the first one isn't.
   pub read_fault : status ≡ 9 → AnyRose names before.files now.files ⊎ AnyUnknown names before.files
   pub unknown : FirstUnknown names before.files → status ≡ 9
+  -- Over any files: what is told of them stays, the same names are known, and no count falls.
+  pub told : now.files.told ≡ before.files.told
+  pub known : (name : List ℕ) → is_some (get now.files.faults name) ≡ is_some (get before.files.faults name)
+  pub faults : (name : List ℕ) → count_of before.files.faults name ≤ count_of now.files.faults name
+  -- Each name that is no file word of the command keeps its count.
+  pub others : Spares names before.files now.files
+  -- Each file is read when its turn comes. 3 over any files: each name but that of the queries, which are the first, keeps its count.
+  pub queries_first : status ≡ 3 → Spares (take 1 names) before.files now.files
+  -- 4 over any files: each name but those of the queries and of the switch, which is the second, keeps its count.
+  pub switch_second : status ≡ 4 → Spares (take 2 names) before.files now.files

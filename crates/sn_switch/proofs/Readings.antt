@@ -12,6 +12,7 @@ use Rattle.sn_text.proofs.Ends.{tokens_ended}
 use Rattle.sn_switch_rules.specs.declared.item.Item.{Item}
 use Rattle.sn_switch_rules.specs.Grammar.{switch_rule}
 use Rattle.sn_switch_rules.proofs.Goods.{switch_good, ends}
+use Rattle.sn_switch_rules.proofs.Starts.{switch_starts}
 use Rattle.sn_switch_rules.proofs.Bounded.{switch_whole}
 use Rattle.sn_switch.specs.declared.switch.Switch.{Switch}
 use Rattle.sn_switch.specs.declared.fault.SwitchFault.{SwitchFault}
@@ -28,7 +29,7 @@ real kinds.Twice line = λ e. cc
 real kinds.Missing line = λ e. cc
 
 pub reading_some : (text : List ℕ) → HasReading text
-reading_some text = elim (what_it_is switch_good ends switch_whole (tokens_of text) (tokens_ended text)) [
+reading_some text = elim (what_it_is switch_good switch_starts ends switch_whole (tokens_of text) (tokens_ended text)) [
   | inl v ↦ record { reading = Ok (switch_in v.0); is = record { items = v.0; accepted = v.1; each = set_so v.0 v.1.fits } }
   | inr f ↦ record { reading = Err (fault_of f.flaw f.line); is = (shown (tokens_of text) f.flaw f.line f.column f.ok f.first, real f.flaw f.line) }
 ]

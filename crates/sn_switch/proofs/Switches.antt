@@ -21,6 +21,7 @@ use Rattle.sn_switch_rules.specs.Settings.{sets}
 use Rattle.sn_switch_rules.specs.Grammar.{switch_rule}
 use Rattle.sn_switch_rules.specs.Wholes.{numbers_in, first_of, IsIn, IsSizes}
 use Rattle.sn_switch_rules.proofs.Goods.{switch_good, ends}
+use Rattle.sn_switch_rules.proofs.Starts.{switch_starts}
 use Rattle.sn_switch_rules.proofs.Wholes.{each_one, one_of, sizes_of}
 use Rattle.sn_switch_rules.proofs.Bounded.{flaws, switch_whole}
 use Rattle.sn_switch.specs.declared.switch.Switch.{Switch}
@@ -149,7 +150,7 @@ fault_so text ls (stops.Fault x l) f g h k =
     let e = here ts ls (fails x (left l)) g h in
     let s = switch_good.stands kept ts (left l) x e in
     let ok = whole_ok switch_whole ts (left l) x (tokens_ended text) e in
-    subst (λ (r : SwitchFault). IsFault ts r) (sym (k ∙ ap (λ (us : List Tok). fault_of x (line_of us)) s.head)) (shown ts x s.at.line s.at.column ok (first_fault switch_rule switch_good ends ts (left l) s.rest s.at x e s.head))
+    subst (λ (r : SwitchFault). IsFault ts r) (sym (k ∙ ap (λ (us : List Tok). fault_of x (line_of us)) s.head)) (shown ts x s.at.line s.at.column ok (first_fault switch_rule switch_good switch_starts ends ts (left l) s.rest s.at x e s.head))
 
 pub none_so : (ts ls : List Tok) (e : Stop) (f : SwitchFault) (s : Switch) → ls ≡ ts → Halts e (switch_rule.read kept ls) → Answers e f → StandsFor ts s → f ≡ faults.Memory
 none_so ts ls stops.NoMemory f s g h k j = k

@@ -79,10 +79,10 @@ range_aside false = refl
 abbrev inside : ℕ → ℕ → ℕ → Bool
 inside low high n = nat_le low n && nat_le n high
 
-within_good : (low high : ℕ) → Good (number_by (within low high))
+pub within_good : (low high : ℕ) → Good (number_by (within low high))
 within_good low high = number_by_good (within low high) (0, range_aside (inside low high 0))
 
-alone_undone : (low high : ℕ) → Undoes alone lone (number_by (within low high))
+pub alone_undone : (low high : ℕ) → Undoes alone lone (number_by (within low high))
 alone_undone low high = record { back = λ a f. refl; forth = forth }
   where
     forth : (b : List ℕ) (a : ℕ) → lone b ≡ Some a → alone a ≡ b
@@ -90,10 +90,10 @@ alone_undone low high = record { back = λ a f. refl; forth = forth }
     forth (n ∷ []) a e = let h : n ≡ a = cc in ap alone (sym h)
     forth (n ∷ m ∷ ns) a e = absurd cc
 
-one_number_good : (low high : ℕ) → Good (one_number low high)
+pub one_number_good : (low high : ℕ) → Good (one_number low high)
 one_number_good low high = embedded_good alone lone (alone_undone low high) (within_good low high)
 
-abbrev fits_size : List ℕ → ℕ → Bool
+abbrev pub fits_size : List ℕ → ℕ → Bool
 fits_size seen n = nat_le 1 n && nat_le n 65536 && list_all (below n) seen
 
 size_aside : (seen : List ℕ) (n : ℕ) → closed aside (size_test seen n) ≡ None
@@ -130,17 +130,17 @@ size_listed = record {
   steady = λ seen other e a f. subst (λ (taken : List ℕ). (size_rule taken).fits kept a) (unmapped (size_rule []).bare (λ b. refl) seen other e) f;
 }
 
-sizes_good : Good sizes
+pub sizes_good : Good sizes
 sizes_good = commas_good 4 size_listed
 
 sizes_end : (t : Tok) (us : List Tok) → t.face ≡ symbol 2 → sizes.follow (t ∷ us) ≡ true
 sizes_end t us e = commas_sign 4 past_size size_rule t us (ap (is_symbol 3) e) refl
 
 -- an item's numbers and the sign behind them
-abbrev ended : Setting → Rule (List ℕ)
+abbrev pub ended : Setting → Rule (List ℕ)
 ended k = numbers k ◂ sign 2
 
-ended_good : (k : Setting) → Good (ended k)
+pub ended_good : (k : Setting) → Good (ended k)
 ended_good settings.Stages = before_sign 2 (one_number_good 1 32) (λ t us e. refl)
 ended_good settings.Actions = before_sign 2 (one_number_good 1 64) (λ t us e. refl)
 ended_good settings.Bits = before_sign 2 (one_number_good 1 4294967296) (λ t us e. refl)

@@ -15,7 +15,7 @@ use Rattle.sn_cli.proofs.NumberLemmas.{none_some}
 use Rattle.sn_stage.specs.declared.refusal.Refusal.{Refusal}
 use Rattle.sn_stage.specs.declared.refusal.Refusal.TheVariants.{Usage, WriteFault}
 use Rattle.sn_stage.specs.Outcomes.{Stage}
-use Rattle.sn_stage.specs.Runs.{Works}
+use Rattle.sn_stage.specs.Runs.{WorksFrom}
 use Rattle.sn_stage.specs.Worlds.{World, OutRose, Follows}
 use Rattle.sn_run.specs.Planned.{Telling, as_they_are}
 use Rattle.sn_top.specs.Top.{IsLiveWork, IsWork}
@@ -44,7 +44,7 @@ pub record Begun (before : World) (answer : Result (Unit {0}) Refusal) (now : Wo
   pub write_fault : answer ≡ Err WriteFault → OutRose before.out now.out
   pub follows : Follows before now
 
-begun : {names : List (List ℕ)} {stage : Stage (Unit {0})} {before now : World} {answer : Result (Unit {0}) Refusal} → Works names stage before answer now → Begun before answer now
+begun : {names : List (List ℕ)} {stage : Stage (Unit {0})} {before now : World} {answer : Result (Unit {0}) Refusal} → WorksFrom 2 names stage before answer now → Begun before answer now
 begun w = record { words = w.runs.words; write_fault = w.runs.write_fault; follows = w.runs.follows }
 
 -- the work of `live`, where answers are told as they are

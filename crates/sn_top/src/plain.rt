@@ -1,7 +1,7 @@
 //! The command `plain`.
 ghost use Rattle.std.specs.Prelude.{[], ◌∷◌};
 ghost use Rattle.sn_stage.specs.Desks.{world};
-ghost use Rattle.sn_stage.specs.Runs.{Works};
+ghost use Rattle.sn_stage.specs.Runs.{WorksFrom};
 ghost use Rattle.sn_top.specs.Plain.{Plain};
 
 use crate::unsplit::Unsplit;
@@ -21,7 +21,7 @@ pub fn plain<I: Inputs, O: Sink>(
     capture: &str,
     desk: &mut Desk<'_, I, O>,
 ) -> Result<(), Refusal>
-    ensures { Works (queries.now ∷ capture.now ∷ []) (Plain queries.now capture.now) (world I.Inputs O.Sink desk.old) result (world I.Inputs O.Sink desk.new) }
+    ensures { WorksFrom 2 (queries.now ∷ capture.now ∷ []) (Plain queries.now capture.now) (world I.Inputs O.Sink desk.old) result (world I.Inputs O.Sink desk.new) }
 {
     let typed = read_queries(alloc, desk, queries)?;
     let window_ns = typed.window_ns();

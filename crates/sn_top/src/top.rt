@@ -151,6 +151,9 @@ pub fn top<M: Machine, I: Inputs, O: Sink, E: Sink>(
     // The line of the status is told.
     ensures line { IsStatusTold result (sunk E.Sink err.old) (sunk E.Sink err.new) }
 
+    // Each command below, over any files: what is told of them stays, each name that is no file word of it keeps its count, and each file is
+    // read when its turn comes: with 3 each name but that of the queries keeps its count, with 4 each but those of the queries and the switch.
+
     // `plain QUERIES CAPTURE`: the run is that of its stages.
     ensures plain { Spells (texts words.now) Command.Plain →
         IsCommandRun (word_at (texts words.now) 1 ∷ word_at (texts words.now) 2 ∷ []) (Plain (word_at (texts words.now) 1) (word_at (texts words.now) 2)) (around I.Inputs O.Sink E.Sink files.old out.old err.old) result (around I.Inputs O.Sink E.Sink files.new out.new err.new) }

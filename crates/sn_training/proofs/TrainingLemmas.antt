@@ -1,5 +1,6 @@
 -- A file is judged in one way as a training capture.
-use Rattle.std.proofs.Common.{◌≡◌, ℕ, ◌≤◌, List, length, map, Result, Ok, Err, refl, ap, sym, ◌∙◌}
+use Rattle.std.proofs.Common.{◌≡◌, ℕ, ◌≤◌, List, length, map, Bool, true, false, Result, Ok, Err, refl, ap, sym, subst, ◌∙◌}
+use Rattle.std.specs.Prelude.{nat_lt, if◌then◌else◌}
 use Rattle.std.proofs.lemmas.List.{length-map}
 use Rattle.sn_base.specs.declared.link.Link.{Link}
 use Rattle.sn_pcap.specs.Capture.{head_of}
@@ -10,6 +11,7 @@ use Rattle.sn_pcap.proofs.OneCapture.{records_some, records_once}
 use Rattle.sn_stage.specs.declared.fault.Fault.{Fault}
 use Rattle.sn_stage.specs.declared.fault.Fault.TheVariants as faults
 use Rattle.sn_stage.specs.Stages.{HasVerdict}
+use Rattle.sn_stage.proofs.StageLemmas.{MayCome}
 use Rattle.sn_training.specs.declared.training.Training.{Training}
 use Rattle.sn_answered.specs.Capture.{packet_tuple, time_of}
 use Rattle.sn_training.specs.Training.{tuples_of}
@@ -30,6 +32,19 @@ module _ (window : ℕ) (file : List ℕ) where
 
   pub training_once : (first second : Result Training Fault) → TrainingIn window file first → TrainingIn window file second → first ≡ second
   training_once = judged_once (head_of file)
+
+  records_may : (large : Bool) (training : Training) → MayCome 0 (if large then Err faults.TooLarge else Ok training)
+  records_may true training = tt
+  records_may false training = tt
+
+  judged_may : (head : Result Header HeadFault) (verdict : Result Training Fault) → JudgedAs window file head verdict → MayCome 0 verdict
+  judged_may (Ok header) verdict j =
+      subst (λ (v : Result Training Fault). MayCome 0 v) (sym j.same) (records_may (nat_lt most_records (length j.packets)) (training_of window header.link file j.packets))
+  judged_may (Err fault) verdict is = subst (λ (v : Result Training Fault). MayCome 0 v) (sym is) tt
+
+  -- a training capture is never refused as queries or as a switch
+  pub training_may : (verdict : Result Training Fault) → TrainingIn window file verdict → MayCome 0 verdict
+  training_may = judged_may (head_of file)
 
   pub one_training : HasVerdict (TrainingIn window file)
   one_training = judged_some (head_of file)

@@ -13,7 +13,7 @@ use Rattle.sn_space.specs.declared.node.Node.{Node}
 use Rattle.sn_space.specs.declared.node.Node.TheVariants.{Expand, Bound, Broken, Chosen}
 use Rattle.sn_tree_rules.specs.Grammar.{any_number, Parts, to_node, from_node, node_rule, begins, nodes_rule, tree_rule}
 
-any_good : Good any_number
+pub any_good : Good any_number
 any_good = number_in_good 0 18446744073709551615 (omega arith)
 
 -- ---- nodes
@@ -49,7 +49,7 @@ expand_heads (inr (inr n)) = refl
 broken_on_good : Good broken_on
 broken_on_good = either_good (is_word (codes "X")) (keyword_good (codes "X")) expand_on_good (record { heads = λ a f. same_self (codes "X") }) (record { heads = λ a f. expand_heads a })
 
-back : (a : Parts) → from_node (to_node a) ≡ a
+pub back : (a : Parts) → from_node (to_node a) ≡ a
 back (inl u) = refl
 back (inr (inl n)) = refl
 back (inr (inr (inl n))) = refl
@@ -128,7 +128,7 @@ nodes_alike = record {
 
 -- ---- the text
 
-nodes_good : Good nodes_rule
+pub nodes_good : Good nodes_rule
 unfolding nodes_rule
 nodes_good = many_good nodes_alike
 
@@ -142,7 +142,7 @@ nodes_end : (t : Tok) (us : List Tok) → is_word (codes "done") t.face ≡ true
 unfolding nodes_rule
 nodes_end t us e = both (not (begins t.face)) (node_rule.follow (t ∷ us)) (done_ends t.face e) (node_free (t ∷ us))
 
-closed_good : Good (nodes_rule ◂ keyword (codes "done"))
+pub closed_good : Good (nodes_rule ◂ keyword (codes "done"))
 closed_good = before_good nodes_good (keyword_good (codes "done")) (headed_follows nodes_rule (keyword (codes "done")) (is_word (codes "done")) (λ b f. same_self (codes "done")) nodes_end)
 
 body_good : Good ((nodes_rule ◂ keyword (codes "done")) ◂ the_end)

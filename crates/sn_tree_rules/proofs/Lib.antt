@@ -1,2 +1,3 @@
 pub mod Goods
+pub mod Starts
 pub mod Bounded

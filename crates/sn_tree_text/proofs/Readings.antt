@@ -12,6 +12,7 @@ use Rattle.sn_text.proofs.Ends.{tokens_ended}
 use Rattle.sn_space.specs.declared.node.Node.{Node}
 use Rattle.sn_tree_rules.specs.Grammar.{tree_rule}
 use Rattle.sn_tree_rules.proofs.Goods.{tree_good, ends}
+use Rattle.sn_tree_rules.proofs.Starts.{tree_starts}
 use Rattle.sn_tree_rules.proofs.Bounded.{tree_whole}
 use Rattle.sn_tree_text.specs.declared.fault.TextFault.{TextFault}
 use Rattle.sn_tree_text.specs.declared.fault.TextFault.TheVariants as faults
@@ -29,7 +30,7 @@ real kinds.Twice line = λ e. cc
 real kinds.Missing line = λ e. cc
 
 pub reading_some : (text : List ℕ) (byte : ℕ) → HasReading text byte
-reading_some text byte = elim (what_it_is tree_good ends tree_whole (from_byte byte (tokens_of text)) (ended_from byte (tokens_of text) (tokens_ended text))) [
+reading_some text byte = elim (what_it_is tree_good tree_starts ends tree_whole (from_byte byte (tokens_of text)) (ended_from byte (tokens_of text) (tokens_ended text))) [
   | inl v ↦ record { reading = Ok v.0; is = v.1 }
   | inr f ↦ record { reading = Err (fault_of f.flaw f.line); is = (shown (from_byte byte (tokens_of text)) f.flaw f.line f.column f.ok f.first, real f.flaw f.line) }
 ]

@@ -13,6 +13,7 @@ use Rattle.sn_read.specs.Reading.{Halts}
 use Rattle.sn_space.specs.declared.node.Node.{Node}
 use Rattle.sn_tree_rules.specs.Grammar.{tree_rule}
 use Rattle.sn_tree_rules.proofs.Goods.{tree_good, ends}
+use Rattle.sn_tree_rules.proofs.Starts.{tree_starts}
 use Rattle.sn_tree_rules.proofs.Bounded.{flaws, tree_whole}
 use Rattle.sn_tree_text.specs.declared.fault.TextFault.{TextFault}
 use Rattle.sn_tree_text.specs.declared.fault.TextFault.TheVariants as faults
@@ -48,7 +49,7 @@ fault_so ts ls (stops.Fault x l) f d g h k =
     let e = here ts ls (fails x (left l)) g h in
     let s = tree_good.stands kept ts (left l) x e in
     let ok = whole_ok tree_whole ts (left l) x d e in
-    subst (λ (r : TextFault). IsFault ts r) (sym (k ∙ ap (λ (us : List Tok). fault_of x (line_of us)) s.head)) (shown ts x s.at.line s.at.column ok (first_fault tree_rule tree_good ends ts (left l) s.rest s.at x e s.head))
+    subst (λ (r : TextFault). IsFault ts r) (sym (k ∙ ap (λ (us : List Tok). fault_of x (line_of us)) s.head)) (shown ts x s.at.line s.at.column ok (first_fault tree_rule tree_good tree_starts ends ts (left l) s.rest s.at x e s.head))
 
 pub none_so : (ts ls : List Tok) (e : Stop) (f : TextFault) (cost : ℕ) (nodes : List Node) → ls ≡ ts → Halts e (tree_rule.read kept ls) → Answers e f → StandsFor ts cost nodes → f ≡ faults.Memory
 none_so ts ls stops.NoMemory f cost nodes g h k s = k

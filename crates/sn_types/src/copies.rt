@@ -7,21 +7,10 @@ use sn_base::memory::Memory;
 use sn_base::seq::Seq;
 use std::alloc::Global;
 
-/// A list of the same items.
-pub fn copy_all<T: Copy>(alloc: Global, items: &[T]) -> Result<Seq<T>, Memory>
-    ensures { IfOk result (λ copied. copied ≡ items.now) }
-{
-    let mut copied = Seq::new(alloc);
-    for item in items {
-        copied.push(*item)?;
-    }
-    Ok(copied)
-}
-
 fn copy_cond(alloc: Global, cond: &TCond) -> Result<TCond, Memory>
     ensures { IfOk result (λ copied. copied ≡ cond.now) }
 {
-    let relaxed = copy_all(alloc, cond.relaxed.as_slice())?;
+    let relaxed = Seq::from_slice(alloc, cond.relaxed.as_slice())?;
     Ok(TCond {
         col: cond.col,
         and: cond.and,
@@ -46,7 +35,7 @@ pub fn copy_conds(alloc: Global, conds: &[TCond]) -> Result<Seq<TCond>, Memory>
 pub fn copy_reduce(alloc: Global, reduce: &TReduce) -> Result<TReduce, Memory>
     ensures { IfOk result (λ copied. copied ≡ reduce.now) }
 {
-    let keys = copy_all(alloc, reduce.keys.as_slice())?;
+    let keys = Seq::from_slice(alloc, reduce.keys.as_slice())?;
     Ok(TReduce {
         keys,
         value: reduce.value,
@@ -63,7 +52,7 @@ fn copy_op(alloc: Global, op: &TOp) -> Result<TOp, Memory>
             Ok(TOp::Filter(conds))
         }
         TOp::Map(exprs) => {
-            let exprs = copy_all(alloc, exprs.as_slice())?;
+            let exprs = Seq::from_slice(alloc, exprs.as_slice())?;
             Ok(TOp::Map(exprs))
         }
         TOp::Distinct => Ok(TOp::Distinct),
@@ -88,9 +77,9 @@ pub fn copy_ops(alloc: Global, ops: &[TOp]) -> Result<Seq<TOp>, Memory>
 fn copy_branch(alloc: Global, branch: &TypedBranch) -> Result<TypedBranch, Memory>
     ensures { IfOk result (λ copied. copied ≡ branch.now) }
 {
-    let fields = copy_all(alloc, branch.fields.as_slice())?;
+    let fields = Seq::from_slice(alloc, branch.fields.as_slice())?;
     let ops = copy_ops(alloc, branch.ops.as_slice())?;
-    let schemas = copy_all(alloc, branch.schemas.as_slice())?;
+    let schemas = Seq::from_slice(alloc, branch.schemas.as_slice())?;
     Ok(TypedBranch {
         fields,
         ops,
@@ -112,11 +101,11 @@ fn copy_branches(alloc: Global, branches: &[TypedBranch]) -> Result<Seq<TypedBra
 fn copy_query(alloc: Global, query: &TypedQuery) -> Result<TypedQuery, Memory>
     ensures { IfOk result (λ copied. copied ≡ query.now) }
 {
-    let levels = copy_all(alloc, query.levels.as_slice())?;
+    let levels = Seq::from_slice(alloc, query.levels.as_slice())?;
     let branches = copy_branches(alloc, query.branches.as_slice())?;
-    let keys = copy_all(alloc, query.keys.as_slice())?;
+    let keys = Seq::from_slice(alloc, query.keys.as_slice())?;
     let posts = copy_ops(alloc, query.posts.as_slice())?;
-    let schemas = copy_all(alloc, query.schemas.as_slice())?;
+    let schemas = Seq::from_slice(alloc, query.schemas.as_slice())?;
     Ok(TypedQuery {
         name: query.name,
         field: query.field,

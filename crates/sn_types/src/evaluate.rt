@@ -4,6 +4,7 @@ ghost use Rattle.std.specs.List.{find, list_all};
 ghost use Rattle.sn_base.specs.Groups.{columns_at};
 ghost use Rattle.sn_types.specs.Values.{compared, constant_at, holds, ratio, value_of, ReadsWithin};
 
+use crate::columns::Columns;
 use crate::typed_op::{TCond, TExpr};
 use sn_base::row::Row;
 use sn_query_rules::ast::{Cmp, Relax};
@@ -37,14 +38,13 @@ fn constant_at(level: u32, relaxed: &[Relax], own: u64) -> u64
 }
 
 /// Whether a condition holds at a row. Its constant is the one for this level, or else its own.
-pub fn cond(c: &TCond, level: u32, row: &Row) -> bool
-    requires { c.now.col < length row.now }
-    ensures { result ≡ holds level c.now row.now }
+pub fn cond<C: Columns>(c: &TCond, level: u32, row: &C) -> bool
+    requires { c.now.col < length (C.columns row.now) }
+    ensures { result ≡ holds level c.now (C.columns row.now) }
 {
-    let column = row.as_slice()[c.col as usize];
     compares(
         c.cmp,
-        column & c.and,
+        row.column(c.col) & c.and,
         constant_at(level, c.relaxed.as_slice(), c.own),
     )
 }
@@ -67,25 +67,24 @@ fn shifted(column: u64, places: u32) -> u64
 }
 
 /// The value of an expression at a row.
-pub fn expr(e: &TExpr, row: &Row) -> u64
-    requires { ReadsWithin (length row.now) e.now }
-    ensures { result ≡ value_of e.now row.now }
+pub fn expr<C: Columns>(e: &TExpr, row: &C) -> u64
+    requires { ReadsWithin (length (C.columns row.now)) e.now }
+    ensures { result ≡ value_of e.now (C.columns row.now) }
 {
-    let columns = row.as_slice();
     match *e {
         TExpr::Const(number) => number,
-        TExpr::Copy(a) => columns[a as usize],
-        TExpr::Mask(a, bits) => columns[a as usize] & bits,
-        TExpr::Shift(a, places) => shifted(columns[a as usize], places),
-        TExpr::Sum(a, b) => columns[a as usize].saturating_add(columns[b as usize]),
-        TExpr::Ratio(a, times, b) => ratio(columns[a as usize], times, columns[b as usize]),
+        TExpr::Copy(a) => row.column(a),
+        TExpr::Mask(a, bits) => row.column(a) & bits,
+        TExpr::Shift(a, places) => shifted(row.column(a), places),
+        TExpr::Sum(a, b) => row.column(a).saturating_add(row.column(b)),
+        TExpr::Ratio(a, times, b) => ratio(row.column(a), times, row.column(b)),
     }
 }
 
 /// Whether all conditions hold at a row, with their constants for this level.
-pub fn passes(conds: &[TCond], level: u32, row: &Row) -> bool
-    requires { All (λ c. c.col < length row.now) conds.now }
-    ensures { result ≡ list_all (λ c. holds level c row.now) conds.now }
+pub fn passes<C: Columns>(conds: &[TCond], level: u32, row: &C) -> bool
+    requires { All (λ c. c.col < length (C.columns row.now)) conds.now }
+    ensures { result ≡ list_all (λ c. holds level c (C.columns row.now)) conds.now }
 {
     for c in conds {
         if !cond(c, level, row) {
@@ -96,10 +95,10 @@ pub fn passes(conds: &[TCond], level: u32, row: &Row) -> bool
 }
 
 /// The row of these values at a row.
-pub fn mapped(row: &Row, cols: &[TExpr]) -> Row
+pub fn mapped<C: Columns>(row: &C, cols: &[TExpr]) -> Row
     requires few { length cols.now ≤ 8 }
-    requires reads { All (λ e. ReadsWithin (length row.now) e) cols.now }
-    ensures { result ≡ map (λ e. value_of e row.now) cols.now }
+    requires reads { All (λ e. ReadsWithin (length (C.columns row.now)) e) cols.now }
+    ensures { result ≡ map (λ e. value_of e (C.columns row.now)) cols.now }
 {
     let mut out = Row::empty();
     for col in cols {

@@ -3,11 +3,12 @@
 
 pub mod answers;
 pub mod check;
+pub mod columns;
 pub mod copies;
 pub mod cuts;
 pub mod evaluate;
 pub mod laws;
-mod packet;
+pub mod packet;
 mod resolve;
 pub mod typed;
 pub mod typed_op;

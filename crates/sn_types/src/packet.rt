@@ -5,10 +5,12 @@ ghost use Rattle.sn_fields.specs.Fields.{width_of};
 ghost use Rattle.sn_types.specs.Typed.{is_field, read_at, packet_row};
 ghost use Rattle.sn_walk.specs.Columns.{field_column};
 
+use crate::columns::Columns;
 use sn_base::mask::mask;
 use sn_base::row::Row;
 use sn_fields::field::Field;
 use sn_fields::tuple::Tuple;
+use std::marker::Model;
 
 fn is_field(refined: Option<Field>, field: Field) -> bool
     ensures { result ≡ is_field refined field }
@@ -44,4 +46,68 @@ pub fn row_of(refined: Option<Field>, level: u32, fields: &[Field], tuple: &Tupl
         row.push(read_at(refined, level, tuple, *field));
     }
     row
+}
+
+/// The packet row of a tuple, of which no row is made.
+#[derive(Drop)]
+pub struct PacketRow<'a> {
+    refined: Option<Field>,
+    level: u32,
+    fields: &'a [Field],
+    tuple: &'a Tuple,
+}
+
+impl<'a> Model for PacketRow<'a> {
+    ghost use Rattle.std.specs.Prelude.{ℕ, ◌≤◌, List, length, IfSome};
+    ghost use Rattle.sn_fields.specs.Fields.{width_of};
+    ghost use Rattle.sn_types.specs.Typed.{packet_row};
+
+    ghost Value = { List ℕ };
+
+    ghost view = { λ a. packet_row a.refined a.level a.fields.now a.tuple.now };
+
+    ghost invariant = { λ a. (length a.fields.now ≤ 8) × IfSome a.refined (λ other. a.level ≤ width_of other) };
+}
+
+impl<'a> PacketRow<'a> {
+    /// The packet row of a tuple at a level: the numbers of these fields.
+    pub(crate) fn new(
+        refined: Option<Field>,
+        level: u32,
+        fields: &'a [Field],
+        tuple: &'a Tuple,
+    ) -> PacketRow<'a>
+        requires few { length fields.now ≤ 8 }
+        requires level { IfSome refined (λ other. level ≤ width_of other) }
+        ensures { result ≡ packet_row refined level fields.now tuple.now }
+    {
+        PacketRow {
+            refined,
+            level,
+            fields,
+            tuple,
+        }
+    }
+
+    /// The row.
+    pub fn row(&self) -> Row
+        ensures { result ≡ self.now }
+    {
+        row_of(self.refined, self.level, self.fields, self.tuple)
+    }
+}
+
+impl Columns for PacketRow<'_> {
+    ghost use Rattle.std.specs.Prelude.{List, ℕ};
+
+    ghost columns = { λ row. row };
+
+    fn column(&self, place: u32) -> u64 {
+        read_at(
+            self.refined,
+            self.level,
+            self.tuple,
+            self.fields[place as usize],
+        )
+    }
 }

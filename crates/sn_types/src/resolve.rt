@@ -3,7 +3,6 @@ ghost use Rattle.std.specs.Prelude.{◌≡◌, IfOk, map};
 ghost use Rattle.sn_walk.specs.Columns.{place_of};
 ghost use Rattle.sn_types.specs.Typing.{typed_cond, typed_expr, typed_reduce, typed_op, join_key};
 
-use crate::copies::copy_all;
 use crate::typed_op::{JoinKey, TCond, TExpr, TOp, TReduce};
 use sn_base::memory::Memory;
 use sn_base::name::Name;
@@ -17,7 +16,7 @@ use std::alloc::Global;
 fn typed_cond(alloc: Global, columns: &Schema, cond: &Cond) -> Result<TCond, Memory>
     ensures { IfOk result (λ typed. typed ≡ typed_cond columns.now cond.now) }
 {
-    let relaxed = copy_all(alloc, cond.relaxed.as_slice())?;
+    let relaxed = Seq::from_slice(alloc, cond.relaxed.as_slice())?;
     Ok(TCond {
         col: place_of(columns, &cond.name),
         and: cond.and.unwrap_or(u64::MAX),

@@ -5,7 +5,7 @@ ghost use Rattle.sn_base.specs.Columns.{IsOf};
 ghost use Rattle.sn_types.specs.Typed.{IsTyped, query_at, branch_at, operator_at, schema_at, finest_level, first_columns, final_columns, packet_row};
 
 use crate::copies::copy_queries;
-use crate::packet::row_of;
+use crate::packet::{PacketRow, row_of};
 use crate::typed_op::{JoinKey, TOp};
 use crate::typed_query::{TypedBranch, TypedQuery};
 use sn_base::memory::Memory;
@@ -245,6 +245,18 @@ impl Typed {
         ensures columns { IsOf (first_columns (branch_at self.now.queries q b)) result }
     {
         row_of(self.refine_field(q), level, self.packet_fields(q, b), tuple)
+    }
+
+    /// `packet_row`, of which no row is made.
+    pub fn packet<'a>(&'a self, q: u32, b: u32, level: u32, tuple: &'a Tuple) -> PacketRow<'a>
+        requires query { q < length self.now.queries }
+        requires branch { b < length (query_at self.now.queries q).branches }
+        requires level { list_any (nat_eq level) (query_at self.now.queries q).levels ≡ true }
+        ensures row { result ≡ packet_row (query_at self.now.queries q).field level (branch_at self.now.queries q b).fields tuple.now }
+        ensures columns { IsOf (first_columns (branch_at self.now.queries q b)) result }
+    {
+        tuple.widths();
+        PacketRow::new(self.refine_field(q), level, self.packet_fields(q, b), tuple)
     }
 
     /// An equal value.

@@ -5,7 +5,6 @@ ghost use Rattle.sn_query_rules.specs.Limits.{BranchLimits, QueryLimits};
 ghost use Rattle.sn_walk.specs.Walk.{scope_end};
 ghost use Rattle.sn_types.specs.Typing.{typed_ops, schemas_along, typed_branch, behind_branches, join_keys, posts_of, field_of, levels_of, carried_place, typed_query};
 
-use crate::copies::copy_all;
 use crate::cuts::greatest_cut;
 use crate::resolve::{typed_keys, typed_op};
 use crate::typed_op::{JoinKey, TOp};
@@ -137,11 +136,11 @@ fn levels_of(alloc: Global, refine: &Option<Refine>) -> Result<Seq<u32>, Memory>
 {
     match refine {
         Some(refine) => {
-            let levels = copy_all(alloc, refine.levels.as_slice())?;
+            let levels = Seq::from_slice(alloc, refine.levels.as_slice())?;
             Ok(levels)
         }
         None => {
-            let levels = copy_all(alloc, &[0])?;
+            let levels = Seq::from_slice(alloc, &[0])?;
             Ok(levels)
         }
     }

@@ -3,10 +3,10 @@ use Rattle.std.specs.FinMap.{get}
 use Rattle.sn_stage.specs.declared.fault.Fault.TheVariants as faults
 use Rattle.sn_stage.specs.declared.refusal.Refusal.TheVariants.{Missing, Refused}
 use Rattle.sn_stage.specs.Desks.{world}
-use Rattle.sn_stage.proofs.FileLemmas.{some_if}
+use Rattle.sn_stage.proofs.FileLemmas.{none_other, some_if}
 use Rattle.sn_pcap.proofs.ToldLemmas.{not_err}
 use Rattle.sn_answered.specs.Capture.{Head}
-use Rattle.sn_answered.proofs.StreamLemmas.{runs_read, read_follows, head_due, head_missing}
+use Rattle.sn_answered.proofs.StreamLemmas.{head_may, runs_read, read_follows, head_due, head_missing}
 use Rattle.sn_answered.proofs.capture.read_header.Goals as goal
 
 pub returns-in-Ok-Ok-clause-runs : goal.returns-in-Ok-Ok-clause-runs
@@ -16,8 +16,8 @@ returns-in-Ok-Ok-clause-runs g c =
     let files = c.args.desk.now.files.now in
     let e = c.read_head.ensures in
     let known : is_some (get (I.faults files) name) ≡ true = some_if (get (I.faults files) name) (λ none. not_err (c.in-Ok-Ok.ensures.missing.1 none)) in
-    runs_read name (Head name) (Ok c.in-Ok-Ok.header) (world I g.O.Sink c.args.desk.now) _ (read_follows name (world I g.O.Sink c.args.desk.now) _ e.told e.faults refl refl) refl
-    (λ e. absurd cc) (λ e. absurd cc) (λ e. absurd cc) (λ e. absurd cc)
+    runs_read name (Head name) (Ok c.in-Ok-Ok.header) (world I g.O.Sink c.args.desk.now) _ (read_follows name (world I g.O.Sink c.args.desk.now) _ e.told e.faults refl refl) (none_other name _ _ e.faults) refl
+    (λ e. absurd cc) (λ e. absurd cc) (λ e. absurd cc) (λ e. absurd cc) (λ fault e. absurd cc)
     (head_due (I.told files) (I.faults files) name (Ok c.in-Ok-Ok.header) known (g.met.I.Inputs.same_names files) (rw c.in-Ok-Ok.field-0-is at c.in-Ok-Ok.ensures).head)
 
 pub returns-in-Ok-Err-clause-runs : goal.returns-in-Ok-Err-clause-runs
@@ -27,8 +27,8 @@ returns-in-Ok-Err-clause-runs g c =
     let files = c.args.desk.now.files.now in
     let e = c.read_head.ensures in
     let known : is_some (get (I.faults files) name) ≡ true = some_if (get (I.faults files) name) (λ none. not_err (c.in-Ok-Err.ensures.missing.1 none)) in
-    runs_read name (Head name) (Err (Refused (faults.Head c.in-Ok-Err.fault))) (world I g.O.Sink c.args.desk.now) _ (read_follows name (world I g.O.Sink c.args.desk.now) _ e.told e.faults refl refl) refl
-    (λ e. absurd cc) (λ e. absurd cc) (λ e. absurd cc) (λ e. absurd cc)
+    runs_read name (Head name) (Err (Refused (faults.Head c.in-Ok-Err.fault))) (world I g.O.Sink c.args.desk.now) _ (read_follows name (world I g.O.Sink c.args.desk.now) _ e.told e.faults refl refl) (none_other name _ _ e.faults) refl
+    (λ e. absurd cc) (λ e. absurd cc) (λ e. absurd cc) (λ e. absurd cc) (head_may c.in-Ok-Err.fault)
     (head_due (I.told files) (I.faults files) name (Err c.in-Ok-Err.fault) known (g.met.I.Inputs.same_names files) (rw c.in-Ok-Err.field-0-is at c.in-Ok-Err.ensures).head)
 
 pub returns-in-Err-Missing-clause-runs : goal.returns-in-Err-Missing-clause-runs
@@ -38,6 +38,6 @@ returns-in-Err-Missing-clause-runs g c =
     let files = c.args.desk.now.files.now in
     let e = c.read_head.ensures in
     let none : get (I.faults files) name ≡ None = (rw c.in-Err-Missing.field-0-is at c.in-Err-Missing.ensures).missing.0 refl in
-    runs_read name (Head name) (Err Missing) (world I g.O.Sink c.args.desk.now) _ (read_follows name (world I g.O.Sink c.args.desk.now) _ e.told e.faults refl refl) refl
-    (λ e. absurd cc) (λ e. absurd cc) (λ e. none) (λ e. absurd cc)
+    runs_read name (Head name) (Err Missing) (world I g.O.Sink c.args.desk.now) _ (read_follows name (world I g.O.Sink c.args.desk.now) _ e.told e.faults refl refl) (none_other name _ _ e.faults) refl
+    (λ e. absurd cc) (λ e. absurd cc) (λ e. none) (λ e. absurd cc) (λ fault e. absurd cc)
     (head_missing (I.told files) (I.faults files) name none (g.met.I.Inputs.same_names files))

@@ -4,6 +4,7 @@ use Rattle.sn_stage.specs.Desks.{world}
 use Rattle.sn_stage.specs.Runs.{Runs}
 use Rattle.sn_stage.specs.Stages.{Adds}
 use Rattle.sn_stage.proofs.StageLemmas.{stage_stops, stage_then, gives_as}
+use Rattle.sn_answered.proofs.StreamLemmas.{ending_may}
 use Rattle.sn_answered.proofs.capture.write_last_lines.Goals as goal
 
 pub returns-in_err-write_text : goal.returns-in_err-write_text
@@ -19,4 +20,4 @@ returns g c = λ closed h count.
     let text = c.as_slice.ensures ∙ c.in_ok-lines.ensures closed h count in
     let here = world g.I.Inputs g.O.Sink c.args.desk.now in
     let there = world g.I.Inputs g.O.Sink c.write_text.new.desk in
-    stage_then (subst (λ (bytes : List ℕ). Runs [] (Adds bytes) here (Ok tt) there) text c.in_ok-write_text.ensures) (gives_as _ c.end_of.ensures)
+    stage_then (subst (λ (bytes : List ℕ). Runs [] (Adds bytes) here (Ok tt) there) text c.in_ok-write_text.ensures) (gives_as _ (ending_may c.args.ending) c.end_of.ensures)

@@ -8,6 +8,7 @@ use Rattle.sn_text.specs.Lexing.{left, token_of}
 use Rattle.sn_text.specs.Cutting.{tokens_of}
 use Rattle.sn_query_rules.specs.Grammar.{file_rule}
 use Rattle.sn_query_rules.proofs.Queries.{file_good, file_ends}
+use Rattle.sn_query_rules.proofs.Starts.{file_starts}
 use Rattle.sn_query_rules.proofs.Bounded.{file_whole}
 use Rattle.sn_query_rules.proofs.FileLimits.{accepted_keeps_limits}
 use Rattle.sn_query.proofs.Files.{fault_is}
@@ -31,4 +32,4 @@ pub returns-in-Err-Fault-clause-fault : goal.returns-in-Err-Fault-clause-fault
 returns-in-Err-Fault-clause-fault c =
     let e : file_rule.read kept (left c.new.result) ≡ fails c.in-Err-Fault.flaw (left c.in-Err-Fault.at) = rw c.in-Err-Fault.field-0-is at c.in-Err-Fault.ensures in
     fault_is (tokens_of c.args.text.now) c.fault_of.result c.in-Err-Fault.flaw c.scan.result.0.line c.scan.result.0.column c.fault_of.ensures (whole_ok file_whole (tokens_of c.args.text.now) (left c.in-Err-Fault.at) c.in-Err-Fault.flaw (tokens_ended c.args.text.now) (ap (file_rule.read kept) (sym c.new.ensures) ∙ e))
-    (fault_of file_rule file_good file_ends (tokens_of c.args.text.now) (left c.in-Err-Fault.at) _ (token_of c.scan.result.0) c.in-Err-Fault.flaw (ap (file_rule.read kept) (sym c.new.ensures) ∙ e) c.scan.ensures)
+    (fault_of file_rule file_good file_starts file_ends (tokens_of c.args.text.now) (left c.in-Err-Fault.at) _ (token_of c.scan.result.0) c.in-Err-Fault.flaw (ap (file_rule.read kept) (sym c.new.ensures) ∙ e) c.scan.ensures)

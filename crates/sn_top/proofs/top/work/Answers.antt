@@ -5,34 +5,34 @@ use Rattle.sn_finished.specs.Finish.{Finish}
 use Rattle.sn_live.specs.Live.{Plan}
 use Rattle.sn_run.specs.Run.{Run}
 use Rattle.sn_stage.specs.Desks.{world}
-use Rattle.sn_stage.specs.Runs.{Works}
+use Rattle.sn_stage.specs.Runs.{WorksFrom}
 use Rattle.sn_top.specs.Plain.{Plain}
 use Rattle.sn_top.proofs.TopLemmas.{of_two, of_three, of_four}
 use Rattle.sn_top.proofs.top.work.Goals as goal
 
 pub returns-in-Plain : goal.returns-in-Plain
 returns-in-Plain g c =
-    rw c.in-Plain.is (of_two (λ (queries capture : List ℕ). Works (queries ∷ capture ∷ []) (Plain queries capture) (world g.I.Inputs g.O.Sink c.args.desk.now) c.plain.result (world g.I.Inputs g.O.Sink c.plain.new.desk)) c.word-first.ensures c.word-second.ensures c.plain.ensures)
+    rw c.in-Plain.is (of_two (λ (queries capture : List ℕ). WorksFrom 2 (queries ∷ capture ∷ []) (Plain queries capture) (world g.I.Inputs g.O.Sink c.args.desk.now) c.plain.result (world g.I.Inputs g.O.Sink c.plain.new.desk)) c.word-first.ensures c.word-second.ensures c.plain.ensures)
 
 pub returns-in-Plan : goal.returns-in-Plan
 returns-in-Plan g c =
-    rw c.in-Plan.is (of_three (λ (switch queries train : List ℕ). Works (queries ∷ switch ∷ train ∷ []) (Plan switch queries train c.in-Plan.nodes) (world g.I.Inputs g.O.Sink c.args.desk.now) c.plan.result (world g.I.Inputs g.O.Sink c.plan.new.desk)) c.word-first.ensures c.word-second.ensures c.word-third.ensures c.plan.ensures)
+    rw c.in-Plan.is (of_three (λ (switch queries train : List ℕ). WorksFrom 2 (queries ∷ switch ∷ train ∷ []) (Plan switch queries train c.in-Plan.nodes) (world g.I.Inputs g.O.Sink c.args.desk.now) c.plan.result (world g.I.Inputs g.O.Sink c.plan.new.desk)) c.word-first.ensures c.word-second.ensures c.word-third.ensures c.plan.ensures)
 
 pub returns-in-Run : goal.returns-in-Run
 returns-in-Run g c =
-    rw c.in-Run.is (of_four (λ (switch queries plan capture : List ℕ). Works (queries ∷ switch ∷ plan ∷ capture ∷ []) (Run g.M.Machine.told c.in-Run.csv switch queries plan capture) (world g.I.Inputs g.O.Sink c.args.desk.now) c.run.result (world g.I.Inputs g.O.Sink c.run.new.desk)) c.word-first.ensures c.word-second.ensures c.word-third.ensures c.word-fourth.ensures c.run.ensures)
+    rw c.in-Run.is (of_four (λ (switch queries plan capture : List ℕ). WorksFrom 2 (queries ∷ switch ∷ plan ∷ capture ∷ []) (Run g.M.Machine.told c.in-Run.csv switch queries plan capture) (world g.I.Inputs g.O.Sink c.args.desk.now) c.run.result (world g.I.Inputs g.O.Sink c.run.new.desk)) c.word-first.ensures c.word-second.ensures c.word-third.ensures c.word-fourth.ensures c.run.ensures)
 
 pub returns-in-Emit : goal.returns-in-Emit
 returns-in-Emit g c =
-    rw c.in-Emit.is (of_four (λ (switch queries plan capture : List ℕ). Works (queries ∷ switch ∷ plan ∷ capture ∷ []) (Emit switch queries plan capture) (world g.I.Inputs g.O.Sink c.args.desk.now) c.emit.result (world g.I.Inputs g.O.Sink c.emit.new.desk)) c.word-first.ensures c.word-second.ensures c.word-third.ensures c.word-fourth.ensures c.emit.ensures)
+    rw c.in-Emit.is (of_four (λ (switch queries plan capture : List ℕ). WorksFrom 2 (queries ∷ switch ∷ plan ∷ capture ∷ []) (Emit switch queries plan capture) (world g.I.Inputs g.O.Sink c.args.desk.now) c.emit.result (world g.I.Inputs g.O.Sink c.emit.new.desk)) c.word-first.ensures c.word-second.ensures c.word-third.ensures c.word-fourth.ensures c.emit.ensures)
 
 pub returns-in-Finish : goal.returns-in-Finish
 returns-in-Finish g c =
-    rw c.in-Finish.is (of_three (λ (queries plan reports : List ℕ). Works (queries ∷ plan ∷ reports ∷ []) (Finish queries plan reports) (world g.I.Inputs g.O.Sink c.args.desk.now) c.finish.result (world g.I.Inputs g.O.Sink c.finish.new.desk)) c.word-first.ensures c.word-second.ensures c.word-third.ensures c.finish.ensures)
+    rw c.in-Finish.is (of_three (λ (queries plan reports : List ℕ). WorksFrom 2 (queries ∷ plan ∷ reports ∷ []) (Finish queries plan reports) (world g.I.Inputs g.O.Sink c.args.desk.now) c.finish.result (world g.I.Inputs g.O.Sink c.finish.new.desk)) c.word-first.ensures c.word-second.ensures c.word-third.ensures c.finish.ensures)
 
 pub returns-in-Check : goal.returns-in-Check
 returns-in-Check g c =
-    rw c.in-Check.is (of_four (λ (switch queries train plantree : List ℕ). Works (queries ∷ switch ∷ train ∷ plantree ∷ []) (Check switch queries train plantree) (world g.I.Inputs g.O.Sink c.args.desk.now) c.check.result (world g.I.Inputs g.O.Sink c.check.new.desk)) c.word-first.ensures c.word-second.ensures c.word-third.ensures c.word-fourth.ensures c.check.ensures)
+    rw c.in-Check.is (of_four (λ (switch queries train plantree : List ℕ). WorksFrom 2 (queries ∷ switch ∷ train ∷ plantree ∷ []) (Check switch queries train plantree) (world g.I.Inputs g.O.Sink c.args.desk.now) c.check.result (world g.I.Inputs g.O.Sink c.check.new.desk)) c.word-first.ensures c.word-second.ensures c.word-third.ensures c.word-fourth.ensures c.check.ensures)
 
 pub returns-in-Gen : goal.returns-in-Gen
 returns-in-Gen g c = rw c.in-Gen.is c.generate.ensures

@@ -1,0 +1,39 @@
+//! A packet's way into the operators of a branch.
+ghost use Rattle.std.specs.Prelude.{◌≡◌, ◌++◌, ◌∷◌, [], List, OnOk};
+ghost use Rattle.sn_base.specs.Groups.{Row};
+ghost use Rattle.sn_ops.specs.Passing.{CanTake};
+ghost use Rattle.sn_ops.specs.Standing.{Stands};
+
+use crate::seen::{Passage, Seen};
+use crate::take::take;
+use sn_base::memory::Memory;
+use sn_base::row::Row;
+use sn_base::seq::Seq;
+use sn_types::packet::PacketRow;
+use sn_types::typed_op::TOp;
+
+/// Takes a packet row through operators as `take` takes a row; `row` changes on the way. None is made of it for the filters
+/// at their front, nor for a map behind these.
+pub(crate) fn start(
+    ops: &[TOp],
+    seen: &mut [Seen],
+    level: u32,
+    packet: &PacketRow<'_>,
+    row: &mut Row,
+    out: &mut Seq<Row>,
+) -> Result<(), Memory>
+    requires { CanTake level ops.now seen.old packet.now }
+    ensures { OnOk result ((rows : List Row) → Stands level ops.now seen.old rows out.old → Stands level ops.now seen.new (rows ++ packet.now ∷ []) out.new) }
+{
+    let Some((op, behind)) = ops.split_first() else {
+        return out.push(packet.row());
+    };
+    let Some((first, later)) = seen.split_first_mut() else {
+        unreachable!();
+    };
+    match first.begin(op, level, packet, row)? {
+        Passage::Same => start(behind, later, level, packet, row, out),
+        Passage::Other => take(behind, later, level, row, out),
+        Passage::Stays => Ok(()),
+    }
+}
