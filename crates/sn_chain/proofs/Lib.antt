@@ -6,3 +6,4 @@ pub mod Places
 pub mod RegisterLemmas
 pub mod ResidenceLemmas
 pub mod StandLemmas
+pub mod StoredLemmas

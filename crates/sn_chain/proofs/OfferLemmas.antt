@@ -1,15 +1,14 @@
 -- One offer, on the cells as they are stored.
-use Rattle.std.proofs.Common.{◌≡◌, ℕ, zero, suc, ◌+◌, ◌*◌, ◌≤◌, ◌<◌, List, [], ◌∷◌, ◌++◌, map, take, drop, length, append-nil, true, false, cond, nat_eq, Option, Some, None, get_or, set, length-set, replicate, refl, ap, sym, subst, ◌∙◌, arith}
+use Rattle.std.proofs.Common.{◌≡◌, ℕ, zero, suc, ◌+◌, ◌*◌, ◌≤◌, ◌<◌, List, [], ◌∷◌, map, length, true, false, cond, nat_eq, Option, Some, None, IfSome, get_or, set, length-set, replicate, refl, ap, sym, subst, ◌∙◌, arith}
 use Rattle.std.specs.List.{All, AllByRecursion}
-use Rattle.std.proofs.lemmas.List.{map-set, length-map, length-replicate}
+use Rattle.std.proofs.lemmas.List.{get_or_default, map-set, length-map, length-replicate}
 use Rattle.std.proofs.lemmas.List.Elements.{All-from_recursion, All-get_or, All-replicate, All-set, recursion_from_All}
 use Rattle.sn_base.specs.Groups.{Row}
 use Rattle.sn_base.proofs.Lists.{not_true, nat_same, nat_self}
-use Rattle.sn_chain.specs.Cells.{shown_by, all_shown_by, forgotten, IsCell, AreCells}
+use Rattle.sn_chain.specs.Cells.{Cell, shown_by, all_shown_by, forgotten, untaken, with_value, IsCell, AreCells}
 use Rattle.sn_chain.specs.Chain.{ChainState, KeysStand, empty_chain, holder, vacancy, answer_at, after_offer}
 use Rattle.sn_chain.specs.Found.{found_at}
-use Rattle.sn_chain.specs.Registers.{stepped, put}
-use Rattle.sn_chain.specs.declared.cell.Cell.{Cell}
+use Rattle.sn_chain.specs.Registers.{cell, stepped, put}
 use Rattle.sn_chain.specs.declared.offer.Offer.TheVariants.{Over}
 use Rattle.sn_chain.specs.declared.register.Found.{Found}
 use Rattle.sn_chain.specs.declared.register.Found.TheVariants as found
@@ -73,29 +72,32 @@ module _ {F : Type 0} (join : F → ℕ → ℕ → ℕ) (f : F) (depth slots ro
       ∙ ap (λ o. with_cells (put (join f) (all_shown_by round cells) key v h o)) is_e
 
   -- the key is held
-  pub offer_held : (cells : List Cell) (s : ChainState F) → state cells ≡ s → (key : Row) (v at : ℕ) (c : Cell) (w : ℕ) → at < length cells → c ≡ get_or cells at c → w ≡ join f c.value v → found.Held at ≡ found_in cells key →
-      state (set cells at (record c { value = w })) ≡ after_offer join s key v
-  offer_held cells s is key v at c w inside here stepped_to found =
+  pub offer_held : (cells new : List Cell) (s : ChainState F) → state cells ≡ s → (key : Row) (v at value w : ℕ) → at < length cells → value ≡ (get_or cells at (untaken 0)).value → w ≡ join f value v →
+      new ≡ set cells at (with_value w (get_or cells at (untaken 0))) → found.Held at ≡ found_in cells key → state new ≡ after_offer join s key v
+  offer_held cells new s is key v at value w inside here stepped_to written found =
       let shown = all_shown_by round cells in
-      subst (λ (t : ChainState F). state (set cells at (record c { value = w })) ≡ after_offer join t key v) is
-      (ap (λ (m : ℕ). with_value m) stepped_to
+      let c = get_or cells at (untaken 0) in
+      subst (λ (t : ChainState F). state new ≡ after_offer join t key v) is
+      (ap state written
+      ∙ ap stored (stepped_to ∙ ap (λ (n : ℕ). join f n v) here)
       ∙ ap with_cells
       (map-set (shown_by round) cells at (record c { value = join f c.value v })
-      ∙ ap (λ o. set shown at o) (shown_stepped (join f) round v c ∙ ap (stepped (join f) v) (sym (read_cell round cells at c inside here))))
+      ∙ ap (λ o. set shown at o) (shown_stepped (join f) round v c ∙ ap (stepped (join f) v) (sym (read_cell round cells at c inside (get_or_default cells at (untaken 0) c inside)))))
       ∙ sym (after_put cells key v (Some at) (vacancy (state cells) key) (held_from (holder (state cells) key) (vacancy (state cells) key) at found) refl))
     where
-      with_value : ℕ → ChainState F
-      with_value m = state (set cells at (record c { value = m }))
+      stored : ℕ → ChainState F
+      stored m = state (set cells at (with_value m (get_or cells at (untaken 0))))
 
   -- the key takes an empty cell
-  pub offer_new : (cells : List Cell) (s : ChainState F) → state cells ≡ s → (key : Row) (v at : ℕ) → found.Empty at ≡ found_in cells key →
-      state (set cells at (record { round = round; key = key; value = v })) ≡ after_offer join s key v
-  offer_new cells s is key v at found =
+  pub offer_new : (cells new : List Cell) (s : ChainState F) → state cells ≡ s → (key : Row) (v at : ℕ) → new ≡ set cells at (record { round = round; key = key; value = v }) → found.Empty at ≡ found_in cells key →
+      state new ≡ after_offer join s key v
+  offer_new cells new s is key v at written found =
       let shown = all_shown_by round cells in
       let h = holder (state cells) key in
       let e = vacancy (state cells) key in
-      subst (λ (t : ChainState F). state (set cells at (record { round = round; key = key; value = v })) ≡ after_offer join t key v) is
-      (ap with_cells (map-set (shown_by round) cells at (record { round = round; key = key; value = v }) ∙ ap (λ o. set shown at o) (shown_taken round v key))
+      subst (λ (t : ChainState F). state new ≡ after_offer join t key v) is
+      (ap state written
+      ∙ ap with_cells (map-set (shown_by round) cells at (record { round = round; key = key; value = v }) ∙ ap (λ o. set shown at o) (shown_taken round v key))
       ∙ sym (after_put cells key v None (Some at) (none_from h e at found) (empty_from h e at found)))
 
   -- no cell is free
@@ -111,6 +113,12 @@ module _ {F : Type 0} (join : F → ℕ → ℕ → ℕ) (f : F) (depth slots ro
       let e = vacancy (state cells) key in
       subst (λ (t : ChainState F). Over ≡ answer_at (holder t key) (vacancy t key)) is
       (sym (ap (λ o. answer_at o e) (full_none h e found) ∙ ap (answer_at None) (full_empty h e found)))
+
+-- what a cell shows is one of the fold's values
+pub shown_had : (has : ℕ → Type 0) (round : ℕ) (cells : List Cell) → AllByRecursion (IsCell has round) cells → (p : ℕ) → IfSome (cell (all_shown_by round cells) p) (λ e. has e.1)
+shown_had has round [] each p = tt
+shown_had has round (c ∷ cells) each zero = elim (nat_eq c.round round) as (λ b. IfSome {T = Row × ℕ} (cond b (Some (c.key, c.value)) None) (λ e. has e.1)) [ true ↦ each.0.had | false ↦ tt ]
+shown_had has round (c ∷ cells) each (suc p) = shown_had has round cells each.1 p
 
 -- ---- rounds
 
@@ -135,46 +143,29 @@ cells_forgotten : (has : ℕ → Type 0) (round : ℕ) (cells : List Cell) → A
 cells_forgotten has round [] each = tt
 cells_forgotten has round (c ∷ cells) each = (record { no_later = omega arith; had = each.0.had }, cells_forgotten has round cells each.1)
 
--- the cells after all were written through a slice
-pub written_whole : (old new : List Cell) (n : ℕ) → new ≡ map forgotten old → n ≡ length old → take n (new ++ drop (length new) old) ≡ map forgotten old
-written_whole old new n is long =
-    let same : length new ≡ length old = ap length is ∙ length-map old forgotten in
-    ap (λ k. take n (new ++ drop k old)) same
-    ∙ ap (λ xs. take n (new ++ xs)) (drop_all old)
-    ∙ ap (take n) (append-nil new)
-    ∙ ap (λ k. take k new) (long ∙ sym same)
-    ∙ take_all new ∙ is
-  where
-    drop_all : (xs : List Cell) → drop (length xs) xs ≡ []
-    drop_all [] = refl
-    drop_all (x ∷ xs) = drop_all xs
+-- new cells are empty in every round
+empty_made : (round n value : ℕ) → 1 ≤ round → all_shown_by round (replicate n (untaken value)) ≡ replicate n None
+empty_made round zero value first = refl
+empty_made round (suc n) value first =
+    let old : nat_eq 0 round ≡ false = not_true (nat_eq 0 round) (λ is. let same : 0 ≡ round = nat_same 0 round is in absurd (omega arith)) in
+    ap (λ b. cond b (Some ([], value)) None ∷ all_shown_by round (replicate n (untaken value))) old ∙ ap (λ cs. None ∷ cs) (empty_made round n value first)
 
-    take_all : (xs : List Cell) → take (length xs) xs ≡ xs
-    take_all [] = refl
-    take_all (x ∷ xs) = ap (λ ys. x ∷ ys) (take_all xs)
-
--- new cells are empty in the first round
-empty_first : (n : ℕ) (key : Row) (value : ℕ) → all_shown_by 1 (replicate n (record { round = 0; key = key; value = value })) ≡ replicate n None
-empty_first zero key value = refl
-empty_first (suc n) key value = ap (λ cs. None ∷ cs) (empty_first n key value)
-
-pub made_cells : (has : ℕ → Type 0) (depth slots value : ℕ) (key : Row) (cells : List Cell) → 1 ≤ depth → depth ≤ 4 → 1 ≤ slots → slots ≤ 65536 → has value → cells ≡ replicate (depth * slots) (record { round = 0; key = key; value = value }) →
-    AreCells has depth slots 1 cells
-made_cells has depth slots value key cells some_depth most_depth some_slots most_slots had is =
-    let made : Cell = record { round = 0; key = key; value = value } in
+pub made_cells : (has : ℕ → Type 0) (depth slots round value : ℕ) (cells : List Cell) → 1 ≤ round → 1 ≤ depth → depth ≤ 4 → 1 ≤ slots → slots ≤ 65536 → has value → cells ≡ replicate (depth * slots) (untaken value) →
+    AreCells has depth slots round cells
+made_cells has depth slots round value cells first some_depth most_depth some_slots most_slots had is =
     record {
       some_depth = some_depth;
       most_depth = most_depth;
       some_slots = some_slots;
       most_slots = most_slots;
-      first_round = omega arith;
-      long = ap length is ∙ length-replicate (depth * slots) made;
-      each = recursion_from_All (IsCell has 1) cells (subst (λ (cs : List Cell). All (IsCell has 1) cs) (sym is) (All-replicate (IsCell has 1) (depth * slots) made (record { no_later = omega arith; had = had })));
-      stand = subst (λ (cs : List (Option (Row × ℕ))). KeysStand depth slots cs) (sym (ap (all_shown_by 1) is ∙ empty_first (depth * slots) key value)) (stand_bare depth slots (depth * slots));
+      first_round = first;
+      long = ap length is ∙ length-replicate (depth * slots) (untaken value);
+      each = recursion_from_All (IsCell has round) cells (subst (λ (cs : List Cell). All (IsCell has round) cs) (sym is) (All-replicate (IsCell has round) (depth * slots) (untaken value) (record { no_later = omega arith; had = had })));
+      stand = subst (λ (cs : List (Option (Row × ℕ))). KeysStand depth slots cs) (sym (ap (all_shown_by round) is ∙ empty_made round (depth * slots) value first)) (stand_bare depth slots (depth * slots));
     }
 
-pub made_empty : {F : Type 0} (f : F) (depth slots value : ℕ) (key : Row) (cells : List Cell) → cells ≡ replicate (depth * slots) (record { round = 0; key = key; value = value }) → state_of f depth slots 1 cells ≡ empty_chain f depth slots
-made_empty f depth slots value key cells is = ap (state_with f depth slots) (ap (all_shown_by 1) is ∙ empty_first (depth * slots) key value)
+pub made_empty : {F : Type 0} (f : F) (depth slots value : ℕ) (cells : List Cell) → cells ≡ replicate (depth * slots) (untaken value) → state_of f depth slots 1 cells ≡ empty_chain f depth slots
+made_empty f depth slots value cells is = ap (state_with f depth slots) (ap (all_shown_by 1) is ∙ empty_made 1 (depth * slots) value (omega arith))
 
 module _ {has : ℕ → Type 0} {depth slots round : ℕ} {cells : List Cell} (c : AreCells has depth slots round cells) where
   pub are_next : AreCells has depth slots (round + 1) cells
@@ -208,24 +199,26 @@ module _ {has : ℕ → Type 0} {depth slots round : ℕ} {cells : List Cell} (c
       (stand_put depth slots (all_shown_by round cells) c.stand c.some_slots (length-map cells (shown_by round) ∙ c.long) (join f) key v)
 
   -- a cell with another value
-  pub one_offered : (at : ℕ) (x : Cell) (w : ℕ) → at < length cells → x ≡ get_or cells at x → has w → IsCell has round (record x { value = w })
-  one_offered at x w inside is had = record {
-    no_later = (subst (λ (y : Cell). IsCell has round y) (sym is) (All-get_or (IsCell has round) cells at x inside (All-from_recursion (IsCell has round) cells c.each))).no_later;
+  pub one_offered : (at w : ℕ) → at < length cells → has w → IsCell has round (with_value w (get_or cells at (untaken 0)))
+  one_offered at w inside had = record {
+    no_later = (All-get_or (IsCell has round) cells at (untaken 0) inside (All-from_recursion (IsCell has round) cells c.each)).no_later;
     had = had;
   }
 
   -- the cells after an offer that was written to one of them
-  pub are_offered : {F : Type 0} (join : F → ℕ → ℕ → ℕ) (f : F) (key : Row) (v at : ℕ) (x : Cell) → state_of f depth slots round (set cells at x) ≡ after_offer join (state_of f depth slots round cells) key v → IsCell has round x →
-      AreCells has depth slots round (set cells at x)
-  are_offered join f key v at x is one = record {
+  pub are_offered : {F : Type 0} (join : F → ℕ → ℕ → ℕ) (f : F) (key : Row) (v at : ℕ) (x : Cell) (new : List Cell) → new ≡ set cells at x → state_of f depth slots round new ≡ after_offer join (state_of f depth slots round cells) key v → IsCell has round x →
+      AreCells has depth slots round new
+  are_offered join f key v at x new written is one = record {
     some_depth = c.some_depth;
     most_depth = c.most_depth;
     some_slots = c.some_slots;
     most_slots = c.most_slots;
     first_round = c.first_round;
-    long = length-set cells at x ∙ c.long;
-    each = recursion_from_All (IsCell has round) (set cells at x) (All-set (IsCell has round) cells at x one (All-from_recursion (IsCell has round) cells c.each));
-    stand = stand_after join f key v (set cells at x) is;
+    long = ap length written ∙ length-set cells at x ∙ c.long;
+    each =
+        subst (λ (cs : List Cell). AllByRecursion (IsCell has round) cs) (sym written)
+        (recursion_from_All (IsCell has round) (set cells at x) (All-set (IsCell has round) cells at x one (All-from_recursion (IsCell has round) cells c.each)));
+    stand = stand_after join f key v new is;
   }
 
   -- a chain whose cells show nothing

@@ -8,10 +8,9 @@ use Rattle.std.proofs.lemmas.List.{get_or-map}
 use Rattle.sn_base.specs.Groups.{Row}
 use Rattle.sn_base.specs.Slot.{row_hash}
 use Rattle.sn_base.proofs.Lists.{by_test, nat_same}
-use Rattle.sn_chain.specs.Cells.{shown_by, all_shown_by}
+use Rattle.sn_chain.specs.Cells.{Cell, shown_by, all_shown_by}
 use Rattle.sn_chain.specs.Chain.{place_for, places_from, places_of}
 use Rattle.sn_chain.specs.Registers.{cell}
-use Rattle.sn_chain.specs.declared.cell.Cell.{Cell}
 
 one_left : (depth register : ℕ) → register < depth → depth - register ≡ suc (depth - (register + 1))
 one_left depth register h = omega arith

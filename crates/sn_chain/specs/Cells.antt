@@ -1,8 +1,17 @@
-use Rattle.std.specs.Prelude.{◌≡◌, ℕ, ◌*◌, ◌≤◌, List, map, length, Option, Some, None, if◌then◌else◌, nat_eq}
+use Rattle.std.specs.Prelude.{◌≡◌, ℕ, ◌*◌, ◌≤◌, List, [], map, length, Option, Some, None, if◌then◌else◌, nat_eq}
 use Rattle.std.specs.List.{AllByRecursion}
 use Rattle.sn_base.specs.Groups.{Row}
 use Rattle.sn_chain.specs.Chain.{KeysStand}
-use Rattle.sn_chain.specs.declared.cell.Cell.{Cell}
+
+-- a cell: the round in which it was taken, the key that took it, and the fold of the key's values
+pub record Cell : Type 0 where
+  pub round : ℕ
+  pub key : Row
+  pub value : ℕ
+
+-- a cell that no key took yet
+abbrev pub untaken : ℕ → Cell
+untaken value = record { round = 0; key = []; value = value }
 
 -- what a cell holds in a round: its key and value, where it was taken in that round
 abbrev pub shown_by : ℕ → Cell → Option (Row × ℕ)
@@ -14,6 +23,10 @@ all_shown_by round cells = map (shown_by round) cells
 -- a cell as it was before the first round
 abbrev pub forgotten : Cell → Cell
 forgotten c = record c { round = 0 }
+
+-- a cell with another value
+abbrev pub with_value : ℕ → Cell → Cell
+with_value value c = record c { value = value }
 
 -- a cell was taken in no later round, and its value is one of the fold's
 pub record IsCell (has : ℕ → Type 0) (round : ℕ) (c : Cell) : Type 0 where

@@ -4,3 +4,4 @@ pub mod Found
 pub mod Homes
 pub mod Registers
 pub mod Residence
+pub mod Stored

@@ -1,12 +1,11 @@
 //! A chain of registers.
-ghost use Rattle.std.specs.Prelude.{◌≡◌, ◌≤◌, ℕ, length, map, IfOk, IfSome};
-ghost use Rattle.sn_chain.specs.Cells.{forgotten};
+ghost use Rattle.std.specs.Prelude.{◌≡◌, ◌≤◌, ℕ, length, IfOk, IfSome};
 ghost use Rattle.std.specs.Option.{ForSome};
 ghost use Rattle.sn_base.specs.Groups.{Row};
 ghost use Rattle.sn_chain.specs.Chain.{AreSlots, KeysStand, empty_chain, after_offer, answer_at, holder, vacancy};
 ghost use Rattle.sn_chain.specs.Registers.{cell};
 
-use crate::cell::Cell;
+use crate::cells::Cells;
 use crate::offer::Offer;
 use crate::register::{Found, look};
 use sn_base::fold::Fold;
@@ -22,8 +21,8 @@ pub struct Chain<F: Fold> {
     fold: F,
     depth: u32,
     slots: u32,
-    round: u64,
-    cells: Vec<Cell>,
+    round: u32,
+    cells: Cells,
 }
 
 impl<F: Fold> Model for Chain<F> {
@@ -34,9 +33,9 @@ impl<F: Fold> Model for Chain<F> {
 
     ghost coded = { chain_code F.code };
 
-    ghost view = { λ a. record { fold = a.fold; depth = a.depth; slots = a.slots; cells = all_shown_by a.round a.cells.items } };
+    ghost view = { λ a. record { fold = a.fold; depth = a.depth; slots = a.slots; cells = all_shown_by a.round a.cells } };
 
-    ghost invariant = { λ a. AreCells (F.takes a.fold) a.depth a.slots a.round a.cells.items };
+    ghost invariant = { λ a. AreCells (F.takes a.fold) a.depth a.slots a.round a.cells };
 }
 
 impl<F: Fold> Chain<F> {
@@ -49,21 +48,15 @@ impl<F: Fold> Chain<F> {
         requires most_slots { slots ≤ 65536 }
         ensures { IfOk result (λ chain. chain ≡ empty_chain fold depth slots) }
     {
-        let empty = Cell {
-            round: 0,
-            key: Row::empty(),
-            value: fold.unit(),
-        };
-        match Vec::from_elem(alloc, empty, depth as usize * slots as usize) {
-            Ok(cells) => Ok(Chain {
-                fold,
-                depth,
-                slots,
-                round: 1,
-                cells,
-            }),
-            Err(_) => Err(Memory),
-        }
+        let value = fold.unit();
+        let cells = Cells::make(alloc, depth as usize * slots as usize, value)?;
+        Ok(Chain {
+            fold,
+            depth,
+            slots,
+            round: 1,
+            cells,
+        })
     }
 
     /// Offers a key with a value. `Held` exactly where the key is held, and its value becomes the fold's
@@ -96,16 +89,12 @@ impl<F: Fold> Chain<F> {
     {
         match look(&self.cells, self.round, self.depth, self.slots, key, known) {
             Found::Held(at) => {
-                let cell = &mut self.cells[at];
-                cell.value = self.fold.step(cell.value, v);
+                let value = self.fold.step(self.cells.value(at), v);
+                self.cells.set_value(at, value);
                 Offer::Held
             }
             Found::Empty(at) => {
-                self.cells[at] = Cell {
-                    round: self.round,
-                    key: *key,
-                    value: v,
-                };
+                self.cells.take(at, self.round, key, v);
                 Offer::New
             }
             Found::Full => Offer::Over,
@@ -119,10 +108,7 @@ impl<F: Fold> Chain<F> {
         ensures had { IfSome result (λ e. F.takes self.now.fold e.1) }
         ensures held { IfSome result (λ e. holder self.now e.0 ≡ Some place) }
     {
-        match self.cells.get(place as usize) {
-            Some(cell) => cell.shown(self.round),
-            None => None,
-        }
+        self.cells.shown(place as usize, self.round)
     }
 
     /// What holds of every chain, however it came to be: each key that it holds stands at one of its own places, at no
@@ -142,25 +128,16 @@ impl<F: Fold> Chain<F> {
     }
 
     /// Empties the chain. This begins a new round, and writes to no cell, so that a chain of any size is
-    /// cleared at the cost of one sum. Only where the number of rounds would pass 64 bits every cell is
+    /// cleared at the cost of one sum. Only where the number of rounds would pass 32 bits every cell is
     /// written once. Takes no memory.
     pub fn clear(&mut self)
         ensures { self.new ≡ empty_chain self.old.fold self.old.depth self.old.slots }
     {
-        if self.round == u64::MAX {
-            forget(&mut self.cells);
+        if self.round == u32::MAX {
+            self.cells.forget();
             self.round = 0;
         }
         self.round += 1;
-    }
-}
-
-/// Puts every cell back to the round before the first.
-fn forget(cells: &mut [Cell])
-    ensures { cells.new ≡ map forgotten cells.old }
-{
-    for cell in cells.iter_mut() {
-        cell.round = 0;
     }
 }
 
@@ -218,6 +195,74 @@ mod tests {
         let at = [slot_of(0, &first, 256), 0, 0, 0];
         assert_eq!(rt; chain.offer_at(&first, 3, &at), Offer::New);
         assert_eq!(rt; chain.get(164), Some((first, 3)));
+        Ok(())
+    }
+
+    fn row(columns: &[u64]) -> Row {
+        Row::new(columns).unwrap_or(Row::empty())
+    }
+
+    /// Whether a chain of two cells keeps two keys apart, the one offered first.
+    fn are_apart(alloc: Global, one: &Row, other: &Row) -> Result<bool, Memory> {
+        let mut chain = Chain::make(alloc, SatSum { v: 16 }, 2, 1)?;
+        let came = chain.offer(one, 1) == Offer::New && chain.offer(other, 2) == Offer::New;
+        let again = chain.offer(one, 4) == Offer::Held && chain.offer(other, 8) == Offer::Held;
+        let shown = chain.get(0) == Some((*one, 5)) && chain.get(1) == Some((*other, 10));
+        Ok(came && again && shown)
+    }
+
+    #[test]
+    fn tells_keys_apart_by_their_last_column(rt: HostRuntime) -> Result<(), Fail> {
+        let three = row(&[7, 7, 1]);
+        assert!(rt; are_apart(rt.alloc(), &three, &row(&[7, 7, 2]))?);
+        assert!(rt; are_apart(rt.alloc(), &row(&[7, 7, 2]), &three)?);
+        let four = row(&[7, 7, 7, 1]);
+        assert!(rt; are_apart(rt.alloc(), &four, &row(&[7, 7, 7, 2]))?);
+        assert!(rt; are_apart(rt.alloc(), &row(&[7, 7, 7, 2]), &four)?);
+        let eight = row(&[7, 7, 7, 7, 7, 7, 7, 1]);
+        assert!(rt; are_apart(rt.alloc(), &eight, &row(&[7, 7, 7, 7, 7, 7, 7, 2]))?);
+        assert!(rt; are_apart(rt.alloc(), &row(&[7, 7, 7, 7, 7, 7, 7, 2]), &eight)?);
+        Ok(())
+    }
+
+    #[test]
+    fn shows_nothing_of_what_was_cleared(rt: HostRuntime) -> Result<(), Fail> {
+        let mut chain = Chain::make(rt.alloc(), SatSum { v: 16 }, 2, 1)?;
+        assert_eq!(rt; chain.offer(&row(&[1, 2, 3, 4, 5, 6, 7, 8]), 1), Offer::New);
+        assert_eq!(rt; chain.offer(&row(&[1, 2, 3, 4, 5]), 1), Offer::New);
+        chain.clear();
+        assert_eq!(rt; chain.get(0), None);
+        assert_eq!(rt; chain.get(1), None);
+        assert_eq!(rt; chain.offer(&row(&[1, 2, 3, 4]), 3), Offer::New);
+        assert_eq!(rt; chain.get(0), Some((row(&[1, 2, 3, 4]), 3)));
+        assert_eq!(rt; chain.get(1), None);
+        Ok(())
+    }
+
+    /// An empty chain of two cells in the last round that 32 bits number.
+    fn in_last_round(alloc: Global) -> Result<Chain<SatSum>, Memory>
+        ensures { IfOk result (λ chain. chain.fold.v ≡ 16) }
+    {
+        let cells = Cells::make(alloc, 2, 0)?;
+        Ok(Chain {
+            fold: SatSum { v: 16 },
+            depth: 2,
+            slots: 1,
+            round: u32::MAX,
+            cells,
+        })
+    }
+
+    #[test]
+    fn clears_in_the_last_round(rt: HostRuntime) -> Result<(), Fail> {
+        let mut chain = in_last_round(rt.alloc())?;
+        assert_eq!(rt; chain.offer(&key(1), 1), Offer::New);
+        assert_eq!(rt; chain.offer(&key(2), 2), Offer::New);
+        chain.clear();
+        assert_eq!(rt; chain.get(0), None);
+        assert_eq!(rt; chain.get(1), None);
+        assert_eq!(rt; chain.offer(&key(2), 3), Offer::New);
+        assert_eq!(rt; chain.get(0), Some((key(2), 3)));
         Ok(())
     }
 }

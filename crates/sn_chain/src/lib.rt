@@ -1,7 +1,7 @@
 //! Chains of registers: keyed folds in a fixed number of cells, as a switch holds them.
 #![tactic(auto)]
 
-mod cell;
+mod cells;
 pub mod chain;
 pub mod law;
 pub mod offer;

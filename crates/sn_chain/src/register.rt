@@ -8,7 +8,7 @@ ghost use Rattle.sn_chain.specs.Chain.{AreSlots, place_for, places_of};
 ghost use Rattle.sn_chain.specs.Found.{found_at, IsWithin};
 ghost use Rattle.sn_chain.specs.Registers.{held_place, empty_place};
 
-use crate::cell::Cell;
+use crate::cells::Cells;
 use sn_base::row::Row;
 use sn_base::slot::slot_of;
 
@@ -41,8 +41,8 @@ fn place(register: u32, key: &Row, slots: u32, known: Option<&[u32; 4]>) -> usiz
 /// Looks for a key in its cells, register by register, by the key's slots where they are known. Else a key
 /// that is held costs one hash for each register up to its own.
 pub(crate) fn look(
-    cells: &[Cell],
-    round: u64,
+    cells: &Cells,
+    round: u32,
     depth: u32,
     slots: u32,
     key: &Row,
@@ -59,11 +59,10 @@ pub(crate) fn look(
     let mut empty = None;
     for register in 0..depth {
         let at = place(register, key, slots, known);
-        let cell = &cells[at];
-        if cell.holds(round, key) {
+        if cells.holds(at, round, key) {
             return Found::Held(at);
         }
-        empty = empty.or(cell.empty_at(round, at));
+        empty = empty.or(cells.empty_at(at, round));
     }
     match empty {
         Some(at) => Found::Empty(at),

@@ -192,7 +192,9 @@ fn keeps_the_ranges_of_numbers(rt: HostRuntime) -> Result<(), Fail> {
             &["live", "s", "q", "t", "c", "--schedule", "4294967296"]
         )?
     );
+    assert!(rt; is_usage(alloc, &["live", "s", "q", "t", "c", "--schedule", ""])?);
     assert!(rt; is_usage(alloc, &["gen", "4294967296"])?);
+    assert!(rt; is_usage(alloc, &["gen", ""])?);
     assert!(rt; is_usage(alloc, &["job", "9999999999"])?);
     assert!(rt; is_usage(alloc, &["job", "-1"])?);
     Ok(())

@@ -4,3 +4,4 @@ mod Running
 mod Behind
 mod Counting
 mod Counted
+mod Noting

@@ -22,10 +22,9 @@ ghost use Rattle.sn_refine.specs.Steps.{windows_of as given_windows};
 ghost use Rattle.sn_switch.specs.Texts.{IsSwitch};
 
 use crate::machine::Machine;
-use crate::note::Note;
+use crate::notes::Notes;
 use crate::picking::pick;
 use sn_base::memory::Memory;
-use sn_base::seq::Seq;
 use sn_core::event::Event;
 use sn_core::supply::Supply;
 use sn_fields::tuple::Tuple;
@@ -43,7 +42,7 @@ fn is_still<M: Machine>(machine: &M) -> bool
 }
 
 /// Does an event that may happen, and notes it.
-fn happen<M: Machine>(machine: &mut M, event: Event, notes: &mut Seq<Note>) -> Result<(), Memory>
+fn happen<M: Machine>(machine: &mut M, event: Event, notes: &mut Notes) -> Result<(), Memory>
     requires lane { IsOneOf (length (M.state machine.old).lanes) event }
     requires may { first_need_that_fails (M.state machine.old) event ≡ None }
     ensures after { OnOk result (M.state machine.new ≡ after_event (M.works machine.old) (M.state machine.old) event) }
@@ -51,19 +50,19 @@ fn happen<M: Machine>(machine: &mut M, event: Event, notes: &mut Seq<Note>) -> R
     ensures works { M.works machine.new ≡ M.works machine.old }
 {
     match machine.step(event) {
-        Ok(()) => notes.push(Note::Happened(event)),
+        Ok(()) => notes.happened(event),
         Err(_) => Err(Memory),
     }
 }
 
 /// Takes the answers that wait, if any do, and notes them.
-fn gather<M: Machine>(machine: &mut M, notes: &mut Seq<Note>) -> Result<(), Memory>
+fn gather<M: Machine>(machine: &mut M, notes: &mut Notes) -> Result<(), Memory>
     ensures notes { OnOk result ((x y : ℕ) (s : State) → Leads (M.works machine.old) M.told x s notes.old y (M.state machine.old) → Leads (M.works machine.old) M.told x s notes.new y (M.state machine.new)) }
     ensures rest { M.state machine.new ≡ without_answers (M.state machine.old) }
     ensures works { M.works machine.new ≡ M.works machine.old }
 {
     match machine.take_answers() {
-        Some(answers) => notes.push(Note::Told(answers)),
+        Some(answers) => notes.told(answers),
         None => Ok(()),
     }
 }
@@ -73,7 +72,7 @@ fn turn<M: Machine>(
     machine: &mut M,
     lanes: u32,
     draws: &mut Draws,
-    notes: &mut Seq<Note>,
+    notes: &mut Notes,
 ) -> Result<(), Memory>
     requires lanes { lanes ≡ length (M.state machine.old).lanes }
     requires stands { IsNet (M.works machine.old) (M.state machine.old) }
@@ -98,7 +97,7 @@ fn settle<M: Machine>(
     machine: &mut M,
     lanes: u32,
     draws: &mut Draws,
-) -> Result<Seq<Note>, Memory>
+) -> Result<Notes, Memory>
     requires lanes { lanes ≡ length (M.state machine.old).lanes }
     requires stands { IsNet (M.works machine.old) (M.state machine.old) }
     requires taken { (M.state machine.old).waiting ≡ None }
@@ -109,7 +108,7 @@ fn settle<M: Machine>(
     ensures lanes { OnOk result (length (M.state machine.new).lanes ≡ lanes) }
     ensures works { M.works machine.new ≡ M.works machine.old }
 {
-    let mut notes = Seq::new(alloc);
+    let mut notes = Notes::new(alloc);
     'events: loop {
         if is_still(machine) {
             return Ok(notes);
@@ -128,7 +127,7 @@ pub fn advance<M: Machine>(
     lanes: u32,
     draws: &mut Draws,
     next: Supply<Tuple>,
-) -> Result<Seq<Note>, Memory>
+) -> Result<Notes, Memory>
     requires lanes { lanes ≡ length (M.state machine.old).lanes }
     requires stands { IsNet (M.works machine.old) (M.state machine.old) }
     requires wants { wants (M.state machine.old) ≡ true }

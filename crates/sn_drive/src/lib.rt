@@ -5,6 +5,7 @@ pub mod driving;
 pub mod is_machine;
 pub mod machine;
 pub mod note;
+pub mod notes;
 mod picking;
 #[cfg(test)]
 mod tests;

@@ -113,7 +113,7 @@ fn go_on(
     }
     let lanes = net.lanes();
     let notes = advance(alloc, net, lanes, draws, next)?;
-    Ok(told(notes))
+    Ok(told(notes.up_to_answers()))
 }
 
 /// The answers among notes.

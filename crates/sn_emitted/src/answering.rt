@@ -15,7 +15,6 @@ use sn_driver::driver::Driver;
 use sn_fields::tuple::Tuple;
 use sn_pcap::packet::Ending;
 use sn_plan_rules::plan::Plan;
-use sn_run::widths::look_at_widths;
 use sn_switch::switch::Switch;
 use sn_types::typed::Typed;
 use std::mem;
@@ -67,7 +66,7 @@ impl Reporter {
         ensures given { OnOk result ((closed : List Window) (number : ℕ) (tuples : List (List ℕ)) → IsAtHand self.old closed number tuples → IsAtHand self.new closed number (tuples ++ tuple.now ∷ [])) }
         ensures plan { plan_of self.new ≡ plan_of self.old }
     {
-        look_at_widths(tuple);
+        tuple.widths();
         give_packet(&mut self.driver, &mut self.sent, tuple)
     }
 

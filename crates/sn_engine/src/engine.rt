@@ -41,9 +41,9 @@ pub struct Engine {
 }
 
 /// Adds an item to a lane.
-fn push_item(lanes: &mut Vec<Intake>, at: usize, lane: Lane, item: Item) -> Result<(), TakeFault>
+fn push_item(lanes: &mut Vec<Intake>, at: usize, lane: Lane, item: &Item) -> Result<(), TakeFault>
     requires { position (is_lane lane) lanes.old.items ≡ Some at }
-    ensures ok { OnOk result (lanes.new.items ≡ with_first (is_lane lane) (with_item item) lanes.old.items) }
+    ensures ok { OnOk result (lanes.new.items ≡ with_first (is_lane lane) (with_item item.now) lanes.old.items) }
     ensures err { OnErr result (lanes.new.items ≡ lanes.old.items) }
     ensures fault { OnErr result (result ≡ Err TakeFault.Memory) }
 {
@@ -86,14 +86,14 @@ impl Engine {
         })
     }
 
-    fn take_row(&mut self, lane: Lane, item: Item) -> Result<(), TakeFault>
-        ensures fault { Refuses result (take_fault self.old.t.queries self.old.lanes.items self.old.closed (Frame.Row lane item)) }
-        ensures taken { OnOk result (self.new.lanes.items ≡ after_frame self.old.lanes.items (Frame.Row lane item)) }
+    fn take_row(&mut self, lane: Lane, item: &Item) -> Result<(), TakeFault>
+        ensures fault { Refuses result (take_fault self.old.t.queries self.old.lanes.items self.old.closed (Frame.Row lane item.now)) }
+        ensures taken { OnOk result (self.new.lanes.items ≡ after_frame self.old.lanes.items (Frame.Row lane item.now)) }
         ensures kept { OnErr result (self.new.lanes.items ≡ self.old.lanes.items) }
         ensures closed { self.new.closed ≡ self.old.closed }
         ensures queries { self.new.t.queries ≡ self.old.t.queries }
     {
-        let at = place_for_item(&self.t, &self.lanes, lane, &item)?;
+        let at = place_for_item(&self.t, &self.lanes, lane, item)?;
         if self.count == u64::MAX {
             return Err(TakeFault::Memory);
         }
@@ -123,7 +123,7 @@ impl Engine {
         ensures queries { self.new.t.queries ≡ self.old.t.queries }
     {
         match frame {
-            Frame::Row(lane, item) => self.take_row(*lane, *item),
+            Frame::Row(lane, item) => self.take_row(*lane, item),
             Frame::End(lane, window) => self.take_end(*lane, *window),
         }
     }

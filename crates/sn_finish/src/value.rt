@@ -1,6 +1,6 @@
 //! Items through operators.
 ghost use Rattle.std.specs.Prelude.{◌≡◌, ◌≤◌, length, map, IfOk};
-ghost use Rattle.sn_items.specs.Value.{is_at, rows_with, taken, value};
+ghost use Rattle.sn_items.specs.Value.{is_at, is_partial, rows_with, taken, value};
 ghost use Rattle.sn_ops.specs.Flow.{Fits};
 ghost use Rattle.sn_finish.specs.Fitting.{PartsFit, ItemsFit};
 ghost use Rattle.sn_types.specs.Values.{op_at};
@@ -16,24 +16,28 @@ use sn_seed::Seed;
 use sn_types::typed_op::TOp;
 use std::alloc::Global;
 
-/// What an operator gives for these rows and for the Partial rows at it.
+/// What an operator gives for these rows and for the Partial rows at it among the items. Only a reduce looks for some.
 fn taken(
     alloc: Global,
     seed: Seed,
     op: &TOp,
     level: u32,
     rows: &[Row],
-    parts: &[Row],
+    items: &[Item],
+    operator: u32,
 ) -> Result<Seq<Row>, Memory>
     requires rows { Fits op.now rows.now }
-    requires parts { PartsFit op.now parts.now }
-    ensures { IfOk result (λ out. out ≡ taken (op_at level op.now) rows.now parts.now) }
+    requires parts { PartsFit op.now (rows_with (is_partial operator) items.now) }
+    ensures { IfOk result (λ out. out ≡ taken (op_at level op.now) rows.now (rows_with (is_partial operator) items.now)) }
 {
     match op {
         TOp::Filter(conds) => filter(alloc, rows, conds.as_slice(), level),
         TOp::Map(cols) => map(alloc, rows, cols.as_slice()),
         TOp::Distinct => distinct_by(alloc, seed, rows),
-        TOp::Reduce(r) => reduce_with(alloc, seed, rows, parts, r),
+        TOp::Reduce(r) => {
+            let parts = partial_rows(alloc, items, operator)?;
+            reduce_with(alloc, seed, rows, parts.as_slice(), r)
+        }
     }
 }
 
@@ -54,8 +58,7 @@ pub(crate) fn value(
     push_rows_at(&mut rows, items, 0)?;
     let mut operator = 0;
     for op in ops {
-        let parts = partial_rows(alloc, items, operator)?;
-        rows = taken(alloc, seed, op, level, rows.as_slice(), parts.as_slice())?;
+        rows = taken(alloc, seed, op, level, rows.as_slice(), items, operator)?;
         operator += 1;
         push_rows_at(&mut rows, items, operator)?;
     }

@@ -10,27 +10,17 @@ ghost use Rattle.sn_base.specs.Operators.{apply, grouped, pair_of, parted};
 ghost use Rattle.sn_ops.specs.Flow.{grouping_of, ReduceFits, ArePartsOf};
 ghost use Rattle.sn_types.specs.Values.{op_at};
 
-use indexmap::{IndexMap, IndexSet};
 use sn_base::any_fold::AnyFold;
 use sn_base::fold::Fold;
 use sn_base::memory::Memory;
 use sn_base::row::Row;
 use sn_base::seq::Seq;
 use sn_seed::Seed;
-use sn_types::evaluate::columns_of;
+use sn_table::rows::Rows;
+use sn_table::table::Table;
+use sn_types::evaluate::columns_into;
 use sn_types::typed_op::{TOp, TReduce};
 use std::alloc::Global;
-
-/// Adds a row. Whether it is new.
-pub(crate) fn is_new(seen: &mut IndexSet<Row, Seed>, row: Row) -> Result<bool, Memory>
-    ensures new { IfOk result (λ new. new ≡ not (list_any (same_row row) seen.old.keys)) }
-    ensures keys { OnOk result (seen.new.keys ≡ insert_key same_row seen.old.keys row) }
-{
-    match seen.insert(row) {
-        Ok(new) => Ok(new),
-        Err(_) => Err(Memory),
-    }
-}
 
 /// Each row that occurs once, in the order of first places.
 pub fn distinct(alloc: Global, rows: &[Row]) -> Result<Seq<Row>, Memory>
@@ -43,48 +33,28 @@ pub fn distinct(alloc: Global, rows: &[Row]) -> Result<Seq<Row>, Memory>
 pub fn distinct_by(alloc: Global, seed: Seed, rows: &[Row]) -> Result<Seq<Row>, Memory>
     ensures { IfOk result (λ out. out ≡ apply (op_at 0 TOp.Distinct) rows.now) }
 {
-    let mut seen = IndexSet::with_hasher(alloc, seed);
+    let mut seen = Rows::new(alloc, seed);
     let mut out = Seq::new(alloc);
     for row in rows {
-        if is_new(&mut seen, *row)? {
+        if seen.insert(row)? {
             out.push(*row)?;
         }
     }
     Ok(out)
 }
 
-/// Puts a value to its key's fold. The key is looked up once.
-pub(crate) fn add_to(
-    fold: AnyFold,
-    groups: &mut IndexMap<Row, u64, Seed>,
-    key: Row,
-    value: u64,
-) -> Result<(), Memory>
-    requires so_far { any_has fold (unwrap_or (lookup (same_row key) groups.old.entries) (any_unit fold)) }
-    requires value { any_has fold value }
-    ensures ok { OnOk result (groups.new.entries ≡ insert_entry same_row groups.old.entries key (any_step fold (unwrap_or (lookup (same_row key) groups.old.entries) (any_unit fold)) value)) }
-{
-    let Ok(entry) = groups.entry(key) else {
-        return Err(Memory);
-    };
-    let total = entry.or_insert(fold.unit());
-    *total = fold.step(*total, value);
-    Ok(())
-}
-
 /// A row for each group: its key, then its fold.
-pub(crate) fn rows_of(alloc: Global, groups: &IndexMap<Row, u64, Seed>) -> Result<Seq<Row>, Memory>
+pub(crate) fn rows_of(alloc: Global, groups: &Table) -> Result<Seq<Row>, Memory>
     requires { All (λ g. length g.0 < 8) groups.now.entries }
     ensures { IfOk result (λ out. out ≡ map (λ g. g.0 ++ g.1 ∷ []) groups.now.entries) }
 {
     let mut out = Seq::new(alloc);
+    let mut row = Row::empty();
     for place in 0..groups.len() {
-        let Some((key, total)) = groups.get_index(place) else {
+        let Some(total) = groups.get_into(place, &mut row) else {
             unreachable!();
         };
-        let Some(row) = key.with(*total) else {
-            unreachable!();
-        };
+        row.push(total);
         out.push(row)?;
     }
     Ok(out)
@@ -102,19 +72,15 @@ fn front_of(row: &Row, count: usize) -> Row
 }
 
 /// Each key that occurs in the rows, with the fold of that key's values from the unit.
-fn groups_of(
-    alloc: Global,
-    seed: Seed,
-    rows: &[Row],
-    r: &TReduce,
-) -> Result<IndexMap<Row, u64, Seed>, Memory>
+fn groups_of(alloc: Global, seed: Seed, rows: &[Row], r: &TReduce) -> Result<Table, Memory>
     requires { ReduceFits r.now rows.now }
     ensures { IfOk result (λ groups. groups.entries ≡ folded same_row (any_step r.now.fold) (any_unit r.now.fold) (map (pair_of (grouping_of r.now)) rows.now)) }
 {
-    let mut groups = IndexMap::with_hasher(alloc, seed);
+    let mut groups = Table::new(alloc, seed);
+    let mut key = Row::empty();
     for row in rows {
-        let key = columns_of(row, r.keys.as_slice());
-        add_to(r.fold, &mut groups, key, row.as_slice()[r.value as usize])?;
+        columns_into(row, r.keys.as_slice(), &mut key);
+        groups.add(r.fold, &key, row.as_slice()[r.value as usize])?;
     }
     Ok(groups)
 }
@@ -137,7 +103,7 @@ pub fn reduce_with(
     let mut groups = groups_of(alloc, seed, rows, r)?;
     for part in parts {
         let value = part.as_slice()[count];
-        add_to(r.fold, &mut groups, front_of(part, count), value)?;
+        groups.add(r.fold, &front_of(part, count), value)?;
     }
     rows_of(alloc, &groups)
 }

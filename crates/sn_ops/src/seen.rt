@@ -2,19 +2,17 @@
 ghost use Rattle.std.specs.Prelude.{◌≡◌, ℕ, List, ◌≤◌, ◌<◌, ◌∷◌, [], All, length, not, slice_index, unwrap_or, IfOk, OnOk, Some, None, if◌then◌else◌};
 ghost use Rattle.std.specs.List.{list_any};
 ghost use Rattle.std.specs.Map.{lookup};
-ghost use Rattle.indexmap.specs.IndexMap.{insert_entry};
-ghost use Rattle.indexmap.specs.IndexSet.{insert_key};
 ghost use Rattle.sn_base.specs.AnyFold.{any_has, any_step, any_unit};
 ghost use Rattle.sn_base.specs.Groups.{columns_at, same_row};
 ghost use Rattle.sn_ops.specs.Passing.{CanMeet, flows, gone_as};
 ghost use Rattle.sn_ops.specs.Standing.{Stands, groups_after, rows_after};
 
-use crate::group::{add_to, is_new};
-use indexmap::{IndexMap, IndexSet};
 use sn_base::memory::Memory;
 use sn_base::row::Row;
 use sn_seed::Seed;
-use sn_types::evaluate::{columns_of, mapped, passes};
+use sn_table::rows::Rows;
+use sn_table::table::Table;
+use sn_types::evaluate::{columns_into, map_into, passes};
 use sn_types::packet::PacketRow;
 use sn_types::typed_op::{TOp, TReduce};
 use std::alloc::Global;
@@ -22,8 +20,8 @@ use std::alloc::Global;
 /// What an operator has seen: a distinct its rows, a reduce its groups, and the others nothing.
 #[derive(Drop)]
 pub struct Seen {
-    pub(crate) rows: IndexSet<Row, Seed>,
-    pub(crate) groups: IndexMap<Row, u64, Seed>,
+    pub(crate) rows: Rows,
+    pub(crate) groups: Table,
 }
 
 /// What becomes of a packet row at an operator.
@@ -44,12 +42,13 @@ fn same_if(goes: bool) -> Passage
 }
 
 /// Puts a row's value to its key's fold.
-fn add_row(r: &TReduce, groups: &mut IndexMap<Row, u64, Seed>, row: &Row) -> Result<(), Memory>
+fn add_row(r: &TReduce, groups: &mut Table, row: &Row) -> Result<(), Memory>
     requires { CanMeet (TOp.Reduce r.now) groups.old.entries row.now }
     ensures { OnOk result (groups.new.entries ≡ groups_after (TOp.Reduce r.now) groups.old.entries row.now) }
 {
-    let key = columns_of(row, r.keys.as_slice());
-    add_to(r.fold, groups, key, row.as_slice()[r.value as usize])
+    let mut key = Row::empty();
+    columns_into(row, r.keys.as_slice(), &mut key);
+    groups.add(r.fold, &key, row.as_slice()[r.value as usize])
 }
 
 /// What these operators have seen at first: nothing.
@@ -72,8 +71,8 @@ impl Seen {
         ensures groups { result.groups.entries ≡ [] }
     {
         Seen {
-            rows: IndexSet::with_hasher(alloc, seed),
-            groups: IndexMap::with_hasher(alloc, seed),
+            rows: Rows::new(alloc, seed),
+            groups: Table::new(alloc, seed),
         }
     }
 
@@ -87,10 +86,11 @@ impl Seen {
         match op {
             TOp::Filter(conds) => Ok(passes(conds.as_slice(), level, row)),
             TOp::Map(exprs) => {
-                *row = mapped(row, exprs.as_slice());
+                let before = *row;
+                map_into(&before, exprs.as_slice(), row);
                 Ok(true)
             }
-            TOp::Distinct => is_new(&mut self.rows, *row),
+            TOp::Distinct => self.rows.insert(row),
             TOp::Reduce(r) => {
                 add_row(r, &mut self.groups, row)?;
                 Ok(false)
@@ -115,11 +115,11 @@ impl Seen {
         match op {
             TOp::Filter(conds) => Ok(same_if(passes(conds.as_slice(), level, packet))),
             TOp::Map(exprs) => {
-                *row = mapped(packet, exprs.as_slice());
+                map_into(packet, exprs.as_slice(), row);
                 Ok(Passage::Other)
             }
             TOp::Distinct | TOp::Reduce(_) => {
-                *row = packet.row();
+                packet.put_into(row);
                 if self.pass(op, level, row)? {
                     Ok(Passage::Other)
                 } else {

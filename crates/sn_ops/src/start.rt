@@ -26,7 +26,8 @@ pub(crate) fn start(
     ensures { OnOk result ((rows : List Row) → Stands level ops.now seen.old rows out.old → Stands level ops.now seen.new (rows ++ packet.now ∷ []) out.new) }
 {
     let Some((op, behind)) = ops.split_first() else {
-        return out.push(packet.row());
+        packet.put_into(row);
+        return out.push(*row);
     };
     let Some((first, later)) = seen.split_first_mut() else {
         unreachable!();

@@ -1,3 +1,4 @@
+pub mod Begins
 pub mod Flows
 pub mod Fronts
 pub mod ItemLaw

@@ -121,10 +121,8 @@ impl Pipe {
         if !lets_in(&self.t, self.q, self.coarser, &self.members, tuple) {
             return None;
         }
-        let mut row = self
-            .t
-            .packet_row(self.q, self.b, self.prefix.level(), tuple);
-        self.prefix.take(&mut row)
+        let packet = self.t.packet(self.q, self.b, self.prefix.level(), tuple);
+        self.prefix.take(&packet)
     }
 
     /// The next item that is read out. `None` exactly where none is left. Takes no memory.

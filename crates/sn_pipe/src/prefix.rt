@@ -10,10 +10,12 @@ ghost use Rattle.sn_pipe.specs.Stages.{cleared, item_from, stages_after};
 use crate::making::stages_of;
 use crate::reading::next_item;
 use crate::stage::Stage;
-use crate::stages::{clear, pass};
+use crate::stages::clear;
+use crate::start::start;
 use sn_base::memory::Memory;
 use sn_base::row::Row;
-use sn_report::frame::Item;
+use sn_report::frame::{Item, Tag};
+use sn_types::packet::PacketRow;
 use sn_types::typed_op::TOp;
 use std::alloc::Global;
 use std::marker::Model;
@@ -74,15 +76,22 @@ impl Prefix {
         self.level
     }
 
-    /// Takes a row, before any read-out; `row` changes on the way. The answer is the item that it gives. Takes no memory.
-    pub fn take(&mut self, row: &mut Row) -> Option<Item>
+    /// Takes a packet row, before any read-out. The answer is the item that it gives. Takes no memory.
+    pub fn take(&mut self, packet: &PacketRow<'_>) -> Option<Item>
         requires unread { self.old.place ≡ 0 }
-        requires can { CanPass self.old.level self.old.stages row.old }
-        ensures item { result ≡ item_from self.old.level 0 self.old.stages row.old }
-        ensures after { self.new ≡ record self.old { stages = stages_after self.old.level self.old.stages row.old } }
+        requires can { CanPass self.old.level self.old.stages packet.now }
+        ensures item { result ≡ item_from self.old.level 0 self.old.stages packet.now }
+        ensures after { self.new ≡ record self.old { stages = stages_after self.old.level self.old.stages packet.now } }
         ensures operator { IfSome result (λ item. operator_of item.tag ≤ 12) }
     {
-        pass(&mut self.stages, self.level, 0, row)
+        let mut row = Row::empty();
+        match start(&mut self.stages, self.level, 0, packet, &mut row) {
+            Some(place) => Some(Item {
+                tag: Tag::At(place),
+                row,
+            }),
+            None => None,
+        }
     }
 
     /// The next item that is read out. `None` exactly where none is left. Takes no memory.

@@ -1,6 +1,7 @@
 //! The operators of a pipe, with their registers.
-ghost use Rattle.std.specs.Prelude.{◌≡◌, ℕ, List, Some, None, false, unwrap_or, if◌then◌else◌};
-ghost use Rattle.sn_pipe.specs.Passing.{CanTake, passed_as};
+ghost use Rattle.std.specs.Prelude.{◌≡◌, ◌<◌, ◌≤◌, ℕ, All, List, Some, None, false, length, unwrap_or, if◌then◌else◌};
+ghost use Rattle.sn_base.specs.Groups.{columns_at};
+ghost use Rattle.sn_pipe.specs.Passing.{CanTake, as_other, gone_as, has_overflowed, passed_as};
 ghost use Rattle.sn_pipe.specs.Stages.{after_row, cleared, flows, is_new, is_over, overflows};
 
 use sn_base::any_fold::AnyFold;
@@ -9,7 +10,9 @@ use sn_base::row::Row;
 use sn_base::seq::Seq;
 use sn_chain::chain::Chain;
 use sn_chain::offer::Offer;
-use sn_types::evaluate::{columns_of, mapped, passes};
+use sn_types::columns::Columns;
+use sn_types::evaluate::{columns_into, map_into, passes};
+use sn_types::packet::PacketRow;
 use sn_types::typed_op::{TCond, TExpr, TReduce};
 
 /// An operator, with the registers that it has.
@@ -30,6 +33,19 @@ pub enum Stage {
 pub(crate) enum Passed {
     /// It flows on, as the row that then stands there.
     On,
+    /// It goes no further.
+    Stays,
+    /// Its key overflows.
+    Over,
+}
+
+/// What becomes of a packet row at a stage.
+#[derive(Clone, Copy)]
+pub(crate) enum Passage {
+    /// It flows on as it is.
+    Same,
+    /// Another row flows on.
+    Other,
     /// It goes no further.
     Stays,
     /// Its key overflows.
@@ -61,6 +77,24 @@ fn folded(answer: Offer) -> Passed
     }
 }
 
+fn same_if(goes: bool) -> Passage
+    ensures over { has_overflowed result ≡ false }
+    ensures gone { (packet other : List ℕ) → gone_as result packet other ≡ (if goes then Some packet else None) }
+{
+    if goes { Passage::Same } else { Passage::Stays }
+}
+
+/// What becomes of a packet row of which another row is made, by what became of that row.
+fn as_other(passed: Passed) -> Passage
+    ensures { result ≡ as_other passed }
+{
+    match passed {
+        Passed::On => Passage::Other,
+        Passed::Stays => Passage::Stays,
+        Passed::Over => Passage::Over,
+    }
+}
+
 impl Stage {
     /// Takes a row that comes to it. Where it flows on, `row` is then the row that does; else it stays as it came.
     pub(crate) fn pass(&mut self, level: u32, row: &mut Row) -> Passed
@@ -72,7 +106,8 @@ impl Stage {
         match self {
             Stage::Filter(conds) => on_if(passes(conds.as_slice(), level, row)),
             Stage::Map(exprs) => {
-                *row = mapped(row, exprs.as_slice());
+                let before = *row;
+                map_into(&before, exprs.as_slice(), row);
                 Passed::On
             }
             Stage::Distinct(chain, spilled) => {
@@ -81,8 +116,37 @@ impl Stage {
                 first_only(answer)
             }
             Stage::Reduce(r, chain) => {
-                let key = columns_of(row, r.keys.as_slice());
+                let mut key = Row::empty();
+                columns_into(row, r.keys.as_slice(), &mut key);
                 folded(chain.offer(&key, row.as_slice()[r.value as usize]))
+            }
+        }
+    }
+
+    /// Takes a packet row that comes to it, as `pass` takes a row. Where another row flows on, that is `row` then. Only a
+    /// distinct makes a row of the packet, since its registers hold whole rows.
+    pub(crate) fn begin(&mut self, level: u32, packet: &PacketRow<'_>, row: &mut Row) -> Passage
+        requires { CanTake self.old packet.now }
+        ensures over { has_overflowed result ≡ overflows self.old packet.now }
+        ensures gone { gone_as result packet.now row.new ≡ flows level self.old packet.now }
+        ensures after { self.new ≡ after_row self.old packet.now }
+    {
+        match self {
+            Stage::Filter(conds) => same_if(passes(conds.as_slice(), level, packet)),
+            Stage::Map(exprs) => {
+                map_into(packet, exprs.as_slice(), row);
+                Passage::Other
+            }
+            Stage::Distinct(chain, spilled) => {
+                packet.put_into(row);
+                let answer = chain.offer(row, 0);
+                *spilled = *spilled || answer == Offer::Over;
+                as_other(first_only(answer))
+            }
+            Stage::Reduce(r, chain) => {
+                let mut key = Row::empty();
+                columns_into(packet, r.keys.as_slice(), &mut key);
+                as_other(folded(chain.offer(&key, packet.column(r.value))))
             }
         }
     }

@@ -9,5 +9,4 @@ pub mod law;
 pub mod run;
 mod texts;
 pub mod told;
-pub mod widths;
 pub mod windows;

@@ -14,7 +14,6 @@ ghost use Rattle.sn_switch.specs.Texts.{IsSwitch};
 use crate::along::Along;
 use crate::form::Form;
 use crate::told::last_told;
-use crate::widths::look_at_widths;
 use sn_base::memory::Memory;
 use sn_core::supply::Supply;
 use sn_drive::driving::{advance, start};
@@ -72,7 +71,7 @@ impl<M: Machine> Along<M> {
         ensures plan { plan_of self.new ≡ plan_of self.old }
         ensures form { self.new.form ≡ self.old.form }
     {
-        look_at_widths(tuple);
+        tuple.widths();
         let next = Supply::Numbered(number, *tuple);
         advance(
             self.alloc,
@@ -101,7 +100,7 @@ impl<M: Machine> Along<M> {
         ensures plan { plan_of self.new ≡ plan_of self.old }
         ensures form { self.new.form ≡ self.old.form }
     {
-        look_at_widths(tuple);
+        tuple.widths();
         let first = Supply::Numbered(number, *tuple);
         let notes = advance(
             self.alloc,
@@ -110,7 +109,7 @@ impl<M: Machine> Along<M> {
             &mut self.draws,
             first,
         )?;
-        let Some(answers) = last_told(notes) else {
+        let Some(answers) = last_told(notes.up_to_answers()) else {
             unreachable!();
         };
         self.emitted = sum_of(self.emitted, answers.emitted)?;
@@ -136,7 +135,7 @@ impl<M: Machine> Along<M> {
             &mut self.draws,
             end,
         )?;
-        let Some(answers) = last_told(notes) else {
+        let Some(answers) = last_told(notes.up_to_answers()) else {
             unreachable!();
         };
         self.emitted = sum_of(self.emitted, answers.emitted)?;

@@ -21,7 +21,6 @@ use sn_plan_rules::plan::Plan;
 use sn_run::along::Along;
 use sn_run::form::Form;
 use sn_run::told::last_told;
-use sn_run::widths::look_at_widths;
 use sn_run::windows::sum_of;
 use sn_switch::switch::Switch;
 use sn_turns::lines::follow;
@@ -61,7 +60,7 @@ impl<M: Machine> Traced<M> {
         ensures plan { plan_of self.new.along ≡ plan_of self.old.along }
         ensures schedule { self.new.schedule ≡ self.old.schedule }
     {
-        look_at_widths(tuple);
+        tuple.widths();
         let next = Supply::Numbered(number, *tuple);
         let notes = advance(
             self.along.alloc,
@@ -70,7 +69,8 @@ impl<M: Machine> Traced<M> {
             &mut self.along.draws,
             next,
         )?;
-        follow(self.along.alloc, &mut self.lines, notes.as_slice())?;
+        let all = notes.all()?;
+        follow(self.along.alloc, &mut self.lines, all.as_slice())?;
         Ok(())
     }
 
@@ -93,7 +93,7 @@ impl<M: Machine> Traced<M> {
         ensures plan { plan_of self.new.along ≡ plan_of self.old.along }
         ensures schedule { self.new.schedule ≡ self.old.schedule }
     {
-        look_at_widths(tuple);
+        tuple.widths();
         let first = Supply::Numbered(number, *tuple);
         let notes = advance(
             self.along.alloc,
@@ -102,8 +102,9 @@ impl<M: Machine> Traced<M> {
             &mut self.along.draws,
             first,
         )?;
-        let lines = follow(self.along.alloc, &mut self.lines, notes.as_slice())?;
-        let Some(answers) = last_told(notes) else {
+        let all = notes.all()?;
+        let lines = follow(self.along.alloc, &mut self.lines, all.as_slice())?;
+        let Some(answers) = last_told(all) else {
             unreachable!();
         };
         self.along.emitted = sum_of(self.along.emitted, answers.emitted)?;
@@ -131,8 +132,9 @@ impl<M: Machine> Traced<M> {
             &mut self.along.draws,
             end,
         )?;
-        let lines = follow(self.along.alloc, &mut self.lines, notes.as_slice())?;
-        let Some(answers) = last_told(notes) else {
+        let all = notes.all()?;
+        let lines = follow(self.along.alloc, &mut self.lines, all.as_slice())?;
+        let Some(answers) = last_told(all) else {
             unreachable!();
         };
         self.along.emitted = sum_of(self.along.emitted, answers.emitted)?;

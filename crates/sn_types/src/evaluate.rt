@@ -94,17 +94,29 @@ pub fn passes<C: Columns>(conds: &[TCond], level: u32, row: &C) -> bool
     true
 }
 
-/// The row of these values at a row.
-pub fn mapped<C: Columns>(row: &C, cols: &[TExpr]) -> Row
+/// Makes of `out`, whatever it is, the row of these values at a row. It is made in its place: a copy of a row whose columns have
+/// just been written would wait until the memory has them, since it reads several of them at once.
+pub fn map_into<C: Columns>(row: &C, cols: &[TExpr], out: &mut Row)
     requires few { length cols.now ≤ 8 }
     requires reads { All (λ e. ReadsWithin (length (C.columns row.now)) e) cols.now }
-    ensures { result ≡ map (λ e. value_of e (C.columns row.now)) cols.now }
+    ensures { out.new ≡ map (λ e. value_of e (C.columns row.now)) cols.now }
 {
-    let mut out = Row::empty();
+    *out = Row::empty();
     for col in cols {
         out.push(expr(col, row));
     }
-    out
+}
+
+/// Makes of `key`, whatever it is, the columns of a row at these places. It is made in its place, as by `map_into`.
+pub fn columns_into<C: Columns>(row: &C, places: &[u32], key: &mut Row)
+    requires places { All (λ place. place < length (C.columns row.now)) places.now }
+    requires few { length places.now ≤ 8 }
+    ensures { key.new ≡ columns_at places.now (C.columns row.now) }
+{
+    *key = Row::empty();
+    for place in places {
+        key.push(row.column(*place));
+    }
 }
 
 /// The columns of a row at these places.
@@ -113,10 +125,7 @@ pub fn columns_of(row: &Row, places: &[u32]) -> Row
     requires few { length places.now ≤ 8 }
     ensures { result ≡ columns_at places.now row.now }
 {
-    let columns = row.as_slice();
     let mut key = Row::empty();
-    for place in places {
-        key.push(columns[*place as usize]);
-    }
+    columns_into(row, places, &mut key);
     key
 }

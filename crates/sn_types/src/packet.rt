@@ -34,6 +34,19 @@ fn read_at(refined: Option<Field>, level: u32, tuple: &Tuple, field: Field) -> u
     }
 }
 
+/// Makes of `row`, whatever it is, the packet row of a tuple at a level: the numbers of these fields, each of its field's width.
+fn row_into(refined: Option<Field>, level: u32, fields: &[Field], tuple: &Tuple, row: &mut Row)
+    requires few { length fields.now ≤ 8 }
+    requires level { IfSome refined (λ other. level ≤ width_of other) }
+    ensures row { row.new ≡ packet_row refined level fields.now tuple.now }
+    ensures columns { IsOf (map field_column fields.now) row.new }
+{
+    *row = Row::empty();
+    for field in fields {
+        row.push(read_at(refined, level, tuple, *field));
+    }
+}
+
 /// The packet row of a tuple at a level: the numbers of these fields, each of its field's width.
 pub fn row_of(refined: Option<Field>, level: u32, fields: &[Field], tuple: &Tuple) -> Row
     requires few { length fields.now ≤ 8 }
@@ -42,9 +55,7 @@ pub fn row_of(refined: Option<Field>, level: u32, fields: &[Field], tuple: &Tupl
     ensures columns { IsOf (map field_column fields.now) result }
 {
     let mut row = Row::empty();
-    for field in fields {
-        row.push(read_at(refined, level, tuple, *field));
-    }
+    row_into(refined, level, fields, tuple, &mut row);
     row
 }
 
@@ -89,11 +100,11 @@ impl<'a> PacketRow<'a> {
         }
     }
 
-    /// The row.
-    pub fn row(&self) -> Row
-        ensures { result ≡ self.now }
+    /// Makes of `row`, whatever it is, the row.
+    pub fn put_into(&self, row: &mut Row)
+        ensures { row.new ≡ self.now }
     {
-        row_of(self.refined, self.level, self.fields, self.tuple)
+        row_into(self.refined, self.level, self.fields, self.tuple, row)
     }
 }
 

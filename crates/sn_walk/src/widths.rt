@@ -35,3 +35,18 @@ pub fn fold_of(word: FoldWord, width: u32) -> AnyFold
         FoldWord::Or => AnyFold::Or(Or { v }),
     }
 }
+
+#[cfg(test)]
+mod tests {
+    use super::*;
+    use std::test::Fail;
+
+    /// The width of a constant is that of its binary digits, of which 0 has one.
+    #[test]
+    fn counts_binary_digits(rt: HostRuntime) -> Result<(), Fail> {
+        for (number, width) in [(0, 1), (1, 1), (2, 2), (255, 8), (256, 9), (u64::MAX, 64)] {
+            assert_eq!(rt; constant_width(number), width);
+        }
+        Ok(())
+    }
+}

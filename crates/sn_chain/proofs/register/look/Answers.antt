@@ -1,11 +1,11 @@
-use Rattle.std.proofs.Common.{◌≡◌, ◌+◌, ◌-◌, ◌<◌, ℕ, Option, Some, None, length, Bool, true, false, is_none, cond, ap, sym, ◌∙◌, subst, IfSome, arith}
+use Rattle.std.proofs.Common.{◌≡◌, ◌+◌, ◌-◌, ◌<◌, ℕ, Option, Some, None, length, true, false, is_none, cond, ap, sym, ◌∙◌, subst, IfSome, arith}
 use Rattle.std.specs.Option.{option_or}
 use Rattle.sn_base.specs.Groups.{same_row}
-use Rattle.sn_chain.specs.Cells.{shown_by, all_shown_by}
+use Rattle.sn_chain.specs.Cells.{all_shown_by}
 use Rattle.sn_chain.specs.Chain.{place_for, places_from, places_of}
 use Rattle.sn_chain.specs.Found.{found_at}
 use Rattle.sn_chain.specs.Registers.{cell, holds, held_place, empty_place}
-use Rattle.sn_chain.proofs.Places.{place_found, place_passed, first_so_far, or_within, read_cell, register_within}
+use Rattle.sn_chain.proofs.Places.{place_found, place_passed, first_so_far, or_within, register_within}
 use Rattle.sn_chain.proofs.register.look.Goals as goal
 
 pub place-at-requires-clause-known : goal.place-at-requires-clause-known
@@ -19,10 +19,8 @@ returns-then-holds-clause-found c =
     let at = c.place-at.result in
     let register = c.loop-register.register in
     let below : register < c.args.depth = omega arith in
-    let inside : at < length c.args.cells.now = omega (arith, register_within c.args.depth register slots below) in
     let passes : holds same_row key (cell cells (place_for slots key register)) ≡ true =
     ap (λ (p : ℕ). holds same_row key (cell cells p)) (sym c.place-at.ensures.value)
-    ∙ ap (holds same_row key) (read_cell c.args.round c.args.cells.now at c.index-cells-at.result inside c.index-cells-at.is)
     ∙ sym c.holds.ensures ∙ c.if-holds.true in
     let found : held_place same_row cells (places_of c.args.depth slots key) key ≡ Some at =
     sym c.loop-register.invariant.held
@@ -39,14 +37,11 @@ loop-register-preserved c =
     let register = c.loop-register.register in
     let below : register < c.args.depth = omega arith in
     let inside : at < length c.args.cells.now = omega (arith, register_within c.args.depth register slots below) in
-    let shows : cell cells at ≡ shown_by c.args.round c.index-cells-at.result = read_cell c.args.round c.args.cells.now at c.index-cells-at.result inside c.index-cells-at.is in
     let fails : holds same_row key (cell cells (place_for slots key register)) ≡ false =
     ap (λ (p : ℕ). holds same_row key (cell cells p)) (sym c.place-at.ensures.value)
-    ∙ ap (holds same_row key) shows ∙ sym c.holds.ensures ∙ c.if-holds.false in
-    let here : c.empty_at.result ≡ cond (is_none (cell cells at)) (Some at) None =
-    c.empty_at.ensures ∙ ap (λ (b : Bool). cond b (Some at) None) (ap is_none (sym shows)) in
+    ∙ sym c.holds.ensures ∙ c.if-holds.false in
     let grown : c.or-empty.result ≡ option_or c.loop-register.empty (cond (is_none (cell cells at)) (Some at) None) =
-    c.or-empty.ensures ∙ ap (option_or c.loop-register.empty) here in
+    c.or-empty.ensures ∙ ap (option_or c.loop-register.empty) c.empty_at.ensures in
     record {
       held = place_passed (λ (p : ℕ). holds same_row key (cell cells p)) slots register c.args.depth key below fails ∙ c.loop-register.invariant.held;
       empty =

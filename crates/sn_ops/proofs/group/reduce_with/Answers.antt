@@ -13,8 +13,8 @@ loop-part-init c =
     let g : Grouping = grouping_of c.args.r.now in
     c.in_ok-groups.ensures ∙ ap (groups_of g) (sym (append-nil (map (pair_of g) c.args.rows.now)))
 
-pub add_to-requires-clause-so_far : goal.add_to-requires-clause-so_far
-add_to-requires-clause-so_far c =
+pub add-requires-clause-so_far : goal.add-requires-clause-so_far
+add-requires-clause-so_far c =
     let g : Grouping = grouping_of c.args.r.now in
     let parts = take c.loop-part.part-index c.args.parts.now in
     so_far_had g (pairs_to g c.args.rows.now parts) c.loop-part.groups.entries c.front_of.result c.loop-part.invariant
@@ -30,7 +30,7 @@ loop-part-preserved c =
     let within : i < length c.args.parts.now = omega arith in
     let pairs = pairs_to g c.args.rows.now (take i c.args.parts.now) in
     let v : ℕ = slice_index c.as_slice.result.now (length keys) in
-    c.in_ok-add_to.ensures.ok ∙ pair_step g pairs c.loop-part.groups.entries c.front_of.result v c.loop-part.invariant
+    c.in_ok-add.ensures.ok ∙ pair_step g pairs c.loop-part.groups.entries c.front_of.result v c.loop-part.invariant
     ∙ ap (λ (k : Row). groups_of g (pairs ++ one_pair k v)) (c.front_of.ensures ∙ ap (λ (ks : List ℕ). take (length ks) part) c.as_slice-count.ensures)
     ∙ ap (λ (n : ℕ). groups_of g (pairs ++ one_pair (take (length r.keys) part) n))
     (ap (λ (xs : Row). slice_index xs (length keys)) c.as_slice.ensures.value ∙ ap (λ (ks : List ℕ). slice_index part (length ks)) c.as_slice-count.ensures)

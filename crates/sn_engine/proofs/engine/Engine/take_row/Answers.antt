@@ -21,7 +21,7 @@ pub returns-in_err-at-clause-fault : goal.returns-in_err-at-clause-fault
 returns-in_err-at-clause-fault c =
     let s = c.args.self.now in
     let p = err_from_is_err_and c.from_residual.result c.from_residual.ensures.1 in
-    rw (p.1, p.2) (inr (subst (λ (ls : List Intake). take_fault s.t.queries ls s.closed (frames.Row c.args.lane c.args.item) ≡ Some c.in_err-at.field-0.0) c.deref.ensures.value (c.in_err-at.ensures s.closed)))
+    rw (p.1, p.2) (inr (subst (λ (ls : List Intake). take_fault s.t.queries ls s.closed (frames.Row c.args.lane c.args.item.now) ≡ Some c.in_err-at.field-0.0) c.deref.ensures.value (c.in_err-at.ensures s.closed)))
 
 pub push_item-requires : goal.push_item-requires
 push_item-requires c =
@@ -31,25 +31,25 @@ push_item-requires c =
 pub invariant_of-self-2 : goal.invariant_of-self-2
 invariant_of-self-2 c =
     let s = c.args.self.now in
-    let none : take_fault s.t.queries s.lanes.items s.closed (frames.Row c.args.lane c.args.item) ≡ None =
-    subst (λ (ls : List Intake). take_fault s.t.queries ls s.closed (frames.Row c.args.lane c.args.item) ≡ None) c.deref.ensures.value (c.in_ok-at.ensures s.closed).1 in
+    let none : take_fault s.t.queries s.lanes.items s.closed (frames.Row c.args.lane c.args.item.now) ≡ None =
+    subst (λ (ls : List Intake). take_fault s.t.queries ls s.closed (frames.Row c.args.lane c.args.item.now) ≡ None) c.deref.ensures.value (c.in_ok-at.ensures s.closed).1 in
     record {
-      counted = ap (λ (n : ℕ). n + 1) s.counted ∙ sym (item_counted s.t.queries s.lanes.items s.closed c.args.lane c.args.item none) ∙ ap total (sym c.in_ok-push_item.ensures.ok);
-      few = subst (λ (n : ℕ). n < 2 ^ 32) (sym (ap length c.in_ok-push_item.ensures.ok ∙ length_changed (is_lane c.args.lane) (with_item c.args.item) s.lanes.items)) s.few;
-      agreed = subst EndsAgree (sym c.in_ok-push_item.ensures.ok) (item_agrees (is_lane c.args.lane) c.args.item s.lanes.items s.agreed);
-      sound = subst (AreIntakes s.t.queries) (sym c.in_ok-push_item.ensures.ok) (item_sound s.t.queries s.lanes.items s.closed c.args.lane c.args.item none s.sound);
+      counted = ap (λ (n : ℕ). n + 1) s.counted ∙ sym (item_counted s.t.queries s.lanes.items s.closed c.args.lane c.args.item.now none) ∙ ap total (sym c.in_ok-push_item.ensures.ok);
+      few = subst (λ (n : ℕ). n < 2 ^ 32) (sym (ap length c.in_ok-push_item.ensures.ok ∙ length_changed (is_lane c.args.lane) (with_item c.args.item.now) s.lanes.items)) s.few;
+      agreed = subst EndsAgree (sym c.in_ok-push_item.ensures.ok) (item_agrees (is_lane c.args.lane) c.args.item.now s.lanes.items s.agreed);
+      sound = subst (AreIntakes s.t.queries) (sym c.in_ok-push_item.ensures.ok) (item_sound s.t.queries s.lanes.items s.closed c.args.lane c.args.item.now none s.sound);
     }
 
 pub returns-then-self-clause-fault : goal.returns-then-self-clause-fault
 returns-then-self-clause-fault c =
     let s = c.args.self.now in
-    inl (refl, subst (λ (ls : List Intake). take_fault s.t.queries ls s.closed (frames.Row c.args.lane c.args.item) ≡ None) c.deref.ensures.value (c.in_ok-at.ensures s.closed).1)
+    inl (refl, subst (λ (ls : List Intake). take_fault s.t.queries ls s.closed (frames.Row c.args.lane c.args.item.now) ≡ None) c.deref.ensures.value (c.in_ok-at.ensures s.closed).1)
 
 pub returns-in_err-push_item-clause-fault : goal.returns-in_err-push_item-clause-fault
 returns-in_err-push_item-clause-fault c =
     let s = c.args.self.now in
-    let none : take_fault s.t.queries s.lanes.items s.closed (frames.Row c.args.lane c.args.item) ≡ None =
-    subst (λ (ls : List Intake). take_fault s.t.queries ls s.closed (frames.Row c.args.lane c.args.item) ≡ None) c.deref.ensures.value (c.in_ok-at.ensures s.closed).1 in
+    let none : take_fault s.t.queries s.lanes.items s.closed (frames.Row c.args.lane c.args.item.now) ≡ None =
+    subst (λ (ls : List Intake). take_fault s.t.queries ls s.closed (frames.Row c.args.lane c.args.item.now) ≡ None) c.deref.ensures.value (c.in_ok-at.ensures s.closed).1 in
     let is : c.in_err-push_item.field-0.0 ≡ Memory = same_err c.in_err-push_item.field-0.0 Memory c.in_err-push_item.ensures.fault in
     let p = err_from_is_err_and c.from_residual-in_err-push_item.result c.from_residual-in_err-push_item.ensures.1 in
     rw (p.1, p.2) (inl (is, none))
@@ -57,4 +57,4 @@ returns-in_err-push_item-clause-fault c =
 pub returns-clause-fault : goal.returns-clause-fault
 returns-clause-fault c =
     let s = c.args.self.now in
-    subst (λ (ls : List Intake). take_fault s.t.queries ls s.closed (frames.Row c.args.lane c.args.item) ≡ None) c.deref.ensures.value (c.in_ok-at.ensures s.closed).1
+    subst (λ (ls : List Intake). take_fault s.t.queries ls s.closed (frames.Row c.args.lane c.args.item.now) ≡ None) c.deref.ensures.value (c.in_ok-at.ensures s.closed).1

@@ -20,5 +20,5 @@ advance-requires-clause-taken g c = c.requires.2.fed.taken
 pub returns-clause-given : goal.returns-clause-given
 returns-clause-given g c = λ closed tuples h.
     let e = c.in_ok-advance.ensures in
-    given_hand g.M.Machine c.args.self.now closed c.args.number tuples c.args.tuple.now _ c.advance.new.machine c.advance.new.draws h c.look_at_widths.ensures
+    given_hand g.M.Machine c.args.self.now closed c.args.number tuples c.args.tuple.now _ c.advance.new.machine c.advance.new.draws h c.widths.ensures
     (record { works = c.advance.ensures.works; stands = e.stands; lanes = e.lanes; taken = e.taken; moves = e.due }) e.behind

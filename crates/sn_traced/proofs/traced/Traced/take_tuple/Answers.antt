@@ -22,9 +22,9 @@ advance-requires-clause-taken g c = c.requires.2.along.fed.taken
 pub returns-clause-given : goal.returns-clause-given
 returns-clause-given g c = λ closed tuples h.
     let e = c.in_ok-notes.ensures in
-    let came : Came g.M.Machine c.args.self.now closed c.args.number tuples h (Numbered c.args.number c.args.tuple.now) c.advance.new.machine c.advance.new.draws.number c.follow.new.lines.items c.in_ok-follow.field-0.items c.in_ok-notes.notes = record { run = e.run; seen = c.as_slice.result.now; same = c.as_slice.ensures; lines = c.in_ok-follow.ensures } in
+    let came : Came g.M.Machine c.args.self.now closed c.args.number tuples h (Numbered c.args.number c.args.tuple.now) c.advance.new.machine c.advance.new.draws.number c.follow.new.lines.items c.in_ok-follow.field-0.items c.in_ok-notes.notes = record { run = e.run; seen = c.as_slice.result.now; same = c.as_slice.ensures ∙ c.in_ok-all.ensures; lines = c.in_ok-follow.ensures } in
     record {
-      along = given_hand g.M.Machine c.args.self.now.along closed c.args.number tuples c.args.tuple.now _ c.advance.new.machine c.advance.new.draws h.along c.look_at_widths.ensures
+      along = given_hand g.M.Machine c.args.self.now.along closed c.args.number tuples c.args.tuple.now _ c.advance.new.machine c.advance.new.draws h.along c.widths.ensures
           (record { works = c.advance.ensures.works; stands = e.stands; lanes = e.lanes; taken = e.taken; moves = e.due }) e.behind;
       works = c.advance.ensures.works ∙ h.works;
       watched = took g.M.Machine c.args.self.now closed c.args.number tuples h c.args.tuple.now c.advance.new.machine c.advance.new.draws.number c.follow.new.lines.items c.in_ok-follow.field-0.items c.in_ok-notes.notes came;

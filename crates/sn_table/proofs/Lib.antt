@@ -1,0 +1,4 @@
+pub mod Decoded
+pub mod Digits
+pub mod NarrowKeys
+pub mod NarrowRows

@@ -1,0 +1,4 @@
+pub mod HeldEntries
+pub mod HeldKeys
+pub mod Narrow
+pub mod States

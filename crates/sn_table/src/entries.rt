@@ -1,0 +1,159 @@
+//! The entries of a table, as numbers or as rows.
+ghost use Rattle.std.specs.Prelude.{◌≡◌, ◌≤◌, ℕ, length, map, unwrap_or, IfNone, IfOk, OnOk, OnErr, nat_eq, slice_get, true, if◌then◌else◌};
+ghost use Rattle.std.specs.Map.{lookup};
+ghost use Rattle.std.specs.Option.{option_map};
+ghost use Rattle.indexmap.specs.IndexMap.{insert_entry};
+ghost use Rattle.sn_base.specs.AnyFold.{any_has, any_step, any_unit};
+ghost use Rattle.sn_base.specs.Groups.{same_row};
+ghost use Rattle.sn_table.specs.HeldEntries.{IsSound, IsWide, entries_of, row_entry};
+ghost use Rattle.sn_table.specs.Narrow.{AreShort};
+
+use crate::narrow::{columns_into, number_of};
+use crate::number::Number;
+use indexmap::IndexMap;
+use sn_base::any_fold::AnyFold;
+use sn_base::fold::Fold;
+use sn_base::memory::Memory;
+use sn_base::row::Row;
+use sn_seed::Seed;
+
+/// The entries of a table, in the order of first places.
+#[derive(Drop)]
+pub(crate) enum Entries {
+    /// Keys of so many columns, each as a number.
+    Narrow(usize, IndexMap<Number, u64, Seed>),
+    /// Keys as they are.
+    Wide(IndexMap<Row, u64, Seed>),
+}
+
+/// Puts a value to the fold of a key that is a number. The key is looked up once.
+fn add_number(
+    fold: AnyFold,
+    numbers: &mut IndexMap<Number, u64, Seed>,
+    number: u128,
+    value: u64,
+) -> Result<(), Memory>
+    requires so_far { any_has fold (unwrap_or (lookup (nat_eq number) numbers.old.entries) (any_unit fold)) }
+    requires value { any_has fold value }
+    ensures ok { OnOk result (numbers.new.entries ≡ insert_entry nat_eq numbers.old.entries number (any_step fold (unwrap_or (lookup (nat_eq number) numbers.old.entries) (any_unit fold)) value)) }
+    ensures err { OnErr result (numbers.new.entries ≡ numbers.old.entries) }
+{
+    let Ok(entry) = numbers.entry(Number::new(number)) else {
+        return Err(Memory);
+    };
+    let total = entry.or_insert(fold.unit());
+    *total = fold.step(*total, value);
+    Ok(())
+}
+
+/// Puts a value to the fold of a key that is a row. The key is looked up once.
+fn add_row(
+    fold: AnyFold,
+    rows: &mut IndexMap<Row, u64, Seed>,
+    key: &Row,
+    value: u64,
+) -> Result<(), Memory>
+    requires so_far { any_has fold (unwrap_or (lookup (same_row key.now) rows.old.entries) (any_unit fold)) }
+    requires value { any_has fold value }
+    ensures ok { OnOk result (rows.new.entries ≡ insert_entry same_row rows.old.entries key.now (any_step fold (unwrap_or (lookup (same_row key.now) rows.old.entries) (any_unit fold)) value)) }
+    ensures err { OnErr result (rows.new.entries ≡ rows.old.entries) }
+{
+    let Ok(entry) = rows.entry(*key) else {
+        return Err(Memory);
+    };
+    let total = entry.or_insert(fold.unit());
+    *total = fold.step(*total, value);
+    Ok(())
+}
+
+/// Puts a value to its key's fold, where the key can be held as the others are. Whether it can: else nothing changes.
+pub(crate) fn put(held: &mut Entries, fold: AnyFold, key: &Row, value: u64) -> Result<bool, Memory>
+    requires sound { IsSound held.old }
+    requires so_far { any_has fold (unwrap_or (lookup (same_row key.now) (entries_of held.old)) (any_unit fold)) }
+    requires value { any_has fold value }
+    ensures sound { IsSound held.new }
+    ensures ok { IfOk result (λ can. entries_of held.new ≡ (if can then insert_entry same_row (entries_of held.old) key.now (any_step fold (unwrap_or (lookup (same_row key.now) (entries_of held.old)) (any_unit fold)) value) else entries_of held.old)) }
+    ensures wide { IsWide held.old → IfOk result (λ can. can ≡ true) }
+    ensures err { OnErr result (entries_of held.new ≡ entries_of held.old) }
+{
+    match held {
+        Entries::Narrow(columns, numbers) => {
+            if numbers.is_empty() {
+                *columns = key.len();
+            }
+            let Some(number) = number_of(key, *columns) else {
+                return Ok(false);
+            };
+            add_number(fold, numbers, number, value)?;
+        }
+        Entries::Wide(rows) => add_row(fold, rows, key, value)?,
+    }
+    Ok(true)
+}
+
+/// The entries, with their keys as rows.
+fn rows_of(
+    columns: usize,
+    numbers: &IndexMap<Number, u64, Seed>,
+) -> Result<IndexMap<Row, u64, Seed>, Memory>
+    requires { AreShort columns (map (λ e. e.0) numbers.now.entries) }
+    ensures { IfOk result (λ rows. rows.entries ≡ map (row_entry columns) numbers.now.entries) }
+{
+    let mut rows = IndexMap::with_hasher(*numbers.allocator(), *numbers.hasher());
+    let mut key = Row::empty();
+    for place in 0..numbers.len() {
+        let Some((number, value)) = numbers.get_index(place) else {
+            unreachable!();
+        };
+        columns_into(number.get(), columns, &mut key);
+        if let Err(_) = rows.insert(key, *value) {
+            return Err(Memory);
+        }
+    }
+    Ok(rows)
+}
+
+/// Holds keys as rows from now on. The entries stay.
+pub(crate) fn widen(held: &mut Entries) -> Result<(), Memory>
+    requires { IsSound held.old }
+    ensures sound { IsSound held.new }
+    ensures entries { entries_of held.new ≡ entries_of held.old }
+    ensures wide { OnOk result (IsWide held.new) }
+{
+    let rows = match held {
+        Entries::Narrow(columns, numbers) => rows_of(*columns, numbers)?,
+        Entries::Wide(_) => return Ok(()),
+    };
+    *held = Entries::Wide(rows);
+    Ok(())
+}
+
+/// How many there are.
+pub(crate) fn count(held: &Entries) -> usize
+    ensures { result ≡ length (entries_of held.now) }
+{
+    match held {
+        Entries::Narrow(_, numbers) => numbers.len(),
+        Entries::Wide(rows) => rows.len(),
+    }
+}
+
+/// Writes the key at a place to `row`, and gives its value.
+pub(crate) fn read(held: &Entries, place: usize, row: &mut Row) -> Option<u64>
+    requires { IsSound held.now }
+    ensures entry { slice_get (entries_of held.now) place ≡ option_map (λ value. (row.new, value)) result }
+    ensures past { IfNone result (row.new ≡ row.old) }
+{
+    match held {
+        Entries::Narrow(columns, numbers) => {
+            let (number, value) = numbers.get_index(place)?;
+            columns_into(number.get(), *columns, row);
+            Some(*value)
+        }
+        Entries::Wide(rows) => {
+            let (key, value) = rows.get_index(place)?;
+            *row = *key;
+            Some(*value)
+        }
+    }
+}

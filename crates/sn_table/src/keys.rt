@@ -1,0 +1,103 @@
+//! The rows of a set, as numbers or as they are.
+ghost use Rattle.std.specs.Prelude.{◌≡◌, map, not, nat_eq, is_some, IsSome, IfOk, IfSome, OnOk, OnErr, if◌then◌else◌};
+ghost use Rattle.std.specs.List.{list_any};
+ghost use Rattle.indexmap.specs.IndexSet.{insert_key};
+ghost use Rattle.sn_base.specs.Groups.{same_row};
+ghost use Rattle.sn_table.specs.HeldKeys.{IsSound, IsWide, keys_of};
+ghost use Rattle.sn_table.specs.Narrow.{AreShort, columns_of};
+
+use crate::narrow::{columns_into, number_of};
+use crate::number::Number;
+use indexmap::IndexSet;
+use sn_base::memory::Memory;
+use sn_base::row::Row;
+use sn_seed::Seed;
+
+/// The rows of a set, in the order of first places.
+#[derive(Drop)]
+pub(crate) enum Keys {
+    /// Rows of so many columns, each as a number.
+    Narrow(usize, IndexSet<Number, Seed>),
+    /// Rows as they are.
+    Wide(IndexSet<Row, Seed>),
+}
+
+/// Adds a number. Whether it is new.
+fn insert_number(numbers: &mut IndexSet<Number, Seed>, number: u128) -> Result<bool, Memory>
+    ensures new { IfOk result (λ new. new ≡ not (list_any (nat_eq number) numbers.old.keys)) }
+    ensures keys { OnOk result (numbers.new.keys ≡ insert_key nat_eq numbers.old.keys number) }
+    ensures err { OnErr result (numbers.new.keys ≡ numbers.old.keys) }
+{
+    match numbers.insert(Number::new(number)) {
+        Ok(new) => Ok(new),
+        Err(_) => Err(Memory),
+    }
+}
+
+/// Adds a row. Whether it is new.
+fn insert_row(rows: &mut IndexSet<Row, Seed>, row: &Row) -> Result<bool, Memory>
+    ensures new { IfOk result (λ new. new ≡ not (list_any (same_row row.now) rows.old.keys)) }
+    ensures keys { OnOk result (rows.new.keys ≡ insert_key same_row rows.old.keys row.now) }
+    ensures err { OnErr result (rows.new.keys ≡ rows.old.keys) }
+{
+    match rows.insert(*row) {
+        Ok(new) => Ok(new),
+        Err(_) => Err(Memory),
+    }
+}
+
+/// Adds a row, where it can be held as the others are, and says whether it is new. `None` where it can't: then nothing
+/// changes.
+pub(crate) fn put(held: &mut Keys, row: &Row) -> Result<Option<bool>, Memory>
+    requires { IsSound held.old }
+    ensures sound { IsSound held.new }
+    ensures new { IfOk result (λ told. IfSome told (λ new. new ≡ not (list_any (same_row row.now) (keys_of held.old)))) }
+    ensures keys { IfOk result (λ told. keys_of held.new ≡ (if is_some told then insert_key same_row (keys_of held.old) row.now else keys_of held.old)) }
+    ensures wide { IsWide held.old → IfOk result (λ told. IsSome told) }
+    ensures err { OnErr result (keys_of held.new ≡ keys_of held.old) }
+{
+    match held {
+        Keys::Narrow(columns, numbers) => {
+            if numbers.is_empty() {
+                *columns = row.len();
+            }
+            let Some(number) = number_of(row, *columns) else {
+                return Ok(None);
+            };
+            Ok(Some(insert_number(numbers, number)?))
+        }
+        Keys::Wide(rows) => Ok(Some(insert_row(rows, row)?)),
+    }
+}
+
+/// The rows as they are.
+fn rows_of(columns: usize, numbers: &IndexSet<Number, Seed>) -> Result<IndexSet<Row, Seed>, Memory>
+    requires { AreShort columns numbers.now.keys }
+    ensures { IfOk result (λ rows. rows.keys ≡ map (columns_of columns) numbers.now.keys) }
+{
+    let mut rows = IndexSet::with_hasher(*numbers.allocator(), *numbers.hasher());
+    let mut row = Row::empty();
+    for place in 0..numbers.len() {
+        let Some(number) = numbers.get_index(place) else {
+            unreachable!();
+        };
+        columns_into(number.get(), columns, &mut row);
+        insert_row(&mut rows, &row)?;
+    }
+    Ok(rows)
+}
+
+/// Holds rows as they are from now on. The set stays.
+pub(crate) fn widen(held: &mut Keys) -> Result<(), Memory>
+    requires { IsSound held.old }
+    ensures sound { IsSound held.new }
+    ensures keys { keys_of held.new ≡ keys_of held.old }
+    ensures wide { OnOk result (IsWide held.new) }
+{
+    let rows = match held {
+        Keys::Narrow(columns, numbers) => rows_of(*columns, numbers)?,
+        Keys::Wide(_) => return Ok(()),
+    };
+    *held = Keys::Wide(rows);
+    Ok(())
+}

@@ -1,0 +1,91 @@
+//! A set of rows.
+ghost use Rattle.std.specs.Prelude.{◌≡◌, [], not, IfOk, OnOk, OnErr};
+ghost use Rattle.std.specs.List.{list_any};
+ghost use Rattle.indexmap.specs.IndexSet.{insert_key};
+ghost use Rattle.sn_base.specs.Groups.{same_row};
+
+use crate::keys::{Keys, put, widen};
+use indexmap::IndexSet;
+use sn_base::memory::Memory;
+use sn_base::row::Row;
+use sn_seed::Seed;
+use std::alloc::Global;
+use std::marker::Model;
+
+/// A set of rows, in the order of first places. It takes as many as there is memory.
+///
+/// Rows are held as the keys of a `Table` are: as numbers, until one doesn't fit.
+#[derive(Drop)]
+pub struct Rows {
+    held: Keys,
+}
+
+impl Model for Rows {
+    ghost use Rattle.sn_table.specs.States.{RowsState, rows_code};
+    ghost use Rattle.sn_table.specs.HeldKeys.{IsSound, keys_of};
+
+    ghost Value = { RowsState };
+
+    ghost coded = { rows_code };
+
+    ghost view = { λ s. record { keys = keys_of s.held } };
+
+    ghost invariant = { λ s. IsSound s.held };
+}
+
+impl Rows {
+    /// A set of no row. Rows are found by hashes from this seed.
+    pub fn new(alloc: Global, seed: Seed) -> Rows
+        ensures { result.keys ≡ [] }
+    {
+        Rows {
+            held: Keys::Narrow(0, IndexSet::with_hasher(alloc, seed)),
+        }
+    }
+
+    /// Adds a row. Whether it is new. The row is looked up once. An `Err` changes nothing.
+    pub fn insert(&mut self, row: &Row) -> Result<bool, Memory>
+        ensures new { IfOk result (λ new. new ≡ not (list_any (same_row row.now) self.old.keys)) }
+        ensures keys { OnOk result (self.new.keys ≡ insert_key same_row self.old.keys row.now) }
+        ensures err { OnErr result (self.new.keys ≡ self.old.keys) }
+    {
+        if let Some(new) = put(&mut self.held, row)? {
+            return Ok(new);
+        }
+        widen(&mut self.held)?;
+        match put(&mut self.held, row)? {
+            Some(new) => Ok(new),
+            None => unreachable!(),
+        }
+    }
+}
+
+#[cfg(test)]
+mod tests {
+    use super::*;
+    use std::test::Fail;
+
+    fn row(columns: &[u64]) -> Row {
+        Row::new(columns).unwrap_or(Row::empty())
+    }
+
+    #[test]
+    fn knows_rows_before_and_after_it_widens(rt: HostRuntime) -> Result<(), Fail> {
+        let mut rows = Rows::new(rt.alloc(), Seed::new(11));
+        let high = row(&[0xffff_ffff_ffff, 0, 0]);
+        for (row, new) in [
+            (row(&[1, 2, 3]), true),
+            (row(&[1, 2, 4]), true),
+            (row(&[1, 2, 3]), false),
+            (high, true),
+            (row(&[1, 2, 4]), false),
+            (row(&[1, 2]), true),
+            (high, false),
+            (row(&[1, 2]), false),
+        ] {
+            assert_eq!(rt; rows.insert(&row)?, new);
+        }
+        assert!(rt; matches!(&rows.held, Keys::Wide(_)));
+        Ok(())
+    }
+}

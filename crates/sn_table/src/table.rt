@@ -1,0 +1,81 @@
+//! A table of rows.
+ghost use Rattle.std.specs.Prelude.{◌≡◌, [], length, unwrap_or, IfNone, OnOk, OnErr, slice_get};
+ghost use Rattle.std.specs.Map.{lookup};
+ghost use Rattle.std.specs.Option.{option_map};
+ghost use Rattle.indexmap.specs.IndexMap.{insert_entry};
+ghost use Rattle.sn_base.specs.AnyFold.{any_has, any_step, any_unit};
+ghost use Rattle.sn_base.specs.Groups.{same_row};
+
+use crate::entries::{Entries, count, put, read, widen};
+use indexmap::IndexMap;
+use sn_base::any_fold::AnyFold;
+use sn_base::memory::Memory;
+use sn_base::row::Row;
+use sn_seed::Seed;
+use std::alloc::Global;
+use std::marker::Model;
+
+/// A table from rows to numbers, in the order of first places. It takes as many keys as there is memory.
+///
+/// While all keys have one number of columns, and each column fits its share of 128 bits, a key is held as one number:
+/// it is found in a fourth of the memory that a row takes. The first key that doesn't fit turns all into rows.
+#[derive(Drop)]
+pub struct Table {
+    held: Entries,
+}
+
+impl Model for Table {
+    ghost use Rattle.sn_table.specs.States.{TableState, table_code};
+    ghost use Rattle.sn_table.specs.HeldEntries.{IsSound, entries_of};
+
+    ghost Value = { TableState };
+
+    ghost coded = { table_code };
+
+    ghost view = { λ t. record { entries = entries_of t.held } };
+
+    ghost invariant = { λ t. IsSound t.held };
+}
+
+impl Table {
+    /// A table with no key. Keys are found by hashes from this seed.
+    pub fn new(alloc: Global, seed: Seed) -> Table
+        ensures { result.entries ≡ [] }
+    {
+        Table {
+            held: Entries::Narrow(0, IndexMap::with_hasher(alloc, seed)),
+        }
+    }
+
+    /// Puts a value to its key's fold. The key is looked up once. An `Err` changes nothing.
+    pub fn add(&mut self, fold: AnyFold, key: &Row, value: u64) -> Result<(), Memory>
+        requires so_far { any_has fold (unwrap_or (lookup (same_row key.now) self.old.entries) (any_unit fold)) }
+        requires value { any_has fold value }
+        ensures ok { OnOk result (self.new.entries ≡ insert_entry same_row self.old.entries key.now (any_step fold (unwrap_or (lookup (same_row key.now) self.old.entries) (any_unit fold)) value)) }
+        ensures err { OnErr result (self.new.entries ≡ self.old.entries) }
+    {
+        if !put(&mut self.held, fold, key, value)? {
+            widen(&mut self.held)?;
+            put(&mut self.held, fold, key, value)?;
+        }
+        Ok(())
+    }
+
+    /// How many keys there are.
+    pub fn len(&self) -> usize
+        ensures { result ≡ length self.now.entries }
+    {
+        count(&self.held)
+    }
+
+    /// Writes the key at a place to `row`, and gives its value. `None` exactly past the end; `row` stays then.
+    pub fn get_into(&self, place: usize, row: &mut Row) -> Option<u64>
+        ensures entry { slice_get self.now.entries place ≡ option_map (λ value. (row.new, value)) result }
+        ensures past { IfNone result (row.new ≡ row.old) }
+    {
+        read(&self.held, place, row)
+    }
+}
+
+#[cfg(test)]
+mod tests;

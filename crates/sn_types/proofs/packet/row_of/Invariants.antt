@@ -1,8 +1,0 @@
-use Rattle.std.proofs.Common.{◌≡◌, take, map}
-use Rattle.sn_base.specs.Columns.{IsOf}
-use Rattle.sn_walk.specs.Columns.{field_column}
-use Rattle.sn_types.specs.Typed.{read_at}
-use Rattle.sn_types.proofs.packet.row_of.Given as goal
-
-abbrev pub invariant-loop-field : goal.invariant-loop-field
-invariant-loop-field l = record { row : l.row ≡ map (read_at l.refined l.level l.tuple) (take l.field-index l.fields); columns : IsOf (map field_column (take l.field-index l.fields)) l.row }
