@@ -1,8 +1,8 @@
 #!/usr/bin/env python3
 """Counts the instructions that `sonata plain` and the C program take for each packet, by callgrind of valgrind.
 
-Other programs on the machine don't disturb this count. With --queries the given query files are counted on sonata alone. Needs valgrind, a C compiler
-and libpcap-dev."""
+Other programs on the machine don't disturb this count. With --queries the given query files are counted on sonata alone, and with --parts it is told where
+the instructions go, by the names of functions; what the compiler took into another function counts there. Needs valgrind, a C compiler and libpcap-dev."""
 
 import argparse
 import os
@@ -15,11 +15,38 @@ import tempfile
 import run
 
 
+# The parts of the work, each with what the names of its functions begin with or hold. The first that fits counts.
+PARTS = [
+    ('reading the capture, and windows', r'^sn_pcap::|^sn_io::|^sn_answered::|^sn_top::|^sn_windows::'),
+    ('fields', r'^sn_fields::'),
+    ('filters and maps', r'^sn_types::|^sn_ops::(plain|packets|seen|start|take)::'),
+    ('distincts', r'^sn_table::(keys|rows)::'),
+    ('reduces', r'^sn_table::(entries|table)::'),
+    ('growth of tables and lists', r'^indexmap::|^std_alloc::|alloc|free|memset'),
+    ('copies of memory', r'memcpy|memmove'),
+    ('joins, and rows behind reduces', r'^sn_ops::'),
+    ('sorting and printing', r'^sn_out::|^sn_print|^core::|^sn_rows::|sort'),
+]
+
+
 def counted(words, folder):
-    """The instructions of one run."""
+    """The instructions of one run. What it tells of functions stands in the file `callgrind` of the folder."""
     told = os.path.join(folder, 'callgrind')
     done = subprocess.run(['valgrind', '--tool=callgrind', '--callgrind-out-file=' + told] + words, stdout=subprocess.DEVNULL, stderr=subprocess.PIPE, text=True)
     return int(re.search(r'refs: *([0-9,]+)', done.stderr).group(1).replace(',', ''))
+
+
+def part_of(function):
+    return next((part for part, pattern in PARTS if re.search(pattern, function)), 'the rest')
+
+
+def parts(folder):
+    """The instructions of each part of the last run."""
+    told = subprocess.run(['callgrind_annotate', '--threshold=100', os.path.join(folder, 'callgrind')], stdout=subprocess.PIPE, text=True, check=True).stdout
+    found = {part: 0 for part, _ in PARTS + [('the rest', '')]}
+    for count, function in re.findall(r'^ *([0-9,]+) \([ 0-9.]+%\)  [^ ]*?:([^/ ][^ ]*)', told, re.MULTILINE):
+        found[part_of(function)] += int(count.replace(',', ''))
+    return found
 
 
 def words_given():
@@ -27,6 +54,7 @@ def words_given():
     words.add_argument('--sonata', default=run.USUAL, help='the program to measure (default: the one that this clone built)')
     words.add_argument('--packets', type=int, default=200000, help='packets of each capture')
     words.add_argument('--number', type=int, default=7, help='the number from which the captures are drawn')
+    words.add_argument('--parts', action='store_true', help='tell where the instructions go')
     words.add_argument('--queries', nargs='+', help='query files to count on sonata alone')
     return words.parse_args()
 
@@ -43,6 +71,8 @@ def main():
             for queries in given.queries or [run.QUERIES]:
                 ours = counted([os.path.abspath(given.sonata), 'plain', queries, capture], folder) / given.packets
                 print('%s, %s: sonata %.0f instructions a packet' % (kind, os.path.basename(queries), ours))
+                for part, count in parts(folder).items() if given.parts else []:
+                    print('  %-36s %5.0f' % (part, count / given.packets))
             if baseline:
                 theirs = counted([baseline, capture], folder) / given.packets
                 print('%s: C %.0f instructions a packet, ratio %.2f' % (kind, theirs, ours / theirs))

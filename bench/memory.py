@@ -1,0 +1,79 @@
+#!/usr/bin/env python3
+"""Measures the memory that one window of `sonata plain` takes: bytes a packet, a key of each operator, and a printed row.
+
+Generates two captures of one window each, of as many packets as sources: with somewhat fewer than tables and lists have room for before they double, and with
+somewhat more. Tells the peak over that of a window of one packet, divided by the packets; of keys and rows what they take beside the packets. Nothing is left
+behind. Needs a C compiler."""
+
+import argparse
+import os
+import struct
+import sys
+import tempfile
+
+import run
+
+PACKETS = 'packets | filter ip.valid == 2;'
+
+# What each query takes beside the packets themselves.
+QUERIES = [
+    ('a key of a distinct, of one or two columns', 'packets | map ip.src as s, ip.dst as d | distinct | filter s == 0;'),
+    ('a key of a distinct, of three columns within 42 bits', 'packets | map ip.src as s, ip.dst as d, ip.len as l | distinct | filter s == 0;'),
+    ('a key of a distinct, of longer columns', 'packets | map eth.src as a, eth.dst as b, ip.src as s | distinct | filter s == 0;'),
+    ('a key of a reduce, of one or two columns', 'packets | map ip.src as s, 1 as n | reduce s: sum(n) width 32 | filter n == 0;'),
+    ('a key of a reduce, of longer columns', 'packets | map eth.src as a, eth.dst as b, ip.src as s, 1 as n | reduce a, b, s: sum(n) width 32 | filter n == 0;'),
+    ('a key of two reduces that are joined', 'packets | map ip.src as s, 1 as n | reduce s: sum(n) width 32; '
+     'packets | map ip.src as s, ip.len as b | reduce s: sum(b) width 32; join s | filter n == 0;'),
+    ('a row that is printed', 'packets | map ip.src as s;'),
+]
+
+
+def capture(packets, folder):
+    """A capture of one window, of TCP packets from as many sources, with long Ethernet addresses."""
+    name = os.path.join(folder, '%d.pcap' % packets)
+    with open(name, 'wb') as file:
+        file.write(struct.pack('<IHHiIII', 0xa1b2c3d4, 2, 4, 0, 0, 65535, 1))
+        for number in range(packets):
+            ethernet = struct.pack('>HIHIH', 0xfe00, number, 0xfe01, number, 0x0800)
+            ip = struct.pack('>BBHHHBBHII', 0x45, 0, 40, 0, 0, 64, 6, 0, 0x0a000000 + number, 0x0b000001)
+            tcp = struct.pack('>HHIIBBHHH', 1, 2, 0, 0, 0x50, 0x10, 0, 0, 0)
+            file.write(struct.pack('<IIII', 1, 0, 54, 54) + ethernet + ip + tcp)
+    return name
+
+
+def peak(program, measurer, text, name, folder):
+    """The peak of one run, in bytes."""
+    queries = os.path.join(folder, 'one.query')
+    with open(queries, 'w') as file:
+        file.write('window 1000000\nquery one {\n  %s\n}\n' % text)
+    done = run.run_once(measurer, [program, 'plain', queries, name], os.path.join(folder, 'out'))
+    if done.status:
+        sys.exit('status %d of: %s' % (done.status, text))
+    return done.peak_bytes
+
+
+def main():
+    words = argparse.ArgumentParser(description=__doc__, formatter_class=argparse.RawDescriptionHelpFormatter)
+    words.add_argument('--sonata', default=run.USUAL, help='the program to measure (default: the one that this clone built)')
+    words.add_argument('--sizes', type=int, nargs=2, default=(900000, 1100000), help='packets of the two captures')
+    given = words.parse_args()
+    with tempfile.TemporaryDirectory(prefix='sonata-bench-') as folder:
+        measurer = run.build('measure', folder)
+        one = capture(1, folder)
+        captures = [capture(packets, folder) for packets in given.sizes]
+
+        def taken(text):
+            """Bytes a packet over a window of one packet, on each capture."""
+            floor, *peaks = (peak(os.path.abspath(given.sonata), measurer, text, name, folder) for name in [one] + captures)
+            return [(most - floor) / packets for most, packets in zip(peaks, given.sizes)]
+
+        bare = taken(PACKETS)
+        print('%-54s %4.0f to %4.0f bytes' % ('a packet', min(bare), max(bare)))
+        for name, text in QUERIES:
+            over = [most - packet for most, packet in zip(taken(text), bare)]
+            print('%-54s %4.0f to %4.0f bytes' % (name, min(over), max(over)))
+    return 0
+
+
+if __name__ == '__main__':
+    sys.exit(main())
