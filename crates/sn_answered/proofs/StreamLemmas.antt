@@ -209,8 +209,8 @@ goes_followed : {A B : Type 0} (files : ByName (List ℕ)) (f : A → Outcome B)
 goes_followed files f second text (Ok a) outcome is rest = (f a, rest a, is)
 goes_followed files f second text (Err refusal) outcome is rest = is
 
-abbrev pub packet_answer : Seen → Result Next ReadError
-packet_answer seen = Ok (next.Packet seen)
+abbrev pub packet_answer : Result Next ReadError
+packet_answer = Ok next.Packet
 
 abbrev pub end_answer : Ending → Result Next ReadError
 end_answer ending = Ok (next.End ending)
@@ -218,18 +218,15 @@ end_answer ending = Ok (next.End ending)
 abbrev pub large_answer : Result Next ReadError
 large_answer = Err errors.TooLarge
 
-never_large : (seen : Seen) → packet_answer seen ≡ large_answer → ⊥
-never_large seen e = cc
+never_large : packet_answer ≡ large_answer → ⊥
+never_large e = cc
 
-never_packet : (l : Last) (seen : Seen) → packet_answer seen ≡ answer_of l → ⊥
-never_packet (last.Ended ending) seen e = cc
-never_packet last.TooLarge seen e = cc
+never_packet : (l : Last) → packet_answer ≡ answer_of l → ⊥
+never_packet (last.Ended ending) e = cc
+never_packet last.TooLarge e = cc
 
-never_end : (ending : Ending) (seen : Seen) → packet_answer seen ≡ end_answer ending → ⊥
-never_end ending seen e = cc
-
-packet_is : (a b : Seen) → packet_answer a ≡ packet_answer b → a ≡ b
-packet_is a b e = cc
+never_end : (ending : Ending) → packet_answer ≡ end_answer ending → ⊥
+never_end ending e = cc
 
 ended_is : (l : Last) (ending : Ending) → end_answer ending ≡ answer_of l → l ≡ last.Ended ending
 ended_is (last.Ended e) ending is = cc
@@ -239,26 +236,24 @@ large_is : (l : Last) → large_answer ≡ answer_of l → l ≡ last.TooLarge
 large_is (last.Ended e) is = absurd cc
 large_is last.TooLarge is = refl
 
-module _ (wording : Wording) (link : Link) (capture : List ℕ) (reader after : ReaderState) (g : Gathering) (told : Option (ByName (List ℕ))) (files : ByName (List ℕ)) (outcome : Outcome (List Window × Ending)) (same : told ≡ Some files) (l : LeftOver wording link capture reader g files outcome) where
-  takes_here : (answer : Result Next ReadError) → answer ≢ Err errors.ReadFault → IfSome (told_file told capture) (λ file. (packets : List Packet) (e : Last) → Left file reader packets e → answer ≢ Err errors.ReadFault → Takes file packets e answer after) → Takes l.file l.packets l.end answer after
+module _ (wording : Wording) (link : Link) (capture : List ℕ) (reader after : ReaderState) (seen : Seen) (g : Gathering) (told : Option (ByName (List ℕ))) (files : ByName (List ℕ)) (outcome : Outcome (List Window × Ending)) (same : told ≡ Some files) (l : LeftOver wording link capture reader g files outcome) where
+  takes_here : (answer : Result Next ReadError) → answer ≢ Err errors.ReadFault → IfSome (told_file told capture) (λ file. (packets : List Packet) (e : Last) → Left file reader packets e → answer ≢ Err errors.ReadFault → Takes file packets e answer seen after) → Takes l.file l.packets l.end answer seen after
   takes_here answer read_on takes =
-      at_told (λ file. (packets : List Packet) (e : Last) → Left file reader packets e → answer ≢ Err errors.ReadFault → Takes file packets e answer after) (told_file told capture) l.file (ap (λ (t : Option (ByName (List ℕ))). told_file t capture) same ∙ l.held) takes l.packets l.end l.left read_on
+      at_told (λ file. (packets : List Packet) (e : Last) → Left file reader packets e → answer ≢ Err errors.ReadFault → Takes file packets e answer seen after) (told_file told capture) l.file (ap (λ (t : Option (ByName (List ℕ))). told_file t capture) same ∙ l.held) takes l.packets l.end l.left read_on
 
   -- a packet is taken, and the others are left
-  pub left_packet : (seen : Seen) → IfSome (told_file told capture) (λ file. (packets : List Packet) (e : Last) → Left file reader packets e → packet_answer seen ≢ Err errors.ReadFault → Takes file packets e (packet_answer seen) after)
+  pub left_packet : IfSome (told_file told capture) (λ file. (packets : List Packet) (e : Last) → Left file reader packets e → packet_answer ≢ Err errors.ReadFault → Takes file packets e packet_answer seen after)
       → Then (Does (taken wording g seen.time (tuple link seen.wire (take seen.len seen.front)))) (λ later. LeftOver wording link capture after later) files outcome
-  left_packet seen takes = of l.packets l.is (takes_here (packet_answer seen) (λ e. absurd cc) takes)
+  left_packet takes = of l.packets l.is (takes_here packet_answer (λ e. absurd cc) takes)
     where
-      of : (packets : List Packet) → outcome ≡ left_of wording (packet_tuple link (within l.file)) g packets l.end → Takes l.file packets l.end (packet_answer seen) after
+      of : (packets : List Packet) → outcome ≡ left_of wording (packet_tuple link (within l.file)) g packets l.end → Takes l.file packets l.end packet_answer seen after
           → Then (Does (taken wording g seen.time (tuple link seen.wire (take seen.len seen.front)))) (λ later. LeftOver wording link capture after later) files outcome
-      of [] is t = absurd (never_packet l.end seen t.0)
+      of [] is t = absurd (never_packet l.end t.0)
       of (p ∷ ps) is t =
-          let told_as : seen ≡ t.seen = packet_is seen t.seen t.answered in
-          let seen_is : IsSeen (within l.file) p seen = subst (λ (s : Seen). IsSeen (within l.file) p s) (sym told_as) t.is_seen in
           let due : Outcome Gathering = taken wording g p.time (packet_tuple link (within l.file) p) in
           let due_is : due ≡ taken wording g seen.time (tuple link seen.wire (take seen.len seen.front)) =
-          sym (ap (λ (time : ℕ). taken wording g time (tuple link seen.wire (take seen.len seen.front))) seen_is.time
-          ∙ ap (taken wording g p.time) (tuple_is link (within l.file) p seen seen_is)) in
+          sym (ap (λ (time : ℕ). taken wording g time (tuple link seen.wire (take seen.len seen.front))) t.is_seen.time
+          ∙ ap (taken wording g p.time) (tuple_is link (within l.file) p seen t.is_seen)) in
           record {
             begun = due;
             begins = due_is;
@@ -267,21 +262,21 @@ module _ (wording : Wording) (link : Link) (capture : List ℕ) (reader after : 
           }
 
   -- the records end
-  pub left_end : (ending : Ending) → IfSome (told_file told capture) (λ file. (packets : List Packet) (e : Last) → Left file reader packets e → end_answer ending ≢ Err errors.ReadFault → Takes file packets e (end_answer ending) after)
+  pub left_end : (ending : Ending) → IfSome (told_file told capture) (λ file. (packets : List Packet) (e : Last) → Left file reader packets e → end_answer ending ≢ Err errors.ReadFault → Takes file packets e (end_answer ending) seen after)
       → Does (closing wording g ending) files outcome
   left_end ending takes = of l.packets l.is (takes_here (end_answer ending) (λ e. absurd cc) takes)
     where
-      of : (packets : List Packet) → outcome ≡ left_of wording (packet_tuple link (within l.file)) g packets l.end → Takes l.file packets l.end (end_answer ending) after → Does (closing wording g ending) files outcome
+      of : (packets : List Packet) → outcome ≡ left_of wording (packet_tuple link (within l.file)) g packets l.end → Takes l.file packets l.end (end_answer ending) seen after → Does (closing wording g ending) files outcome
       of [] is t = is ∙ ap (left_of wording (packet_tuple link (within l.file)) g []) (ended_is l.end ending t.0)
-      of (p ∷ ps) is t = absurd (never_end ending t.seen (sym t.answered))
+      of (p ∷ ps) is t = absurd (never_end ending (sym t.answered))
 
   -- the capture has too many bytes
-  pub left_large : IfSome (told_file told capture) (λ file. (packets : List Packet) (e : Last) → Left file reader packets e → large_answer ≢ Err errors.ReadFault → Takes file packets e large_answer after) → outcome ≡ refused wording g
+  pub left_large : IfSome (told_file told capture) (λ file. (packets : List Packet) (e : Last) → Left file reader packets e → large_answer ≢ Err errors.ReadFault → Takes file packets e large_answer seen after) → outcome ≡ refused wording g
   left_large takes = of l.packets l.is (takes_here large_answer (λ e. absurd cc) takes)
     where
-      of : (packets : List Packet) → outcome ≡ left_of wording (packet_tuple link (within l.file)) g packets l.end → Takes l.file packets l.end large_answer after → outcome ≡ refused wording g
+      of : (packets : List Packet) → outcome ≡ left_of wording (packet_tuple link (within l.file)) g packets l.end → Takes l.file packets l.end large_answer seen after → outcome ≡ refused wording g
       of [] is t = is ∙ ap (left_of wording (packet_tuple link (within l.file)) g []) (large_is l.end t.0)
-      of (p ∷ ps) is t = absurd (never_large t.seen (sym t.answered))
+      of (p ∷ ps) is t = absurd (never_large (sym t.answered))
 
 -- ---- the turn of the loop
 

@@ -50,13 +50,13 @@ abbrev pub read_on : World → Files → World
 read_on before files = record { files = files; out = before.out; places = before.places }
 
 -- one call of the reader
-module _ (wording : Wording) (link : Link) (capture : List ℕ) (reader after : ReaderState) (g : Gathering) (whole : Stage (List Window × Ending)) (first before : World) (files : Files) (told : files.told ≡ before.files.told) (rises : OnlyRises capture before.files.faults files.faults)
+module _ (wording : Wording) (link : Link) (capture : List ℕ) (reader after : ReaderState) (seen : Seen) (g : Gathering) (whole : Stage (List Window × Ending)) (first before : World) (files : Files) (told : files.told ≡ before.files.told) (rises : OnlyRises capture before.files.faults files.faults)
     (leads : Leads (capture ∷ []) (LeftOver wording link capture reader g) whole first before) where
   abbrev TakesHere : Result Next ReadError → Type 0
-  TakesHere answer = IfSome (told_file before.files.told capture) (λ file. (packets : List Packet) (e : Last) → Left file reader packets e → answer ≢ Err errors.ReadFault → Takes file packets e answer after)
+  TakesHere answer = IfSome (told_file before.files.told capture) (λ file. (packets : List Packet) (e : Last) → Left file reader packets e → answer ≢ Err errors.ReadFault → Takes file packets e answer seen after)
 
-  abbrev taking : Seen → Outcome Gathering
-  taking seen = taken wording g seen.time (tuple link seen.wire (take seen.len seen.front))
+  abbrev taking : Outcome Gathering
+  taking = taken wording g seen.time (tuple link seen.wire (take seen.len seen.front))
 
   follows : Follows before (read_on before files)
   follows = read_follows capture before (read_on before files) told rises refl refl
@@ -65,21 +65,21 @@ module _ (wording : Wording) (link : Link) (capture : List ℕ) (reader after : 
   spares = none_other capture before.files.faults files.faults rises
 
   -- a packet is taken, and the capture goes on
-  pub packet_goes : (seen : Seen) (later : Gathering) (now : World) → TakesHere (packet_answer seen) → Runs [] (Does (taking seen)) (read_on before files) (Ok later) now → Leads (capture ∷ []) (LeftOver wording link capture after later) whole first now
-  packet_goes seen later now takes r = turn_goes follows spares refl (λ held same outcome l. left_packet wording link capture reader after g before.files.told held outcome same l seen takes) leads r
+  pub packet_goes : (later : Gathering) (now : World) → TakesHere packet_answer → Runs [] (Does taking) (read_on before files) (Ok later) now → Leads (capture ∷ []) (LeftOver wording link capture after later) whole first now
+  packet_goes later now takes r = turn_goes follows spares refl (λ held same outcome l. left_packet wording link capture reader after seen g before.files.told held outcome same l takes) leads r
 
   -- a packet is taken, and that is refused
-  pub packet_stops : (seen : Seen) (refusal : Refusal) (now : World) → TakesHere (packet_answer seen) → Runs [] (Does (taking seen)) (read_on before files) (Err refusal) now → Runs (capture ∷ []) whole first (Err refusal) now
-  packet_stops seen refusal now takes r = turn_stops follows spares refl (λ held same outcome l. left_packet wording link capture reader after g before.files.told held outcome same l seen takes) leads r
+  pub packet_stops : (refusal : Refusal) (now : World) → TakesHere packet_answer → Runs [] (Does taking) (read_on before files) (Err refusal) now → Runs (capture ∷ []) whole first (Err refusal) now
+  packet_stops refusal now takes r = turn_stops follows spares refl (λ held same outcome l. left_packet wording link capture reader after seen g before.files.told held outcome same l takes) leads r
 
   -- the records end
   pub end_stops : (ending : Ending) (answer : Result (List Window × Ending) Refusal) (now : World) → TakesHere (end_answer ending) → Runs [] (Does (closing wording g ending)) (read_on before files) answer now → Runs (capture ∷ []) whole first answer now
-  end_stops ending answer now takes r = turn_ends follows spares refl (λ held same outcome l. left_end wording link capture reader after g before.files.told held outcome same l ending takes) leads r
+  end_stops ending answer now takes r = turn_ends follows spares refl (λ held same outcome l. left_end wording link capture reader after seen g before.files.told held outcome same l ending takes) leads r
 
   -- the capture has too many bytes
   large_stops : (refusal : Refusal) (now : World) → TakesHere large_answer → Runs [] (Does (refused {A = Gathering} wording g)) (read_on before files) (Err refusal) now → Runs (capture ∷ []) whole first (Err refusal) now
   large_stops refusal now takes r =
-      turn_ends {due = refused wording g} follows spares refl (λ held same outcome l. left_large wording link capture reader after g before.files.told held outcome same l takes) leads (refused_elsewhere r)
+      turn_ends {due = refused wording g} follows spares refl (λ held same outcome l. left_large wording link capture reader after seen g before.files.told held outcome same l takes) leads (refused_elsewhere r)
 
   -- a read failed
   fault_stops : RoseAt capture before.files.faults files.faults → Runs (capture ∷ []) whole first (Err ReadFault) (read_on before files)

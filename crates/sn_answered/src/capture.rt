@@ -200,9 +200,10 @@ fn write_windows<A: Answering, I: Inputs, O: Sink>(
         closed: 0,
         some: false,
     };
+    let mut seen = Seen::empty();
     'records: loop {
-        match reader.next(desk.files, capture) {
-            Ok(Next::Packet(seen)) => {
+        match reader.next(desk.files, capture, &mut seen) {
+            Ok(Next::Packet) => {
                 gathered = take_packet(answering, header.link, gathered, &seen, desk)?;
             }
             Ok(Next::End(ending)) => return close_last(answering, gathered, ending, desk),

@@ -18,7 +18,6 @@ use sn_base::seq::Seq;
 use sn_seed::Seed;
 use sn_table::rows::Rows;
 use sn_table::table::Table;
-use sn_types::evaluate::columns_into;
 use sn_types::typed_op::{TOp, TReduce};
 use std::alloc::Global;
 
@@ -77,10 +76,9 @@ fn groups_of(alloc: Global, seed: Seed, rows: &[Row], r: &TReduce) -> Result<Tab
     ensures { IfOk result (λ groups. groups.entries ≡ folded same_row (any_step r.now.fold) (any_unit r.now.fold) (map (pair_of (grouping_of r.now)) rows.now)) }
 {
     let mut groups = Table::new(alloc, seed);
-    let mut key = Row::empty();
     for row in rows {
-        columns_into(row, r.keys.as_slice(), &mut key);
-        groups.add(r.fold, &key, row.as_slice()[r.value as usize])?;
+        let value = row.as_slice()[r.value as usize];
+        groups.add_at(r.fold, row, r.keys.as_slice(), value)?;
     }
     Ok(groups)
 }

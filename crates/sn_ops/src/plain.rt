@@ -40,12 +40,13 @@ pub fn branch_rows(
     ensures columns { IfOk result (λ rows. AllByRecursion (IsOf (end_columns (branch_at t.now.queries q b))) rows) }
 {
     let ops = t.operators(q, b);
+    let packets = t.packets(q, b, level);
     let mut seen = unseen(alloc, t.seed, ops)?;
     let mut row = Row::empty();
     let mut out = Seq::new(alloc);
     for tuple in tuples {
         if is_kept(t, q, kept, tuple) {
-            let packet = t.packet(q, b, level, tuple);
+            let packet = packets.row(tuple);
             start(ops, &mut seen, level, &packet, &mut row, &mut out)?;
         }
     }

@@ -12,7 +12,7 @@ use sn_base::row::Row;
 use sn_seed::Seed;
 use sn_table::rows::Rows;
 use sn_table::table::Table;
-use sn_types::evaluate::{columns_into, map_into, passes};
+use sn_types::evaluate::{map_into, passes};
 use sn_types::packet::PacketRow;
 use sn_types::typed_op::{TOp, TReduce};
 use std::alloc::Global;
@@ -46,9 +46,8 @@ fn add_row(r: &TReduce, groups: &mut Table, row: &Row) -> Result<(), Memory>
     requires { CanMeet (TOp.Reduce r.now) groups.old.entries row.now }
     ensures { OnOk result (groups.new.entries ≡ groups_after (TOp.Reduce r.now) groups.old.entries row.now) }
 {
-    let mut key = Row::empty();
-    columns_into(row, r.keys.as_slice(), &mut key);
-    groups.add(r.fold, &key, row.as_slice()[r.value as usize])
+    let value = row.as_slice()[r.value as usize];
+    groups.add_at(r.fold, row, r.keys.as_slice(), value)
 }
 
 /// What these operators have seen at first: nothing.

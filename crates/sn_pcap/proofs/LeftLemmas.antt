@@ -10,7 +10,7 @@ use Rattle.sn_pcap.specs.declared.seen.Next.TheVariants as next
 use Rattle.sn_pcap.specs.declared.seen.Last.{Last}
 use Rattle.sn_pcap.specs.declared.seen.Last.TheVariants as last
 use Rattle.sn_pcap.specs.Capture.{Records, HasRecord, packet_at, captured, no_byte, short_header, too_large, short_packet, whole}
-use Rattle.sn_pcap.specs.Reading.{within, last_of, IsSeen, ReaderState, answer_of, TellsPacket, IsStep, Left, records, none, HasLeft, Takes, Run, more, ends, AllSeen, nothing, also}
+use Rattle.sn_pcap.specs.Reading.{within, last_of, ReaderState, answer_of, TellsPacket, IsStep, Left, records, none, HasLeft, Takes, Run, more, ends, AllSeen, nothing, also}
 use Rattle.sn_pcap.proofs.OneCapture.{records_once, records_some}
 
 apart : {X : Type 0} (x : X) → None ≡ Some x → ⊥
@@ -52,46 +52,43 @@ first_whole has (short_packet n a b c) = absurd (omega arith)
 first_whole has (whole n ps e a r) = record { others = ps; is = refl; are = r }
 
 -- the others are left behind a packet
-left_behind : (file : List ℕ) (before now : ReaderState) (answer : Result Next ReadError) (others : List Packet) (ending : Ending) (l : Last) → TellsPacket file before answer now
+left_behind : (file : List ℕ) (before now : ReaderState) (answer : Result Next ReadError) (seen : Seen) (others : List Packet) (ending : Ending) (l : Last) → TellsPacket file before answer seen now
     → Records before.header (within file) (before.offset + 16 + captured before.header (within file) before.offset) others ending → l ≡ last_of file ending → Left file now others l
-left_behind file before now answer others ending l t are is =
+left_behind file before now answer seen others ending l t are is =
     let at : Records before.header (within file) now.offset others ending = subst (λ (n : ℕ). Records before.header (within file) n others ending) (sym t.moved) are in
     records others ending l t.still (subst (λ (h : Header). Records h (within file) now.offset others ending) (sym t.same_header) at) is
 
 -- one call takes the first of what is left
-pub left_taken : (file : List ℕ) (before now : ReaderState) (packets : List Packet) (l : Last) (answer : Result Next ReadError) → Left file before packets l → IsStep file before answer now → Takes file packets l answer now
-left_taken file before now packets l answer (records _ ending _ goes are is) (inl t) =
+pub left_taken : (file : List ℕ) (before now : ReaderState) (packets : List Packet) (l : Last) (answer : Result Next ReadError) (seen : Seen) → Left file before packets l → IsStep file before answer seen now → Takes file packets l answer seen now
+left_taken file before now packets l answer seen (records _ ending _ goes are is) (inl t) =
     let first = first_whole t.whole are in
-    subst (λ (ps : List Packet). Takes file ps l answer now) (sym first.is)
-    (record { seen = t.seen; is_seen = t.is_seen; answered = t.answered; left = left_behind file before now answer first.others ending l t first.are is })
-left_taken file before now packets l answer (records _ ending _ goes are is) (inr (inl t)) =
+    subst (λ (ps : List Packet). Takes file ps l answer seen now) (sym first.is)
+    (record { is_seen = t.is_seen; answered = t.answered; left = left_behind file before now answer seen first.others ending l t first.are is })
+left_taken file before now packets l answer seen (records _ ending _ goes are is) (inr (inl t)) =
     let same = records_once are t.none in
     let ends : l ≡ last_of file t.ending = is ∙ ap (last_of file) same.1 in
-    subst (λ (ps : List Packet). Takes file ps l answer now) (sym same.0)
+    subst (λ (ps : List Packet). Takes file ps l answer seen now) (sym same.0)
     (t.answered ∙ ap answer_of (sym ends), none l (t.noted ∙ ap (λ (x : Last). Some x) (sym ends)))
-left_taken file before now packets l answer (records _ ending _ goes are is) (inr (inr t)) = absurd (apart t.last (sym goes ∙ t.told))
-left_taken file before now packets l answer (none _ told) (inl t) = absurd (apart l (sym t.goes_on ∙ told))
-left_taken file before now packets l answer (none _ told) (inr (inl t)) = absurd (apart l (sym t.goes_on ∙ told))
-left_taken file before now packets l answer (none _ told) (inr (inr t)) =
+left_taken file before now packets l answer seen (records _ ending _ goes are is) (inr (inr t)) = absurd (apart t.last (sym goes ∙ t.told))
+left_taken file before now packets l answer seen (none _ told) (inl t) = absurd (apart l (sym t.goes_on ∙ told))
+left_taken file before now packets l answer seen (none _ told) (inr (inl t)) = absurd (apart l (sym t.goes_on ∙ told))
+left_taken file before now packets l answer seen (none _ told) (inr (inr t)) =
     let same : t.last ≡ l = some_is (sym t.told ∙ told) in
     (t.answered ∙ ap answer_of same, none l (ap (λ (r : ReaderState). r.last) t.kept ∙ told))
 
+abbrev packet_answer : Result Next ReadError
+packet_answer = Ok next.Packet
+
 -- an end is no packet
-never_packet : (l : Last) (seen : Seen) → Ok (next.Packet seen) ≡ answer_of l → ⊥
-never_packet (last.Ended ending) seen e = cc
-never_packet last.TooLarge seen e = cc
+never_packet : (l : Last) → packet_answer ≡ answer_of l → ⊥
+never_packet (last.Ended ending) e = cc
+never_packet last.TooLarge e = cc
 
 answer_one : (a b : Last) → answer_of a ≡ answer_of b → a ≡ b
 answer_one (last.Ended e) (last.Ended f) is = cc
 answer_one (last.Ended e) last.TooLarge is = cc
 answer_one last.TooLarge (last.Ended f) is = cc
 answer_one last.TooLarge last.TooLarge is = refl
-
-abbrev packet_answer : Seen → Result Next ReadError
-packet_answer seen = Ok (next.Packet seen)
-
-packet_is : (a b : Seen) → packet_answer a ≡ packet_answer b → a ≡ b
-packet_is a b e = cc
 
 -- a run of calls gives the records of the file
 pub run_records : {file : List ℕ} {reader : ReaderState} {seens : List Seen} {l : Last} (packets : List Packet) (ending : Ending) → Run file reader seens l → reader.last ≡ None
@@ -100,11 +97,10 @@ run_records {file} {reader} packets ending (more {after = after} {seens = seens}
     let first = first_whole t.whole are in
     let at : Records reader.header (within file) after.offset first.others ending = subst (λ (n : ℕ). Records reader.header (within file) n first.others ending) (sym t.moved) first.are in
     let behind = run_records first.others ending rest t.still (subst (λ (h : Header). Records h (within file) after.offset first.others ending) (sym t.same_header) at) in
-    let this : IsSeen (within file) (packet_at reader.header (within file) reader.offset) seen = subst (λ (s : Seen). IsSeen (within file) (packet_at reader.header (within file) reader.offset) s) (sym (packet_is seen t.seen t.answered)) t.is_seen in
-    (subst (λ (ps : List Packet). AllSeen (within file) ps (seen ∷ seens)) (sym first.is) (also this behind.0), behind.1)
-run_records packets ending (more seen (inr (inl t)) rest) goes are = absurd (never_packet _ seen t.answered)
+    (subst (λ (ps : List Packet). AllSeen (within file) ps (seen ∷ seens)) (sym first.is) (also t.is_seen behind.0), behind.1)
+run_records packets ending (more seen (inr (inl t)) rest) goes are = absurd (never_packet _ t.answered)
 run_records packets ending (more seen (inr (inr t)) rest) goes are = absurd (apart t.last (sym goes ∙ t.told))
-run_records packets ending (ends l (inl t)) goes are = absurd (never_packet l t.seen (sym t.answered))
+run_records packets ending (ends l (inl t)) goes are = absurd (never_packet l (sym t.answered))
 run_records {file} packets ending (ends l (inr (inl t))) goes are =
     let same = records_once are t.none in
     (subst (λ (ps : List Packet). AllSeen (within file) ps []) (sym same.0) nothing, answer_one l (last_of file t.ending) t.answered ∙ ap (last_of file) (sym same.1))

@@ -19,7 +19,7 @@ use Rattle.sn_pcap.specs.declared.seen.Last.TheVariants as last
 use Rattle.sn_pcap.specs.Capture.{number_at, captured, packet_at}
 use Rattle.sn_pcap.specs.Reading.{within, HoldsAt, Follows, HasRead, IsSeen, ReaderState, answer_of, error_of, IsStep, Left, Takes}
 use Rattle.sn_pcap.specs.Stands.{IsShort, IsNextPacket, IsNextEnd}
-use Rattle.sn_pcap.proofs.Holding.{holds_more, holds_rest, length_within}
+use Rattle.sn_pcap.proofs.Holding.{holds_more, holds_rest, held_stand, length_within}
 use Rattle.sn_pcap.proofs.Shorts.{short_large, short_clean, short_cut, end_in_header, end_in_bad, end_in_packet}
 use Rattle.sn_pcap.proofs.Fronts.{read_number, packet_read}
 use Rattle.sn_pcap.proofs.LeftLemmas.{left_taken}
@@ -86,6 +86,12 @@ told_whole (Some file) buffer n need want count enough some most counted =
     let is : count ≡ min want (length file - n) = counted holds in
     omega (arith, length_within file)
 
+-- as many are held as are needed
+pub told_held : (told : Option (List ℕ)) (buffer : List ℕ) (n need : ℕ) → need ≤ length buffer → 0 < need → n + need ≤ 2 ^ 40
+    → IfSome told (λ file. HoldsAt file n buffer → n + need ≤ length (within file))
+told_held None buffer n need enough some most = tt
+told_held (Some file) buffer n need enough some most = λ holds. omega (arith, held_stand file buffer n holds, length_within file)
+
 -- What stands at an offset.
 pub told_in_header : (told : Option (List ℕ)) (header : Header) (buffer : List ℕ) (n : ℕ) (e : Last) → IfSome told (λ file. HoldsAt file n buffer → IsShort file n 16 e) → IfSome told (λ file. HoldsAt file n buffer → IsNextEnd header file n e)
 told_in_header None header buffer n e short = tt
@@ -131,26 +137,26 @@ if_all (Some file) P all = all file
 -- One call of a reader, which is seen as `before`.
 pub told_packet_step : (told : Option (List ℕ)) (seen_as before now : ReaderState) (seen : Seen) → seen_as ≡ before → seen_as.last ≡ None → now.header ≡ seen_as.header → now.offset ≡ seen_as.offset + (16 + seen.cap) → now.last ≡ None
     → IfSome told (λ file. Follows file before) → IfSome told (λ file. HoldsAt file seen_as.offset seen_as.held → IsNextPacket seen_as.header file seen_as.offset seen)
-    → IfSome told (λ file. Ok (next.Packet seen) ≢ Err errors.ReadFault → IsStep file before (Ok (next.Packet seen)) now)
+    → IfSome told (λ file. Ok next.Packet ≢ Err errors.ReadFault → IsStep file before (Ok next.Packet) seen now)
 told_packet_step None seen_as before now seen view goes header offset still follows packet = tt
 told_packet_step (Some file) seen_as before now seen view goes header offset still follows packet =
     λ _.
     let found = packet (subst (λ (r : ReaderState). Follows file r) (sym view) follows) in
     let cap : seen.cap ≡ captured seen_as.header (within file) seen_as.offset = found.is_seen.cap in
-    let step : IsStep file seen_as (Ok (next.Packet seen)) now =
-    inl (record { goes_on = goes; whole = found.whole; seen = seen; is_seen = found.is_seen; answered = refl; same_header = header; moved = omega arith; still = still }) in
-    subst (λ (r : ReaderState). IsStep file r (Ok (next.Packet seen)) now) view step
+    let step : IsStep file seen_as (Ok next.Packet) seen now =
+    inl (record { goes_on = goes; whole = found.whole; is_seen = found.is_seen; answered = refl; same_header = header; moved = omega arith; still = still }) in
+    subst (λ (r : ReaderState). IsStep file r (Ok next.Packet) seen now) view step
 
-pub told_end_step : (told : Option (List ℕ)) (seen_as before now : ReaderState) (l : Last) (answer : Result Next ReadError) → seen_as ≡ before → answer ≡ answer_of l → seen_as.last ≡ None → now.header ≡ seen_as.header → now.offset ≡ seen_as.offset → now.last ≡ Some l
+pub told_end_step : (told : Option (List ℕ)) (seen_as before now : ReaderState) (l : Last) (answer : Result Next ReadError) (seen : Seen) → seen_as ≡ before → answer ≡ answer_of l → seen_as.last ≡ None → now.header ≡ seen_as.header → now.offset ≡ seen_as.offset → now.last ≡ Some l
     → IfSome told (λ file. Follows file before) → IfSome told (λ file. HoldsAt file seen_as.offset seen_as.held → IsNextEnd seen_as.header file seen_as.offset l)
-    → IfSome told (λ file. answer ≢ Err errors.ReadFault → IsStep file before answer now)
-told_end_step None seen_as before now l answer view is goes header offset noted follows end = tt
-told_end_step (Some file) seen_as before now l answer view is goes header offset noted follows end =
+    → IfSome told (λ file. answer ≢ Err errors.ReadFault → IsStep file before answer seen now)
+told_end_step None seen_as before now l answer seen view is goes header offset noted follows end = tt
+told_end_step (Some file) seen_as before now l answer seen view is goes header offset noted follows end =
     λ _.
     let found = end (subst (λ (r : ReaderState). Follows file r) (sym view) follows) in
-    let step : IsStep file seen_as answer now =
+    let step : IsStep file seen_as answer seen now =
     inr (inl (record { goes_on = goes; ending = found.ending; none = found.none; answered = is ∙ ap answer_of found.ends; same_header = header; same_offset = offset; noted = noted ∙ ap (λ (x : Last). Some x) found.ends })) in
-    subst (λ (r : ReaderState). IsStep file r answer now) view step
+    subst (λ (r : ReaderState). IsStep file r answer seen now) view step
 
 -- a name that isn't known has no told file
 told_missing : (files : Option (ByName (List ℕ))) (counts : ByName ℕ) (name : List ℕ) (P : List ℕ → Type 0) → ((held : ByName (List ℕ)) (other : List ℕ) → files ≡ Some held → is_some (get held other) ≡ is_some (get counts other))
@@ -161,17 +167,17 @@ told_missing (Some held) counts name P law unknown =
     elim (get held name) as (λ o. is_some o ≡ is_some {T = ℕ} None → IfSome o P) [ Some file ↦ λ e. absurd (cc) | None ↦ λ e. tt ] same
 
 -- a read that fails is no step
-pub told_fault_step : (files : Option (ByName (List ℕ))) (counts : ByName ℕ) (name : List ℕ) (before now : ReaderState) (fault : InputFault) (answer : Result Next ReadError) → answer ≡ Err (error_of fault)
+pub told_fault_step : (files : Option (ByName (List ℕ))) (counts : ByName ℕ) (name : List ℕ) (before now : ReaderState) (fault : InputFault) (answer : Result Next ReadError) (seen : Seen) → answer ≡ Err (error_of fault)
     → ((held : ByName (List ℕ)) (other : List ℕ) → files ≡ Some held → is_some (get held other) ≡ is_some (get counts other)) → (fault ≡ faults.Missing → get counts name ≡ None)
-    → IfSome (told_file files name) (λ file. answer ≢ Err errors.ReadFault → IsStep file before answer now)
-told_fault_step files counts name before now faults.Failed answer is law missing = if_all (told_file files name) (λ file. answer ≢ Err errors.ReadFault → IsStep file before answer now) (λ file apart. absurd (apart is))
-told_fault_step files counts name before now faults.Missing answer is law missing = told_missing files counts name (λ file. answer ≢ Err errors.ReadFault → IsStep file before answer now) law (missing refl)
+    → IfSome (told_file files name) (λ file. answer ≢ Err errors.ReadFault → IsStep file before answer seen now)
+told_fault_step files counts name before now faults.Failed answer seen is law missing = if_all (told_file files name) (λ file. answer ≢ Err errors.ReadFault → IsStep file before answer seen now) (λ file apart. absurd (apart is))
+told_fault_step files counts name before now faults.Missing answer seen is law missing = told_missing files counts name (λ file. answer ≢ Err errors.ReadFault → IsStep file before answer seen now) law (missing refl)
 
 -- a step takes the first of what is left
-pub told_takes : (told : Option (List ℕ)) (before now : ReaderState) (answer : Result Next ReadError) → IfSome told (λ file. answer ≢ Err errors.ReadFault → IsStep file before answer now)
-    → IfSome told (λ file. (packets : List Packet) (l : Last) → Left file before packets l → answer ≢ Err errors.ReadFault → Takes file packets l answer now)
-told_takes None before now answer step = tt
-told_takes (Some file) before now answer step = λ packets l left read. left_taken file before now packets l answer left (step read)
+pub told_takes : (told : Option (List ℕ)) (before now : ReaderState) (answer : Result Next ReadError) (seen : Seen) → IfSome told (λ file. answer ≢ Err errors.ReadFault → IsStep file before answer seen now)
+    → IfSome told (λ file. (packets : List Packet) (l : Last) → Left file before packets l → answer ≢ Err errors.ReadFault → Takes file packets l answer seen now)
+told_takes None before now answer seen step = tt
+told_takes (Some file) before now answer seen step = λ packets l left read. left_taken file before now packets l answer seen left (step read)
 
 -- the reader goes on following the file
 pub told_follows : (told : Option (List ℕ)) (seen_as before now : ReaderState) (held : List ℕ) (n : ℕ) → seen_as ≡ before → now.offset ≡ seen_as.offset + n → now.held ≡ drop n held

@@ -69,12 +69,11 @@ answer_of (last.Ended ending) = Ok (next.End ending)
 answer_of last.TooLarge = Err errors.TooLarge
 
 -- One call, where no read fails: the record at the reader's offset is told, and the offset is then behind it;
-pub record TellsPacket (file : List ℕ) (before : ReaderState) (answer : Result Next ReadError) (now : ReaderState) : Type 0 where
+pub record TellsPacket (file : List ℕ) (before : ReaderState) (answer : Result Next ReadError) (seen : Seen) (now : ReaderState) : Type 0 where
   pub goes_on : before.last ≡ None
   pub whole : HasRecord before.header (within file) before.offset
-  pub seen : Seen
   pub is_seen : IsSeen (within file) (packet_at before.header (within file) before.offset) seen
-  pub answered : answer ≡ Ok (next.Packet seen)
+  pub answered : answer ≡ Ok next.Packet
   pub same_header : now.header ≡ before.header
   pub moved : now.offset ≡ before.offset + 16 + captured before.header (within file) before.offset
   pub still : now.last ≡ None
@@ -96,8 +95,8 @@ pub record TellsAgain (before : ReaderState) (answer : Result Next ReadError) (n
   pub answered : answer ≡ answer_of last
   pub kept : now ≡ before
 
-abbrev pub IsStep : List ℕ → ReaderState → Result Next ReadError → ReaderState → Type 0
-IsStep file before answer now = TellsPacket file before answer now ⊎ (TellsEnd file before answer now ⊎ TellsAgain before answer now)
+abbrev pub IsStep : List ℕ → ReaderState → Result Next ReadError → Seen → ReaderState → Type 0
+IsStep file before answer seen now = TellsPacket file before answer seen now ⊎ (TellsEnd file before answer now ⊎ TellsAgain before answer now)
 
 -- The records that are left for a reader of a file: their packets, and what it answers behind them.
 pub data Left (file : List ℕ) (reader : ReaderState) : List Packet → Last → Type 0 where
@@ -113,21 +112,14 @@ pub record HasLeft (file : List ℕ) (reader : ReaderState) : Type 0 where
   pub are : Left file reader packets last
 
 -- one call takes the first of what is left: its packet is told and the others are left; or none is left, and the end is told
-pub record TakesPacket (file : List ℕ) (packet : Packet) (packets : List Packet) (last : Last) (answer : Result Next ReadError) (now : ReaderState) : Type 0 where
-  pub seen : Seen
+pub record TakesPacket (file : List ℕ) (packet : Packet) (packets : List Packet) (last : Last) (answer : Result Next ReadError) (seen : Seen) (now : ReaderState) : Type 0 where
   pub is_seen : IsSeen (within file) packet seen
-  pub answered : answer ≡ Ok (next.Packet seen)
+  pub answered : answer ≡ Ok next.Packet
   pub left : Left file now packets last
 
-abbrev pub Takes : List ℕ → List Packet → Last → Result Next ReadError → ReaderState → Type 0
-Takes file [] last answer now = (answer ≡ answer_of last) × Left file now [] last
-Takes file (packet ∷ packets) last answer now = TakesPacket file packet packets last answer now
-
--- what holds of a packet's answer
-abbrev pub OnPacket : Result Next ReadError → (Seen → Type 0) → Type 0
-OnPacket (Ok (next.Packet seen)) P = P seen
-OnPacket (Ok (next.End ending)) P = Unit {0}
-OnPacket (Err error) P = Unit {0}
+abbrev pub Takes : List ℕ → List Packet → Last → Result Next ReadError → Seen → ReaderState → Type 0
+Takes file [] last answer seen now = (answer ≡ answer_of last) × Left file now [] last
+Takes file (packet ∷ packets) last answer seen now = TakesPacket file packet packets last answer seen now
 
 -- over any file: a lawful packet is told, and the offset is behind its record, within the first 2^40 bytes
 pub record MovesOn (before : ReaderState) (seen : Seen) (now : ReaderState) : Type 0 where
@@ -139,8 +131,8 @@ pub record MovesOn (before : ReaderState) (seen : Seen) (now : ReaderState) : Ty
 
 -- the answers of a run of calls up to the first that tells how the records end
 pub data Run (file : List ℕ) : ReaderState → List Seen → Last → Type 0 where
-  more : {reader after : ReaderState} {seens : List Seen} {last : Last} (seen : Seen) → IsStep file reader (Ok (next.Packet seen)) after → Run file after seens last → Run file reader (seen ∷ seens) last
-  ends : {reader after : ReaderState} (last : Last) → IsStep file reader (answer_of last) after → Run file reader [] last
+  more : {reader after : ReaderState} {seens : List Seen} {last : Last} (seen : Seen) → IsStep file reader (Ok next.Packet) seen after → Run file after seens last → Run file reader (seen ∷ seens) last
+  ends : {reader after : ReaderState} {seen : Seen} (last : Last) → IsStep file reader (answer_of last) seen after → Run file reader [] last
 
 -- each of the packets, in order
 pub data AllSeen (file : List ℕ) : List Packet → List Seen → Type 0 where

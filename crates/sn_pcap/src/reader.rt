@@ -7,9 +7,10 @@ ghost use Rattle.sn_pcap.specs.declared.header.Header.{Header};
 ghost use Rattle.sn_pcap.specs.declared.packet.Packet.{Packet};
 ghost use Rattle.sn_pcap.specs.declared.packet.Ending.{Ending};
 ghost use Rattle.sn_pcap.specs.declared.seen.Seen.{Seen};
+ghost use Rattle.sn_pcap.specs.declared.seen.Next.TheVariants as Next;
 ghost use Rattle.sn_pcap.specs.declared.seen.Last.{Last};
 ghost use Rattle.sn_pcap.specs.Capture.{Records, captured, packet_at};
-ghost use Rattle.sn_pcap.specs.Reading.{ReaderState, within, last_of, made, HoldsAt, Follows, HasRead, answer_of, error_of, IsSeen, IsStep, Left, HasLeft, Takes, OnPacket, MovesOn, Run, AllSeen};
+ghost use Rattle.sn_pcap.specs.Reading.{ReaderState, within, last_of, made, HoldsAt, Follows, HasRead, answer_of, error_of, IsSeen, IsStep, Left, HasLeft, Takes, MovesOn, Run, AllSeen};
 ghost use Rattle.sn_pcap.specs.Stands.{IsShort, IsNextPacket, IsNextEnd, IsLawful};
 
 use crate::buffer::{BUFFER_BYTES, Buffer};
@@ -188,6 +189,36 @@ fn short<I: Inputs>(
     ensures unread { get (I.faults files.old) name.now ≡ None → files.new ≡ files.old }
     ensures failed { IsErrOf result InputFault.Failed → RoseAt name.now (I.faults files.old) (I.faults files.new) }
 {
+    if need <= buffer.len() as u64 && need <= MOST_BYTES - offset {
+        return Ok(None);
+    }
+    short_when_read(buffer, files, name, offset, need)
+}
+
+/// The same, for bytes that may not all be held yet: they are read, as far as the file has them.
+fn short_when_read<I: Inputs>(
+    buffer: &mut Buffer,
+    files: &mut I,
+    name: &str,
+    offset: u64,
+    need: u64,
+) -> Result<Option<Last>, InputFault>
+    requires some { 0 < need }
+    requires asked { need ≤ 2 ^ 40 }
+    requires most { offset ≤ 2 ^ 40 }
+    ensures kept { take (length buffer.old) buffer.new ≡ buffer.old }
+    ensures holds { IfSome (told_file (I.told files.old) name.now) (λ file. HoldsAt file offset buffer.old → HoldsAt file offset buffer.new) }
+    ensures ends { IfOk result (λ short. IfSome short (λ last. IfSome (told_file (I.told files.old) name.now) (λ file. HoldsAt file offset buffer.old → IsShort file offset need last))) }
+    ensures whole { IfOk result (λ short. short ≡ None → IfSome (told_file (I.told files.old) name.now) (λ file. HoldsAt file offset buffer.old → offset + need ≤ length (within file))) }
+    ensures held { IfOk result (λ short. short ≡ None → min need 65536 ≤ length buffer.new) }
+    ensures limit { IfOk result (λ short. short ≡ None → offset + need ≤ 2 ^ 40) }
+    ensures unknown { length buffer.old ≡ 0 → get (I.faults files.old) name.now ≡ None → IsErrOf result InputFault.Missing }
+    ensures told { I.told files.new ≡ I.told files.old }
+    ensures faults { OnlyRises name.now (I.faults files.old) (I.faults files.new) }
+    ensures missing { IsErrOf result InputFault.Missing → get (I.faults files.old) name.now ≡ None }
+    ensures unread { get (I.faults files.old) name.now ≡ None → files.new ≡ files.old }
+    ensures failed { IsErrOf result InputFault.Failed → RoseAt name.now (I.faults files.old) (I.faults files.new) }
+{
     let want = need.min(MOST_BYTES + 1 - offset);
     let count = stands(buffer, files, name, offset, want)?;
     if offset + count > MOST_BYTES {
@@ -202,42 +233,42 @@ fn short<I: Inputs>(
     Ok(Some(Last::Ended(Ending::Cut(offset))))
 }
 
-/// The packet of the record at the front of some bytes, of which so many were captured.
-fn seen_at(header: &Header, bytes: &[u8], cap: u32) -> Seen
+/// Writes the packet of the record at the front of some bytes, of which so many were captured, into `seen`.
+fn see(header: &Header, bytes: &[u8], cap: u32, seen: &mut Seen)
     requires cap { cap ≡ captured header.now bytes.now 0 }
     requires stands { 16 + min cap 128 ≤ length bytes.now }
-    ensures packet { IsSeen bytes.now (packet_at header.now bytes.now 0) result }
-    ensures cap { result.cap ≡ cap }
-    ensures len { result.len ≡ min cap 128 }
+    ensures packet { IsSeen bytes.now (packet_at header.now bytes.now 0) seen.new }
+    ensures cap { seen.new.cap ≡ cap }
+    ensures len { seen.new.len ≡ min cap 128 }
 {
     let len = cap.min(FRONT_BYTES as u32);
     let (_, behind) = bytes.split_at(RECORD_BYTES);
     let (first, _) = behind.split_at(len as usize);
-    let mut front = [0; FRONT_BYTES];
-    front[..len as usize].copy_from_slice(first);
-    Seen {
-        time: time_at(header, bytes, 0),
-        wire: u32_at(header.big, bytes, 12),
-        cap,
-        len,
-        front,
-    }
+    seen.front[..len as usize].copy_from_slice(first);
+    seen.time = time_at(header, bytes, 0);
+    seen.wire = u32_at(header.big, bytes, 12);
+    seen.cap = cap;
+    seen.len = len;
 }
 
-/// The packet of the record at the offset, or how the capture ends there. Each byte of the record is read, in order.
+/// Writes the packet of the record at the offset into `seen`, and gives `None`. Where no record is whole there, it says
+/// how the capture ends, and there and where a read fails `seen` stays as it was. Each byte of the record is read, in
+/// order.
 fn look<I: Inputs>(
     header: &Header,
     offset: u64,
     buffer: &mut Buffer,
     files: &mut I,
     name: &str,
-) -> Result<Result<Seen, Last>, InputFault>
+    seen: &mut Seen,
+) -> Result<Option<Last>, InputFault>
     requires { offset ≤ 2 ^ 40 }
     ensures kept { take (length buffer.old) buffer.new ≡ buffer.old }
     ensures holds { IfSome (told_file (I.told files.old) name.now) (λ file. HoldsAt file offset buffer.old → HoldsAt file offset buffer.new) }
-    ensures packet { IfOk result (λ found. IfOk found (λ seen. IfSome (told_file (I.told files.old) name.now) (λ file. HoldsAt file offset buffer.old → IsNextPacket header.now file offset seen))) }
-    ensures last { IfOk result (λ found. IfErr found (λ last. IfSome (told_file (I.told files.old) name.now) (λ file. HoldsAt file offset buffer.old → IsNextEnd header.now file offset last))) }
-    ensures lawful { IfOk result (λ found. IfOk found (λ seen. IsLawful offset seen)) }
+    ensures packet { IfOk result (λ found. found ≡ None → IfSome (told_file (I.told files.old) name.now) (λ file. HoldsAt file offset buffer.old → IsNextPacket header.now file offset seen.new)) }
+    ensures last { IfOk result (λ found. IfSome found (λ last. IfSome (told_file (I.told files.old) name.now) (λ file. HoldsAt file offset buffer.old → IsNextEnd header.now file offset last))) }
+    ensures lawful { IfOk result (λ found. found ≡ None → IsLawful offset seen.new) }
+    ensures unseen { result ≢ Ok None → seen.new ≡ seen.old }
     ensures unknown { length buffer.old ≡ 0 → get (I.faults files.old) name.now ≡ None → IsErrOf result InputFault.Missing }
     ensures told { I.told files.new ≡ I.told files.old }
     ensures faults { OnlyRises name.now (I.faults files.old) (I.faults files.new) }
@@ -246,11 +277,11 @@ fn look<I: Inputs>(
     ensures failed { IsErrOf result InputFault.Failed → RoseAt name.now (I.faults files.old) (I.faults files.new) }
 {
     if let Some(last) = short(buffer, files, name, offset, RECORD_BYTES as u64)? {
-        return Ok(Err(last));
+        return Ok(Some(last));
     }
     let cap = u32_at(header.big, buffer.as_slice(), 8);
     if cap > MOST_CAPTURED {
-        return Ok(Err(Last::Ended(Ending::Bad(offset))));
+        return Ok(Some(Last::Ended(Ending::Bad(offset))));
     }
     if let Some(last) = short(
         buffer,
@@ -259,9 +290,10 @@ fn look<I: Inputs>(
         offset,
         RECORD_BYTES as u64 + u64::from(cap),
     )? {
-        return Ok(Err(last));
+        return Ok(Some(last));
     }
-    Ok(Ok(seen_at(header, buffer.as_slice(), cap)))
+    see(header, buffer.as_slice(), cap, seen);
+    Ok(None)
 }
 
 /// The answer once no further record comes.
@@ -297,24 +329,30 @@ impl Reader {
         })
     }
 
-    /// The next packet of the capture, or how its records end. Only its first 2^40 bytes are read. Where it has more,
-    /// `TooLarge` comes in place of an end, unless a record tells there of too many captured bytes. The file is read
-    /// from front to back, each byte once, so it may be a pipe. Once an end or `TooLarge` came, each later call
-    /// answers the same. `Missing` comes exactly where the name isn't known, `ReadFault` only where its count rose,
-    /// and `Memory` never.
-    pub fn next<I: Inputs>(&mut self, files: &mut I, name: &str) -> Result<Next, ReadError>
+    /// Writes the next packet of the capture into `seen`, or says how its records end. Only its first 2^40 bytes are
+    /// read. Where it has more, `TooLarge` comes in place of an end, unless a record tells there of too many captured
+    /// bytes. The file is read from front to back, each byte once, so it may be a pipe. Once an end or `TooLarge`
+    /// came, each later call answers the same. `Missing` comes exactly where the name isn't known, `ReadFault` only
+    /// where its count rose, and `Memory` never. Where no packet is told, `seen` stays as it was.
+    pub fn next<I: Inputs>(
+        &mut self,
+        files: &mut I,
+        name: &str,
+        seen: &mut Seen,
+    ) -> Result<Next, ReadError>
         requires follows { IfSome (told_file (I.told files.old) name.now) (λ file. Follows file self.old) }
         requires known { HasRead self.old → is_some (get (I.faults files.old) name.now) ≡ true }
 
         // Where contents are told: the exact answer, that it takes the first of the records that are left, and that
         // the reader goes on following the file.
-        ensures step { IfSome (told_file (I.told files.old) name.now) (λ file. result ≢ Err ReadError.ReadFault → IsStep file self.old result self.new) }
+        ensures step { IfSome (told_file (I.told files.old) name.now) (λ file. result ≢ Err ReadError.ReadFault → IsStep file self.old result seen.new self.new) }
         ensures takes { IfSome (told_file (I.told files.old) name.now) (λ file. (packets : List Packet) (last : Last) →
-            Left file self.old packets last → result ≢ Err ReadError.ReadFault → Takes file packets last result self.new) }
+            Left file self.old packets last → result ≢ Err ReadError.ReadFault → Takes file packets last result seen.new self.new) }
         ensures follows { IfSome (told_file (I.told files.new) name.now) (λ file. Follows file self.new) }
 
         // Over any files.
-        ensures packet { OnPacket result (λ seen. MovesOn self.old seen self.new) }
+        ensures packet { result ≡ Ok Next.Packet → MovesOn self.old seen.new self.new }
+        ensures unseen { result ≢ Ok Next.Packet → seen.new ≡ seen.old }
         ensures ends { (last : Last) → result ≡ answer_of last → self.new.last ≡ Some last }
         ensures again { IfSome self.old.last (λ last. result ≡ answer_of last) }
         ensures kept { IfSome self.old.last (λ last. self.new ≡ self.old) }
@@ -332,12 +370,19 @@ impl Reader {
             return answer_of(last);
         }
         let held = self.buffer.len();
-        match look(&self.header, self.offset, &mut self.buffer, files, name) {
-            Ok(Ok(seen)) => {
+        match look(
+            &self.header,
+            self.offset,
+            &mut self.buffer,
+            files,
+            name,
+            seen,
+        ) {
+            Ok(None) => {
                 self.pass(RECORD_BYTES as u64 + u64::from(seen.cap));
-                Ok(Next::Packet(seen))
+                Ok(Next::Packet)
             }
-            Ok(Err(last)) => {
+            Ok(Some(last)) => {
                 self.last = Some(last);
                 answer_of(last)
             }

@@ -22,6 +22,19 @@ pub struct Seen {
 }
 
 impl Seen {
+    /// A packet of no bytes: a place into which the packets of a capture are written.
+    pub fn empty() -> Seen
+        ensures { result.len ≡ 0 }
+    {
+        Seen {
+            time: 0,
+            wire: 0,
+            cap: 0,
+            len: 0,
+            front: [0; FRONT_BYTES],
+        }
+    }
+
     /// The first captured bytes.
     pub fn bytes(&self) -> &[u8]
         requires { self.now.len ≤ 128 }
@@ -35,8 +48,8 @@ impl Seen {
 /// What comes next in a capture.
 #[derive(Clone, Copy, Debug, PartialEq, Eq)]
 pub enum Next {
-    /// A whole record.
-    Packet(Seen),
+    /// A whole record. Its packet is written where the caller wants it.
+    Packet,
     /// No further record is whole.
     End(Ending),
 }

@@ -2,3 +2,5 @@ pub mod Decoded
 pub mod Digits
 pub mod NarrowKeys
 pub mod NarrowRows
+pub mod ShortRows
+pub mod SmallSums

@@ -1,14 +1,14 @@
 //! The entries of a table, as numbers or as rows.
-ghost use Rattle.std.specs.Prelude.{◌≡◌, ◌≤◌, ℕ, length, map, unwrap_or, IfNone, IfOk, OnOk, OnErr, nat_eq, slice_get, true, if◌then◌else◌};
+ghost use Rattle.std.specs.Prelude.{◌≡◌, ◌≤◌, ◌<◌, ℕ, All, length, map, unwrap_or, IfNone, IfOk, OnOk, OnErr, nat_eq, slice_get, true, if◌then◌else◌};
 ghost use Rattle.std.specs.Map.{lookup};
 ghost use Rattle.std.specs.Option.{option_map};
 ghost use Rattle.indexmap.specs.IndexMap.{insert_entry};
 ghost use Rattle.sn_base.specs.AnyFold.{any_has, any_step, any_unit};
-ghost use Rattle.sn_base.specs.Groups.{same_row};
+ghost use Rattle.sn_base.specs.Groups.{columns_at, same_row};
 ghost use Rattle.sn_table.specs.HeldEntries.{IsSound, IsWide, entries_of, row_entry};
 ghost use Rattle.sn_table.specs.Narrow.{AreShort};
 
-use crate::narrow::{columns_into, number_of};
+use crate::narrow::{columns_into, number_at, number_of};
 use crate::number::Number;
 use indexmap::IndexMap;
 use sn_base::any_fold::AnyFold;
@@ -89,6 +89,39 @@ pub(crate) fn put(held: &mut Entries, fold: AnyFold, key: &Row, value: u64) -> R
         Entries::Wide(rows) => add_row(fold, rows, key, value)?,
     }
     Ok(true)
+}
+
+/// Puts a value to the fold of the key that stands at these places of a row, where keys are numbers and that of this key is
+/// built straight from the row. Whether it is: else nothing changes.
+pub(crate) fn put_at(
+    held: &mut Entries,
+    fold: AnyFold,
+    row: &Row,
+    places: &[u32],
+    value: u64,
+) -> Result<bool, Memory>
+    requires sound { IsSound held.old }
+    requires places { All (λ place. place < length row.now) places.now }
+    requires few { length places.now ≤ 8 }
+    requires so_far { any_has fold (unwrap_or (lookup (same_row (columns_at places.now row.now)) (entries_of held.old)) (any_unit fold)) }
+    requires value { any_has fold value }
+    ensures sound { IsSound held.new }
+    ensures ok { let key = columns_at places.now row.now in IfOk result (λ can. entries_of held.new ≡ (if can then insert_entry same_row (entries_of held.old) key (any_step fold (unwrap_or (lookup (same_row key) (entries_of held.old)) (any_unit fold)) value) else entries_of held.old)) }
+    ensures err { OnErr result (entries_of held.new ≡ entries_of held.old) }
+{
+    match held {
+        Entries::Narrow(columns, numbers) => {
+            if numbers.is_empty() {
+                *columns = places.len();
+            }
+            let Some(number) = number_at(row, places, *columns) else {
+                return Ok(false);
+            };
+            add_number(fold, numbers, number, value)?;
+            Ok(true)
+        }
+        Entries::Wide(_) => Ok(false),
+    }
 }
 
 /// The entries, with their keys as rows.

@@ -44,6 +44,7 @@ impl Rows {
     }
 
     /// Adds a row. Whether it is new. The row is looked up once. An `Err` changes nothing.
+    #[inline(always)]
     pub fn insert(&mut self, row: &Row) -> Result<bool, Memory>
         ensures new { IfOk result (λ new. new ≡ not (list_any (same_row row.now) self.old.keys)) }
         ensures keys { OnOk result (self.new.keys ≡ insert_key same_row self.old.keys row.now) }

@@ -1,12 +1,12 @@
 //! A table of rows.
-ghost use Rattle.std.specs.Prelude.{◌≡◌, [], length, unwrap_or, IfNone, OnOk, OnErr, slice_get};
+ghost use Rattle.std.specs.Prelude.{◌≡◌, ◌≤◌, ◌<◌, [], All, length, unwrap_or, IfNone, OnOk, OnErr, slice_get};
 ghost use Rattle.std.specs.Map.{lookup};
 ghost use Rattle.std.specs.Option.{option_map};
 ghost use Rattle.indexmap.specs.IndexMap.{insert_entry};
 ghost use Rattle.sn_base.specs.AnyFold.{any_has, any_step, any_unit};
-ghost use Rattle.sn_base.specs.Groups.{same_row};
+ghost use Rattle.sn_base.specs.Groups.{columns_at, same_row};
 
-use crate::entries::{Entries, count, put, read, widen};
+use crate::entries::{Entries, count, put, put_at, read, widen};
 use indexmap::IndexMap;
 use sn_base::any_fold::AnyFold;
 use sn_base::memory::Memory;
@@ -37,6 +37,20 @@ impl Model for Table {
     ghost invariant = { λ t. IsSound t.held };
 }
 
+/// The key that stands at these places of a row.
+fn key_at(row: &Row, places: &[u32]) -> Row
+    requires places { All (λ place. place < length row.now) places.now }
+    requires few { length places.now ≤ 8 }
+    ensures { result ≡ columns_at places.now row.now }
+{
+    let held = row.as_slice();
+    let mut key = Row::empty();
+    for place in places {
+        key.push(held[*place as usize]);
+    }
+    key
+}
+
 impl Table {
     /// A table with no key. Keys are found by hashes from this seed.
     pub fn new(alloc: Global, seed: Seed) -> Table
@@ -59,6 +73,29 @@ impl Table {
             put(&mut self.held, fold, key, value)?;
         }
         Ok(())
+    }
+
+    /// Puts a value to the fold of the key that stands at these places of a row, as `add` does. No row is made of a key of
+    /// one or two columns that is held as a number.
+    #[inline(always)]
+    pub fn add_at(
+        &mut self,
+        fold: AnyFold,
+        row: &Row,
+        places: &[u32],
+        value: u64,
+    ) -> Result<(), Memory>
+        requires places { All (λ place. place < length row.now) places.now }
+        requires few { length places.now ≤ 8 }
+        requires so_far { any_has fold (unwrap_or (lookup (same_row (columns_at places.now row.now)) self.old.entries) (any_unit fold)) }
+        requires value { any_has fold value }
+        ensures ok { let key = columns_at places.now row.now in OnOk result (self.new.entries ≡ insert_entry same_row self.old.entries key (any_step fold (unwrap_or (lookup (same_row key) self.old.entries) (any_unit fold)) value)) }
+        ensures err { OnErr result (self.new.entries ≡ self.old.entries) }
+    {
+        if put_at(&mut self.held, fold, row, places, value)? {
+            return Ok(());
+        }
+        self.add(fold, &key_at(row, places), value)
     }
 
     /// How many keys there are.

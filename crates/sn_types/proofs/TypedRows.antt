@@ -1,5 +1,5 @@
 -- The schemas of a typed branch are the columns along its operators.
-use Rattle.std.proofs.Common.{◌≡◌, ℕ, ◌<◌, List, [], ◌∷◌, map, length, refl, ap, sym, ◌∙◌, subst}
+use Rattle.std.proofs.Common.{◌≡◌, ℕ, ◌<◌, List, [], ◌∷◌, map, length, Option, refl, ap, sym, ◌∙◌, subst}
 use Rattle.std.proofs.Math.Logic.{∥∥₁_elim}
 use Rattle.sn_base.specs.Columns.{IsOf}
 use Rattle.sn_base.specs.Groups.{Row}
@@ -11,7 +11,7 @@ use Rattle.sn_walk.specs.Walk.{scope_after, scope_end}
 use Rattle.sn_walk.specs.declared.scope.Scope.{Scope}
 use Rattle.sn_types.specs.declared.typed_query.TypedBranch.{TypedBranch}
 use Rattle.sn_types.specs.declared.typed_query.TypedQuery.{TypedQuery}
-use Rattle.sn_types.specs.Typed.{IsTyped, query_at, branch_at, schema_at, first_columns}
+use Rattle.sn_types.specs.Typed.{IsTyped, query_at, branch_at, schema_at, first_columns, packet_row}
 use Rattle.sn_types.specs.Typing.{typed_ops, schemas_along}
 use Rattle.sn_types.proofs.Facts.{branch_source_of, few_packet_fields}
 use Rattle.sn_types.proofs.RowsAfter.{of_prop}
@@ -38,3 +38,11 @@ of_fields window queries q b fields row t lt within same of =
     let columns = ap (map field_column) (same ∙ ap (λ (x : TypedBranch). x.fields) s.is)
     ∙ sym (packet_whole s.ops (few_packet_fields s.refine s.ops s.no_fault)) ∙ sym (first_along (packet_columns s.ops) s.ops) ∙ ap (λ (x : TypedBranch). first_columns x) (sym s.is) in
     subst (λ (cs : List Column). IsOf cs row) columns of)
+
+-- a packet row is that of equal parts
+pub same_packet_row : (refined refined' : Option Field) (level level' : ℕ) (fields fields' : List Field) (tuple : List ℕ) → refined ≡ refined' → level ≡ level' → fields ≡ fields'
+    → packet_row refined level fields tuple ≡ packet_row refined' level' fields' tuple
+same_packet_row refined refined' level level' fields fields' tuple same_refined same_level same_fields =
+    ap (λ (o : Option Field). packet_row o level fields tuple) same_refined
+    ∙ ap (λ (l : ℕ). packet_row refined' l fields tuple) same_level
+    ∙ ap (λ (fs : List Field). packet_row refined' level' fs tuple) same_fields

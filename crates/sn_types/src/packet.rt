@@ -1,5 +1,6 @@
 //! The packet row of a tuple.
 ghost use Rattle.std.specs.Prelude.{◌≡◌, ◌≤◌, ◌<◌, ◌^◌, length, map, IfSome};
+ghost use Rattle.std.proofs.Props.{props};
 ghost use Rattle.sn_base.specs.Columns.{IsOf};
 ghost use Rattle.sn_fields.specs.Fields.{width_of};
 ghost use Rattle.sn_types.specs.Typed.{is_field, read_at, packet_row};
@@ -21,6 +22,7 @@ fn is_field(refined: Option<Field>, field: Field) -> bool
     }
 }
 
+#[inline(always)]
 fn read_at(refined: Option<Field>, level: u32, tuple: &Tuple, field: Field) -> u64
     requires { IfSome refined (λ other. level ≤ width_of other) }
     ensures value { result ≡ read_at refined level tuple.now field }
@@ -59,6 +61,35 @@ pub fn row_of(refined: Option<Field>, level: u32, fields: &[Field], tuple: &Tupl
     row
 }
 
+/// What is the same for the packet rows of all tuples of a branch at a level.
+#[derive(Drop)]
+pub struct Packets<'a> {
+    /// The refinement field.
+    pub refined: Option<Field>,
+    /// The level, to which it is masked.
+    pub level: u32,
+    /// The fields of the rows.
+    pub fields: &'a [Field],
+    ghost few: { length fields.now ≤ 8 },
+    ghost within: { IfSome refined (λ other. level ≤ width_of other) } by { Prim.hlevel props },
+}
+
+impl<'a> Packets<'a> {
+    /// The packet row of a tuple, each number of its field's width. No row is made of it.
+    pub fn row(&self, tuple: &'a Tuple) -> PacketRow<'a>
+        ensures row { result ≡ packet_row self.now.refined self.now.level self.now.fields.now tuple.now }
+        ensures columns { IsOf (map field_column self.now.fields.now) result }
+    {
+        tuple.widths();
+        PacketRow {
+            refined: self.refined,
+            level: self.level,
+            fields: self.fields,
+            tuple,
+        }
+    }
+}
+
 /// The packet row of a tuple, of which no row is made.
 #[derive(Drop)]
 pub struct PacketRow<'a> {
@@ -81,25 +112,6 @@ impl<'a> Model for PacketRow<'a> {
 }
 
 impl<'a> PacketRow<'a> {
-    /// The packet row of a tuple at a level: the numbers of these fields.
-    pub(crate) fn new(
-        refined: Option<Field>,
-        level: u32,
-        fields: &'a [Field],
-        tuple: &'a Tuple,
-    ) -> PacketRow<'a>
-        requires few { length fields.now ≤ 8 }
-        requires level { IfSome refined (λ other. level ≤ width_of other) }
-        ensures { result ≡ packet_row refined level fields.now tuple.now }
-    {
-        PacketRow {
-            refined,
-            level,
-            fields,
-            tuple,
-        }
-    }
-
     /// Makes of `row`, whatever it is, the row.
     pub fn put_into(&self, row: &mut Row)
         ensures { row.new ≡ self.now }

@@ -5,7 +5,7 @@ ghost use Rattle.sn_base.specs.Columns.{IsOf};
 ghost use Rattle.sn_types.specs.Typed.{IsTyped, query_at, branch_at, operator_at, schema_at, finest_level, first_columns, final_columns, packet_row};
 
 use crate::copies::copy_queries;
-use crate::packet::{PacketRow, row_of};
+use crate::packet::{PacketRow, Packets, row_of};
 use crate::typed_op::{JoinKey, TOp};
 use crate::typed_query::{TypedBranch, TypedQuery};
 use sn_base::memory::Memory;
@@ -247,7 +247,23 @@ impl Typed {
         row_of(self.refine_field(q), level, self.packet_fields(q, b), tuple)
     }
 
-    /// `packet_row`, of which no row is made.
+    /// What is the same for the packet rows of a branch at a level.
+    pub fn packets<'a>(&'a self, q: u32, b: u32, level: u32) -> Packets<'a>
+        requires query { q < length self.now.queries }
+        requires branch { b < length (query_at self.now.queries q).branches }
+        requires level { list_any (nat_eq level) (query_at self.now.queries q).levels ≡ true }
+        ensures refined { result.refined ≡ (query_at self.now.queries q).field }
+        ensures level { result.level ≡ level }
+        ensures fields { result.fields.now ≡ (branch_at self.now.queries q b).fields }
+    {
+        Packets {
+            refined: self.refine_field(q),
+            level,
+            fields: self.packet_fields(q, b),
+        }
+    }
+
+    /// `packet_row`, of which no row is made. For one tuple: `packets` serves many.
     pub fn packet<'a>(&'a self, q: u32, b: u32, level: u32, tuple: &'a Tuple) -> PacketRow<'a>
         requires query { q < length self.now.queries }
         requires branch { b < length (query_at self.now.queries q).branches }
@@ -255,8 +271,7 @@ impl Typed {
         ensures row { result ≡ packet_row (query_at self.now.queries q).field level (branch_at self.now.queries q b).fields tuple.now }
         ensures columns { IsOf (first_columns (branch_at self.now.queries q b)) result }
     {
-        tuple.widths();
-        PacketRow::new(self.refine_field(q), level, self.packet_fields(q, b), tuple)
+        self.packets(q, b, level).row(tuple)
     }
 
     /// An equal value.

@@ -1,3 +1,4 @@
 pub mod RunLemmas
 pub mod NumberLemmas
 pub mod CountLemmas
+pub mod EndLemmas

@@ -1,5 +1,6 @@
 //! Windows of records, numbered by time.
-ghost use Rattle.std.specs.Prelude.{◌≡◌, ◌↔◌, ◌≤◌, ◌<◌, IfOk, OnOk, OnErr, IsErr};
+ghost use Rattle.std.specs.Prelude.{◌≡◌, ◌+◌, ◌*◌, ◌↔◌, ◌≤◌, ◌<◌, IfOk, OnOk, OnErr, IsErr};
+ghost use Rattle.std.specs.Option.{ForNone, ForSome};
 
 /// A window with too many records.
 #[derive(Clone, Copy, Debug, PartialEq, Eq)]
@@ -15,8 +16,19 @@ pub struct Windows {
     pub(crate) first: Option<u64>,
     pub(crate) number: u64,
     pub(crate) count: u64,
+    /// A record before this time, in nanoseconds, is in the window at hand. 0 before any record.
+    pub(crate) end: u64,
     ghost some: { 1 ≤ window_ns },
     ghost few: { count ≤ 4194304 },
+    ghost unbegun: { ForNone first (end ≡ 0) },
+    ghost at_hand: { ForSome first (λ time. end ≤ time + (number + 1) * window_ns) },
+}
+
+/// When the window of this number ends, in nanoseconds, or the last time that there is where it ends later.
+fn end_of(first: u64, number: u64, window_ns: u64) -> u64
+    ensures { result ≤ first + (number + 1) * window_ns }
+{
+    first.saturating_add(number.saturating_add(1).saturating_mul(window_ns))
 }
 
 impl Windows {
@@ -33,6 +45,7 @@ impl Windows {
             first: None,
             number: 0,
             count: 0,
+            end: 0,
         }
     }
 
@@ -51,22 +64,35 @@ impl Windows {
         ensures too_many { IsErr result ↔ (4194304 ≤ next_count (numbering self.old) time) }
         ensures unchanged { OnErr result (numbering self.new ≡ numbering self.old) }
     {
+        if time < self.end {
+            return self.count_one();
+        }
         let first = self.first.unwrap_or(time);
         let number = self.number.max(time.saturating_sub(first) / self.window_ns);
-        let before = if self.first.is_some() && number == self.number {
-            self.count
-        } else {
-            0
-        };
-        if before >= MOST_RECORDS {
-            return Err(TooMany);
+        if self.first.is_some() && number == self.number {
+            return self.count_one();
         }
         *self = Windows {
             window_ns: self.window_ns,
             first: Some(first),
             number,
-            count: before + 1,
+            count: 1,
+            end: end_of(first, number, self.window_ns),
         };
         Ok(number)
+    }
+
+    /// One more record of the window at hand, with its number. `TooMany` exactly where it has as many as it may.
+    fn count_one(&mut self) -> Result<u64, TooMany>
+        ensures number { IfOk result (λ n. n ≡ self.old.number) }
+        ensures after { OnOk result (numbering self.new ≡ record (numbering self.old) { count = self.old.count + 1 }) }
+        ensures too_many { IsErr result ↔ (4194304 ≤ self.old.count) }
+        ensures unchanged { OnErr result (numbering self.new ≡ numbering self.old) }
+    {
+        if self.count >= MOST_RECORDS {
+            return Err(TooMany);
+        }
+        self.count += 1;
+        Ok(self.number)
     }
 }

@@ -42,14 +42,15 @@ fn read_all<I: Inputs>(alloc: Global, files: &mut I, name: &str) -> Result<Given
     let mut reader = Reader::make(alloc, LITTLE)?;
     let mut packets = 0;
     let mut same = true;
+    let mut seen = Seen::empty();
     'packets: loop {
-        match reader.next(files, name) {
-            Ok(Next::Packet(seen)) => {
+        match reader.next(files, name, &mut seen) {
+            Ok(Next::Packet) => {
                 same = same && is_wanted(&seen);
                 packets += 1;
             }
             Ok(Next::End(ending)) => {
-                let again = reader.next(files, name) == Ok(Next::End(ending));
+                let again = reader.next(files, name, &mut seen) == Ok(Next::End(ending));
                 return Ok(Given {
                     packets,
                     same: same && again,
@@ -175,21 +176,23 @@ fn one_long(alloc: Global, length: u32, stand: usize) -> Result<Vec<u8>, Memory>
     Ok(bytes)
 }
 
-/// The first packet of a capture that stands in memory whole.
-fn first(alloc: Global, bytes: &[u8]) -> Result<Result<Next, ReadError>, Memory> {
-    let mut files = MemInputs::new(alloc);
-    files.put("c", file_of(alloc, bytes)?)?;
-    let mut reader = Reader::make(alloc, LITTLE)?;
-    Ok(reader.next(&mut files, "c"))
-}
-
 /// The length of what is kept of a packet, and of what was captured, or how the records end.
-fn shape(next: Result<Next, ReadError>) -> Result<(u32, u32), Ending> {
+fn shape(next: Result<Next, ReadError>, seen: &Seen) -> Result<(u32, u32), Ending> {
     match next {
-        Ok(Next::Packet(seen)) => Ok((seen.len, seen.cap)),
+        Ok(Next::Packet) => Ok((seen.len, seen.cap)),
         Ok(Next::End(ending)) => Err(ending),
         Err(_) => Err(Ending::Clean),
     }
+}
+
+/// The shape of the first packet of a capture that stands in memory whole.
+fn first_shape(alloc: Global, bytes: &[u8]) -> Result<Result<(u32, u32), Ending>, Memory> {
+    let mut files = MemInputs::new(alloc);
+    files.put("c", file_of(alloc, bytes)?)?;
+    let mut reader = Reader::make(alloc, LITTLE)?;
+    let mut seen = Seen::empty();
+    let next = reader.next(&mut files, "c", &mut seen);
+    Ok(shape(next, &seen))
 }
 
 #[test]
@@ -211,7 +214,7 @@ fn reads_packets_of_each_length(rt: HostRuntime) -> Result<(), Fail> {
         (4294967295, 0, Err(Ending::Bad(24))),
     ] {
         let bytes = one_long(alloc, length, stand)?;
-        assert_eq!(rt; shape(first(alloc, &bytes)?), shaped);
+        assert_eq!(rt; first_shape(alloc, &bytes)?, shaped);
     }
     Ok(())
 }
@@ -239,9 +242,17 @@ fn goes_on_behind_a_failed_read(rt: HostRuntime) -> Result<(), Fail> {
     files.fail_at(1)?;
     let mut files = Slow { files, most: 40 };
     let mut reader = Reader::make(alloc, LITTLE)?;
-    assert_eq!(rt; reader.next(&mut files, "d"), Err(ReadError::Missing));
-    assert_eq!(rt; reader.next(&mut files, "c"), Err(ReadError::ReadFault));
-    let seen = reader.next(&mut files, "c")?;
-    assert_eq!(rt; shape(Ok(seen)), Ok((54, 54)));
+    let mut seen = Seen::empty();
+    assert_eq!(rt;
+        reader.next(&mut files, "d", &mut seen),
+        Err(ReadError::Missing)
+    );
+    assert_eq!(rt;
+        reader.next(&mut files, "c", &mut seen),
+        Err(ReadError::ReadFault)
+    );
+    assert_eq!(rt; seen, Seen::empty());
+    let next = reader.next(&mut files, "c", &mut seen);
+    assert_eq!(rt; shape(next, &seen), Ok((54, 54)));
     Ok(())
 }

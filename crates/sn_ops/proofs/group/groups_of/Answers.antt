@@ -8,11 +8,11 @@ use Rattle.sn_ops.specs.Flow.{grouping_of}
 use Rattle.sn_ops.proofs.GroupSteps.{groups_of, one_pair, pair_step, so_far_had, pairs_had, row_more}
 use Rattle.sn_ops.proofs.group.groups_of.Goals as goal
 
-pub add-requires-clause-so_far : goal.add-requires-clause-so_far
-add-requires-clause-so_far c =
+pub add_at-requires-clause-so_far : goal.add_at-requires-clause-so_far
+add_at-requires-clause-so_far c =
     let g : Grouping = grouping_of c.args.r.now in
     let rows = take c.loop-row.row-index c.args.rows.now in
-    so_far_had g (map (pair_of g) rows) c.loop-row.groups.entries c.columns_into.new.key c.loop-row.invariant
+    so_far_had g (map (pair_of g) rows) c.loop-row.groups.entries (columns_at c.as_slice-in-loop-row.result.now c.row-item.result) c.loop-row.invariant
     (pairs_had g rows (All-take (λ (row : Row). any_has g.by (slice_index row g.value)) c.loop-row.row-index c.args.rows.now c.requires.had))
 
 pub loop-row-preserved : goal.loop-row-preserved
@@ -23,11 +23,10 @@ loop-row-preserved c =
     let row = c.row-item.result in
     let within : i < length c.args.rows.now = omega arith in
     let pairs = map (pair_of g) (take i c.args.rows.now) in
-    let key = c.columns_into.new.key in
-    let v : ℕ = slice_index c.as_slice-in-loop-row.result.now r.value in
-    c.in_ok-add.ensures.ok ∙ pair_step g pairs c.loop-row.groups.entries key v c.loop-row.invariant
-    ∙ ap (λ (k : Row). groups_of g (pairs ++ one_pair k v)) (c.columns_into.ensures ∙ ap (λ (ps : List ℕ). columns_at ps row) c.as_slice.ensures)
-    ∙ ap (λ (xs : Row). groups_of g (pairs ++ one_pair (columns_at r.keys row) (slice_index xs r.value))) c.as_slice-in-loop-row.ensures.value
+    let v : ℕ = slice_index c.as_slice.result.now r.value in
+    c.in_ok-add_at.ensures.ok ∙ pair_step g pairs c.loop-row.groups.entries (columns_at c.as_slice-in-loop-row.result.now row) v c.loop-row.invariant
+    ∙ ap (λ (ps : List ℕ). groups_of g (pairs ++ one_pair (columns_at ps row) v)) c.as_slice-in-loop-row.ensures
+    ∙ ap (λ (xs : Row). groups_of g (pairs ++ one_pair (columns_at r.keys row) (slice_index xs r.value))) c.as_slice.ensures.value
     ∙ ap (groups_of g) (row_more g c.args.rows.now i row within c.row-item.is)
 
 pub returns : goal.returns

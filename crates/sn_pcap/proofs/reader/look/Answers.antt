@@ -37,7 +37,7 @@ returns-in-Some-2-clause-last g c =
     (short_ends c.in_ok-last-2.field-0 c.in-Some-2.last now held c.args.offset (16 + c.from.result) c.in-Some-2.is c.in_ok-last-2.ensures.ends)
 
 pub returns-clause-packet : goal.returns-clause-packet
-returns-clause-packet g c =
+returns-clause-packet g c _ =
     let I = g.I.Inputs in
     let name = c.args.name.now in
     let header = c.args.header.now in
@@ -51,7 +51,7 @@ returns-clause-packet g c =
     let long_again : min (16 + c.from.result) 65536 ≤ length more = c.in_ok-last-2.ensures.held none_again in
     let cap : c.u32_at-cap.result ≡ number_at header.big 4 held 8 = c.u32_at-cap.ensures ∙ ap (λ (xs : List ℕ). number_at header.big 4 xs 8) c.as_slice.ensures in
     let still : captured header more 0 ≡ number_at header.big 4 held 8 = captured_kept header held more c.short-2.ensures.kept (omega arith) in
-    told_packet told now header c.args.buffer.now held more c.args.offset c.u32_at-cap.result (16 + c.from.result) c.seen_at.result
+    told_packet told now header c.args.buffer.now held more c.args.offset c.u32_at-cap.result (16 + c.from.result) c.see.new.seen
     (ap (λ (t : Option (ByName (List ℕ))). told_file t name) c.short.ensures.told) (cap ∙ sym still) (omega arith) (omega arith) (omega arith)
     c.short.ensures.holds c.short-2.ensures.holds (c.in_ok-last-2.ensures.whole none_again)
-    (subst (λ (xs : List ℕ). IsSeen xs (packet_at header xs 0) c.seen_at.result) c.as_slice-2.ensures c.seen_at.ensures.packet)
+    (subst (λ (xs : List ℕ). IsSeen xs (packet_at header xs 0) c.see.new.seen) c.as_slice-2.ensures c.see.ensures.packet)
