@@ -40,6 +40,7 @@ fn place(register: u32, key: &Row, slots: u32, known: Option<&[u32; 4]>) -> usiz
 
 /// Looks for a key in its cells, register by register, by the key's slots where they are known. Else a key
 /// that is held costs one hash for each register up to its own.
+#[inline(always)]
 pub(crate) fn look(
     cells: &Cells,
     round: u32,

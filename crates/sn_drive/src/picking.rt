@@ -1,5 +1,5 @@
 //! Which event happens next.
-ghost use Rattle.std.specs.Prelude.{◌≡◌, ◌<◌, ◌≤◌, ◌+◌, ◌^◌, ◌++◌, ◌∷◌, [], List, Some, None, false, filter, length, map, slice_get};
+ghost use Rattle.std.specs.Prelude.{◌≡◌, ◌<◌, ◌≤◌, ◌+◌, ◌^◌, ◌%◌, ◌++◌, ◌∷◌, [], List, Some, None, false, filter, length, map, slice_get};
 ghost use Rattle.std.specs.List.{range_with_len};
 ghost use Rattle.sn_core.specs.Needs.{first_need_that_fails};
 ghost use Rattle.sn_core.specs.Standing.{IsNet};
@@ -124,6 +124,14 @@ fn nth_enabled<M: Machine>(machine: &M, lanes: u32, first: &Enabled, n: u64) -> 
     later.next[0]
 }
 
+/// The remainder of a drawn number by how many events may happen. Mostly that is one, which takes no division.
+fn place_of(drawn: u64, count: u64) -> u64
+    requires { 0 < count }
+    ensures { result ≡ drawn % count }
+{
+    if count == 1 { 0 } else { drawn % count }
+}
+
 /// The event that the next draw picks, in a machine that goes on and whose answers were taken: there is one that may happen.
 pub(crate) fn pick<M: Machine>(machine: &M, lanes: u32, draws: &mut Draws) -> Event
     requires lanes { lanes ≡ length (M.state machine.now).lanes }
@@ -136,6 +144,6 @@ pub(crate) fn pick<M: Machine>(machine: &M, lanes: u32, draws: &mut Draws) -> Ev
     ensures draws { draws.new.number ≡ next_number draws.old.number }
 {
     let found = look(machine, lanes, 0);
-    let n = draws.draw() % found.count;
+    let n = place_of(draws.draw(), found.count);
     nth_enabled(machine, lanes, &found, n)
 }

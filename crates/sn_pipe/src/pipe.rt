@@ -112,6 +112,7 @@ impl Pipe {
 
     /// Takes a tuple, before any read-out. `Some` exactly where the tuple gives an item: its row at the operator where
     /// its key overflows, or behind a prefix without a reduce. Takes no memory.
+    #[inline(always)]
     pub fn packet(&mut self, tuple: &Tuple) -> Option<Item>
         requires { self.old.prefix.place ≡ 0 }
         ensures item { result ≡ item_of self.old tuple.now }

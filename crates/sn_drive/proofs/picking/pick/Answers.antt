@@ -1,4 +1,4 @@
-use Rattle.std.proofs.Common.{◌≡◌, ◌<◌, ◌∙◌, ◌%◌, zero, suc, refl, ap₂, sym, subst, slice_get, ℕ, arith}
+use Rattle.std.proofs.Common.{◌≡◌, ◌<◌, ◌∙◌, ◌%◌, zero, suc, refl, ap, ap₂, sym, subst, slice_get, ℕ, arith}
 use Rattle.std.proofs.Math.Nat.{mod-lt}
 use Rattle.sn_machine.specs.Steps.{IsOneOf}
 use Rattle.sn_drive.specs.Schedules.{enabled_events, events_of, may_happen}
@@ -10,8 +10,8 @@ some_number : (n : ℕ) → (n ≡ 0 → ⊥) → 0 < n
 some_number zero h = absurd (h refl)
 some_number (suc n) h = omega arith
 
-pub nonzero_rem-n : goal.nonzero_rem-n
-nonzero_rem-n g c =
+pub place_of-n-requires : goal.place_of-n-requires
+place_of-n-requires g c =
     let m = c.args.machine.now in
     let s = g.M.Machine.state m in
     some_number c.look-found.result.count (λ e.
@@ -22,14 +22,15 @@ pub nth_enabled-requires-clause-within : goal.nth_enabled-requires-clause-within
 nth_enabled-requires-clause-within g c =
     let m = c.args.machine.now in
     let s = g.M.Machine.state m in
-    mod-lt c.draw.result (some_number c.look-found.result.count (λ e.
+    let count = c.look-found.result.count in
+    subst (λ (n : ℕ). n < count) (sym c.place_of-n.ensures) (mod-lt c.draw.result (some_number c.look-found.result.count (λ e.
     goes_on (g.M.Machine.works m) (g.met.M.Machine.lawful m) s c.args.lanes c.requires.lanes c.requires.stands c.requires.going c.requires.taken
-    (λ event known. none_enabled s (sym c.look-found.ensures.counted.count ∙ e) event (subst (λ (n : ℕ). IsOneOf n event) c.requires.lanes known))))
+    (λ event known. none_enabled s (sym c.look-found.ensures.counted.count ∙ e) event (subst (λ (n : ℕ). IsOneOf n event) c.requires.lanes known)))))
 
 pub returns-clause-picked : goal.returns-clause-picked
 returns-clause-picked g c =
     let s = g.M.Machine.state c.args.machine.now in
-    ap₂ (λ (x n : ℕ). slice_get (enabled_events s) (x % n)) (sym c.draw.ensures.value) (sym c.look-found.ensures.counted.count) ∙ c.nth_enabled.ensures
+    ap₂ (λ (x n : ℕ). slice_get (enabled_events s) (x % n)) (sym c.draw.ensures.value) (sym c.look-found.ensures.counted.count) ∙ (ap (λ (n : ℕ). slice_get (enabled_events s) n) (sym c.place_of-n.ensures) ∙ c.nth_enabled.ensures)
 
 pub returns-clause-lane : goal.returns-clause-lane
 returns-clause-lane g c =
