@@ -88,17 +88,29 @@ def cut(file, folder, given):
     return parts.count
 
 
+def count_from(least):
+    """The reading of a word as a number that is at least this."""
+    def number(word):
+        if int(word) < least:
+            raise argparse.ArgumentTypeError('at least %d' % least)
+        return int(word)
+    return number
+
+
 def main():
     words = argparse.ArgumentParser(description=__doc__, formatter_class=argparse.RawDescriptionHelpFormatter)
     words.add_argument('capture')
     words.add_argument('folder')
-    words.add_argument('--window', type=int, required=True, help='the window of the query file, in microseconds')
-    words.add_argument('--windows', type=int, required=True, help='cut behind so many windows')
-    words.add_argument('--before', type=int, default=0, help='begin each part so many windows earlier (one less than the levels of the longest path)')
+    words.add_argument('--window', type=count_from(1), required=True, help='the window of the query file, in microseconds')
+    words.add_argument('--windows', type=count_from(1), required=True, help='cut behind so many windows')
+    words.add_argument('--before', type=count_from(0), default=0, help='begin each part so many windows earlier (one less than the levels of the longest path)')
     given = words.parse_args()
-    os.makedirs(given.folder, exist_ok=True)
-    with sys.stdin.buffer if given.capture == '-' else open(given.capture, 'rb') as file:
-        print('%d parts' % cut(file, given.folder, given))
+    try:
+        os.makedirs(given.folder, exist_ok=True)
+        with sys.stdin.buffer if given.capture == '-' else open(given.capture, 'rb') as file:
+            print('%d parts' % cut(file, given.folder, given))
+    except OSError as fault:
+        sys.exit('%s: %s' % (fault.filename or given.folder, fault.strerror))
     return 0
 
 

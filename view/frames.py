@@ -12,6 +12,7 @@ The status is 0 where the reports end with whole windows, and 1, with a line on 
 
 import argparse
 import csv
+import os
 import struct
 import sys
 
@@ -86,15 +87,19 @@ def main():
     words.add_argument('--plan', help='the plan, for the names of queries and levels')
     given = words.parse_args()
     names, out = names_of(given.plan), csv.writer(sys.stdout, lineterminator='\n')
-    out.writerow(COLUMNS)
     try:
+        out.writerow(COLUMNS)
         with sys.stdin.buffer if given.reports == '-' else open(given.reports, 'rb') as file:
             for window, lane, kind, operator, columns in rows(frames(file)):
                 out.writerow([window, *named(names, lane), kind, operator, *columns, *[None] * (8 - len(columns))])
+        sys.stdout.flush()
     except Spoilt as fault:
         sys.exit('%s: %s, frame at byte %s' % (given.reports, *fault.args))
     except OSError as fault:
-        sys.exit('%s: %s' % (given.reports, fault.strerror))
+        if fault.filename is None:
+            # Standard output took no more, and what is left for it goes nowhere.
+            os.dup2(os.open(os.devnull, os.O_WRONLY), sys.stdout.fileno())
+        sys.exit('%s: %s' % (fault.filename or 'standard output', fault.strerror))
     return 0
 
 
