@@ -97,9 +97,9 @@ def main():
         sys.exit('%s: %s, frame at byte %s' % (given.reports, *fault.args))
     except OSError as fault:
         if fault.filename is None:
-            # Standard output took no more, and what is left for it goes nowhere.
+            # Where standard output took no more, what is left for it goes nowhere.
             os.dup2(os.open(os.devnull, os.O_WRONLY), sys.stdout.fileno())
-        sys.exit('%s: %s' % (fault.filename or 'standard output', fault.strerror))
+        sys.exit('%s: %s' % (fault.filename or 'standard input or output', fault.strerror))
     return 0
 
 
