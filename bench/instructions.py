@@ -17,7 +17,7 @@ import run
 
 # The parts of the work, each with what the names of its functions begin with or hold. The first that fits counts.
 PARTS = [
-    ('reading the capture, and windows', r'^sn_pcap::|^sn_io::|^sn_answered::|^sn_top::|^sn_windows::'),
+    ('reading the capture, and windows', r'^sn_pcap::|^sn_io::|^sn_command_capture::|^sn_top::|^sn_windows::'),
     ('fields', r'^sn_fields::'),
     ('filters and maps', r'^sn_types::|^sn_ops::(plain|packets|seen|start|take)::'),
     ('distincts', r'^sn_table::(keys|rows)::'),
@@ -25,7 +25,7 @@ PARTS = [
     ('growth of tables and lists', r'^indexmap::|^std_alloc::|alloc|free|memset'),
     ('copies of memory', r'memcpy|memmove'),
     ('joins, and rows behind reduces', r'^sn_ops::'),
-    ('sorting and printing', r'^sn_out::|^sn_print|^core::|^sn_rows::|sort'),
+    ('sorting and printing', r'^sn_out::|^sn_query_print|^core::|^sn_rows::|sort'),
 ]
 
 

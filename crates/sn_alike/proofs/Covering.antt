@@ -2,11 +2,11 @@
 use Rattle.std.proofs.Common.{ℕ, ◌≤◌, List, [], ◌∷◌, refl, sym, ◌∙◌, subst, inl, inr}
 use Rattle.sn_alike.specs.Alike.{AreAlike}
 use Rattle.sn_alike.proofs.Plans.{same_children}
-use Rattle.sn_space.specs.declared.node.Node.{Node}
-use Rattle.sn_space.specs.declared.node.Node.TheVariants.{Expand, Bound, Chosen}
-use Rattle.sn_space.specs.Space.{Space, IsOneOf, children, itself, IsPartial}
-use Rattle.sn_space.specs.Trees.{Covers, CoverAll, IsAccepted, broken, chosen, bound, expand, none, each}
-use Rattle.sn_space.proofs.Partials.{child_partial}
+use Rattle.sn_tree_space.specs.declared.node.Node.{Node}
+use Rattle.sn_tree_space.specs.declared.node.Node.TheVariants.{Expand, Bound, Chosen}
+use Rattle.sn_tree_space.specs.Space.{Space, IsOneOf, children, itself, IsPartial}
+use Rattle.sn_tree_space.specs.Trees.{Covers, CoverAll, IsAccepted, broken, chosen, bound, expand, none, each}
+use Rattle.sn_tree_space.proofs.Partials.{child_partial}
 
 module _ (a b : Space) (alike : AreAlike a b) (p : List ℕ) (plan : IsPartial a p) where
   mutual

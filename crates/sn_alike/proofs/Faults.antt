@@ -4,11 +4,11 @@ use Rattle.std.specs.Prelude.{nat_eq, if◌then◌else◌}
 use Rattle.std.specs.Cmp.Lexicographic.{pointwise}
 use Rattle.sn_alike.specs.Alike.{AreAlike}
 use Rattle.sn_alike.proofs.Trees.{same_below, below_partial}
-use Rattle.sn_space.specs.declared.follow.Follow.{Follow}
-use Rattle.sn_space.specs.declared.node.Node.{Node}
-use Rattle.sn_space.specs.declared.node.Node.TheVariants as nodes
-use Rattle.sn_space.specs.Space.{Space, IsOneOf, itself, IsPartial}
-use Rattle.sn_space.specs.Trees.{below}
+use Rattle.sn_tree_space.specs.declared.follow.Follow.{Follow}
+use Rattle.sn_tree_space.specs.declared.node.Node.{Node}
+use Rattle.sn_tree_space.specs.declared.node.Node.TheVariants as nodes
+use Rattle.sn_tree_space.specs.Space.{Space, IsOneOf, itself, IsPartial}
+use Rattle.sn_tree_space.specs.Trees.{below}
 use Rattle.sn_tree.specs.declared.fault.TreeFault.{TreeFault}
 use Rattle.sn_tree.specs.declared.fault.TreeFault.TheVariants.{Shape, Bound, NotBroken}
 use Rattle.sn_tree.specs.Faults.{or_else, failing, bound_fault, expand_fault, node_fault, nodes_fault, cost_fault, plan_fault, tree_fault}

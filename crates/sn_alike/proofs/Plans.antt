@@ -1,8 +1,8 @@
 -- Spaces that are alike have the same partial plans and the same plans.
 use Rattle.std.proofs.Common.{◌≡◌, ℕ, ◌≤◌, List, [], map, ap, sym, ◌∙◌, subst}
 use Rattle.sn_alike.specs.Alike.{AreAlike}
-use Rattle.sn_space.specs.Space.{Space, IsOneOf, with_choice, choices_in, children, GoesOnTo, itself, through, IsPartial, IsPlan, IsFirstLeast}
-use Rattle.sn_space.proofs.Partials.{child_partial}
+use Rattle.sn_tree_space.specs.Space.{Space, IsOneOf, with_choice, choices_in, children, GoesOnTo, itself, through, IsPartial, IsPlan, IsFirstLeast}
+use Rattle.sn_tree_space.proofs.Partials.{child_partial}
 
 -- ---- partial plans
 

@@ -5,14 +5,14 @@ use Rattle.std.specs.Cmp.Lexicographic.{pointwise}
 use Rattle.std.specs.List.{flat_map}
 use Rattle.sn_alike.specs.Alike.{AreAlike}
 use Rattle.sn_alike.proofs.Plans.{same_children, turned_alike, first_least_alike, plan_alike}
-use Rattle.sn_space.specs.declared.follow.Follow.{Follow}
-use Rattle.sn_space.specs.declared.follow.Follow.TheVariants.{Complete, Choices}
-use Rattle.sn_space.specs.declared.node.Node.{Node}
-use Rattle.sn_space.specs.declared.node.Node.TheVariants.{Expand, Bound, Broken, Chosen}
-use Rattle.sn_space.specs.Space.{Space, IsOneOf, itself, IsPartial, IsFirstLeast, stands_before, taken_before}
-use Rattle.sn_space.specs.Trees.{open_node, node_at, below, tree_from, tree_of, count_expands}
-use Rattle.sn_space.specs.Searches.{any_bound, IsBudgetBound}
-use Rattle.sn_space.proofs.Partials.{child_partial}
+use Rattle.sn_tree_space.specs.declared.follow.Follow.{Follow}
+use Rattle.sn_tree_space.specs.declared.follow.Follow.TheVariants.{Complete, Choices}
+use Rattle.sn_tree_space.specs.declared.node.Node.{Node}
+use Rattle.sn_tree_space.specs.declared.node.Node.TheVariants.{Expand, Bound, Broken, Chosen}
+use Rattle.sn_tree_space.specs.Space.{Space, IsOneOf, itself, IsPartial, IsFirstLeast, stands_before, taken_before}
+use Rattle.sn_tree_space.specs.Trees.{open_node, node_at, below, tree_from, tree_of, count_expands}
+use Rattle.sn_tree_space.specs.Searches.{any_bound, IsBudgetBound}
+use Rattle.sn_tree_space.proofs.Partials.{child_partial}
 
 trees_each : {A B : Type 0} (f g : A → List B) (xs : List A) → ((x : A) → IsOneOf x xs → f x ≡ g x) → flat_map f xs ≡ flat_map g xs
 trees_each f g [] h = refl

@@ -1,6 +1,6 @@
 -- Spaces that say the same of their partial plans.
 use Rattle.std.specs.Prelude.{◌≡◌, ℕ, List}
-use Rattle.sn_space.specs.Space.{Space, IsPartial}
+use Rattle.sn_tree_space.specs.Space.{Space, IsPartial}
 
 -- Two spaces are alike where their lists have at most as many choices, and of each partial plan they say the same: what may follow it, whether it is
 -- broken, and its lower bound.

@@ -1,10 +1,10 @@
 //! Laws of spaces that are alike, with nothing to run.
 ghost use Rattle.std.specs.Prelude.{◌≡◌, ℕ, List};
 ghost use Rattle.sn_alike.specs.Alike.{AreAlike};
-ghost use Rattle.sn_space.specs.declared.node.Node.{Node};
-ghost use Rattle.sn_space.specs.Searches.{IsBudgetBound};
-ghost use Rattle.sn_space.specs.Space.{IsFirstLeast, IsPartial, IsPlan, Space};
-ghost use Rattle.sn_space.specs.Trees.{IsAccepted, tree_of};
+ghost use Rattle.sn_tree_space.specs.declared.node.Node.{Node};
+ghost use Rattle.sn_tree_space.specs.Searches.{IsBudgetBound};
+ghost use Rattle.sn_tree_space.specs.Space.{IsFirstLeast, IsPartial, IsPlan, Space};
+ghost use Rattle.sn_tree_space.specs.Trees.{IsAccepted, tree_of};
 ghost use Rattle.sn_tree.specs.Faults.{tree_fault};
 
 /// Spaces that are alike are so the other way round too.

@@ -12,13 +12,13 @@ use Rattle.sn_types.specs.declared.typed_query.TypedQuery.{TypedQuery}
 use Rattle.sn_types.specs.Cuts.{stateful}
 use Rattle.sn_types.specs.Typed.{IsTyped, branch_at, branch_of, query_at}
 use Rattle.sn_types.proofs.Facts.{few_branches}
-use Rattle.sn_choices.specs.declared.costs.CostTable.{CostTable}
-use Rattle.sn_choices.specs.Costs.{HasPlaces, IsPlace, entry_in}
-use Rattle.sn_choices.specs.Options.{option_at, options, size_lists}
-use Rattle.sn_choices.specs.Settings.{IsNarrow}
-use Rattle.sn_choices.proofs.Narrow.{typed_narrow}
-use Rattle.sn_choices.proofs.OptionLists.{of_cut, one_size, pair, two_sizes}
-use Rattle.sn_counts.specs.Counts.{setting_count}
+use Rattle.sn_plan_choices.specs.declared.costs.CostTable.{CostTable}
+use Rattle.sn_plan_choices.specs.Costs.{HasPlaces, IsPlace, entry_in}
+use Rattle.sn_plan_choices.specs.Options.{option_at, options, size_lists}
+use Rattle.sn_plan_choices.specs.Settings.{IsNarrow}
+use Rattle.sn_plan_choices.proofs.Narrow.{typed_narrow}
+use Rattle.sn_plan_choices.proofs.OptionLists.{of_cut, one_size, pair, two_sizes}
+use Rattle.sn_cost_counts.specs.Counts.{setting_count}
 use Rattle.sn_ops.specs.Packets.{packet_rows}
 use Rattle.sn_refine.specs.Refined.{Windows}
 use Rattle.sn_refine.specs.Steps.{Given, windows_of}

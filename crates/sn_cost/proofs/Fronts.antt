@@ -8,16 +8,16 @@ use Rattle.std.proofs.Math.Logic.{∥∥₁_elim}
 use Rattle.std.proofs.Math.Pow.{pow_mono}
 use Rattle.std.proofs.lemmas.Bool.{lt-ltb}
 use Rattle.sn_base.proofs.Lists.{nat_self, or_left, or_right}
-use Rattle.sn_query_rules.specs.declared.ast.Refine.{Refine}
-use Rattle.sn_query_rules.specs.Limits.{RefineLimits}
+use Rattle.sn_query_grammar.specs.declared.ast.Refine.{Refine}
+use Rattle.sn_query_grammar.specs.Limits.{RefineLimits}
 use Rattle.sn_switch.specs.declared.switch.Switch.{Switch}
 use Rattle.sn_types.specs.declared.typed_query.TypedQuery.{TypedQuery}
 use Rattle.sn_types.specs.Typed.{IsTyped, query_at}
 use Rattle.sn_types.specs.Typing.{levels_of}
 use Rattle.sn_types.proofs.RefinedLemmas.{refined_alike}
 use Rattle.sn_types.proofs.Sources.{source_of}
-use Rattle.sn_choices.specs.declared.costs.CostTable.{CostTable}
-use Rattle.sn_choices.specs.Costs.{HasPlaces, IsPlace}
+use Rattle.sn_plan_choices.specs.declared.costs.CostTable.{CostTable}
+use Rattle.sn_plan_choices.specs.Costs.{HasPlaces, IsPlace}
 use Rattle.sn_refine.specs.Steps.{Given, IsPathOf, windows_of}
 use Rattle.sn_cost.specs.Adding.{Adds, Entries, where_so}
 use Rattle.sn_cost.specs.Entries.{front_of}

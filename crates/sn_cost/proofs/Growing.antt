@@ -10,9 +10,9 @@ use Rattle.sn_types.specs.Typed.{branch_of, packet_row}
 use Rattle.std.proofs.lemmas.Bool.{false≢true, lt-ltb, ltb-false, ltb-true}
 use Rattle.sn_cost.specs.Entries.{front_of}
 use Rattle.sn_base.proofs.Lists.{by_test, nat_same, nat_self, not_true}
-use Rattle.sn_choices.specs.declared.costs.CostTable.{CostTable}
-use Rattle.sn_choices.specs.Costs.{HasPlaces, IsPlace, OthersStay, entry_in}
-use Rattle.sn_counts.specs.Fitting.{most_rows}
+use Rattle.sn_plan_choices.specs.declared.costs.CostTable.{CostTable}
+use Rattle.sn_plan_choices.specs.Costs.{HasPlaces, IsPlace, OthersStay, entry_in}
+use Rattle.sn_cost_counts.specs.Fitting.{most_rows}
 use Rattle.sn_cost.specs.Adding.{Adds, AreSmall, Entries, HasRoom, of_branches, of_counts, where_so}
 
 -- ---- numbers where a test holds

@@ -4,7 +4,7 @@ use Rattle.std.specs.Option.{option_map}
 use Rattle.sn_switch.specs.declared.switch.Switch.{Switch}
 use Rattle.sn_types.specs.declared.typed_query.TypedQuery.{TypedQuery}
 use Rattle.sn_types.specs.Typed.{branch_of}
-use Rattle.sn_counts.specs.Counts.{counts_of}
+use Rattle.sn_cost_counts.specs.Counts.{counts_of}
 use Rattle.sn_ops.specs.Packets.{packet_rows}
 use Rattle.sn_ops.specs.declared.packets.Kept.{Kept}
 use Rattle.sn_refine.specs.Refined.{Windows, answered, before, refined_rows}

@@ -5,9 +5,9 @@ use Rattle.std.proofs.lemmas.List.Sums.{sum_by-cons}
 use Rattle.sn_base.proofs.Lists.{by_test}
 use Rattle.sn_switch.specs.declared.switch.Switch.{Switch}
 use Rattle.sn_types.specs.declared.typed_query.TypedQuery.{TypedQuery}
-use Rattle.sn_choices.specs.declared.costs.CostTable.{CostTable}
-use Rattle.sn_choices.specs.Costs.{HasPlaces, IsPlace, entry_in}
-use Rattle.sn_counts.specs.Fitting.{most_rows}
+use Rattle.sn_plan_choices.specs.declared.costs.CostTable.{CostTable}
+use Rattle.sn_plan_choices.specs.Costs.{HasPlaces, IsPlace, entry_in}
+use Rattle.sn_cost_counts.specs.Fitting.{most_rows}
 use Rattle.sn_refine.specs.Refined.{Windows}
 use Rattle.sn_refine.specs.Steps.{Given}
 use Rattle.sn_cost.specs.Adding.{Adds, AreSmall, of_branches, where_so}

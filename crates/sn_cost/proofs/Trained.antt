@@ -3,9 +3,9 @@ use Rattle.std.proofs.Common.{◌≡◌, ℕ, ◌+◌, ◌-◌, ◌≤◌, ◌<�
 use Rattle.std.proofs.lemmas.List.{drop_all}
 use Rattle.sn_switch.specs.declared.switch.Switch.{Switch}
 use Rattle.sn_types.specs.declared.typed_query.TypedQuery.{TypedQuery}
-use Rattle.sn_choices.specs.declared.costs.CostTable.{CostTable}
-use Rattle.sn_choices.specs.Costs.{HasPlaces}
-use Rattle.sn_counts.specs.Fitting.{most_rows}
+use Rattle.sn_plan_choices.specs.declared.costs.CostTable.{CostTable}
+use Rattle.sn_plan_choices.specs.Costs.{HasPlaces}
+use Rattle.sn_cost_counts.specs.Fitting.{most_rows}
 use Rattle.sn_refine.specs.Steps.{Given, IsAbove, Set, kept_at, kept_of, parts_in, windows_of}
 use Rattle.sn_refine.specs.declared.refined.Refined.{Refined}
 use Rattle.sn_cost.specs.Adding.{Adds, HasRoom, kept_counts, of_branches}

@@ -4,10 +4,10 @@ use Rattle.std.specs.List.{AllByRecursion}
 use Rattle.sn_switch.specs.declared.switch.Switch.{Switch}
 use Rattle.sn_types.specs.declared.typed_query.TypedQuery.{TypedQuery}
 use Rattle.sn_types.specs.Typed.{branch_of}
-use Rattle.sn_choices.specs.declared.costs.CostTable.{CostTable}
-use Rattle.sn_choices.specs.Costs.{HasPlaces, IsPlace, entry_in}
-use Rattle.sn_counts.specs.Counts.{counts_of}
-use Rattle.sn_counts.specs.Fitting.{most_rows}
+use Rattle.sn_plan_choices.specs.declared.costs.CostTable.{CostTable}
+use Rattle.sn_plan_choices.specs.Costs.{HasPlaces, IsPlace, entry_in}
+use Rattle.sn_cost_counts.specs.Counts.{counts_of}
+use Rattle.sn_cost_counts.specs.Fitting.{most_rows}
 use Rattle.sn_ops.specs.Packets.{packet_rows}
 use Rattle.sn_ops.specs.declared.packets.Kept.{Kept}
 

@@ -5,10 +5,10 @@ use Rattle.std.specs.Option.{option_map}
 use Rattle.sn_switch.specs.declared.switch.Switch.{Switch}
 use Rattle.sn_types.specs.declared.typed_query.TypedQuery.{TypedQuery}
 use Rattle.sn_types.specs.Typed.{branch_at, query_at}
-use Rattle.sn_choices.specs.Options.{Setting, options}
+use Rattle.sn_plan_choices.specs.Options.{Setting, options}
 use Rattle.sn_refine.specs.Refined.{Windows, answered, before, refined_rows}
 use Rattle.sn_refine.specs.Steps.{Given, windows_of}
-use Rattle.sn_split.specs.Branches.{branch_items}
+use Rattle.sn_engine_split.specs.Branches.{branch_items}
 use Rattle.sn_windows.specs.Windows as numbered
 
 -- ---- training windows

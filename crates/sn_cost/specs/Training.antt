@@ -4,14 +4,14 @@ use Rattle.std.specs.List.{AllByRecursion, sum_by}
 use Rattle.sn_switch.specs.declared.switch.Switch.{Switch}
 use Rattle.sn_types.specs.declared.typed_query.TypedQuery.{TypedQuery}
 use Rattle.sn_types.specs.Typed.{branch_of, query_at}
-use Rattle.sn_counts.specs.Counts.{counts_of}
+use Rattle.sn_cost_counts.specs.Counts.{counts_of}
 use Rattle.sn_ops.specs.Packets.{packet_rows}
 use Rattle.sn_ops.specs.declared.packets.Kept.{Kept}
 use Rattle.sn_refine.specs.Refined.{Windows}
 use Rattle.sn_refine.specs.declared.refined.Refined.{Refined}
 use Rattle.sn_refine.specs.Steps.{Given, Set, kept_at, windows_of}
-use Rattle.sn_choices.specs.declared.costs.CostTable.{CostTable}
-use Rattle.sn_choices.specs.Costs.{IsPlace, entry_in}
+use Rattle.sn_plan_choices.specs.declared.costs.CostTable.{CostTable}
+use Rattle.sn_plan_choices.specs.Costs.{IsPlace, entry_in}
 use Rattle.sn_cost.specs.Adding.{Adds, AreSmall, Entries, kept_counts, of_branches, where_so}
 use Rattle.sn_cost.specs.Entries.{front_of, seen_at}
 

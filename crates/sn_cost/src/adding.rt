@@ -1,11 +1,11 @@
 //! Counts that are added to the entries of a table.
 ghost use Rattle.std.specs.Prelude.{◌≡◌, ◌<◌, ◌≤◌, ◌+◌, ◌*◌, length};
 ghost use Rattle.std.specs.List.{AllByRecursion};
-ghost use Rattle.sn_choices.specs.Costs.{HasPlaces};
+ghost use Rattle.sn_plan_choices.specs.Costs.{HasPlaces};
 ghost use Rattle.sn_cost.specs.Adding.{Adds, AreSmall, HasRoom, of_counts};
-ghost use Rattle.sn_counts.specs.Fitting.{most_rows};
+ghost use Rattle.sn_cost_counts.specs.Fitting.{most_rows};
 
-use sn_choices::costs::CostTable;
+use sn_plan_choices::costs::CostTable;
 
 /// Adds the counts of all options of a branch, so many, to their entries at a front. It takes no memory.
 pub(crate) fn add_counts(

@@ -1,20 +1,20 @@
 //! The counts of a window.
 ghost use Rattle.std.specs.Prelude.{◌≡◌, ℕ, ◌<◌, ◌≤◌, ◌+◌, length, nat_eq, true, OnOk};
 ghost use Rattle.std.specs.List.{list_any};
-ghost use Rattle.sn_choices.specs.Costs.{HasPlaces};
+ghost use Rattle.sn_plan_choices.specs.Costs.{HasPlaces};
 ghost use Rattle.sn_cost.specs.Adding.{Adds, AreSmall, HasRoom, kept_counts, of_branches};
-ghost use Rattle.sn_counts.specs.Fitting.{most_rows};
+ghost use Rattle.sn_cost_counts.specs.Fitting.{most_rows};
 ghost use Rattle.sn_ops.specs.Packets.{OfALevel};
 ghost use Rattle.sn_switch.specs.Texts.{IsSwitch};
 ghost use Rattle.sn_types.specs.Typed.{query_at};
 
 use crate::adding::add_counts;
 use sn_base::memory::Memory;
-use sn_choices::costs::CostTable;
-use sn_choices::setting::options;
-use sn_counts::branch::counts_of;
+use sn_cost_counts::branch::counts_of;
 use sn_fields::tuple::Tuple;
 use sn_ops::packets::{Kept, packet_rows};
+use sn_plan_choices::costs::CostTable;
+use sn_plan_choices::setting::options;
 use sn_switch::switch::Switch;
 use sn_types::typed::Typed;
 

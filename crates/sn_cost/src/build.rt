@@ -1,7 +1,7 @@
 //! The cost table of training windows.
 ghost use Rattle.std.specs.Prelude.{◌≡◌, ◌≤◌, ◌<◌, ◌+◌, ◌^◌, ℕ, length, IfOk, OnOk};
-ghost use Rattle.sn_choices.specs.Costs.{HasPlaces, entry_in};
-ghost use Rattle.sn_choices.specs.Options.{option_at};
+ghost use Rattle.sn_plan_choices.specs.Costs.{HasPlaces, entry_in};
+ghost use Rattle.sn_plan_choices.specs.Options.{option_at};
 ghost use Rattle.sn_cost.specs.Adding.{Adds};
 ghost use Rattle.sn_cost.specs.Entries.{IsPiece, entry_count, trained};
 ghost use Rattle.sn_cost.specs.Training.{IsFresh, NeverFall, of_fronts};
@@ -11,8 +11,8 @@ ghost use Rattle.sn_types.specs.Typed.{branch_at, query_at};
 use crate::front::front_of;
 use crate::train::add_front;
 use sn_base::memory::Memory;
-use sn_choices::costs::CostTable;
 use sn_fields::tuple::Tuple;
+use sn_plan_choices::costs::CostTable;
 use sn_switch::switch::Switch;
 use sn_types::typed::Typed;
 

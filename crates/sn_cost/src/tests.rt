@@ -1,16 +1,16 @@
 //! The tables of worked captures.
 ghost use Rattle.std.specs.Prelude.{◌≡◌, ◌<◌, ◌≤◌, ◌+◌, IfSome, length};
-ghost use Rattle.sn_choices.specs.Costs.{HasPlaces};
+ghost use Rattle.sn_plan_choices.specs.Costs.{HasPlaces};
 ghost use Rattle.sn_cost.specs.Training.{NeverFall};
 ghost use Rattle.sn_switch.specs.Texts.{IsSwitch};
 
 use crate::build::build;
 use sn_base::link::Link;
-use sn_choices::costs::CostTable;
 use sn_fields::tuple::{Tuple, tuple_of};
-use sn_read_queries::read::read;
+use sn_plan_choices::costs::CostTable;
 use sn_switch::switch::Switch;
 use sn_types::typed::Typed;
+use sn_types_read::read::read;
 use std::alloc::Global;
 
 /// Destinations of more than one packet, by network and by host.

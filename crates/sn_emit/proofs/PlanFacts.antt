@@ -8,16 +8,16 @@ use Rattle.std.proofs.lemmas.List.{length-append, length-map}
 use Rattle.std.proofs.lemmas.List.Elements.{All-from_recursion}
 use Rattle.sn_base.proofs.Lists.{all_append, all_filter, all_map, all_weaker, by_test, nat_same, nat_self, or_right}
 use Rattle.sn_fields.specs.declared.field.Field.{Field}
-use Rattle.sn_query_rules.specs.declared.ast.Refine.{Refine}
-use Rattle.sn_query_rules.specs.Limits.{RefineLimits}
+use Rattle.sn_query_grammar.specs.declared.ast.Refine.{Refine}
+use Rattle.sn_query_grammar.specs.Limits.{RefineLimits}
 use Rattle.sn_switch.specs.declared.switch.Switch.{Switch}
 use Rattle.sn_switch.specs.Texts.{IsSwitch}
-use Rattle.sn_plan_rules.specs.declared.plan.Entry.{Entry}
-use Rattle.sn_plan_rules.specs.declared.plan.Piece.{Piece}
-use Rattle.sn_fit.specs.Fits.{AreEntriesOf, IsEntryOf, OnBranch, PieceFits, PiecesFit}
-use Rattle.sn_fit.specs.Paths.{Place, is_among, level_places, piece_place, place_in, places}
+use Rattle.sn_plan_grammar.specs.declared.plan.Entry.{Entry}
+use Rattle.sn_plan_grammar.specs.declared.plan.Piece.{Piece}
+use Rattle.sn_plan_fit.specs.Fits.{AreEntriesOf, IsEntryOf, OnBranch, PieceFits, PiecesFit}
+use Rattle.sn_plan_fit.specs.Paths.{Place, is_among, level_places, piece_place, place_in, places}
 use Rattle.sn_base.specs.Rising.{IsRising}
-use Rattle.sn_fit.specs.Pieces.{piece_branch, prefix_of}
+use Rattle.sn_plan_fit.specs.Pieces.{piece_branch, prefix_of}
 use Rattle.sn_pipe.specs.Pipes.{IsCoarser}
 use Rattle.sn_types.specs.Cuts.{stateful}
 use Rattle.sn_types.specs.declared.typed_query.TypedBranch.{TypedBranch}

@@ -4,8 +4,8 @@ use Rattle.std.specs.FinSet as set
 use Rattle.std.specs.List.{AllByRecursion}
 use Rattle.std.specs.Ordering.{nat_cmp}
 use Rattle.std.proofs.lemmas.List.{map-append, take_more}
-use Rattle.sn_plan_rules.specs.declared.plan.Entry.{Entry}
-use Rattle.sn_plan_rules.specs.declared.plan.Piece.{Piece}
+use Rattle.sn_plan_grammar.specs.declared.plan.Entry.{Entry}
+use Rattle.sn_plan_grammar.specs.declared.plan.Piece.{Piece}
 use Rattle.sn_pipe.specs.Pipes.{IsNewPipe, PipeState, at_start}
 use Rattle.sn_pipe.specs.declared.stage.Stage.{Stage}
 use Rattle.sn_types.specs.declared.typed_op.TOp.{TOp}

@@ -2,7 +2,7 @@
 use Rattle.std.specs.Prelude.{◌≡◌, ◌≤◌, ◌<◌, List, length, take, true, All, nat_eq}
 use Rattle.std.specs.List.{list_any}
 use Rattle.sn_base.specs.declared.lane.Lane.{Lane}
-use Rattle.sn_fit.specs.Paths.{place_in}
+use Rattle.sn_plan_fit.specs.Paths.{place_in}
 use Rattle.sn_pipe.specs.Pipes.{IsCoarser}
 use Rattle.sn_types.specs.declared.typed_query.TypedQuery.{TypedQuery}
 use Rattle.sn_types.specs.Cuts.{stateful}

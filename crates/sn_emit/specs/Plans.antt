@@ -3,11 +3,11 @@ use Rattle.std.specs.Prelude.{◌≡◌, ℕ, suc, ◌-◌, List, [], ◌∷◌,
 use Rattle.std.specs.FinSet as set
 use Rattle.std.specs.Ordering.{nat_cmp}
 use Rattle.sn_base.specs.declared.lane.Lane.{Lane}
-use Rattle.sn_fit.specs.Paths.{place_in}
-use Rattle.sn_items.specs.Items.{items}
+use Rattle.sn_plan_fit.specs.Paths.{place_in}
+use Rattle.sn_pipe_items.specs.Items.{items}
 use Rattle.sn_pipe.specs.Pipes.{IsNewPipe, PipeState, at_start, rows_let_in}
-use Rattle.sn_plan_rules.specs.declared.plan.Entry.{Entry}
-use Rattle.sn_plan_rules.specs.declared.plan.Piece.{Piece}
+use Rattle.sn_plan_grammar.specs.declared.plan.Entry.{Entry}
+use Rattle.sn_plan_grammar.specs.declared.plan.Piece.{Piece}
 use Rattle.sn_types.specs.declared.typed_query.TypedQuery.{TypedQuery}
 use Rattle.sn_report.specs.declared.frame.Item.{Item}
 use Rattle.sn_types.specs.Cuts.{size_at}

@@ -8,9 +8,9 @@ use crate::sender::Sender;
 use sn_base::lane::Lane;
 use sn_base::memory::Memory;
 use sn_base::seq::Seq;
-use sn_fit::place_in;
 use sn_pipe::pipe::Pipe;
-use sn_plan_rules::plan::Piece;
+use sn_plan_fit::place_in;
+use sn_plan_grammar::plan::Piece;
 use sn_types::typed::Typed;
 
 /// The level before a level on a path. `None` exactly where it is the first.

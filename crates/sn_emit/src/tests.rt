@@ -1,7 +1,7 @@
 //! Plans over small windows.
 ghost use Rattle.std.specs.Prelude.{◌≡◌, ◌<◌, ℕ, IfSome, length, slice_get};
 ghost use Rattle.sn_emit.specs.Making.{CanEncode};
-ghost use Rattle.sn_fit.specs.Fits.{Fits};
+ghost use Rattle.sn_plan_fit.specs.Fits.{Fits};
 ghost use Rattle.sn_switch.specs.Texts.{IsSwitch};
 
 use crate::lanes::Emitter;
@@ -12,14 +12,14 @@ use sn_base::memory::Memory;
 use sn_base::row::Row;
 use sn_base::seq::Seq;
 use sn_fields::tuple::{Tuple, tuple_of};
-use sn_fit::fits;
 use sn_plan::parse;
-use sn_plan_rules::plan::Plan;
-use sn_read_queries::read::read;
+use sn_plan_fit::fits;
+use sn_plan_grammar::plan::Plan;
 use sn_report::encode::encode;
 use sn_report::frame::{Frame, Item, Tag};
 use sn_switch::switch::Switch;
 use sn_types::typed::Typed;
+use sn_types_read::read::read;
 use std::alloc::Global;
 use std::test::Fail;
 

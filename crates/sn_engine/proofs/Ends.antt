@@ -5,8 +5,8 @@ use Rattle.std.specs.Option.{option_map_or}
 use Rattle.std.proofs.lemmas.Bool.{and_parts, false≢true}
 use Rattle.sn_base.proofs.Lists.{by_test, nat_same, all_append}
 use Rattle.sn_base.specs.declared.lane.Lane.{Lane}
-use Rattle.sn_plan_rules.specs.declared.plan.Entry.{Entry}
-use Rattle.sn_plan_rules.specs.declared.plan.Piece.{Piece}
+use Rattle.sn_plan_grammar.specs.declared.plan.Entry.{Entry}
+use Rattle.sn_plan_grammar.specs.declared.plan.Piece.{Piece}
 use Rattle.sn_report.specs.declared.frame.Frame.TheVariants as frames
 use Rattle.sn_report.specs.declared.frame.Item.{Item}
 use Rattle.sn_types.specs.declared.typed_query.TypedQuery.{TypedQuery}

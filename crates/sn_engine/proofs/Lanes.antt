@@ -6,16 +6,16 @@ use Rattle.std.proofs.lemmas.List.{length-map, drop_all, take_all}
 use Rattle.std.proofs.lemmas.List.Sums.{sum_by-cons}
 use Rattle.sn_base.proofs.Lists.{all_append, all_map, all_weaker, nat_same}
 use Rattle.sn_base.specs.declared.lane.Lane.{Lane}
-use Rattle.sn_plan_rules.specs.declared.plan.Entry.{Entry}
-use Rattle.sn_plan_rules.specs.declared.plan.Piece.{Piece}
+use Rattle.sn_plan_grammar.specs.declared.plan.Entry.{Entry}
+use Rattle.sn_plan_grammar.specs.declared.plan.Piece.{Piece}
 use Rattle.sn_report.specs.declared.frame.Item.{Item}
-use Rattle.sn_split.specs.Branches.{IsItemOf, is_tag_of, tag_columns}
+use Rattle.sn_engine_split.specs.Branches.{IsItemOf, is_tag_of, tag_columns}
 use Rattle.sn_types.specs.declared.typed_query.TypedBranch.{TypedBranch}
 use Rattle.sn_types.specs.declared.typed_query.TypedQuery.{TypedQuery}
 use Rattle.sn_types.specs.Typed.{IsTyped, query_at, branch_at}
-use Rattle.sn_fit.specs.Fits.{AreEntriesOf, IsEntryOf, HasShape}
-use Rattle.sn_fit.proofs.Bounds.{few_in_all}
-use Rattle.sn_fit.specs.Paths.{Place, piece_place, level_places, places}
+use Rattle.sn_plan_fit.specs.Fits.{AreEntriesOf, IsEntryOf, HasShape}
+use Rattle.sn_plan_fit.proofs.Bounds.{few_in_all}
+use Rattle.sn_plan_fit.specs.Paths.{Place, piece_place, level_places, places}
 use Rattle.sn_engine.specs.declared.intake.Intake.{Intake}
 use Rattle.sn_engine.specs.Intakes.{intake_for, intakes_of, is_lane, items_at, with_item, with_end, emptied, total, IsIntake, AreIntakes}
 use Rattle.sn_base.specs.Changed.{with_first}

@@ -12,8 +12,8 @@ use Rattle.sn_base.specs.Sorted.{sorted_rows}
 use Rattle.sn_report.specs.declared.frame.Frame.{Frame}
 use Rattle.sn_report.specs.declared.frame.Frame.TheVariants.{Row, End}
 use Rattle.sn_report.specs.declared.frame.Item.{Item}
-use Rattle.sn_split.specs.Branches.{IsItemOf, query_value}
-use Rattle.sn_split.proofs.Queries.{value_bags}
+use Rattle.sn_engine_split.specs.Branches.{IsItemOf, query_value}
+use Rattle.sn_engine_split.proofs.Queries.{value_bags}
 use Rattle.sn_types.specs.declared.answers.Part.{Part}
 use Rattle.sn_types.specs.declared.typed_query.TypedQuery.{TypedQuery}
 use Rattle.sn_types.specs.Typed.{IsTyped, branch_at, query_at}

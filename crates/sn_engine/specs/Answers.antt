@@ -1,7 +1,7 @@
 -- The answers of a window.
 use Rattle.std.specs.Prelude.{◌≡◌, ℕ, List, [], ◌∷◌, map, filter, ◌==◌, unwrap_or, None, Some, Result, Ok, Err}
 use Rattle.sn_base.specs.Sorted.{sorted_rows}
-use Rattle.sn_split.specs.Branches.{query_value}
+use Rattle.sn_engine_split.specs.Branches.{query_value}
 use Rattle.sn_types.specs.declared.answers.Answers.{Answers}
 use Rattle.sn_types.specs.declared.answers.Part.{Part}
 use Rattle.sn_types.specs.declared.typed_query.TypedQuery.{TypedQuery}

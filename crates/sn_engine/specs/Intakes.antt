@@ -6,13 +6,13 @@ use Rattle.std.proofs.Math.Bridge.{le_prop}
 use Rattle.std.specs.Option.{option_map_or}
 use Rattle.sn_base.specs.Changed.{with_first}
 use Rattle.sn_base.specs.declared.lane.Lane.{Lane}
-use Rattle.sn_fit.specs.Paths.{place_in}
-use Rattle.sn_plan_rules.specs.declared.plan.Entry.{Entry}
-use Rattle.sn_plan_rules.specs.declared.plan.Piece.{Piece}
+use Rattle.sn_plan_fit.specs.Paths.{place_in}
+use Rattle.sn_plan_grammar.specs.declared.plan.Entry.{Entry}
+use Rattle.sn_plan_grammar.specs.declared.plan.Piece.{Piece}
 use Rattle.sn_report.specs.declared.frame.Frame.{Frame}
 use Rattle.sn_report.specs.declared.frame.Frame.TheVariants.{Row, End}
 use Rattle.sn_report.specs.declared.frame.Item.{Item}
-use Rattle.sn_split.specs.Branches.{IsItemOf, tag_columns}
+use Rattle.sn_engine_split.specs.Branches.{IsItemOf, tag_columns}
 use Rattle.sn_types.specs.declared.typed_query.TypedQuery.{TypedQuery}
 use Rattle.sn_types.specs.Typed.{query_at, branch_at}
 use Rattle.sn_types.proofs.RowsAfter.{of_prop}

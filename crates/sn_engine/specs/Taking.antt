@@ -7,7 +7,7 @@ use Rattle.sn_base.specs.declared.column.Column.{Column}
 use Rattle.sn_report.specs.declared.frame.Frame.{Frame}
 use Rattle.sn_report.specs.declared.frame.Frame.TheVariants.{Row, End}
 use Rattle.sn_report.specs.declared.frame.Item.{Item}
-use Rattle.sn_split.specs.Branches.{is_tag_of, tag_columns}
+use Rattle.sn_engine_split.specs.Branches.{is_tag_of, tag_columns}
 use Rattle.sn_types.specs.declared.typed_query.TypedBranch.{TypedBranch}
 use Rattle.sn_types.specs.declared.typed_query.TypedQuery.{TypedQuery}
 use Rattle.sn_types.specs.Typed.{branch_at}

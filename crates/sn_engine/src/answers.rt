@@ -4,7 +4,7 @@ ghost use Rattle.std.specs.Prelude.{position};
 ghost use Rattle.std.specs.List.{AllByRecursion};
 ghost use Rattle.sn_engine.specs.Intakes.{AreIntakes, IsIntake, items_at, first_open, lane_at};
 ghost use Rattle.sn_engine.specs.Answers.{part_of, parts_of, window_of};
-ghost use Rattle.sn_split.specs.Branches.{IsItemOf};
+ghost use Rattle.sn_engine_split.specs.Branches.{IsItemOf};
 ghost use Rattle.sn_types.specs.Typed.{query_at, branch_at};
 
 use crate::intake::Intake;

@@ -6,7 +6,7 @@ ghost use Rattle.sn_engine.specs.Intakes.{AreIntakes, are_intakes_prop, EndsAgre
 ghost use Rattle.sn_base.specs.Changed.{with_first};
 ghost use Rattle.sn_engine.specs.Taking.{take_fault, Refuses};
 ghost use Rattle.sn_engine.specs.Answers.{Closes};
-ghost use Rattle.sn_fit.specs.Fits.{HasShape};
+ghost use Rattle.sn_plan_fit.specs.Fits.{HasShape};
 ghost use Rattle.sn_report.specs.declared.frame.Frame.TheVariants as Frame;
 
 use crate::answers::{first_open, parts, window_of};
@@ -16,7 +16,7 @@ use crate::make::intakes;
 use crate::refuse::{place_for_end, place_for_item};
 use sn_base::lane::Lane;
 use sn_base::memory::Memory;
-use sn_plan_rules::plan::Plan;
+use sn_plan_grammar::plan::Plan;
 use sn_report::frame::{Frame, Item};
 use sn_types::answers::Answers;
 use sn_types::typed::Typed;

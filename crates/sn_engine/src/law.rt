@@ -11,7 +11,7 @@ ghost use Rattle.sn_base.specs.Bags.{SameBag};
 ghost use Rattle.sn_base.specs.Sorted.{sorted_rows};
 ghost use Rattle.sn_ops.specs.Plain.{query_rows};
 ghost use Rattle.sn_ops.specs.declared.packets.Kept.{Kept};
-ghost use Rattle.sn_split.specs.Branches.{AreSplit};
+ghost use Rattle.sn_engine_split.specs.Branches.{AreSplit};
 ghost use Rattle.sn_types.specs.Typed.{IsTyped, HasWidths, query_at};
 ghost use Rattle.sn_types.specs.declared.typed_query.TypedQuery.{TypedQuery};
 

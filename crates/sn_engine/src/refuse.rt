@@ -5,7 +5,7 @@ ghost use Rattle.sn_engine.specs.Intakes.{is_lane, agrees, AreIntakes};
 ghost use Rattle.sn_engine.specs.Taking.{has_columns, is_above, row_fault, end_fault, take_fault, Places};
 ghost use Rattle.sn_report.specs.declared.frame.Frame.TheVariants as Frame;
 ghost use Rattle.sn_types.specs.declared.typed_query.TypedQuery.{TypedQuery};
-ghost use Rattle.sn_split.specs.Branches.{is_distinct, is_reduce, is_at_place, is_tag_of, tag_columns};
+ghost use Rattle.sn_engine_split.specs.Branches.{is_distinct, is_reduce, is_at_place, is_tag_of, tag_columns};
 ghost use Rattle.sn_types.specs.Cuts.{is_stateful};
 ghost use Rattle.sn_types.specs.Typed.{query_at, branch_at, schema_at};
 

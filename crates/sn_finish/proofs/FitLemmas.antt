@@ -13,10 +13,10 @@ use Rattle.sn_base.specs.declared.column.Column.{Column}
 use Rattle.sn_base.proofs.Lists.{all_append, all_map, all_weaker}
 use Rattle.sn_base.proofs.GroupLemmas.{AllHad, keys, total, total_had}
 use Rattle.sn_base.proofs.OnceLemmas.{all_once}
-use Rattle.sn_query_rules.specs.declared.ast.Op.{Op}
-use Rattle.sn_query_rules.specs.declared.ast.What.{What}
-use Rattle.sn_query_rules.specs.declared.ast.What.TheVariants as what
-use Rattle.sn_walk.specs.Columns.{column_named, columns_after, folded_column, packet_columns}
+use Rattle.sn_query_grammar.specs.declared.ast.Op.{Op}
+use Rattle.sn_query_grammar.specs.declared.ast.What.{What}
+use Rattle.sn_query_grammar.specs.declared.ast.What.TheVariants as what
+use Rattle.sn_types_faults.specs.Columns.{column_named, columns_after, folded_column, packet_columns}
 use Rattle.sn_types.specs.declared.typed_op.TOp.{TOp}
 use Rattle.sn_types.specs.declared.typed_op.TOp.TheVariants as ops
 use Rattle.sn_types.specs.declared.typed_query.TypedBranch.{TypedBranch}
@@ -34,11 +34,11 @@ use Rattle.sn_ops.specs.Flow.{Fits}
 use Rattle.sn_ops.proofs.Branches.{are_of_prop}
 use Rattle.sn_ops.proofs.Fitting.{fit_along, all_fit_prop}
 use Rattle.sn_report.specs.declared.frame.Item.{Item}
-use Rattle.sn_items.specs.Value.{is_at, is_partial, rows_with, taken, finish}
-use Rattle.sn_items.proofs.ValueBag.{IsHeld, PartialHad}
-use Rattle.sn_split.specs.Branches.{branch_value, tag_columns, IsItemOf}
-use Rattle.sn_split.proofs.Typed.{has_prop, rows_at, rows_partial}
-use Rattle.sn_split.proofs.TypedItems.{RowsFrom, first_schema, grouping, of_front, partial_had, parts_here, rows_later, rows_next, with_fold}
+use Rattle.sn_pipe_items.specs.Value.{is_at, is_partial, rows_with, taken, finish}
+use Rattle.sn_pipe_items.proofs.ValueBag.{IsHeld, PartialHad}
+use Rattle.sn_engine_split.specs.Branches.{branch_value, tag_columns, IsItemOf}
+use Rattle.sn_engine_split.proofs.Typed.{has_prop, rows_at, rows_partial}
+use Rattle.sn_engine_split.proofs.TypedItems.{RowsFrom, first_schema, grouping, of_front, partial_had, parts_here, rows_later, rows_next, with_fold}
 use Rattle.sn_finish.specs.Fitting.{PartsFit, ItemsFit}
 
 -- ---- Partial rows

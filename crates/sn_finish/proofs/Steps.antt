@@ -1,7 +1,7 @@
 -- One item more, as the loops take it.
 use Rattle.std.proofs.Common.{◌≡◌, ℕ, ◌+◌, ◌<◌, List, [], ◌∷◌, ◌++◌, map, filter, take, length, get_or, Bool, true, false, ap, sym, ◌∙◌}
 use Rattle.std.proofs.lemmas.List.{map-append}
-use Rattle.sn_items.specs.Value.{rows_with}
+use Rattle.sn_pipe_items.specs.Value.{rows_with}
 use Rattle.sn_ops.proofs.Steps.{filter_passed, filter_refused}
 use Rattle.sn_report.specs.declared.frame.Item.{Item}
 use Rattle.sn_report.specs.declared.frame.Tag.{Tag}

@@ -1,7 +1,7 @@
 -- Items that operators can be evaluated at.
 use Rattle.std.specs.Prelude.{ℕ, suc, List, [], ◌∷◌, ◌++◌}
 use Rattle.sn_base.specs.Groups.{Row}
-use Rattle.sn_items.specs.Value.{is_at, is_partial, rows_with, taken}
+use Rattle.sn_pipe_items.specs.Value.{is_at, is_partial, rows_with, taken}
 use Rattle.sn_ops.specs.Flow.{ArePartsOf, Fits}
 use Rattle.sn_report.specs.declared.frame.Item.{Item}
 use Rattle.sn_types.specs.declared.typed_op.TOp.{TOp}

@@ -3,7 +3,7 @@ ghost use Rattle.std.specs.Prelude.{◌≡◌, ◌<◌, length, IfOk};
 ghost use Rattle.std.specs.List.{AllByRecursion};
 ghost use Rattle.sn_base.specs.Columns.{IsOf};
 ghost use Rattle.sn_base.specs.Sorted.{sorted_rows};
-ghost use Rattle.sn_split.specs.Branches.{branch_value, query_value, IsItemOf};
+ghost use Rattle.sn_engine_split.specs.Branches.{branch_value, query_value, IsItemOf};
 ghost use Rattle.sn_types.specs.Typed.{query_at, branch_at, end_columns, final_columns};
 
 use crate::value::value;

@@ -1,6 +1,6 @@
 //! Items through operators.
 ghost use Rattle.std.specs.Prelude.{◌≡◌, ◌≤◌, length, map, IfOk};
-ghost use Rattle.sn_items.specs.Value.{is_at, is_partial, rows_with, taken, value};
+ghost use Rattle.sn_pipe_items.specs.Value.{is_at, is_partial, rows_with, taken, value};
 ghost use Rattle.sn_ops.specs.Flow.{Fits};
 ghost use Rattle.sn_finish.specs.Fitting.{PartsFit, ItemsFit};
 ghost use Rattle.sn_types.specs.Values.{op_at};

@@ -5,11 +5,11 @@ use Rattle.std.specs.List.{AllByRecursion, list_any}
 use Rattle.std.proofs.Math.Nat.{pow-suc}
 use Rattle.std.proofs.lemmas.Bool.Decides.{nat_tests}
 use Rattle.sn_base.proofs.Lists.{all_weaker, by_test, nat_same}
-use Rattle.sn_chosen.proofs.PathNumbers.{all_two, among_head, among_rest, not_among}
-use Rattle.sn_chosen.specs.Costs.{bits_of, is_upto}
+use Rattle.sn_plan_lists.proofs.PathNumbers.{all_two, among_head, among_rest, not_among}
+use Rattle.sn_plan_lists.specs.Costs.{bits_of, is_upto}
 use Rattle.sn_cost.specs.Entries.{front_of}
-use Rattle.sn_driver.proofs.Apart.{all_index}
-use Rattle.sn_fit.specs.Paths.{is_among}
+use Rattle.sn_engine_lockstep.proofs.Apart.{all_index}
+use Rattle.sn_plan_fit.specs.Paths.{is_among}
 use Rattle.sn_base.specs.Rising.{IsRising}
 
 -- ---- levels by their bits

@@ -3,24 +3,24 @@ use Rattle.std.proofs.Common.{◌≡◌, ℕ, suc, ◌+◌, ◌<◌, List, [], �
 use Rattle.std.specs.List.{AllByRecursion, sum_by}
 use Rattle.std.proofs.lemmas.List.{length-take-le, map-append}
 use Rattle.std.proofs.lemmas.List.Sums.{sum_by-append, sum_by-cons}
-use Rattle.sn_chosen.specs.Chosen.{HasLevels, option_of}
-use Rattle.sn_chosen.specs.Costs.{bits_of, entry_cost, is_upto, piece_cost, plan_cost}
-use Rattle.sn_chosen.specs.Theorems.{HaveRisingNumbers}
-use Rattle.sn_chosen.proofs.OptionNumbers.{number_of_option}
-use Rattle.sn_chosen.proofs.Pieces.{GoodPiece, is_option}
-use Rattle.sn_chosen.proofs.Readings.{good_entry}
-use Rattle.sn_choices.specs.Options.{Setting}
+use Rattle.sn_plan_lists.specs.Chosen.{HasLevels, option_of}
+use Rattle.sn_plan_lists.specs.Costs.{bits_of, entry_cost, is_upto, piece_cost, plan_cost}
+use Rattle.sn_plan_lists.specs.Theorems.{HaveRisingNumbers}
+use Rattle.sn_plan_lists.proofs.OptionNumbers.{number_of_option}
+use Rattle.sn_plan_lists.proofs.Pieces.{GoodPiece, is_option}
+use Rattle.sn_plan_lists.proofs.Readings.{good_entry}
+use Rattle.sn_plan_choices.specs.Options.{Setting}
 use Rattle.sn_cost.specs.Entries as cost
 use Rattle.sn_cost.specs.Entries.{IsPiece, entry_count}
-use Rattle.sn_driver.specs.Windows.{piece_count}
-use Rattle.sn_driver.proofs.Apart.{levels_known, place_is}
+use Rattle.sn_engine_lockstep.specs.Windows.{piece_count}
+use Rattle.sn_engine_lockstep.proofs.Apart.{levels_known, place_is}
 use Rattle.sn_emit.specs.Plans.{Placed, pieces_from, placed}
-use Rattle.sn_fit.specs.Fits.{AreEntriesOf, Fits, IsEntryOf, OnBranch, PieceFits, PiecesFit}
-use Rattle.sn_fit.specs.Paths.{is_among, place_in}
-use Rattle.sn_fit.specs.Pieces.{piece_branch}
+use Rattle.sn_plan_fit.specs.Fits.{AreEntriesOf, Fits, IsEntryOf, OnBranch, PieceFits, PiecesFit}
+use Rattle.sn_plan_fit.specs.Paths.{is_among, place_in}
+use Rattle.sn_plan_fit.specs.Pieces.{piece_branch}
 use Rattle.sn_base.specs.Rising.{IsRising}
-use Rattle.sn_plan_rules.specs.declared.plan.Entry.{Entry}
-use Rattle.sn_plan_rules.specs.declared.plan.Piece.{Piece}
+use Rattle.sn_plan_grammar.specs.declared.plan.Entry.{Entry}
+use Rattle.sn_plan_grammar.specs.declared.plan.Piece.{Piece}
 use Rattle.sn_paid.specs.Sent.{sent_over}
 use Rattle.sn_priced.specs.Priced.{AreCounted}
 use Rattle.sn_priced.specs.Space.{trained_entry}

@@ -4,11 +4,11 @@ use Rattle.std.specs.Option.{option_map}
 use Rattle.std.proofs.lemmas.List.{length-take-le}
 use Rattle.sn_base.specs.Groups.{Row}
 use Rattle.sn_cost.specs.Entries as cost
-use Rattle.sn_driver.specs.Windows.{count_of, piece_count, seen_at}
-use Rattle.sn_driver.proofs.Apart.{place_is}
+use Rattle.sn_engine_lockstep.specs.Windows.{count_of, piece_count, seen_at}
+use Rattle.sn_engine_lockstep.proofs.Apart.{place_is}
 use Rattle.sn_emit.specs.Plans.{placed}
-use Rattle.sn_fit.specs.Paths.{is_among, place_in}
-use Rattle.sn_plan_rules.specs.declared.plan.Piece.{Piece}
+use Rattle.sn_plan_fit.specs.Paths.{is_among, place_in}
+use Rattle.sn_plan_grammar.specs.declared.plan.Piece.{Piece}
 use Rattle.sn_refine.specs.Refined.{Windows, answered, before, level_rows, refined_rows}
 use Rattle.sn_types.specs.declared.typed_query.TypedQuery.{TypedQuery}
 use Rattle.sn_types.specs.Typed.{query_at}

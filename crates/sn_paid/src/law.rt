@@ -1,10 +1,10 @@
 //! Laws of costs and items, with nothing to run.
 ghost use Rattle.std.specs.Prelude.{◌≡◌, ℕ, List};
-ghost use Rattle.sn_chosen.specs.Costs.{plan_cost};
-ghost use Rattle.sn_chosen.specs.Theorems.{HaveRisingNumbers};
-ghost use Rattle.sn_fit.specs.Fits.{Fits};
+ghost use Rattle.sn_plan_lists.specs.Costs.{plan_cost};
+ghost use Rattle.sn_plan_lists.specs.Theorems.{HaveRisingNumbers};
+ghost use Rattle.sn_plan_fit.specs.Fits.{Fits};
 ghost use Rattle.sn_paid.specs.Sent.{sent_over};
-ghost use Rattle.sn_plan_rules.specs.declared.plan.Entry.{Entry};
+ghost use Rattle.sn_plan_grammar.specs.declared.plan.Entry.{Entry};
 ghost use Rattle.sn_priced.specs.Priced.{AreCounted};
 ghost use Rattle.sn_priced.specs.Space.{trained_entry};
 ghost use Rattle.sn_refine.specs.Steps.{Given};

@@ -17,24 +17,24 @@ use Rattle.sn_base.proofs.Lists.{all_append, all_filter, all_map, any_push, map_
 use Rattle.sn_base.proofs.OnceLemmas.{all_once, any_once}
 use Rattle.sn_chain.specs.Homes.{homes_by_place}
 use Rattle.sn_chain.proofs.HomeLemmas.{homes_known}
-use Rattle.sn_query_rules.specs.declared.ast.Op.{Op}
-use Rattle.sn_query_rules.specs.declared.ast.What.{What}
-use Rattle.sn_query_rules.specs.declared.ast.What.TheVariants as what
-use Rattle.sn_walk.specs.Columns.{columns_after, packet_columns}
+use Rattle.sn_query_grammar.specs.declared.ast.Op.{Op}
+use Rattle.sn_query_grammar.specs.declared.ast.What.{What}
+use Rattle.sn_query_grammar.specs.declared.ast.What.TheVariants as what
+use Rattle.sn_types_faults.specs.Columns.{columns_after, packet_columns}
 use Rattle.sn_report.specs.declared.frame.Item.{Item}
 use Rattle.sn_report.specs.declared.frame.Tag.{Tag}
 use Rattle.sn_report.specs.declared.frame.Tag.TheVariants.{At, Partial}
-use Rattle.sn_items.specs.Items.{held, items, tagged}
-use Rattle.sn_items.proofs.Bagged.{bagged, items_from, over_distinct, over_reduce, some_row}
-use Rattle.sn_items.proofs.Homes.{all_members, member}
-use Rattle.sn_items.proofs.OrderLemmas.{items_bag}
+use Rattle.sn_pipe_items.specs.Items.{held, items, tagged}
+use Rattle.sn_pipe_items.proofs.Bagged.{bagged, items_from, over_distinct, over_reduce, some_row}
+use Rattle.sn_pipe_items.proofs.Homes.{all_members, member}
+use Rattle.sn_pipe_items.proofs.OrderLemmas.{items_bag}
 use Rattle.sn_ops.specs.Packets.{packet_rows}
 use Rattle.sn_ops.specs.declared.packets.Kept.{Kept}
 use Rattle.sn_ops.proofs.Branches.{packets_of}
-use Rattle.sn_split.specs.Branches.{IsItemOf, branch_items, is_distinct, is_reduce, is_tag_of, tag_columns}
-use Rattle.sn_split.proofs.Cuts.{cut_within}
-use Rattle.sn_split.proofs.Typed.{cut_of}
-use Rattle.sn_split.proofs.TypedItems.{grouping}
+use Rattle.sn_engine_split.specs.Branches.{IsItemOf, branch_items, is_distinct, is_reduce, is_tag_of, tag_columns}
+use Rattle.sn_engine_split.proofs.Cuts.{cut_within}
+use Rattle.sn_engine_split.proofs.Typed.{cut_of}
+use Rattle.sn_engine_split.proofs.TypedItems.{grouping}
 use Rattle.sn_types.specs.Cuts.{is_stateful, size_at}
 use Rattle.sn_types.specs.declared.typed_op.TOp.{TOp}
 use Rattle.sn_types.specs.declared.typed_op.TOp.TheVariants as ops

@@ -11,7 +11,7 @@ use Rattle.sn_base.specs.AnyFold.{any_has}
 use Rattle.sn_base.specs.Groups.{Row}
 use Rattle.sn_base.specs.Operators.{Had, Op}
 use Rattle.sn_base.proofs.Lists.{all_filter, all_map, all_weaker, map_both}
-use Rattle.sn_items.specs.Items.{by_packet, items, numbered, read_from, sent_from}
+use Rattle.sn_pipe_items.specs.Items.{by_packet, items, numbered, read_from, sent_from}
 use Rattle.sn_ops.specs.Flow.{AllFit}
 use Rattle.sn_ops.proofs.Branches.{branch_fit}
 use Rattle.sn_types.specs.declared.typed_op.TOp.{TOp}
@@ -21,7 +21,7 @@ use Rattle.sn_types.specs.declared.typed_query.TypedBranch.{TypedBranch}
 use Rattle.sn_types.specs.Cuts.{cut_behind_distinct, filters_ahead, greatest_cut}
 use Rattle.sn_types.specs.Typed.{HasWidths, IsTyped, branch_at, branch_of, packet_row, query_at}
 use Rattle.sn_fields.specs.declared.field.Field.{Field}
-use Rattle.sn_walk.specs.Columns.{packet_columns}
+use Rattle.sn_types_faults.specs.Columns.{packet_columns}
 use Rattle.sn_types.specs.Typing.{typed_ops}
 use Rattle.sn_types.specs.Values.{op_at, value_of}
 use Rattle.sn_types.proofs.Facts.{branch_source_of}

@@ -9,7 +9,7 @@ ghost use Rattle.sn_types.specs.Cuts.{size_at};
 ghost use Rattle.sn_pipe.specs.Prefixes.{left_in};
 ghost use Rattle.sn_ops.specs.Packets.{packet_rows};
 ghost use Rattle.sn_ops.specs.declared.packets.Kept.{Kept};
-ghost use Rattle.sn_split.specs.Branches.{IsItemOf, branch_items, is_tag_of};
+ghost use Rattle.sn_engine_split.specs.Branches.{IsItemOf, branch_items, is_tag_of};
 ghost use Rattle.sn_types.specs.Typed.{HasWidths, IsTyped, branch_at, query_at};
 ghost use Rattle.sn_types.specs.Values.{op_at};
 ghost use Rattle.sn_types.specs.declared.typed_query.TypedQuery.{TypedQuery};
@@ -18,7 +18,7 @@ ghost use Rattle.sn_base.specs.Operators.{Had};
 ghost use Rattle.sn_pipe.specs.declared.stage.Stage.{Stage};
 ghost use Rattle.sn_pipe.specs.Stages.{cleared, item_from, ops_of, stages_behind};
 ghost use Rattle.sn_pipe.specs.Windows.{HaveSizes, IsPrefix, given, left_from, option_list};
-ghost use Rattle.sn_items.specs.Items.{at_packet, items, sent};
+ghost use Rattle.sn_pipe_items.specs.Items.{at_packet, items, sent};
 
 /// From empty registers on, what the rows of a window give one after another, and then what is read out, are the items
 /// of the prefix in their order. The row of each packet gives the item that stands at this packet, if there is one.

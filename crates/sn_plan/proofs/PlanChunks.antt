@@ -3,13 +3,13 @@ use Rattle.std.proofs.Common.{◌≡◌, ℕ, List, [], ◌∷◌, ◌++◌, map
 use Rattle.std.specs.Prelude.{codes}
 use Rattle.std.specs.Fmt.{decimal}
 use Rattle.std.proofs.lemmas.List.{append-nil}
-use Rattle.sn_rules.specs.Tokens.{Lexeme, word, number, symbol}
+use Rattle.sn_text_rules.specs.Tokens.{Lexeme, word, number, symbol}
 use Rattle.sn_text.specs.Writing.{lexeme_text}
 use Rattle.sn_text.proofs.Symbols.{HeadOk}
 use Rattle.sn_text.proofs.Chunks.{Chunk, chunk, text_of, Blank, Spaced}
-use Rattle.sn_plan_rules.specs.declared.plan.Plan.{Plan}
-use Rattle.sn_plan_rules.specs.declared.plan.Entry.{Entry}
-use Rattle.sn_plan_rules.specs.declared.plan.Piece.{Piece}
+use Rattle.sn_plan_grammar.specs.declared.plan.Plan.{Plan}
+use Rattle.sn_plan_grammar.specs.declared.plan.Entry.{Entry}
+use Rattle.sn_plan_grammar.specs.declared.plan.Piece.{Piece}
 use Rattle.sn_plan.specs.Printing.{texts, next_text, list_text, sizes_text, piece_text, entry_text, plan_text}
 
 abbrev pub space : List ℕ

@@ -2,14 +2,14 @@
 use Rattle.std.proofs.Common.{◌≡◌, ℕ, List, [], ◌∷◌, ◌++◌, map, Bool, true, false, Option, Some, None, refl, sym, ap, ◌∙◌, append_assoc}
 use Rattle.std.specs.Prelude.{codes}
 use Rattle.std.proofs.lemmas.List.{map-append, append-nil}
-use Rattle.sn_rules.specs.declared.Flaw.TheVariants.{Expected}
-use Rattle.sn_rules.specs.Tokens.{Lexeme, word, number, symbol, finish, Mark, plain, mark_face, mark_faces}
-use Rattle.sn_rules.specs.Rules.{Rule, kept, items_spelled, fit_from, holds_of}
-use Rattle.sn_rules.specs.Words.{sign, number_in, full, ◌▸◌}
-use Rattle.sn_plan_rules.specs.declared.plan.Plan.{Plan}
-use Rattle.sn_plan_rules.specs.declared.plan.Entry.{Entry}
-use Rattle.sn_plan_rules.specs.declared.plan.Piece.{Piece}
-use Rattle.sn_plan_rules.specs.Grammar.{numbers, both_rule, sizes_rule, piece_rule, pieces_rule, entry_rule, entries_rule, plan_rule, file_rule}
+use Rattle.sn_text_rules.specs.declared.Flaw.TheVariants.{Expected}
+use Rattle.sn_text_rules.specs.Tokens.{Lexeme, word, number, symbol, finish, Mark, plain, mark_face, mark_faces}
+use Rattle.sn_text_rules.specs.Rules.{Rule, kept, items_spelled, fit_from, holds_of}
+use Rattle.sn_text_rules.specs.Words.{sign, number_in, full, ◌▸◌}
+use Rattle.sn_plan_grammar.specs.declared.plan.Plan.{Plan}
+use Rattle.sn_plan_grammar.specs.declared.plan.Entry.{Entry}
+use Rattle.sn_plan_grammar.specs.declared.plan.Piece.{Piece}
+use Rattle.sn_plan_grammar.specs.Grammar.{numbers, both_rule, sizes_rule, piece_rule, pieces_rule, entry_rule, entries_rule, plan_rule, file_rule}
 use Rattle.sn_text.proofs.Chunks.{Chunk, chunk, face_of}
 use Rattle.sn_plan.proofs.PlanChunks.{space, line_end, further_chunks, list_chunks, sizes_chunks, piece_chunks, pieces_chunks, entry_chunks, entries_chunks, plan_chunks}
 

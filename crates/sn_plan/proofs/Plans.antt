@@ -1,26 +1,26 @@
 -- The plan of a whole text.
 use Rattle.std.proofs.Common.{◌≡◌, ℕ, Bool, true, cond, List, [], ◌∷◌, ◌++◌, Result, Ok, Err, refl, sym, ap, subst, ◌∙◌, append_assoc}
 use Rattle.std.proofs.lemmas.List.{append_cancel_right}
-use Rattle.sn_rules.specs.declared.Flaw.{Flaw}
-use Rattle.sn_rules.specs.declared.Flaw.TheVariants as kinds
-use Rattle.sn_rules.specs.Tokens.{Tok, Spelled, Read, got, fails}
-use Rattle.sn_rules.specs.Rules.{kept, FirstFault}
-use Rattle.sn_rules.specs.Words.{judged_by}
-use Rattle.sn_rules.proofs.Common.{same_value, same_rest, respelled, spelled_append}
-use Rattle.sn_rules.proofs.Faults.{fault_of as first_fault}
-use Rattle.sn_rules.proofs.Bounded.{told_ok}
+use Rattle.sn_text_rules.specs.declared.Flaw.{Flaw}
+use Rattle.sn_text_rules.specs.declared.Flaw.TheVariants as kinds
+use Rattle.sn_text_rules.specs.Tokens.{Tok, Spelled, Read, got, fails}
+use Rattle.sn_text_rules.specs.Rules.{kept, FirstFault}
+use Rattle.sn_text_rules.specs.Words.{judged_by}
+use Rattle.sn_text_rules.proofs.Common.{same_value, same_rest, respelled, spelled_append}
+use Rattle.sn_text_rules.proofs.Faults.{fault_of as first_fault}
+use Rattle.sn_text_rules.proofs.Bounded.{told_ok}
 use Rattle.sn_text.specs.Cutting.{is_last, tokens_of}
 use Rattle.sn_text.proofs.Ends.{tokens_ended}
 use Rattle.sn_text.specs.Lexing.{left}
-use Rattle.sn_read.specs.declared.stop.Stop.{Stop}
-use Rattle.sn_read.specs.declared.stop.Stop.TheVariants as stops
-use Rattle.sn_read.specs.Reading.{Halts}
-use Rattle.sn_read.proofs.Tokens.{Next, halts}
-use Rattle.sn_plan_rules.specs.declared.plan.Plan.{Plan}
-use Rattle.sn_plan_rules.specs.Grammar.{end_in, any_end, end_rule, plan_rule, file_rule}
-use Rattle.sn_plan_rules.proofs.Goods.{plan_good, end_good, file_good, ends}
-use Rattle.sn_plan_rules.proofs.Starts.{file_starts}
-use Rattle.sn_plan_rules.proofs.Bounded.{flaws, file_telling}
+use Rattle.sn_text_read.specs.declared.stop.Stop.{Stop}
+use Rattle.sn_text_read.specs.declared.stop.Stop.TheVariants as stops
+use Rattle.sn_text_read.specs.Reading.{Halts}
+use Rattle.sn_text_read.proofs.Tokens.{Next, halts}
+use Rattle.sn_plan_grammar.specs.declared.plan.Plan.{Plan}
+use Rattle.sn_plan_grammar.specs.Grammar.{end_in, any_end, end_rule, plan_rule, file_rule}
+use Rattle.sn_plan_grammar.proofs.Goods.{plan_good, end_good, file_good, ends}
+use Rattle.sn_plan_grammar.proofs.Starts.{file_starts}
+use Rattle.sn_plan_grammar.proofs.Bounded.{flaws, file_telling}
 use Rattle.sn_plan.specs.declared.fault.PlanFault.{PlanFault}
 use Rattle.sn_plan.specs.declared.fault.PlanFault.TheVariants as faults
 use Rattle.sn_plan.specs.Reading.{BeginsAt}

@@ -1,20 +1,20 @@
 -- A plan text is read as exactly one thing.
 use Rattle.std.proofs.Common.{◌≡◌, ℕ, Bool, true, List, [], ◌∷◌, ◌++◌, Result, Ok, Err, refl, sym, ap, ◌∙◌}
 use Rattle.std.specs.Prelude.{◌≢◌}
-use Rattle.sn_rules.specs.declared.Flaw.{Flaw}
-use Rattle.sn_rules.specs.declared.Flaw.TheVariants as kinds
-use Rattle.sn_rules.specs.Tokens.{Tok, Spelled, Read, got, fails, short}
-use Rattle.sn_rules.specs.Rules.{kept, FirstFault}
-use Rattle.sn_rules.proofs.Common.{respelled, split_spelled}
-use Rattle.sn_rules.proofs.Faults.{same_fault}
-use Rattle.sn_rules.proofs.Bounded.{Tells, fault_at}
+use Rattle.sn_text_rules.specs.declared.Flaw.{Flaw}
+use Rattle.sn_text_rules.specs.declared.Flaw.TheVariants as kinds
+use Rattle.sn_text_rules.specs.Tokens.{Tok, Spelled, Read, got, fails, short}
+use Rattle.sn_text_rules.specs.Rules.{kept, FirstFault}
+use Rattle.sn_text_rules.proofs.Common.{respelled, split_spelled}
+use Rattle.sn_text_rules.proofs.Faults.{same_fault}
+use Rattle.sn_text_rules.proofs.Bounded.{Tells, fault_at}
 use Rattle.sn_text.specs.Cutting.{tokens_of}
 use Rattle.sn_text.proofs.Ends.{tokens_ended}
-use Rattle.sn_plan_rules.specs.declared.plan.Plan.{Plan}
-use Rattle.sn_plan_rules.specs.Grammar.{plan_rule, end_rule, file_rule}
-use Rattle.sn_plan_rules.proofs.Goods.{file_good, ends}
-use Rattle.sn_plan_rules.proofs.Starts.{file_starts}
-use Rattle.sn_plan_rules.proofs.Bounded.{flaws, file_telling}
+use Rattle.sn_plan_grammar.specs.declared.plan.Plan.{Plan}
+use Rattle.sn_plan_grammar.specs.Grammar.{plan_rule, end_rule, file_rule}
+use Rattle.sn_plan_grammar.proofs.Goods.{file_good, ends}
+use Rattle.sn_plan_grammar.proofs.Starts.{file_starts}
+use Rattle.sn_plan_grammar.proofs.Bounded.{flaws, file_telling}
 use Rattle.sn_plan.specs.declared.fault.PlanFault.{PlanFault}
 use Rattle.sn_plan.specs.declared.fault.PlanFault.TheVariants as faults
 use Rattle.sn_plan.specs.Texts.{StandsFor, IsFault, fault_of, IsRead, HasReading}

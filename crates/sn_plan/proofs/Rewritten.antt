@@ -1,17 +1,17 @@
 -- What is printed stands for the same plan, whose end is behind the last byte.
 use Rattle.std.proofs.Common.{◌≡◌, ℕ, Bool, true, false, List, [], ◌∷◌, ◌++◌, length, map, refl, sym, ap, ◌∙◌, subst, append_assoc}
 use Rattle.std.proofs.lemmas.List.{map-append, append-nil}
-use Rattle.sn_rules.specs.Tokens.{Lexeme, finish, Tok, Mark, plain, Spelled, mark_face, faces, mark_faces}
-use Rattle.sn_rules.specs.Rules.{kept, Accepts}
-use Rattle.sn_rules.proofs.Common.{faces_append, spelled_faces, split_spelled}
+use Rattle.sn_text_rules.specs.Tokens.{Lexeme, finish, Tok, Mark, plain, Spelled, mark_face, faces, mark_faces}
+use Rattle.sn_text_rules.specs.Rules.{kept, Accepts}
+use Rattle.sn_text_rules.proofs.Common.{faces_append, spelled_faces, split_spelled}
 use Rattle.sn_text.specs.Cutting.{tokens_of}
 use Rattle.sn_text.proofs.Ends.{end_at}
 use Rattle.sn_text.proofs.Lexemes.{AllFine}
 use Rattle.sn_text.proofs.Cut.{Closed, cut_fine, front_fine}
 use Rattle.sn_text.proofs.Chunks.{face_of, text_of, read_again}
-use Rattle.sn_plan_rules.specs.declared.plan.Plan.{Plan}
-use Rattle.sn_plan_rules.specs.Grammar.{end_face, plan_rule, file_rule}
-use Rattle.sn_plan_rules.proofs.Goods.{file_good}
+use Rattle.sn_plan_grammar.specs.declared.plan.Plan.{Plan}
+use Rattle.sn_plan_grammar.specs.Grammar.{end_face, plan_rule, file_rule}
+use Rattle.sn_plan_grammar.proofs.Goods.{file_good}
 use Rattle.sn_plan.specs.Printing.{plan_text}
 use Rattle.sn_plan.specs.Texts.{StandsFor, IsParsed, StandsAgain}
 use Rattle.sn_plan.proofs.PlanChunks.{plan_chunks, plan_is, plan_spaced}

@@ -1,11 +1,11 @@
 -- Words as lexemes.
 use Rattle.std.specs.Prelude.{◌≡◌, ℕ, Bool, List, [], ◌∷◌, Result, Ok, Err}
-use Rattle.sn_rules.specs.Tokens.{Lexeme, word, Tok, got}
-use Rattle.sn_rules.specs.Rules.{kept}
-use Rattle.sn_read.specs.declared.stop.Stop.{Stop}
-use Rattle.sn_read.specs.Reading.{Halts}
-use Rattle.sn_plan_rules.specs.declared.plan.Plan.{Plan}
-use Rattle.sn_plan_rules.specs.Grammar.{end_rule, plan_rule, file_rule}
+use Rattle.sn_text_rules.specs.Tokens.{Lexeme, word, Tok, got}
+use Rattle.sn_text_rules.specs.Rules.{kept}
+use Rattle.sn_text_read.specs.declared.stop.Stop.{Stop}
+use Rattle.sn_text_read.specs.Reading.{Halts}
+use Rattle.sn_plan_grammar.specs.declared.plan.Plan.{Plan}
+use Rattle.sn_plan_grammar.specs.Grammar.{end_rule, plan_rule, file_rule}
 
 abbrev pub word_lexeme : List ℕ → Lexeme
 word_lexeme w = word w

@@ -1,15 +1,15 @@
 -- Which texts stand for which plans, and what the fault of another is.
 use Rattle.std.specs.Prelude.{◌≡◌, ◌≢◌, ℕ, Bool, List, [], ◌∷◌, ◌++◌, length, Result, Ok, Err}
-use Rattle.sn_rules.specs.declared.Flaw.{Flaw}
-use Rattle.sn_rules.specs.declared.Flaw.TheVariants as flaws
-use Rattle.sn_rules.specs.Tokens.{Tok}
-use Rattle.sn_rules.specs.Rules.{Accepts, FirstFault}
+use Rattle.sn_text_rules.specs.declared.Flaw.{Flaw}
+use Rattle.sn_text_rules.specs.declared.Flaw.TheVariants as flaws
+use Rattle.sn_text_rules.specs.Tokens.{Tok}
+use Rattle.sn_text_rules.specs.Rules.{Accepts, FirstFault}
 use Rattle.sn_text.specs.Cutting.{tokens_of}
 use Rattle.sn_text.specs.Lexing.{left}
-use Rattle.sn_read.specs.declared.stop.Stop.{Stop}
-use Rattle.sn_read.specs.declared.stop.Stop.TheVariants as stops
-use Rattle.sn_plan_rules.specs.declared.plan.Plan.{Plan}
-use Rattle.sn_plan_rules.specs.Grammar.{file_rule}
+use Rattle.sn_text_read.specs.declared.stop.Stop.{Stop}
+use Rattle.sn_text_read.specs.declared.stop.Stop.TheVariants as stops
+use Rattle.sn_plan_grammar.specs.declared.plan.Plan.{Plan}
+use Rattle.sn_plan_grammar.specs.Grammar.{file_rule}
 use Rattle.sn_plan.specs.declared.fault.PlanFault.{PlanFault}
 use Rattle.sn_plan.specs.declared.fault.PlanFault.TheVariants as faults
 

@@ -1,12 +1,12 @@
 //! Entries of a plan text.
 ghost use Rattle.std.specs.Prelude.{◌≡◌, codes};
-ghost use Rattle.sn_rules.specs.declared.Flaw.TheVariants.{Expected};
-ghost use Rattle.sn_rules.specs.Rules.{kept};
-ghost use Rattle.sn_rules.specs.Words.{is_word, full, judged_by, word_in};
+ghost use Rattle.sn_text_rules.specs.declared.Flaw.TheVariants.{Expected};
+ghost use Rattle.sn_text_rules.specs.Rules.{kept};
+ghost use Rattle.sn_text_rules.specs.Words.{is_word, full, judged_by, word_in};
 ghost use Rattle.sn_text.specs.Lexing.{left, seen};
-ghost use Rattle.sn_read.specs.Reading.{Reads};
-ghost use Rattle.sn_plan_rules.specs.Grammar.{name_test, name, entry_rule, entries_rule, plan_rule};
-ghost use Rattle.sn_plan_rules.proofs.Goods.{entries_alike};
+ghost use Rattle.sn_text_read.specs.Reading.{Reads};
+ghost use Rattle.sn_plan_grammar.specs.Grammar.{name_test, name, entry_rule, entries_rule, plan_rule};
+ghost use Rattle.sn_plan_grammar.proofs.Goods.{entries_alike};
 ghost use Rattle.sn_plan.specs.Reading.{word_lexeme};
 
 use crate::lists::{full_at, numbers};
@@ -14,12 +14,12 @@ use crate::pieces::{SEMICOLON, pieces};
 use crate::plan::{Entry, Plan};
 use sn_base::name::Name;
 use sn_base::seq::Seq;
-use sn_read::list::{Items, further};
-use sn_read::stop::Stop;
-use sn_read::words::{next_is_word, symbol, word, wrong_of};
-use sn_rules::Flaw;
 use sn_text::place::{Lexer, Piece};
 use sn_text::scan::scan;
+use sn_text_read::list::{Items, further};
+use sn_text_read::stop::Stop;
+use sn_text_read::words::{next_is_word, symbol, word, wrong_of};
+use sn_text_rules::Flaw;
 use std::alloc::Global;
 
 fn name_in(word: &[u8]) -> Result<Name, Flaw>
@@ -51,7 +51,7 @@ fn name<'a>(at: Lexer<'a>) -> Result<(Name, Lexer<'a>), Stop<'a>>
     }
 }
 
-#[tactic(auto, unfolding(sn_plan_rules::specs::Grammar::entry_rule))]
+#[tactic(auto, unfolding(sn_plan_grammar::specs::Grammar::entry_rule))]
 fn entry<'a>(alloc: Global, at: Lexer<'a>) -> Result<(Entry, Lexer<'a>), Stop<'a>>
     ensures { Reads result (entry_rule.read kept (left at.entry)) }
 {
@@ -112,7 +112,7 @@ impl Items for EntryItems {
     }
 }
 
-#[tactic(auto, unfolding(sn_plan_rules::specs::Grammar::entries_rule))]
+#[tactic(auto, unfolding(sn_plan_grammar::specs::Grammar::entries_rule))]
 fn entries<'a>(alloc: Global, at: Lexer<'a>) -> Result<(Seq<Entry>, Lexer<'a>), Stop<'a>>
     ensures { Reads result (entries_rule.read kept (left at.entry)) }
 {
@@ -123,7 +123,7 @@ fn entries<'a>(alloc: Global, at: Lexer<'a>) -> Result<(Seq<Entry>, Lexer<'a>), 
 }
 
 /// A plan, and the place behind it.
-#[tactic(auto, unfolding(sn_plan_rules::specs::Grammar::plan_rule))]
+#[tactic(auto, unfolding(sn_plan_grammar::specs::Grammar::plan_rule))]
 pub(crate) fn plan<'a>(alloc: Global, at: Lexer<'a>) -> Result<(Plan, Lexer<'a>), Stop<'a>>
     ensures { Reads result (plan_rule.read kept (left at.entry)) }
 {

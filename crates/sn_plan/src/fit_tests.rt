@@ -3,12 +3,12 @@ ghost use Rattle.std.specs.Prelude.{IfSome};
 ghost use Rattle.sn_switch.specs.Texts.{IsSwitch};
 
 use crate::text::parse;
-use sn_fit::misfit::{Misfit, MisfitKind};
-use sn_fit::{fits, shape};
-use sn_plan_rules::plan::Plan;
-use sn_read_queries::read::read;
+use sn_plan_fit::misfit::{Misfit, MisfitKind};
+use sn_plan_fit::{fits, shape};
+use sn_plan_grammar::plan::Plan;
 use sn_switch::switch::Switch;
 use sn_types::typed::Typed;
+use sn_types_read::read::read;
 use std::alloc::Global;
 
 /// Sums over destinations.

@@ -1,6 +1,6 @@
 //! A law on plan texts.
 ghost use Rattle.std.specs.Prelude.{◌≡◌, ℕ, List, Result};
-ghost use Rattle.sn_plan_rules.specs.declared.plan.Plan.{Plan};
+ghost use Rattle.sn_plan_grammar.specs.declared.plan.Plan.{Plan};
 ghost use Rattle.sn_plan.specs.declared.fault.PlanFault.{PlanFault};
 ghost use Rattle.sn_plan.specs.Texts.{IsRead, HasReading};
 

@@ -1,8 +1,8 @@
 //! Plans: which part of each query runs in the switch, and where.
 #![tactic(auto)]
 
-pub use sn_fit::{fits, laws, misfit, shape};
-pub use sn_plan_rules::{plan, short};
+pub use sn_plan_fit::{fits, laws, misfit, shape};
+pub use sn_plan_grammar::{plan, short};
 
 mod canonical;
 mod entries;

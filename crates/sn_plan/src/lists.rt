@@ -1,20 +1,20 @@
 //! Lists of numbers.
 ghost use Rattle.std.specs.Prelude.{◌≡◌, ◌≤◌, length, nat_le, Some, None, IfOk, if◌then◌else◌};
-ghost use Rattle.sn_rules.specs.declared.Flaw.TheVariants.{Expected};
-ghost use Rattle.sn_rules.specs.Rules.{kept};
-ghost use Rattle.sn_rules.specs.Words.{is_symbol, sign, number_in, full, ◌▸◌};
+ghost use Rattle.sn_text_rules.specs.declared.Flaw.TheVariants.{Expected};
+ghost use Rattle.sn_text_rules.specs.Rules.{kept};
+ghost use Rattle.sn_text_rules.specs.Words.{is_symbol, sign, number_in, full, ◌▸◌};
 ghost use Rattle.sn_text.specs.Lexing.{left};
-ghost use Rattle.sn_read.specs.Reading.{Reads};
-ghost use Rattle.sn_plan_rules.specs.Grammar.{numbers};
-ghost use Rattle.sn_plan_rules.proofs.Goods.{numbers_alike};
+ghost use Rattle.sn_text_read.specs.Reading.{Reads};
+ghost use Rattle.sn_plan_grammar.specs.Grammar.{numbers};
+ghost use Rattle.sn_plan_grammar.proofs.Goods.{numbers_alike};
 
 use crate::short::Short;
 use sn_base::seq::Seq;
-use sn_read::list::{Items, further};
-use sn_read::stop::Stop;
-use sn_read::words::{next_is_symbol, number, symbol};
-use sn_rules::Flaw;
 use sn_text::place::Lexer;
+use sn_text_read::list::{Items, further};
+use sn_text_read::stop::Stop;
+use sn_text_read::words::{next_is_symbol, number, symbol};
+use sn_text_rules::Flaw;
 use std::alloc::Global;
 
 /// The comma among the symbols.
@@ -89,7 +89,7 @@ impl Items for NumberItems {
     }
 }
 
-#[tactic(auto, unfolding(sn_plan_rules::specs::Grammar::numbers))]
+#[tactic(auto, unfolding(sn_plan_grammar::specs::Grammar::numbers))]
 fn all<'a>(
     alloc: Global,
     list: &NumberItems,
@@ -104,7 +104,7 @@ fn all<'a>(
 }
 
 /// At most so many numbers with commas between them, each from `low` to `high`, and the place behind them.
-#[tactic(auto, using(sn_plan_rules::proofs::Counts::few_read))]
+#[tactic(auto, using(sn_plan_grammar::proofs::Counts::few_read))]
 pub(crate) fn numbers<'a>(
     alloc: Global,
     limit: usize,

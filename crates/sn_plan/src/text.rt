@@ -1,22 +1,22 @@
 //! The plan of a text.
 ghost use Rattle.std.specs.Prelude.{◌≡◌, ◌≤◌, ◌^◌, ℕ, length, IfOk, IfErr};
-ghost use Rattle.sn_rules.specs.Rules.{kept};
-ghost use Rattle.sn_rules.specs.Words.{judged_by};
+ghost use Rattle.sn_text_rules.specs.Rules.{kept};
+ghost use Rattle.sn_text_rules.specs.Words.{judged_by};
 ghost use Rattle.sn_text.specs.Cutting.{tokens_of};
 ghost use Rattle.sn_text.specs.Lexing.{left, seen};
-ghost use Rattle.sn_plan_rules.specs.declared.plan.Plan.{Plan};
-ghost use Rattle.sn_plan_rules.specs.Grammar.{cost_in, end_in, any_end};
+ghost use Rattle.sn_plan_grammar.specs.declared.plan.Plan.{Plan};
+ghost use Rattle.sn_plan_grammar.specs.Grammar.{cost_in, end_in, any_end};
 ghost use Rattle.sn_plan.specs.Reading.{Ends, ReadsPlan};
 ghost use Rattle.sn_plan.specs.Texts.{StandsFor, IsFault, IsValue, fault_of, line_of, Answers};
 
 use crate::entries::plan;
 use crate::fault::PlanFault;
 use crate::plan::Plan;
-use sn_read::stop::Stop;
-use sn_read::words::{is_the_word, wrong_of};
-use sn_rules::Flaw;
 use sn_text::place::{Lexer, Piece};
 use sn_text::scan::scan;
+use sn_text_read::stop::Stop;
+use sn_text_read::words::{is_the_word, wrong_of};
+use sn_text_rules::Flaw;
 use std::alloc::Global;
 
 /// Whether a plan ends here, and then whether a cost follows.

@@ -6,14 +6,14 @@ use Rattle.std.proofs.lemmas.List.Sums.{sum_by-cons}
 use Rattle.sn_alike.specs.Alike.{AreAlike}
 use Rattle.sn_base.proofs.Lists.{all_append, all_map}
 use Rattle.sn_switch.specs.declared.switch.Switch.{Switch}
-use Rattle.sn_space.specs.Space.{IsPartial}
-use Rattle.sn_space.specs.Readers.{MayFollow, Reader, read}
-use Rattle.sn_space.specs.Agendas.{Agenda, after_choice, agenda_reader, agenda_space, first_choices}
-use Rattle.sn_choices.specs.Options.{paths}
-use Rattle.sn_choices.specs.Within.{least_below}
-use Rattle.sn_choices.specs.Planning.{PathTask, PieceTask, StageTask, Taken, Task, choices_of, cost_of, entry_of, for_path, for_piece, for_stage, least_entry, least_of, leaves_of, pieces_of, planning, settings, takes_of}
-use Rattle.sn_planning.specs.Reading.{Follows}
-use Rattle.sn_planning.proofs.Following.{partial_follows}
+use Rattle.sn_tree_space.specs.Space.{IsPartial}
+use Rattle.sn_tree_space.specs.Readers.{MayFollow, Reader, read}
+use Rattle.sn_tree_space.specs.Agendas.{Agenda, after_choice, agenda_reader, agenda_space, first_choices}
+use Rattle.sn_plan_choices.specs.Options.{paths}
+use Rattle.sn_plan_choices.specs.Within.{least_below}
+use Rattle.sn_plan_choices.specs.Planning.{PathTask, PieceTask, StageTask, Taken, Task, choices_of, cost_of, entry_of, for_path, for_piece, for_stage, least_entry, least_of, leaves_of, pieces_of, planning, settings, takes_of}
+use Rattle.sn_plan_space.specs.Reading.{Follows}
+use Rattle.sn_plan_space.proofs.Following.{partial_follows}
 
 -- ---- least numbers and sums
 

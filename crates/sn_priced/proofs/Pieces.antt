@@ -8,7 +8,7 @@ use Rattle.sn_base.proofs.Lists.{all_append, by_test}
 use Rattle.sn_types.specs.declared.typed_query.TypedBranch.{TypedBranch}
 use Rattle.sn_types.specs.declared.typed_query.TypedQuery.{TypedQuery}
 use Rattle.sn_types.specs.Typed.{blank_branch, branch_of}
-use Rattle.sn_choices.specs.Planning.{PieceTask, level_pieces, path_pieces, pieces_of}
+use Rattle.sn_plan_choices.specs.Planning.{PieceTask, level_pieces, path_pieces, pieces_of}
 use Rattle.sn_cost.specs.Entries.{front_of}
 
 -- ---- places

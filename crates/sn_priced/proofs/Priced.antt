@@ -7,9 +7,9 @@ use Rattle.sn_switch.specs.declared.switch.Switch.{Switch}
 use Rattle.sn_types.specs.declared.typed_query.TypedBranch.{TypedBranch}
 use Rattle.sn_types.specs.declared.typed_query.TypedQuery.{TypedQuery}
 use Rattle.sn_types.specs.Typed.{blank_query, branch_at, query_at}
-use Rattle.sn_choices.specs.Options.{options}
-use Rattle.sn_choices.specs.Planning.{PieceTask, first_tasks}
-use Rattle.sn_chosen.specs.Theorems.{plans_of}
+use Rattle.sn_plan_choices.specs.Options.{options}
+use Rattle.sn_plan_choices.specs.Planning.{PieceTask, first_tasks}
+use Rattle.sn_plan_lists.specs.Theorems.{plans_of}
 use Rattle.sn_refine.specs.Steps.{Given}
 use Rattle.sn_cost.specs.Entries.{IsPiece}
 use Rattle.sn_priced.specs.Priced.{AreCounted}

@@ -3,9 +3,9 @@ use Rattle.std.specs.Prelude.{ℕ, List}
 use Rattle.sn_switch.specs.declared.switch.Switch.{Switch}
 use Rattle.sn_types.specs.declared.typed_query.TypedQuery.{TypedQuery}
 use Rattle.sn_types.specs.Typed.{branch_at, query_at}
-use Rattle.sn_space.specs.Space.{Space}
-use Rattle.sn_choices.specs.Options.{option_at}
-use Rattle.sn_chosen.specs.Theorems.{plans_of}
+use Rattle.sn_tree_space.specs.Space.{Space}
+use Rattle.sn_plan_choices.specs.Options.{option_at}
+use Rattle.sn_plan_lists.specs.Theorems.{plans_of}
 use Rattle.sn_refine.specs.Steps.{Given}
 use Rattle.sn_cost.specs.Entries.{entry_count}
 

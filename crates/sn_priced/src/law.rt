@@ -1,9 +1,9 @@
 //! A law of cost tables that are made of training windows, with nothing to run.
 ghost use Rattle.std.specs.Prelude.{ℕ, List};
 ghost use Rattle.sn_alike.specs.Alike.{AreAlike};
-ghost use Rattle.sn_choices.specs.Costs.{entry_in};
-ghost use Rattle.sn_choices.specs.declared.costs.CostTable.{CostTable};
-ghost use Rattle.sn_planning.specs.Reading.{plan_space};
+ghost use Rattle.sn_plan_choices.specs.Costs.{entry_in};
+ghost use Rattle.sn_plan_choices.specs.declared.costs.CostTable.{CostTable};
+ghost use Rattle.sn_plan_space.specs.Reading.{plan_space};
 ghost use Rattle.sn_priced.specs.Priced.{AreCounted};
 ghost use Rattle.sn_priced.specs.Space.{trained_plans};
 ghost use Rattle.sn_refine.specs.Steps.{Given};

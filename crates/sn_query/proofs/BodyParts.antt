@@ -1,17 +1,17 @@
 -- Parts of a query that may be there.
 use Rattle.std.proofs.Common.{◌≡◌, true, false, List, Some, None, refl, ◌∙◌}
 use Rattle.std.specs.Prelude.{codes}
-use Rattle.sn_rules.specs.Tokens.{Tok, got}
-use Rattle.sn_rules.specs.Rules.{kept}
-use Rattle.sn_rules.specs.Words.{is_word}
-use Rattle.sn_read.specs.declared.stop.Stop.{Stop}
-use Rattle.sn_read.specs.declared.stop.Stop.TheVariants as stops
-use Rattle.sn_read.specs.Reading.{Halts, Peeked}
-use Rattle.sn_read.proofs.Tokens.{there, not_there}
-use Rattle.sn_query_rules.specs.declared.ast.Refine.{Refine}
-use Rattle.sn_query_rules.specs.declared.ast.Branch.{Branch}
-use Rattle.sn_query_rules.specs.declared.ast.Join.{Join}
-use Rattle.sn_query_rules.specs.Grammar.{refine_rule}
+use Rattle.sn_text_rules.specs.Tokens.{Tok, got}
+use Rattle.sn_text_rules.specs.Rules.{kept}
+use Rattle.sn_text_rules.specs.Words.{is_word}
+use Rattle.sn_text_read.specs.declared.stop.Stop.{Stop}
+use Rattle.sn_text_read.specs.declared.stop.Stop.TheVariants as stops
+use Rattle.sn_text_read.specs.Reading.{Halts, Peeked}
+use Rattle.sn_text_read.proofs.Tokens.{there, not_there}
+use Rattle.sn_query_grammar.specs.declared.ast.Refine.{Refine}
+use Rattle.sn_query_grammar.specs.declared.ast.Branch.{Branch}
+use Rattle.sn_query_grammar.specs.declared.ast.Join.{Join}
+use Rattle.sn_query_grammar.specs.Grammar.{refine_rule}
 use Rattle.sn_query.specs.Parts.{refined_rule, joined_rule, second_rule}
 
 pub refined : (ts us : List Tok) (a : Refine) → Peeked true (is_word (codes "refine")) ts → refine_rule.read kept ts ≡ got a us → refined_rule.read kept ts ≡ got (Some a) us

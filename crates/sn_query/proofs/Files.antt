@@ -1,11 +1,11 @@
 -- The first fault of a file, under its name.
 use Rattle.std.proofs.Common.{◌≡◌, ℕ, true, List, sym, subst}
-use Rattle.sn_rules.specs.declared.Flaw.{Flaw}
-use Rattle.sn_rules.specs.declared.Flaw.TheVariants.{Lex, Expected, TooMany, Range, Twice, Missing}
-use Rattle.sn_rules.specs.Tokens.{Tok}
-use Rattle.sn_rules.specs.Rules.{FirstFault}
-use Rattle.sn_query_rules.specs.Grammar.{file_rule}
-use Rattle.sn_query_rules.proofs.Bounded.{flaws}
+use Rattle.sn_text_rules.specs.declared.Flaw.{Flaw}
+use Rattle.sn_text_rules.specs.declared.Flaw.TheVariants.{Lex, Expected, TooMany, Range, Twice, Missing}
+use Rattle.sn_text_rules.specs.Tokens.{Tok}
+use Rattle.sn_text_rules.specs.Rules.{FirstFault}
+use Rattle.sn_query_grammar.specs.Grammar.{file_rule}
+use Rattle.sn_query_grammar.proofs.Bounded.{flaws}
 use Rattle.sn_query.specs.declared.fault.ParseFault.{ParseFault}
 use Rattle.sn_query.specs.Texts.{shown, IsFault}
 

@@ -1,18 +1,18 @@
 -- Folds as the code reads them.
 use Rattle.std.proofs.Common.{◌≡◌, ℕ, true, false, List, Result, refl, sym, ◌∙◌, subst, ◌⊎◌}
 use Rattle.std.specs.Prelude.{codes}
-use Rattle.sn_rules.specs.Tokens.{Tok, Read, got, fails, short, bind}
-use Rattle.sn_rules.specs.Rules.{kept, Rule}
-use Rattle.sn_rules.specs.Words.{is_word, keyword, sign, number_in}
+use Rattle.sn_text_rules.specs.Tokens.{Tok, Read, got, fails, short, bind}
+use Rattle.sn_text_rules.specs.Rules.{kept, Rule}
+use Rattle.sn_text_rules.specs.Words.{is_word, keyword, sign, number_in}
 use Rattle.sn_text.specs.declared.place.Lexer.{Lexer}
-use Rattle.sn_read.specs.declared.stop.Stop.{Stop}
-use Rattle.sn_read.specs.declared.stop.Stop.TheVariants as stops
-use Rattle.sn_read.specs.Reading.{Halts, Reads, Peeked}
-use Rattle.sn_query_rules.specs.declared.ast.Reduce.{Reduce}
-use Rattle.sn_query_rules.specs.declared.ast.FoldWord.{FoldWord}
-use Rattle.sn_query_rules.specs.declared.ast.FoldWord.TheVariants as folds
-use Rattle.sn_query_rules.specs.Names.{plain_fold}
-use Rattle.sn_query_rules.specs.Grammar.{Name, keys_rule, fold_rule, fold_to, to_reduce, reduce_rule}
+use Rattle.sn_text_read.specs.declared.stop.Stop.{Stop}
+use Rattle.sn_text_read.specs.declared.stop.Stop.TheVariants as stops
+use Rattle.sn_text_read.specs.Reading.{Halts, Reads, Peeked}
+use Rattle.sn_query_grammar.specs.declared.ast.Reduce.{Reduce}
+use Rattle.sn_query_grammar.specs.declared.ast.FoldWord.{FoldWord}
+use Rattle.sn_query_grammar.specs.declared.ast.FoldWord.TheVariants as folds
+use Rattle.sn_query_grammar.specs.Names.{plain_fold}
+use Rattle.sn_query_grammar.specs.Grammar.{Name, keys_rule, fold_rule, fold_to, to_reduce, reduce_rule}
 use Rattle.sn_query.specs.Parts.{column_rule, fold_read}
 use Rattle.sn_query.proofs.Picks.{fold_sum, fold_other}
 

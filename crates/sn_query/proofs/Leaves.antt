@@ -2,23 +2,23 @@
 use Rattle.std.proofs.Common.{◌≡◌, ℕ, Bool, true, false, cond, List, [], ◌∷◌, length, Option, Some, None, Result, Ok, Err, refl, sym, ap, ◌∙◌}
 use Rattle.std.specs.Prelude.{nat_lt, ◌==◌, ◌||◌}
 use Rattle.std.specs.List.{list_any}
-use Rattle.sn_rules.specs.declared.Flaw.TheVariants.{Expected, TooMany, Twice}
-use Rattle.sn_rules.proofs.Common.{same_value, same_rest}
+use Rattle.sn_text_rules.specs.declared.Flaw.TheVariants.{Expected, TooMany, Twice}
+use Rattle.sn_text_rules.proofs.Common.{same_value, same_rest}
 use Rattle.sn_text.specs.Lexing.{left}
-use Rattle.sn_read.specs.declared.stop.Stop.{Stop}
-use Rattle.sn_read.specs.declared.stop.Stop.TheVariants as stops
-use Rattle.sn_read.specs.Reading.{Halts}
-use Rattle.sn_query_rules.specs.declared.ast.MapCol.{MapCol}
-use Rattle.sn_query_rules.specs.declared.ast.Query.{Query}
-use Rattle.sn_query_rules.specs.Grammar.{col_names, query_names}
-use Rattle.sn_rules.specs.declared.Flaw.{Flaw}
-use Rattle.sn_rules.specs.Tokens.{Lexeme, word, number, symbol, finish, bad, Tok, Read, got, fails}
-use Rattle.sn_rules.specs.Rules.{kept, judged, token_at}
-use Rattle.sn_rules.specs.Words.{same, judged_as, judged_by, word_in}
-use Rattle.sn_read.proofs.Tokens.{Next, leaf_gives, leaf_halts}
-use Rattle.sn_query_rules.specs.declared.ast.Cmp.{Cmp}
-use Rattle.sn_query_rules.specs.declared.ast.FoldWord.{FoldWord}
-use Rattle.sn_query_rules.specs.Names.{is_keyword, name_not, name_test, cmp_in, any_cmp, fold_in, no_sum}
+use Rattle.sn_text_read.specs.declared.stop.Stop.{Stop}
+use Rattle.sn_text_read.specs.declared.stop.Stop.TheVariants as stops
+use Rattle.sn_text_read.specs.Reading.{Halts}
+use Rattle.sn_query_grammar.specs.declared.ast.MapCol.{MapCol}
+use Rattle.sn_query_grammar.specs.declared.ast.Query.{Query}
+use Rattle.sn_query_grammar.specs.Grammar.{col_names, query_names}
+use Rattle.sn_text_rules.specs.declared.Flaw.{Flaw}
+use Rattle.sn_text_rules.specs.Tokens.{Lexeme, word, number, symbol, finish, bad, Tok, Read, got, fails}
+use Rattle.sn_text_rules.specs.Rules.{kept, judged, token_at}
+use Rattle.sn_text_rules.specs.Words.{same, judged_as, judged_by, word_in}
+use Rattle.sn_text_read.proofs.Tokens.{Next, leaf_gives, leaf_halts}
+use Rattle.sn_query_grammar.specs.declared.ast.Cmp.{Cmp}
+use Rattle.sn_query_grammar.specs.declared.ast.FoldWord.{FoldWord}
+use Rattle.sn_query_grammar.specs.Names.{is_keyword, name_not, name_test, cmp_in, any_cmp, fold_in, no_sum}
 
 pub word_gives : (ts us : List Tok) (t : Tok) (w : List ℕ) → Next ts t us → Ok w ≡ judged_by (name_test []) kept t.face (word_in t.face) → token_at (λ t. judged_by (name_test []) kept t.face (word_in t.face)) ts ≡ got w us
 word_gives = leaf_gives word_in refl refl (name_test [])

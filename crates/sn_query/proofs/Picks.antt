@@ -1,22 +1,22 @@
 -- A choice by the next token, as the code makes it.
 use Rattle.std.proofs.Common.{◌≡◌, ℕ, Bool, true, false, List, [], ◌∷◌, Option, Some, None, refl, ap, ◌∙◌, inl, inr, ◌⊎◌}
 use Rattle.std.specs.Prelude.{codes}
-use Rattle.sn_rules.specs.Tokens.{Lexeme, Tok, Read, got, fails, short, bind}
-use Rattle.sn_rules.specs.Rules.{kept, Rule, either, either_at, maybe, maybe_at, pair}
-use Rattle.sn_rules.specs.Words.{is_word, is_symbol, is_number, keyword, number_in, ◌▸◌}
-use Rattle.sn_read.specs.declared.stop.Stop.{Stop}
-use Rattle.sn_read.specs.declared.stop.Stop.TheVariants as stops
-use Rattle.sn_read.specs.Reading.{Halts, Peeked}
-use Rattle.sn_query_rules.specs.declared.ast.Cond.{Cond}
-use Rattle.sn_query_rules.specs.declared.ast.MapCol.{MapCol}
-use Rattle.sn_query_rules.specs.declared.ast.Expr.{Expr}
-use Rattle.sn_query_rules.specs.declared.ast.Expr.TheVariants as exprs
-use Rattle.sn_query_rules.specs.declared.ast.What.{What}
-use Rattle.sn_query_rules.specs.declared.ast.What.TheVariants as whats
-use Rattle.sn_query_rules.specs.declared.ast.Reduce.{Reduce}
-use Rattle.sn_query_rules.specs.declared.ast.FoldWord.{FoldWord}
-use Rattle.sn_query_rules.specs.Names.{name, any_number, plain_fold}
-use Rattle.sn_query_rules.specs.Grammar.{Name, Tail, PostTail, to_expr, to_post_expr, read_as, read_post, to_what, to_post_what, goes_tail, goes_post_tail, expr_rule, post_expr_rule, filter_rule, map_rule, post_map_rule, reduce_rule, what_rule, post_what_rule, fold_rule, fold_to}
+use Rattle.sn_text_rules.specs.Tokens.{Lexeme, Tok, Read, got, fails, short, bind}
+use Rattle.sn_text_rules.specs.Rules.{kept, Rule, either, either_at, maybe, maybe_at, pair}
+use Rattle.sn_text_rules.specs.Words.{is_word, is_symbol, is_number, keyword, number_in, ◌▸◌}
+use Rattle.sn_text_read.specs.declared.stop.Stop.{Stop}
+use Rattle.sn_text_read.specs.declared.stop.Stop.TheVariants as stops
+use Rattle.sn_text_read.specs.Reading.{Halts, Peeked}
+use Rattle.sn_query_grammar.specs.declared.ast.Cond.{Cond}
+use Rattle.sn_query_grammar.specs.declared.ast.MapCol.{MapCol}
+use Rattle.sn_query_grammar.specs.declared.ast.Expr.{Expr}
+use Rattle.sn_query_grammar.specs.declared.ast.Expr.TheVariants as exprs
+use Rattle.sn_query_grammar.specs.declared.ast.What.{What}
+use Rattle.sn_query_grammar.specs.declared.ast.What.TheVariants as whats
+use Rattle.sn_query_grammar.specs.declared.ast.Reduce.{Reduce}
+use Rattle.sn_query_grammar.specs.declared.ast.FoldWord.{FoldWord}
+use Rattle.sn_query_grammar.specs.Names.{name, any_number, plain_fold}
+use Rattle.sn_query_grammar.specs.Grammar.{Name, Tail, PostTail, to_expr, to_post_expr, read_as, read_post, to_what, to_post_what, goes_tail, goes_post_tail, expr_rule, post_expr_rule, filter_rule, map_rule, post_map_rule, reduce_rule, what_rule, post_what_rule, fold_rule, fold_to}
 use Rattle.sn_query.specs.Parts.{mask_rule, shift_rule, plus_rule, ratio_rule, column_rule, fold_read}
 
 -- ---- choices

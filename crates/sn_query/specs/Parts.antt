@@ -1,17 +1,17 @@
 -- Parts of productions that the code reads by themselves.
 use Rattle.std.specs.Prelude.{ℕ, List, [], Option, codes}
-use Rattle.sn_rules.specs.declared.Flaw.TheVariants.{TooMany}
-use Rattle.sn_rules.specs.Tokens.{Tok, Read, got, bind}
-use Rattle.sn_rules.specs.Rules.{Rule, kept, pair, maybe, many, series}
-use Rattle.sn_rules.specs.Words.{is_word, is_symbol, sign, number_in, full, ◌▸◌, ◌◂◌}
-use Rattle.sn_query_rules.specs.declared.ast.Query.{Query}
-use Rattle.sn_query_rules.specs.declared.ast.Refine.{Refine}
-use Rattle.sn_query_rules.specs.declared.ast.Branch.{Branch}
-use Rattle.sn_query_rules.specs.declared.ast.Join.{Join}
-use Rattle.sn_query_rules.specs.declared.ast.Op.{Op}
-use Rattle.sn_query_rules.specs.declared.ast.Reduce.{Reduce}
-use Rattle.sn_query_rules.specs.Names.{name, name_not, any_number}
-use Rattle.sn_query_rules.specs.Grammar.{Name, fold_rule, fold_to, op_rule, post_op_rule, refine_rule, branch_rule, join_rule, query_rule, query_names}
+use Rattle.sn_text_rules.specs.declared.Flaw.TheVariants.{TooMany}
+use Rattle.sn_text_rules.specs.Tokens.{Tok, Read, got, bind}
+use Rattle.sn_text_rules.specs.Rules.{Rule, kept, pair, maybe, many, series}
+use Rattle.sn_text_rules.specs.Words.{is_word, is_symbol, sign, number_in, full, ◌▸◌, ◌◂◌}
+use Rattle.sn_query_grammar.specs.declared.ast.Query.{Query}
+use Rattle.sn_query_grammar.specs.declared.ast.Refine.{Refine}
+use Rattle.sn_query_grammar.specs.declared.ast.Branch.{Branch}
+use Rattle.sn_query_grammar.specs.declared.ast.Join.{Join}
+use Rattle.sn_query_grammar.specs.declared.ast.Op.{Op}
+use Rattle.sn_query_grammar.specs.declared.ast.Reduce.{Reduce}
+use Rattle.sn_query_grammar.specs.Names.{name, name_not, any_number}
+use Rattle.sn_query_grammar.specs.Grammar.{Name, fold_rule, fold_to, op_rule, post_op_rule, refine_rule, branch_rule, join_rule, query_rule, query_names}
 
 -- [ "&" NUM ]
 abbrev pub and_rule : Rule (Option ℕ)

@@ -1,11 +1,11 @@
 -- What parse answers for a text.
 use Rattle.std.specs.Prelude.{◌≡◌, ℕ, List, Result, Ok, Err}
-use Rattle.sn_rules.specs.declared.Flaw.{Flaw}
-use Rattle.sn_rules.specs.declared.Flaw.TheVariants as flaws
-use Rattle.sn_rules.specs.Tokens.{Tok}
-use Rattle.sn_rules.specs.Rules.{FirstFault}
-use Rattle.sn_query_rules.specs.declared.ast.QueryFile.{QueryFile}
-use Rattle.sn_query_rules.specs.Grammar.{file_rule}
+use Rattle.sn_text_rules.specs.declared.Flaw.{Flaw}
+use Rattle.sn_text_rules.specs.declared.Flaw.TheVariants as flaws
+use Rattle.sn_text_rules.specs.Tokens.{Tok}
+use Rattle.sn_text_rules.specs.Rules.{FirstFault}
+use Rattle.sn_query_grammar.specs.declared.ast.QueryFile.{QueryFile}
+use Rattle.sn_query_grammar.specs.Grammar.{file_rule}
 use Rattle.sn_query.specs.declared.fault.ParseFault.{ParseFault}
 use Rattle.sn_query.specs.declared.fault.ParseFault.TheVariants as faults
 

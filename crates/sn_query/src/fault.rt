@@ -1,5 +1,5 @@
 //! Why a query text is refused.
-use sn_rules::Flaw;
+use sn_text_rules::Flaw;
 
 /// Want of memory, or the first fault of the text, with its line and its column in bytes, both from 1.
 ///

@@ -1,23 +1,23 @@
 //! Keys and folds.
 ghost use Rattle.std.specs.Prelude.{◌≡◌, List};
-ghost use Rattle.sn_rules.specs.declared.Flaw.{Flaw};
-ghost use Rattle.sn_rules.specs.Rules.{kept};
+ghost use Rattle.sn_text_rules.specs.declared.Flaw.{Flaw};
+ghost use Rattle.sn_text_rules.specs.Rules.{kept};
 ghost use Rattle.sn_text.specs.Lexing.{left, seen};
-ghost use Rattle.sn_read.specs.Reading.{Reads};
-ghost use Rattle.sn_query_rules.specs.Names.{name_not, past_name};
-ghost use Rattle.sn_query_rules.specs.Grammar.{keys_rule, reduce_rule};
-ghost use Rattle.sn_query_rules.proofs.Queries.{keys_listed};
+ghost use Rattle.sn_text_read.specs.Reading.{Reads};
+ghost use Rattle.sn_query_grammar.specs.Names.{name_not, past_name};
+ghost use Rattle.sn_query_grammar.specs.Grammar.{keys_rule, reduce_rule};
+ghost use Rattle.sn_query_grammar.proofs.Queries.{keys_listed};
 ghost use Rattle.sn_query.specs.Parts.{column_rule, fold_read};
 
 use crate::words::{fold_word, is_full_at, new_name, past_name_of};
 use sn_base::name::Name;
 use sn_base::seq::Seq;
-use sn_query_rules::ast::{FoldWord, Reduce};
-use sn_read::commas::{Commas, list};
-use sn_read::stop::Stop;
-use sn_read::words::{next_is_word, number, symbol, word};
-use sn_rules::Flaw;
+use sn_query_grammar::ast::{FoldWord, Reduce};
 use sn_text::place::{Lexer, Piece};
+use sn_text_read::commas::{Commas, list};
+use sn_text_read::stop::Stop;
+use sn_text_read::words::{next_is_word, number, symbol, word};
+use sn_text_rules::Flaw;
 use std::alloc::Global;
 
 /// The keys of a fold or a join.
@@ -52,7 +52,7 @@ impl Commas for KeyItems {
 }
 
 /// Keys, and the place behind them.
-#[tactic(auto, unfolding(sn_query_rules::specs::Grammar::keys_rule))]
+#[tactic(auto, unfolding(sn_query_grammar::specs::Grammar::keys_rule))]
 pub(crate) fn keys<'a>(alloc: Global, at: Lexer<'a>) -> Result<(Seq<Name>, Lexer<'a>), Stop<'a>>
     ensures { Reads result (keys_rule.read kept (left at.entry)) }
 {

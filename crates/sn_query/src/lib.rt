@@ -1,8 +1,8 @@
 //! The query text: `parse` reads it, and `print` writes it.
 #![tactic(auto)]
 
-pub use sn_print::print;
-pub use sn_query_rules::ast;
+pub use sn_query_grammar::ast;
+pub use sn_query_print::print;
 
 mod conditions;
 pub mod fault;

@@ -1,22 +1,22 @@
 //! Maps and their columns.
 ghost use Rattle.std.specs.Prelude.{◌≡◌, List};
-ghost use Rattle.sn_rules.specs.declared.Flaw.{Flaw};
-ghost use Rattle.sn_rules.specs.Rules.{kept};
+ghost use Rattle.sn_text_rules.specs.declared.Flaw.{Flaw};
+ghost use Rattle.sn_text_rules.specs.Rules.{kept};
 ghost use Rattle.sn_text.specs.Lexing.{left, seen};
-ghost use Rattle.sn_read.specs.Reading.{Reads};
-ghost use Rattle.sn_query_rules.specs.Grammar.{expr_rule, post_expr_rule, past_col, col_names, col_rule, post_col_rule, map_rule, post_map_rule};
-ghost use Rattle.sn_query_rules.proofs.Goods.{col_listed, post_col_listed};
+ghost use Rattle.sn_text_read.specs.Reading.{Reads};
+ghost use Rattle.sn_query_grammar.specs.Grammar.{expr_rule, post_expr_rule, past_col, col_names, col_rule, post_col_rule, map_rule, post_map_rule};
+ghost use Rattle.sn_query_grammar.proofs.Goods.{col_listed, post_col_listed};
 ghost use Rattle.sn_query.specs.Parts.{mask_rule, shift_rule, plus_rule, ratio_rule};
 
 use crate::words::{is_full_at, name, new_col_name, past_col_of};
 use sn_base::name::Name;
 use sn_base::seq::Seq;
-use sn_query_rules::ast::{Expr, MapCol};
-use sn_read::commas::{Commas, list};
-use sn_read::stop::Stop;
-use sn_read::words::{next_is_number, next_is_symbol, number, symbol, word};
-use sn_rules::Flaw;
+use sn_query_grammar::ast::{Expr, MapCol};
 use sn_text::place::{Lexer, Piece};
+use sn_text_read::commas::{Commas, list};
+use sn_text_read::stop::Stop;
+use sn_text_read::words::{next_is_number, next_is_symbol, number, symbol, word};
+use sn_text_rules::Flaw;
 use std::alloc::Global;
 
 fn mask<'a>(at: Lexer<'a>) -> Result<(u64, Lexer<'a>), Stop<'a>>
@@ -121,7 +121,7 @@ fn post_expr<'a>(at: Lexer<'a>) -> Result<(Expr, Lexer<'a>), Stop<'a>>
     Ok((Expr::Copy(name), rest))
 }
 
-#[tactic(auto, unfolding(sn_query_rules::specs::Grammar::col_rule))]
+#[tactic(auto, unfolding(sn_query_grammar::specs::Grammar::col_rule))]
 fn col<'a>(taken: &[MapCol], at: Lexer<'a>) -> Result<(MapCol, Lexer<'a>), Stop<'a>>
     ensures { Reads result ((col_rule (col_names taken.now)).read kept (left at.entry)) }
 {
@@ -137,7 +137,7 @@ fn col<'a>(taken: &[MapCol], at: Lexer<'a>) -> Result<(MapCol, Lexer<'a>), Stop<
     Ok((MapCol { expr, name }, rest))
 }
 
-#[tactic(auto, unfolding(sn_query_rules::specs::Grammar::post_col_rule))]
+#[tactic(auto, unfolding(sn_query_grammar::specs::Grammar::post_col_rule))]
 fn post_col<'a>(taken: &[MapCol], at: Lexer<'a>) -> Result<(MapCol, Lexer<'a>), Stop<'a>>
     ensures { Reads result ((post_col_rule (col_names taken.now)).read kept (left at.entry)) }
 {
@@ -216,7 +216,7 @@ impl Commas for PostColItems {
 }
 
 /// A map before a join, and the place behind it.
-#[tactic(auto, unfolding(sn_query_rules::specs::Grammar::map_rule))]
+#[tactic(auto, unfolding(sn_query_grammar::specs::Grammar::map_rule))]
 pub(crate) fn map<'a>(alloc: Global, at: Lexer<'a>) -> Result<(Seq<MapCol>, Lexer<'a>), Stop<'a>>
     ensures { Reads result (map_rule.read kept (left at.entry)) }
 {
@@ -226,7 +226,7 @@ pub(crate) fn map<'a>(alloc: Global, at: Lexer<'a>) -> Result<(Seq<MapCol>, Lexe
 }
 
 /// A map behind a join, and the place behind it.
-#[tactic(auto, unfolding(sn_query_rules::specs::Grammar::post_map_rule))]
+#[tactic(auto, unfolding(sn_query_grammar::specs::Grammar::post_map_rule))]
 pub(crate) fn post_map<'a>(
     alloc: Global,
     at: Lexer<'a>,

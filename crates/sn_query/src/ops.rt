@@ -1,13 +1,13 @@
 //! Operators.
 ghost use Rattle.std.specs.Prelude.{◌≡◌, List};
-ghost use Rattle.sn_rules.specs.declared.Flaw.{Flaw};
-ghost use Rattle.sn_rules.specs.declared.Flaw.TheVariants.{TooMany};
-ghost use Rattle.sn_rules.specs.Rules.{kept};
-ghost use Rattle.sn_rules.specs.Words.{is_symbol, full};
+ghost use Rattle.sn_text_rules.specs.declared.Flaw.{Flaw};
+ghost use Rattle.sn_text_rules.specs.declared.Flaw.TheVariants.{TooMany};
+ghost use Rattle.sn_text_rules.specs.Rules.{kept};
+ghost use Rattle.sn_text_rules.specs.Words.{is_symbol, full};
 ghost use Rattle.sn_text.specs.Lexing.{left};
-ghost use Rattle.sn_read.specs.Reading.{Reads, Peeked};
-ghost use Rattle.sn_query_rules.specs.Grammar.{what_rule, op_rule, post_what_rule, post_op_rule};
-ghost use Rattle.sn_query_rules.proofs.Queries.{ops_alike, post_ops_alike};
+ghost use Rattle.sn_text_read.specs.Reading.{Reads, Peeked};
+ghost use Rattle.sn_query_grammar.specs.Grammar.{what_rule, op_rule, post_what_rule, post_op_rule};
+ghost use Rattle.sn_query_grammar.proofs.Queries.{ops_alike, post_ops_alike};
 ghost use Rattle.sn_query.specs.Parts.{ops_rule, post_rule};
 
 use crate::conditions::filter;
@@ -15,12 +15,12 @@ use crate::folds::reduce;
 use crate::maps::{map, post_map};
 use crate::words::is_full_at;
 use sn_base::seq::Seq;
-use sn_query_rules::ast::{Op, What};
-use sn_read::list::{Items, further};
-use sn_read::stop::Stop;
-use sn_read::words::{next_is_symbol, next_is_word, symbol_line, word};
-use sn_rules::Flaw;
+use sn_query_grammar::ast::{Op, What};
 use sn_text::place::Lexer;
+use sn_text_read::list::{Items, further};
+use sn_text_read::stop::Stop;
+use sn_text_read::words::{next_is_symbol, next_is_word, symbol_line, word};
+use sn_text_rules::Flaw;
 use std::alloc::Global;
 
 #[tactic(auto, using(crate::proofs::Picks::what_filter_value, crate::proofs::Picks::what_filter_halt, crate::proofs::Picks::what_map_value, crate::proofs::Picks::what_map_halt, crate::proofs::Picks::what_distinct_value, crate::proofs::Picks::what_distinct_halt, crate::proofs::Picks::what_reduce_value, crate::proofs::Picks::what_reduce_halt))]
@@ -43,7 +43,7 @@ fn what<'a>(alloc: Global, at: Lexer<'a>) -> Result<(What, Lexer<'a>), Stop<'a>>
     Ok((What::Reduce(reduce), rest))
 }
 
-#[tactic(auto, unfolding(sn_query_rules::specs::Grammar::op_rule))]
+#[tactic(auto, unfolding(sn_query_grammar::specs::Grammar::op_rule))]
 fn op<'a>(alloc: Global, at: Lexer<'a>) -> Result<(Op, Lexer<'a>), Stop<'a>>
     ensures { Reads result (op_rule.read kept (left at.entry)) }
 {
@@ -110,7 +110,7 @@ fn post_what<'a>(alloc: Global, at: Lexer<'a>) -> Result<(What, Lexer<'a>), Stop
     Ok((What::Map(cols), rest))
 }
 
-#[tactic(auto, unfolding(sn_query_rules::specs::Grammar::post_op_rule))]
+#[tactic(auto, unfolding(sn_query_grammar::specs::Grammar::post_op_rule))]
 fn post_op<'a>(alloc: Global, at: Lexer<'a>) -> Result<(Op, Lexer<'a>), Stop<'a>>
     ensures { Reads result (post_op_rule.read kept (left at.entry)) }
 {

@@ -1,25 +1,25 @@
 //! The whole text.
 ghost use Rattle.std.specs.Prelude.{◌≡◌, ◌≤◌, ◌^◌, length, IfOk, IfErr};
-ghost use Rattle.sn_rules.specs.Rules.{kept, Accepts};
+ghost use Rattle.sn_text_rules.specs.Rules.{kept, Accepts};
 ghost use Rattle.sn_text.specs.Cutting.{tokens_of};
 ghost use Rattle.sn_text.specs.Lexing.{left};
-ghost use Rattle.sn_read.specs.Reading.{ReadsAll};
-ghost use Rattle.sn_query_rules.specs.declared.ast.QueryFile.{QueryFile};
-ghost use Rattle.sn_query_rules.specs.Grammar.{file_rule};
-ghost use Rattle.sn_query_rules.specs.Limits.{KeepsLimits};
+ghost use Rattle.sn_text_read.specs.Reading.{ReadsAll};
+ghost use Rattle.sn_query_grammar.specs.declared.ast.QueryFile.{QueryFile};
+ghost use Rattle.sn_query_grammar.specs.Grammar.{file_rule};
+ghost use Rattle.sn_query_grammar.specs.Limits.{KeepsLimits};
 ghost use Rattle.sn_query.specs.Texts.{shown, IsFault, IsFile};
 
 use crate::fault::ParseFault;
 use crate::queries::queries;
-use sn_query_rules::ast::QueryFile;
-use sn_read::stop::Stop;
-use sn_read::words::{end, number, word};
-use sn_rules::Flaw;
+use sn_query_grammar::ast::QueryFile;
 use sn_text::place::Lexer;
 use sn_text::scan::scan;
+use sn_text_read::stop::Stop;
+use sn_text_read::words::{end, number, word};
+use sn_text_rules::Flaw;
 use std::alloc::Global;
 
-#[tactic(auto, unfolding(sn_query_rules::specs::Grammar::file_rule))]
+#[tactic(auto, unfolding(sn_query_grammar::specs::Grammar::file_rule))]
 fn file<'a>(alloc: Global, at: Lexer<'a>) -> Result<QueryFile, Stop<'a>>
     ensures { ReadsAll result (file_rule.read kept (left at.entry)) }
 {

@@ -1,15 +1,15 @@
 //! Queries and their parts.
 ghost use Rattle.std.specs.Prelude.{◌≡◌, List, IfOk};
-ghost use Rattle.sn_rules.specs.declared.Flaw.{Flaw};
-ghost use Rattle.sn_rules.specs.declared.Flaw.TheVariants.{TooMany};
+ghost use Rattle.sn_text_rules.specs.declared.Flaw.{Flaw};
+ghost use Rattle.sn_text_rules.specs.declared.Flaw.TheVariants.{TooMany};
 ghost use Rattle.std.specs.Prelude.{codes};
-ghost use Rattle.sn_rules.specs.Rules.{kept};
-ghost use Rattle.sn_rules.specs.Words.{is_word, full};
+ghost use Rattle.sn_text_rules.specs.Rules.{kept};
+ghost use Rattle.sn_text_rules.specs.Words.{is_word, full};
 ghost use Rattle.sn_text.specs.Lexing.{left};
-ghost use Rattle.sn_read.specs.Reading.{Reads, Peeked};
-ghost use Rattle.sn_query_rules.specs.Names.{past_number};
-ghost use Rattle.sn_query_rules.specs.Grammar.{levels_rule, refine_rule, branch_rule, join_rule, body_rule, with_body, query_rule, query_names};
-ghost use Rattle.sn_query_rules.proofs.Queries.{levels_listed, queries_alike};
+ghost use Rattle.sn_text_read.specs.Reading.{Reads, Peeked};
+ghost use Rattle.sn_query_grammar.specs.Names.{past_number};
+ghost use Rattle.sn_query_grammar.specs.Grammar.{levels_rule, refine_rule, branch_rule, join_rule, body_rule, with_body, query_rule, query_names};
+ghost use Rattle.sn_query_grammar.proofs.Queries.{levels_listed, queries_alike};
 ghost use Rattle.sn_query.specs.Parts.{refined_rule, joined_rule, second_rule, queries_rule, level_rule};
 
 use crate::folds::keys;
@@ -18,13 +18,13 @@ use crate::words::{is_full_at, name, new_query_name, past_number_of};
 use sn_base::memory::Memory;
 use sn_base::name::Name;
 use sn_base::seq::Seq;
-use sn_query_rules::ast::{Branch, Join, Query, Refine};
-use sn_read::commas::{Commas, list};
-use sn_read::list::{Items, further};
-use sn_read::stop::Stop;
-use sn_read::words::{next_is_word, number, symbol, word, word_line};
-use sn_rules::Flaw;
+use sn_query_grammar::ast::{Branch, Join, Query, Refine};
 use sn_text::place::{Lexer, Piece};
+use sn_text_read::commas::{Commas, list};
+use sn_text_read::list::{Items, further};
+use sn_text_read::stop::Stop;
+use sn_text_read::words::{next_is_word, number, symbol, word, word_line};
+use sn_text_rules::Flaw;
 use std::alloc::Global;
 
 fn level<'a>(at: Lexer<'a>) -> Result<(u32, Lexer<'a>), Stop<'a>>
@@ -65,14 +65,14 @@ impl Commas for LevelItems {
     }
 }
 
-#[tactic(auto, unfolding(sn_query_rules::specs::Grammar::levels_rule))]
+#[tactic(auto, unfolding(sn_query_grammar::specs::Grammar::levels_rule))]
 fn levels<'a>(alloc: Global, at: Lexer<'a>) -> Result<(Seq<u32>, Lexer<'a>), Stop<'a>>
     ensures { Reads result (levels_rule.read kept (left at.entry)) }
 {
     list::<LevelItems>(alloc, at)
 }
 
-#[tactic(auto, unfolding(sn_query_rules::specs::Grammar::refine_rule))]
+#[tactic(auto, unfolding(sn_query_grammar::specs::Grammar::refine_rule))]
 fn refine<'a>(alloc: Global, at: Lexer<'a>) -> Result<(Refine, Lexer<'a>), Stop<'a>>
     ensures { Reads result (refine_rule.read kept (left at.entry)) }
 {
@@ -105,7 +105,7 @@ fn maybe_refine<'a>(alloc: Global, at: Lexer<'a>) -> Result<(Option<Refine>, Lex
     Ok((Some(refine), rest))
 }
 
-#[tactic(auto, unfolding(sn_query_rules::specs::Grammar::branch_rule))]
+#[tactic(auto, unfolding(sn_query_grammar::specs::Grammar::branch_rule))]
 fn branch<'a>(alloc: Global, at: Lexer<'a>) -> Result<(Branch, Lexer<'a>), Stop<'a>>
     ensures { Reads result (branch_rule.read kept (left at.entry)) }
 {
@@ -115,7 +115,7 @@ fn branch<'a>(alloc: Global, at: Lexer<'a>) -> Result<(Branch, Lexer<'a>), Stop<
     Ok((Branch { ops }, rest))
 }
 
-#[tactic(auto, unfolding(sn_query_rules::specs::Grammar::join_rule))]
+#[tactic(auto, unfolding(sn_query_grammar::specs::Grammar::join_rule))]
 fn join<'a>(alloc: Global, at: Lexer<'a>) -> Result<(Join, Lexer<'a>), Stop<'a>>
     ensures { Reads result (join_rule.read kept (left at.entry)) }
 {
@@ -180,7 +180,7 @@ fn query_of(
     }
 }
 
-#[tactic(auto, unfolding(sn_query_rules::specs::Grammar::query_rule, sn_query_rules::specs::Grammar::body_rule))]
+#[tactic(auto, unfolding(sn_query_grammar::specs::Grammar::query_rule, sn_query_grammar::specs::Grammar::body_rule))]
 fn query<'a>(alloc: Global, taken: &[Query], at: Lexer<'a>) -> Result<(Query, Lexer<'a>), Stop<'a>>
     ensures { Reads result ((query_rule (query_names taken.now)).read kept (left at.entry)) }
 {

@@ -1,21 +1,21 @@
 //! Names, comparisons and folds.
 ghost use Rattle.std.specs.Prelude.{◌≡◌, List, [], nat_le};
 ghost use Rattle.std.specs.List.{list_any};
-ghost use Rattle.sn_rules.specs.Rules.{kept};
+ghost use Rattle.sn_text_rules.specs.Rules.{kept};
 ghost use Rattle.sn_query.specs.Reading.{word_lexeme};
-ghost use Rattle.sn_rules.specs.Words.{same, wrong, word_in, judged_by};
+ghost use Rattle.sn_text_rules.specs.Words.{same, wrong, word_in, judged_by};
 ghost use Rattle.sn_text.specs.Lexing.{left, seen};
-ghost use Rattle.sn_read.specs.Reading.{Reads};
-ghost use Rattle.sn_query_rules.specs.Names.{is_keyword, name_test, name_not, past_name, past_number, cmp_in, any_cmp, comparison, fold_in, no_sum, plain_fold};
-ghost use Rattle.sn_query_rules.specs.Grammar.{past_col, col_names, query_names};
+ghost use Rattle.sn_text_read.specs.Reading.{Reads};
+ghost use Rattle.sn_query_grammar.specs.Names.{is_keyword, name_test, name_not, past_name, past_number, cmp_in, any_cmp, comparison, fold_in, no_sum, plain_fold};
+ghost use Rattle.sn_query_grammar.specs.Grammar.{past_col, col_names, query_names};
 
 use sn_base::name::Name;
-use sn_query_rules::ast::{Cmp, FoldWord, MapCol, Query};
-use sn_read::stop::Stop;
-use sn_read::words::wrong_of;
-use sn_rules::Flaw;
+use sn_query_grammar::ast::{Cmp, FoldWord, MapCol, Query};
 use sn_text::place::{Lexer, Piece};
 use sn_text::scan::scan;
+use sn_text_read::stop::Stop;
+use sn_text_read::words::wrong_of;
+use sn_text_rules::Flaw;
 
 pub(crate) fn is_full_at(count: usize, limit: usize) -> bool
     ensures { result ≡ nat_le limit count }

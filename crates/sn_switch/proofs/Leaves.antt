@@ -1,15 +1,15 @@
 -- Single tokens of the switch text as the code reads them.
 use Rattle.std.proofs.Common.{◌≡◌, ℕ, true, List, [], Result, Ok, Err, refl, sym, ap, ◌∙◌}
-use Rattle.sn_rules.specs.declared.Flaw.{Flaw}
-use Rattle.sn_rules.specs.Tokens.{Lexeme, word, number, symbol, finish, bad, Tok, got, fails}
-use Rattle.sn_rules.specs.Rules.{kept, token_at}
-use Rattle.sn_rules.specs.Words.{judged_by, number_at}
+use Rattle.sn_text_rules.specs.declared.Flaw.{Flaw}
+use Rattle.sn_text_rules.specs.Tokens.{Lexeme, word, number, symbol, finish, bad, Tok, got, fails}
+use Rattle.sn_text_rules.specs.Rules.{kept, token_at}
+use Rattle.sn_text_rules.specs.Words.{judged_by, number_at}
 use Rattle.sn_text.specs.Cutting.{is_last}
-use Rattle.sn_read.proofs.Tokens.{Next, halts, leaf_gives, leaf_halts}
-use Rattle.sn_switch_rules.specs.declared.item.Setting.{Setting}
-use Rattle.sn_switch_rules.specs.declared.item.Item.{Item}
-use Rattle.sn_switch_rules.specs.Settings.{setting_in}
-use Rattle.sn_switch_rules.specs.Grammar.{once, within, size_test, complete, end_in}
+use Rattle.sn_text_read.proofs.Tokens.{Next, halts, leaf_gives, leaf_halts}
+use Rattle.sn_switch_grammar.specs.declared.item.Setting.{Setting}
+use Rattle.sn_switch_grammar.specs.declared.item.Item.{Item}
+use Rattle.sn_switch_grammar.specs.Settings.{setting_in}
+use Rattle.sn_switch_grammar.specs.Grammar.{once, within, size_test, complete, end_in}
 
 pub setting_gives : (items : List Item) (ts us : List Tok) (t : Tok) (k : Setting) → Next ts t us → Ok k ≡ judged_by (once items) kept t.face (setting_in t.face) → token_at (λ t. judged_by (once items) kept t.face (setting_in t.face)) ts ≡ got k us
 setting_gives items = leaf_gives setting_in refl refl (once items)

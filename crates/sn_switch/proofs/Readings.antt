@@ -1,19 +1,19 @@
 -- A switch text is read as exactly one thing.
 use Rattle.std.proofs.Common.{◌≡◌, ℕ, List, Result, Ok, Err, refl, sym, ap, subst, ◌∙◌, inl, inr}
 use Rattle.std.specs.Prelude.{◌≢◌}
-use Rattle.sn_rules.specs.declared.Flaw.{Flaw}
-use Rattle.sn_rules.specs.declared.Flaw.TheVariants as kinds
-use Rattle.sn_rules.specs.Tokens.{Tok}
-use Rattle.sn_rules.specs.Rules.{FirstFault}
-use Rattle.sn_rules.proofs.Faults.{again_of, only_of, same_fault, not_both}
-use Rattle.sn_rules.proofs.Bounded.{what_it_is}
+use Rattle.sn_text_rules.specs.declared.Flaw.{Flaw}
+use Rattle.sn_text_rules.specs.declared.Flaw.TheVariants as kinds
+use Rattle.sn_text_rules.specs.Tokens.{Tok}
+use Rattle.sn_text_rules.specs.Rules.{FirstFault}
+use Rattle.sn_text_rules.proofs.Faults.{again_of, only_of, same_fault, not_both}
+use Rattle.sn_text_rules.proofs.Bounded.{what_it_is}
 use Rattle.sn_text.specs.Cutting.{tokens_of}
 use Rattle.sn_text.proofs.Ends.{tokens_ended}
-use Rattle.sn_switch_rules.specs.declared.item.Item.{Item}
-use Rattle.sn_switch_rules.specs.Grammar.{switch_rule}
-use Rattle.sn_switch_rules.proofs.Goods.{switch_good, ends}
-use Rattle.sn_switch_rules.proofs.Starts.{switch_starts}
-use Rattle.sn_switch_rules.proofs.Bounded.{switch_whole}
+use Rattle.sn_switch_grammar.specs.declared.item.Item.{Item}
+use Rattle.sn_switch_grammar.specs.Grammar.{switch_rule}
+use Rattle.sn_switch_grammar.proofs.Goods.{switch_good, ends}
+use Rattle.sn_switch_grammar.proofs.Starts.{switch_starts}
+use Rattle.sn_switch_grammar.proofs.Bounded.{switch_whole}
 use Rattle.sn_switch.specs.declared.switch.Switch.{Switch}
 use Rattle.sn_switch.specs.declared.fault.SwitchFault.{SwitchFault}
 use Rattle.sn_switch.specs.declared.fault.SwitchFault.TheVariants as faults

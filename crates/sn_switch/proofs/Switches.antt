@@ -2,28 +2,28 @@
 use Rattle.std.proofs.Common.{◌≡◌, ℕ, true, List, [], ◌∷◌, refl, sym, ap, subst, ◌∙◌}
 use Rattle.std.specs.List.{All, AllByRecursion, filter}
 use Rattle.std.proofs.lemmas.List.Elements.{All-nil, All-cons}
-use Rattle.sn_rules.specs.declared.Flaw.{Flaw}
-use Rattle.sn_rules.specs.declared.Flaw.TheVariants as kinds
-use Rattle.sn_rules.specs.Tokens.{Tok, Read, got, fails}
-use Rattle.sn_rules.specs.Rules.{kept, FirstFault}
-use Rattle.sn_rules.proofs.Faults.{found_of, only_of, none_of, fault_of as first_fault}
-use Rattle.sn_rules.proofs.Bounded.{whole_ok}
+use Rattle.sn_text_rules.specs.declared.Flaw.{Flaw}
+use Rattle.sn_text_rules.specs.declared.Flaw.TheVariants as kinds
+use Rattle.sn_text_rules.specs.Tokens.{Tok, Read, got, fails}
+use Rattle.sn_text_rules.specs.Rules.{kept, FirstFault}
+use Rattle.sn_text_rules.proofs.Faults.{found_of, only_of, none_of, fault_of as first_fault}
+use Rattle.sn_text_rules.proofs.Bounded.{whole_ok}
 use Rattle.sn_text.specs.Cutting.{tokens_of}
 use Rattle.sn_text.proofs.Ends.{tokens_ended}
 use Rattle.sn_text.specs.Lexing.{left}
-use Rattle.sn_read.specs.declared.stop.Stop.{Stop}
-use Rattle.sn_read.specs.declared.stop.Stop.TheVariants as stops
-use Rattle.sn_read.specs.Reading.{Halts}
-use Rattle.sn_switch_rules.specs.declared.item.Setting.{Setting}
-use Rattle.sn_switch_rules.specs.declared.item.Setting.TheVariants as settings
-use Rattle.sn_switch_rules.specs.declared.item.Item.{Item}
-use Rattle.sn_switch_rules.specs.Settings.{sets}
-use Rattle.sn_switch_rules.specs.Grammar.{switch_rule}
-use Rattle.sn_switch_rules.specs.Wholes.{numbers_in, first_of, IsIn, IsSizes}
-use Rattle.sn_switch_rules.proofs.Goods.{switch_good, ends}
-use Rattle.sn_switch_rules.proofs.Starts.{switch_starts}
-use Rattle.sn_switch_rules.proofs.Wholes.{each_one, one_of, sizes_of}
-use Rattle.sn_switch_rules.proofs.Bounded.{flaws, switch_whole}
+use Rattle.sn_text_read.specs.declared.stop.Stop.{Stop}
+use Rattle.sn_text_read.specs.declared.stop.Stop.TheVariants as stops
+use Rattle.sn_text_read.specs.Reading.{Halts}
+use Rattle.sn_switch_grammar.specs.declared.item.Setting.{Setting}
+use Rattle.sn_switch_grammar.specs.declared.item.Setting.TheVariants as settings
+use Rattle.sn_switch_grammar.specs.declared.item.Item.{Item}
+use Rattle.sn_switch_grammar.specs.Settings.{sets}
+use Rattle.sn_switch_grammar.specs.Grammar.{switch_rule}
+use Rattle.sn_switch_grammar.specs.Wholes.{numbers_in, first_of, IsIn, IsSizes}
+use Rattle.sn_switch_grammar.proofs.Goods.{switch_good, ends}
+use Rattle.sn_switch_grammar.proofs.Starts.{switch_starts}
+use Rattle.sn_switch_grammar.proofs.Wholes.{each_one, one_of, sizes_of}
+use Rattle.sn_switch_grammar.proofs.Bounded.{flaws, switch_whole}
 use Rattle.sn_switch.specs.declared.switch.Switch.{Switch}
 use Rattle.sn_switch.specs.declared.fault.SwitchFault.{SwitchFault}
 use Rattle.sn_switch.specs.declared.fault.SwitchFault.TheVariants as faults

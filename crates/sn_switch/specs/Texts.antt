@@ -1,20 +1,20 @@
 -- Which texts stand for which switches, and what the fault of another is.
 use Rattle.std.specs.Prelude.{◌≡◌, ◌≢◌, ℕ, List, [], ◌∷◌, Result, Ok, Err}
 use Rattle.std.specs.List.{filter}
-use Rattle.sn_rules.specs.declared.Flaw.{Flaw}
-use Rattle.sn_rules.specs.declared.Flaw.TheVariants as flaws
-use Rattle.sn_rules.specs.Tokens.{Tok}
-use Rattle.sn_rules.specs.Rules.{Accepts, FirstFault}
+use Rattle.sn_text_rules.specs.declared.Flaw.{Flaw}
+use Rattle.sn_text_rules.specs.declared.Flaw.TheVariants as flaws
+use Rattle.sn_text_rules.specs.Tokens.{Tok}
+use Rattle.sn_text_rules.specs.Rules.{Accepts, FirstFault}
 use Rattle.sn_text.specs.Cutting.{tokens_of}
 use Rattle.sn_text.specs.Lexing.{left}
-use Rattle.sn_read.specs.declared.stop.Stop.{Stop}
-use Rattle.sn_read.specs.declared.stop.Stop.TheVariants as stops
-use Rattle.sn_switch_rules.specs.declared.item.Setting.{Setting}
-use Rattle.sn_switch_rules.specs.declared.item.Setting.TheVariants as settings
-use Rattle.sn_switch_rules.specs.declared.item.Item.{Item}
-use Rattle.sn_switch_rules.specs.Settings.{sets}
-use Rattle.sn_switch_rules.specs.Grammar.{switch_rule}
-use Rattle.sn_switch_rules.specs.Wholes.{numbers_in, first_of, IsIn, IsSizes}
+use Rattle.sn_text_read.specs.declared.stop.Stop.{Stop}
+use Rattle.sn_text_read.specs.declared.stop.Stop.TheVariants as stops
+use Rattle.sn_switch_grammar.specs.declared.item.Setting.{Setting}
+use Rattle.sn_switch_grammar.specs.declared.item.Setting.TheVariants as settings
+use Rattle.sn_switch_grammar.specs.declared.item.Item.{Item}
+use Rattle.sn_switch_grammar.specs.Settings.{sets}
+use Rattle.sn_switch_grammar.specs.Grammar.{switch_rule}
+use Rattle.sn_switch_grammar.specs.Wholes.{numbers_in, first_of, IsIn, IsSizes}
 use Rattle.sn_switch.specs.declared.switch.Switch.{Switch}
 use Rattle.sn_switch.specs.declared.fault.SwitchFault.{SwitchFault}
 use Rattle.sn_switch.specs.declared.fault.SwitchFault.TheVariants as faults

@@ -1,21 +1,21 @@
 //! The numbers of an item.
 ghost use Rattle.std.specs.Prelude.{◌≡◌, nat_le};
 ghost use Rattle.std.specs.List.{list_all};
-ghost use Rattle.sn_rules.specs.Rules.{kept};
-ghost use Rattle.sn_rules.specs.Words.{judged_by, number_at, number_by};
+ghost use Rattle.sn_text_rules.specs.Rules.{kept};
+ghost use Rattle.sn_text_rules.specs.Words.{judged_by, number_at, number_by};
 ghost use Rattle.sn_text.specs.Lexing.{left, seen};
-ghost use Rattle.sn_read.specs.Reading.{Reads};
-ghost use Rattle.sn_switch_rules.specs.Grammar.{within, one_number, below, size_test, past_size, size_rule, sizes, numbers};
-ghost use Rattle.sn_switch_rules.proofs.Goods.{size_listed};
+ghost use Rattle.sn_text_read.specs.Reading.{Reads};
+ghost use Rattle.sn_switch_grammar.specs.Grammar.{within, one_number, below, size_test, past_size, size_rule, sizes, numbers};
+ghost use Rattle.sn_switch_grammar.proofs.Goods.{size_listed};
 
 use sn_base::seq::Seq;
-use sn_read::commas::{Commas, list};
-use sn_read::stop::Stop;
-use sn_read::words::wrong_of;
-use sn_rules::Flaw;
-use sn_switch_rules::item::Setting;
+use sn_switch_grammar::item::Setting;
 use sn_text::place::{Lexer, Piece};
 use sn_text::scan::scan;
+use sn_text_read::commas::{Commas, list};
+use sn_text_read::stop::Stop;
+use sn_text_read::words::wrong_of;
+use sn_text_rules::Flaw;
 use std::alloc::Global;
 
 fn number_of(piece: Piece<'_>, low: u64, high: u64) -> Result<u64, Flaw>

@@ -1,29 +1,29 @@
 //! The items of a switch text.
 ghost use Rattle.std.specs.Prelude.{◌≡◌};
-ghost use Rattle.sn_rules.specs.Rules.{kept};
-ghost use Rattle.sn_rules.specs.Words.{never, judged_by};
+ghost use Rattle.sn_text_rules.specs.Rules.{kept};
+ghost use Rattle.sn_text_rules.specs.Words.{never, judged_by};
 ghost use Rattle.sn_text.specs.Lexing.{left, seen};
-ghost use Rattle.sn_read.specs.Reading.{Reads, ReadsAll, EndsAll};
-ghost use Rattle.sn_switch_rules.specs.Settings.{begins, has};
-ghost use Rattle.sn_switch_rules.specs.Grammar.{is_whole, complete, end_in, end_rule, item_rule, items_rule, switch_rule};
-ghost use Rattle.sn_switch_rules.proofs.Goods.{items_alike};
+ghost use Rattle.sn_text_read.specs.Reading.{Reads, ReadsAll, EndsAll};
+ghost use Rattle.sn_switch_grammar.specs.Settings.{begins, has};
+ghost use Rattle.sn_switch_grammar.specs.Grammar.{is_whole, complete, end_in, end_rule, item_rule, items_rule, switch_rule};
+ghost use Rattle.sn_switch_grammar.proofs.Goods.{items_alike};
 
 use crate::numbers::numbers;
 use crate::settings::{begins, has, setting};
 use sn_base::seq::Seq;
-use sn_read::list::{Items, further};
-use sn_read::stop::Stop;
-use sn_read::words::{symbol, wrong_of};
-use sn_rules::Flaw;
-use sn_switch_rules::item::{Item, Setting};
+use sn_switch_grammar::item::{Item, Setting};
 use sn_text::place::{Lexer, Piece};
 use sn_text::scan::scan;
+use sn_text_read::list::{Items, further};
+use sn_text_read::stop::Stop;
+use sn_text_read::words::{symbol, wrong_of};
+use sn_text_rules::Flaw;
 use std::alloc::Global;
 
 /// The semicolon among the symbols.
 const SEMICOLON: u8 = 2;
 
-#[tactic(auto, unfolding(sn_switch_rules::specs::Grammar::item_rule))]
+#[tactic(auto, unfolding(sn_switch_grammar::specs::Grammar::item_rule))]
 fn item<'a>(alloc: Global, taken: &[Item], at: Lexer<'a>) -> Result<(Item, Lexer<'a>), Stop<'a>>
     ensures { Reads result ((item_rule taken.now).read kept (left at.entry)) }
 {
@@ -65,7 +65,7 @@ impl Items for SwitchItems {
     }
 }
 
-#[tactic(auto, unfolding(sn_switch_rules::specs::Grammar::items_rule))]
+#[tactic(auto, unfolding(sn_switch_grammar::specs::Grammar::items_rule))]
 fn items<'a>(alloc: Global, at: Lexer<'a>) -> Result<(Seq<Item>, Lexer<'a>), Stop<'a>>
     ensures { Reads result (items_rule.read kept (left at.entry)) }
 {
@@ -112,7 +112,7 @@ fn end<'a>(at: Lexer<'a>, items: &[Item]) -> Result<(), Stop<'a>>
 }
 
 /// The items of a whole text.
-#[tactic(auto, unfolding(sn_switch_rules::specs::Grammar::switch_rule))]
+#[tactic(auto, unfolding(sn_switch_grammar::specs::Grammar::switch_rule))]
 pub(crate) fn read<'a>(alloc: Global, at: Lexer<'a>) -> Result<Seq<Item>, Stop<'a>>
     ensures { ReadsAll result (switch_rule.read kept (left at.entry)) }
 {

@@ -1,18 +1,18 @@
 //! The words of a switch text.
 ghost use Rattle.std.specs.Prelude.{◌≡◌};
-ghost use Rattle.sn_rules.specs.Rules.{kept};
-ghost use Rattle.sn_rules.specs.Words.{same, judged_by};
+ghost use Rattle.sn_text_rules.specs.Rules.{kept};
+ghost use Rattle.sn_text_rules.specs.Words.{same, judged_by};
 ghost use Rattle.sn_text.specs.Lexing.{left, seen};
-ghost use Rattle.sn_read.specs.Reading.{Reads, Peeked};
-ghost use Rattle.sn_switch_rules.specs.Settings.{setting_of, setting_in, begins, place, is, has};
-ghost use Rattle.sn_switch_rules.specs.Grammar.{once, setting_rule};
+ghost use Rattle.sn_text_read.specs.Reading.{Reads, Peeked};
+ghost use Rattle.sn_switch_grammar.specs.Settings.{setting_of, setting_in, begins, place, is, has};
+ghost use Rattle.sn_switch_grammar.specs.Grammar.{once, setting_rule};
 
-use sn_read::stop::Stop;
-use sn_read::words::wrong_of;
-use sn_rules::Flaw;
-use sn_switch_rules::item::{Item, Setting};
+use sn_switch_grammar::item::{Item, Setting};
 use sn_text::place::{Lexer, Piece};
 use sn_text::scan::scan;
+use sn_text_read::stop::Stop;
+use sn_text_read::words::wrong_of;
+use sn_text_rules::Flaw;
 
 /// Its number in the list of settings, from 0.
 fn order_of(setting: Setting) -> u8
@@ -104,7 +104,7 @@ pub(crate) fn setting<'a>(at: Lexer<'a>, items: &[Item]) -> Result<(Setting, Lex
 }
 
 /// Whether an item begins here.
-#[tactic(auto, using(sn_read::proofs::Tokens::peeked))]
+#[tactic(auto, using(sn_text_read::proofs::Tokens::peeked))]
 pub(crate) fn begins(at: Lexer<'_>) -> bool
     ensures { Peeked result begins (left at.entry) }
 {

@@ -1,12 +1,12 @@
 //! The switch of a text.
 ghost use Rattle.std.specs.Prelude.{◌≡◌, ◌≤◌, ◌^◌, length, option_map, IfOk, IfErr};
 ghost use Rattle.std.specs.List.{All, find};
-ghost use Rattle.sn_rules.specs.Rules.{kept};
+ghost use Rattle.sn_text_rules.specs.Rules.{kept};
 ghost use Rattle.sn_text.specs.Cutting.{tokens_of};
 ghost use Rattle.sn_text.specs.Lexing.{left};
-ghost use Rattle.sn_switch_rules.specs.Settings.{sets};
-ghost use Rattle.sn_switch_rules.specs.Grammar.{switch_rule};
-ghost use Rattle.sn_switch_rules.specs.Wholes.{numbers_in, first_of, IsIn};
+ghost use Rattle.sn_switch_grammar.specs.Settings.{sets};
+ghost use Rattle.sn_switch_grammar.specs.Grammar.{switch_rule};
+ghost use Rattle.sn_switch_grammar.specs.Wholes.{numbers_in, first_of, IsIn};
 ghost use Rattle.sn_switch.specs.declared.switch.Switch.{Switch};
 ghost use Rattle.sn_switch.specs.Texts.{IsSwitch, switch_in, StandsFor, IsFault, IsValue, fault_of, line_of, Answers};
 
@@ -16,11 +16,11 @@ use crate::settings::is;
 use crate::switch::Switch;
 use sn_base::memory::Memory;
 use sn_base::seq::Seq;
-use sn_read::stop::Stop;
-use sn_rules::Flaw;
-use sn_switch_rules::item::{Item, Setting};
+use sn_switch_grammar::item::{Item, Setting};
 use sn_text::place::Lexer;
 use sn_text::scan::scan;
+use sn_text_read::stop::Stop;
+use sn_text_rules::Flaw;
 use std::alloc::Global;
 
 /// The first item of a setting.

@@ -2,10 +2,10 @@
 use Rattle.std.proofs.Common.{◌≡◌, ℕ, false, cond, List, [], ◌∷◌, ◌++◌, map, length, drop, Some, None, refl, sym, ap, subst, ◌∙◌, inl, inr, ◌⊎◌}
 use Rattle.std.proofs.Math.Seq.{drop-append_seam}
 use Rattle.std.proofs.lemmas.List.{append-nil}
-use Rattle.sn_rules.specs.Tokens.{Lexeme, symbol, finish, Tok, faces, mark_faces}
-use Rattle.sn_rules.specs.Rules.{Rule, kept, Accepts}
-use Rattle.sn_rules.proofs.Common.{spelled_faces}
-use Rattle.sn_rules.proofs.Laws.{Good}
+use Rattle.sn_text_rules.specs.Tokens.{Lexeme, symbol, finish, Tok, faces, mark_faces}
+use Rattle.sn_text_rules.specs.Rules.{Rule, kept, Accepts}
+use Rattle.sn_text_rules.proofs.Common.{spelled_faces}
+use Rattle.sn_text_rules.proofs.Laws.{Good}
 use Rattle.sn_text.specs.Cutting.{lexeme_at, Place, gap, behind, skip_from, skip, tok_at, after_at, is_last, tokens, tokens_of}
 use Rattle.sn_text.proofs.Next.{tokens_next}
 use Rattle.sn_text.specs.Writing.{lexeme_text}

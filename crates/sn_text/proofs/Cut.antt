@@ -2,7 +2,7 @@
 use Rattle.std.proofs.Common.{◌≡◌, ℕ, zero, suc, ◌+◌, ◌*◌, ◌^◌, ◌<◌, ◌≤◌, Bool, true, false, cond, List, [], ◌∷◌, ◌++◌, length, take, drop, Option, Some, None, refl, sym, ◌∙◌, subst, arith}
 use Rattle.std.specs.Prelude.{nat_le, nat_lt, ◌==◌, ◌&&◌, ◌||◌}
 use Rattle.std.proofs.lemmas.Bool.{ltb-true, leb-true}
-use Rattle.sn_rules.specs.Tokens.{Lexeme, word, Tok, faces}
+use Rattle.sn_text_rules.specs.Tokens.{Lexeme, word, Tok, faces}
 use Rattle.sn_text.specs.Cutting.{is_digit, is_name_start, is_word_byte, run, digit, with_digit, or_none, digits_behind, digits, part_of, part, dot_part, address, has_dot, is_hex, number_of, number_lexeme, long_symbol, short_symbol, short_lexeme, long_lexeme, symbol_at, lexeme_at, Place, skip, tok_at, after_at, is_last, tokens}
 use Rattle.sn_text.proofs.Next.{tokens_next}
 use Rattle.sn_text.proofs.Lexemes.{AllWord, Fine, AllFine}

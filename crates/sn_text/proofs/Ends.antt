@@ -1,8 +1,8 @@
 -- The tokens of a text end with its end, which is behind its last byte, or with no token.
 use Rattle.std.proofs.Common.{◌≡◌, ℕ, ◌+◌, ◌≤◌, suc, Bool, true, false, cond, List, [], ◌∷◌, ◌++◌, length, take, Option, Some, None, refl, sym, ap, ◌∙◌, arith, inl, inr, length-drop}
-use Rattle.sn_rules.specs.Tokens.{Lexeme, word, finish, is_last, Tok}
-use Rattle.sn_rules.proofs.Common.{either_way}
-use Rattle.sn_rules.proofs.Bounded.{Ended}
+use Rattle.sn_text_rules.specs.Tokens.{Lexeme, word, finish, is_last, Tok}
+use Rattle.sn_text_rules.proofs.Common.{either_way}
+use Rattle.sn_text_rules.proofs.Bounded.{Ended}
 use Rattle.sn_text.specs.Cutting.{is_digit, is_name_start, is_word_byte, run, number_lexeme, number_of, long_symbol, short_symbol, short_lexeme, long_lexeme, symbol_at, lexeme_at, Place, gap, behind, when_gap, skip_from, skip, tok_at, after_at, tokens, tokens_of}
 use Rattle.sn_text.proofs.Next.{tokens_next}
 

@@ -1,6 +1,6 @@
 -- Which tokens are the last.
 use Rattle.std.proofs.Common.{◌≡◌, true, false, refl, ap}
-use Rattle.sn_rules.specs.Tokens.{Lexeme, word, number, symbol, finish, bad}
+use Rattle.sn_text_rules.specs.Tokens.{Lexeme, word, number, symbol, finish, bad}
 use Rattle.sn_text.specs.Cutting.{is_last}
 use Rattle.sn_text.specs.Lexing.{is_bad, is_finish}
 

@@ -3,7 +3,7 @@ use Rattle.std.proofs.Common.{◌≡◌, ℕ, ◌^◌, ◌<◌, ◌≤◌, Bool,
 use Rattle.std.specs.Prelude.{◌==◌, ◌||◌}
 use Rattle.std.specs.Fmt.{decimal}
 use Rattle.std.proofs.Math.Seq.{take-append_seam}
-use Rattle.sn_rules.specs.Tokens.{Lexeme, word, number, symbol, finish, bad, is_last}
+use Rattle.sn_text_rules.specs.Tokens.{Lexeme, word, number, symbol, finish, bad, is_last}
 use Rattle.sn_text.specs.Cutting.{is_digit, is_name_start, is_word_byte, run, number_lexeme, number_of, lexeme_at, gap}
 use Rattle.sn_text.specs.Writing.{lexeme_text}
 use Rattle.sn_text.proofs.Numerals.{Digits, digit_byte, differ, number_read, decimal_digits}

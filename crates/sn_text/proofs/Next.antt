@@ -1,7 +1,7 @@
 -- The tokens are the first one and those after it.
 use Rattle.std.proofs.Common.{◌≡◌, ℕ, zero, suc, ◌≤◌, Bool, true, false, cond, List, [], ◌∷◌, length, take, Option, Some, None, refl, sym, ap, ◌∙◌, arith, inl, inr, ◌⊎◌, length-drop}
 use Rattle.std.specs.Prelude.{◌==◌, ◌||◌}
-use Rattle.sn_rules.specs.Tokens.{Lexeme, word, Tok}
+use Rattle.sn_text_rules.specs.Tokens.{Lexeme, word, Tok}
 use Rattle.sn_text.specs.Cutting.{is_digit, is_name_start, is_word_byte, run, number_lexeme, number_of, long_symbol, short_symbol, short_lexeme, long_lexeme, symbol_at, lexeme_at, Place, gap, behind, when_gap, skip_from, skip, tok_at, after_at, is_last, tokens_at, tokens}
 
 either_way : (b : Bool) → (b ≡ true) ⊎ (b ≡ false)

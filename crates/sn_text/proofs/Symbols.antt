@@ -1,7 +1,7 @@
 -- Symbols that are written are read back.
 use Rattle.std.proofs.Common.{◌≡◌, ℕ, zero, suc, ◌≤◌, false, List, [], ◌∷◌, ◌++◌, length, Some, None, refl, arith}
 use Rattle.std.specs.Prelude.{◌==◌}
-use Rattle.sn_rules.specs.Tokens.{Lexeme, symbol}
+use Rattle.sn_text_rules.specs.Tokens.{Lexeme, symbol}
 use Rattle.sn_text.specs.Cutting.{is_digit, is_name_start, is_word_byte, long_symbol, short_symbol, lexeme_at, gap}
 use Rattle.sn_text.specs.Writing.{symbol_text}
 

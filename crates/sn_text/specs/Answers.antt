@@ -1,6 +1,6 @@
 -- What the calls of a lexer answer.
 use Rattle.std.specs.Prelude.{◌≡◌, ℕ, false, List, [], ◌∷◌, if◌then◌else◌}
-use Rattle.sn_rules.specs.Tokens.{Tok, bad}
+use Rattle.sn_text_rules.specs.Tokens.{Tok, bad}
 use Rattle.sn_text.specs.Cutting.{is_last}
 use Rattle.sn_text.specs.Lexing.{kind_of, is_bad}
 use Rattle.sn_text.specs.declared.lexer.Token.{Token}

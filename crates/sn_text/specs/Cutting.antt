@@ -1,7 +1,7 @@
 -- The cutting of a text into tokens.
 use Rattle.std.specs.Prelude.{ℕ, zero, suc, ◌+◌, ◌-◌, ◌*◌, ◌^◌, Bool, true, false, List, [], ◌∷◌, length, take, drop, Option, Some, None, nat_lt, nat_le, ◌==◌, ◌&&◌, ◌||◌, if◌then◌else◌}
-use Rattle.sn_rules.specs.Tokens.{Lexeme, word, number, symbol, finish, bad, Tok}
-pub use Rattle.sn_rules.specs.Tokens.{is_last}
+use Rattle.sn_text_rules.specs.Tokens.{Lexeme, word, number, symbol, finish, bad, Tok}
+pub use Rattle.sn_text_rules.specs.Tokens.{is_last}
 
 abbrev pub is_digit : ℕ → Bool
 is_digit b = nat_le 48 b && nat_le b 57

@@ -1,6 +1,6 @@
 -- The lexer of the code, as a place in its text.
 use Rattle.std.specs.Prelude.{Bool, true, false, List}
-use Rattle.sn_rules.specs.Tokens.{Lexeme, Tok, word, number, symbol, finish, bad}
+use Rattle.sn_text_rules.specs.Tokens.{Lexeme, Tok, word, number, symbol, finish, bad}
 use Rattle.sn_text.specs.Cutting.{Place, tokens}
 use Rattle.sn_text.specs.declared.place.Lexer.{Lexer}
 use Rattle.sn_text.specs.declared.place.Piece.{Piece}

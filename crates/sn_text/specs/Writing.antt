@@ -1,7 +1,7 @@
 -- How a lexeme is written.
 use Rattle.std.specs.Prelude.{ℕ, List, [], ◌==◌, codes, if◌then◌else◌}
 use Rattle.std.specs.Fmt.{decimal}
-use Rattle.sn_rules.specs.Tokens.{Lexeme, word, number, symbol, finish, bad}
+use Rattle.sn_text_rules.specs.Tokens.{Lexeme, word, number, symbol, finish, bad}
 
 -- { } ; , | ( ) : & + * / == != < <= > >= >>
 abbrev pub symbol_text : ℕ → List ℕ

@@ -6,7 +6,7 @@ use Rattle.std.proofs.lemmas.List.{append-nil, append_assoc, length-append, leng
 use Rattle.std.proofs.lemmas.List.Elements.{filter-append}
 use Rattle.std.proofs.lemmas.List.Folds.{list_any-append}
 use Rattle.sn_base.proofs.Lists.{by_test, filter_none, nat_same}
-use Rattle.sn_rules.specs.Tokens.{Lexeme, bad, finish, is_last, number, symbol, word}
+use Rattle.sn_text_rules.specs.Tokens.{Lexeme, bad, finish, is_last, number, symbol, word}
 use Rattle.sn_text.specs.Cutting.{Place, after_at, behind, gap, is_digit, is_name_start, is_word_byte, lexeme_at, long_lexeme, long_symbol, number_lexeme, number_of, run, short_lexeme, short_symbol, skip, skip_from, symbol_at, tok_at, tokens, tokens_at, tokens_of, when_gap}
 use Rattle.sn_token_laws.specs.Stands.{IsEnded, StandsIn}
 

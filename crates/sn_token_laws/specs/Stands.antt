@@ -1,7 +1,7 @@
 -- Where a token stands in its text.
 use Rattle.std.specs.Prelude.{◌≡◌, ◌⊎◌, ℕ, ◌+◌, List, [], ◌∷◌, ◌++◌, filter, length, nat_eq, false}
 use Rattle.std.specs.List.{list_any}
-use Rattle.sn_rules.specs.Tokens.{Tok, word}
+use Rattle.sn_text_rules.specs.Tokens.{Tok, word}
 
 -- nothing, or lines that end with a line feed, which is byte 10
 abbrev pub IsEnded : List ℕ → Type 0

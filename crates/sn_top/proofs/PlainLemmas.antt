@@ -1,11 +1,11 @@
 -- The stages of `plain` have one outcome each.
 use Rattle.std.proofs.Common.{ℕ, List}
-use Rattle.sn_answered.proofs.AnsweredLemmas.{one_answered}
-use Rattle.sn_planned.proofs.Verdicts.{one_queries}
-use Rattle.sn_planned.specs.Queries.{QueriesIn}
-use Rattle.sn_run.specs.Run.{window_ns}
-use Rattle.sn_stage.specs.Outcomes.{HasOne}
-use Rattle.sn_stage.proofs.OneLemmas.{one_then, one_text}
+use Rattle.sn_command_capture.proofs.AnsweredLemmas.{one_answered}
+use Rattle.sn_command_texts.proofs.Verdicts.{one_queries}
+use Rattle.sn_command_texts.specs.Queries.{QueriesIn}
+use Rattle.sn_command_run.specs.Run.{window_ns}
+use Rattle.sn_command.specs.Outcomes.{HasOne}
+use Rattle.sn_command.proofs.OneLemmas.{one_then, one_text}
 use Rattle.sn_top.specs.Answers.{plain_wording}
 use Rattle.sn_top.specs.Plain.{Plain}
 

@@ -12,12 +12,12 @@ use Rattle.sn_cli.specs.Reading.{command_of}
 use Rattle.sn_cli.specs.Words.{texts}
 use Rattle.sn_cli.proofs.GrammarLemmas.{read_is_spelled, spelled_is_read}
 use Rattle.sn_cli.proofs.NumberLemmas.{none_some}
-use Rattle.sn_stage.specs.declared.refusal.Refusal.{Refusal}
-use Rattle.sn_stage.specs.declared.refusal.Refusal.TheVariants.{Usage, WriteFault}
-use Rattle.sn_stage.specs.Outcomes.{Stage}
-use Rattle.sn_stage.specs.Runs.{WorksFrom}
-use Rattle.sn_stage.specs.Worlds.{World, OutRose, Follows}
-use Rattle.sn_run.specs.Planned.{Telling, as_they_are}
+use Rattle.sn_command.specs.declared.refusal.Refusal.{Refusal}
+use Rattle.sn_command.specs.declared.refusal.Refusal.TheVariants.{Usage, WriteFault}
+use Rattle.sn_command.specs.Outcomes.{Stage}
+use Rattle.sn_command.specs.Runs.{WorksFrom}
+use Rattle.sn_command.specs.Worlds.{World, OutRose, Follows}
+use Rattle.sn_command_run.specs.Planned.{Telling, as_they_are}
 use Rattle.sn_top.specs.Top.{IsLiveWork, IsWork}
 
 -- what holds of the words that were passed holds of the words

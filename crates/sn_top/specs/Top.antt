@@ -5,20 +5,20 @@ use Rattle.sn_io.specs.declared.sink.Sink.{Ghosts as SinkOf}
 use Rattle.sn_cli.specs.declared.command.Command.{Command}
 use Rattle.sn_cli.specs.declared.command.Command.TheVariants as commands
 use Rattle.sn_cli.specs.Words.{word_at}
-use Rattle.sn_stage.specs.declared.refusal.Refusal.{Refusal}
-use Rattle.sn_stage.specs.declared.refusal.Refusal.TheVariants.{Usage}
-use Rattle.sn_stage.specs.Desks.{files_of, sunk}
-use Rattle.sn_stage.specs.Ends.{Around}
-use Rattle.sn_stage.specs.Runs.{WorksFrom}
-use Rattle.sn_stage.specs.Worlds.{World}
-use Rattle.sn_checked.specs.Check.{Check}
-use Rattle.sn_emitted.specs.Emit.{Emit}
-use Rattle.sn_finished.specs.Finish.{Finish}
-use Rattle.sn_generated.specs.Gen.{Gen}
-use Rattle.sn_job.specs.Job.{Job}
-use Rattle.sn_live.specs.Live.{Live, Plan, TracedLive}
-use Rattle.sn_run.specs.Planned.{Telling}
-use Rattle.sn_run.specs.Run.{Run}
+use Rattle.sn_command.specs.declared.refusal.Refusal.{Refusal}
+use Rattle.sn_command.specs.declared.refusal.Refusal.TheVariants.{Usage}
+use Rattle.sn_command.specs.Desks.{files_of, sunk}
+use Rattle.sn_command.specs.Ends.{Around}
+use Rattle.sn_command.specs.Runs.{WorksFrom}
+use Rattle.sn_command.specs.Worlds.{World}
+use Rattle.sn_command_check.specs.Check.{Check}
+use Rattle.sn_command_emit.specs.Emit.{Emit}
+use Rattle.sn_command_finish.specs.Finish.{Finish}
+use Rattle.sn_command_gen.specs.Gen.{Gen}
+use Rattle.sn_command_job.specs.Job.{Job}
+use Rattle.sn_command_live.specs.Live.{Live, Plan, TracedLive}
+use Rattle.sn_command_run.specs.Planned.{Telling}
+use Rattle.sn_command_run.specs.Run.{Run}
 use Rattle.sn_top.specs.Plain.{Plain}
 
 -- refused as a usage, with nothing read or written

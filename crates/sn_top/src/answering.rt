@@ -2,10 +2,10 @@
 
 use crate::answers::window_text;
 use crate::unsplit::Unsplit;
-use sn_answered::answering::Answering;
-use sn_answered::lines::last_lines;
 use sn_base::memory::Memory;
 use sn_base::seq::Seq;
+use sn_command_capture::answering::Answering;
+use sn_command_capture::lines::last_lines;
 use sn_fields::tuple::Tuple;
 use sn_pcap::packet::Ending;
 

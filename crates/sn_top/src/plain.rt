@@ -1,17 +1,17 @@
 //! The command `plain`.
 ghost use Rattle.std.specs.Prelude.{[], ◌∷◌};
-ghost use Rattle.sn_stage.specs.Desks.{world};
-ghost use Rattle.sn_stage.specs.Runs.{WorksFrom};
+ghost use Rattle.sn_command.specs.Desks.{world};
+ghost use Rattle.sn_command.specs.Runs.{WorksFrom};
 ghost use Rattle.sn_top.specs.Plain.{Plain};
 
 use crate::unsplit::Unsplit;
-use sn_answered::capture::answer_capture;
 use sn_base::seq::Seq;
+use sn_command::desk::Desk;
+use sn_command::refusal::Refusal;
+use sn_command_capture::capture::answer_capture;
+use sn_command_texts::queries::read_queries;
 use sn_io::inputs::Inputs;
 use sn_io::sink::Sink;
-use sn_planned::queries::read_queries;
-use sn_stage::desk::Desk;
-use sn_stage::refusal::Refusal;
 use std::alloc::Global;
 
 /// `plain QUERIES CAPTURE`: reads the queries, then the capture, and writes the answers of each window.

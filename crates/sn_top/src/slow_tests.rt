@@ -7,10 +7,10 @@ ghost use Rattle.sn_io.specs.MemInputs.{held_by, faults_of, told_known, read_ans
 use crate::tests::{SYN, three_packets};
 use crate::top::top;
 use sn_base::seq::Seq;
+use sn_core_net::net::Net;
 use sn_io::inputs::{InputFault, Inputs};
 use sn_io::mem_inputs::MemInputs;
 use sn_io::mem_sink::MemSink;
-use sn_machine::net::Net;
 use std::alloc::Global;
 use std::test::Fail;
 

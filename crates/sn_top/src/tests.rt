@@ -1,10 +1,10 @@
-//! Calls that a table of texts can't tell: writes that fail, bytes that are no text, and a large text. `sn_trials` has all others.
+//! Calls that a table of texts can't tell: writes that fail, bytes that are no text, and a large text. `sn_test_rows` has all others.
 
 use crate::top::top;
 use sn_base::seq::Seq;
+use sn_core_net::net::Net;
 use sn_io::mem_inputs::MemInputs;
 use sn_io::mem_sink::MemSink;
-use sn_machine::net::Net;
 use std::alloc::Global;
 use std::test::Fail;
 

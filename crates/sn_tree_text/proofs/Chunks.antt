@@ -5,14 +5,14 @@ use Rattle.std.specs.List.{AllByRecursion}
 use Rattle.std.specs.Fmt.{decimal}
 use Rattle.std.proofs.lemmas.Bool.Decides.{nat_tests}
 use Rattle.std.proofs.lemmas.List.{map-append}
-use Rattle.sn_rules.specs.Tokens.{Lexeme, word, number, symbol, finish, Mark, plain, mark_face, mark_faces}
-use Rattle.sn_rules.specs.Rules.{kept, items_spelled, fit_from}
-use Rattle.sn_rules.specs.Words.{in_range, never}
+use Rattle.sn_text_rules.specs.Tokens.{Lexeme, word, number, symbol, finish, Mark, plain, mark_face, mark_faces}
+use Rattle.sn_text_rules.specs.Rules.{kept, items_spelled, fit_from}
+use Rattle.sn_text_rules.specs.Words.{in_range, never}
 use Rattle.sn_text.proofs.Lexemes.{AllFine}
 use Rattle.sn_text.proofs.Chunks.{Chunk, chunk, text_of, face_of, Spaced}
-use Rattle.sn_space.specs.declared.node.Node.{Node}
-use Rattle.sn_space.specs.declared.node.Node.TheVariants.{Expand, Bound, Broken, Chosen}
-use Rattle.sn_tree_rules.specs.Grammar.{node_rule, nodes_rule, tree_rule}
+use Rattle.sn_tree_space.specs.declared.node.Node.{Node}
+use Rattle.sn_tree_space.specs.declared.node.Node.TheVariants.{Expand, Bound, Broken, Chosen}
+use Rattle.sn_tree_grammar.specs.Grammar.{node_rule, nodes_rule, tree_rule}
 use Rattle.sn_tree_text.specs.Printing.{node_text, nodes_text, tree_text, IsSmall}
 
 abbrev space : List ℕ

@@ -1,15 +1,15 @@
 -- The kind of a node is chosen by its first word.
 use Rattle.std.proofs.Common.{◌≡◌, ℕ, Bool, true, false, List, [], ◌∷◌, refl, ◌∙◌, inl, inr, ◌⊎◌}
 use Rattle.std.specs.Prelude.{codes}
-use Rattle.sn_rules.specs.Tokens.{Lexeme, Tok, Read, got, fails, short, bind}
-use Rattle.sn_rules.specs.Rules.{kept, Rule, either_at}
-use Rattle.sn_rules.specs.Words.{is_word, keyword, ◌▸◌}
-use Rattle.sn_read.specs.declared.stop.Stop.{Stop}
-use Rattle.sn_read.specs.declared.stop.Stop.TheVariants as stops
-use Rattle.sn_read.specs.Reading.{Halts, Peeked}
-use Rattle.sn_space.specs.declared.node.Node.{Node}
-use Rattle.sn_space.specs.declared.node.Node.TheVariants.{Expand, Bound, Broken, Chosen}
-use Rattle.sn_tree_rules.specs.Grammar.{any_number, to_node, node_rule}
+use Rattle.sn_text_rules.specs.Tokens.{Lexeme, Tok, Read, got, fails, short, bind}
+use Rattle.sn_text_rules.specs.Rules.{kept, Rule, either_at}
+use Rattle.sn_text_rules.specs.Words.{is_word, keyword, ◌▸◌}
+use Rattle.sn_text_read.specs.declared.stop.Stop.{Stop}
+use Rattle.sn_text_read.specs.declared.stop.Stop.TheVariants as stops
+use Rattle.sn_text_read.specs.Reading.{Halts, Peeked}
+use Rattle.sn_tree_space.specs.declared.node.Node.{Node}
+use Rattle.sn_tree_space.specs.declared.node.Node.TheVariants.{Expand, Bound, Broken, Chosen}
+use Rattle.sn_tree_grammar.specs.Grammar.{any_number, to_node, node_rule}
 
 -- the value of a part is read, or its halt is that of the whole
 record Part {A B : Type 0} (part : Read A) (to : A → B) (whole : Read B) : Type 0 where

@@ -2,9 +2,9 @@
 use Rattle.std.proofs.Common.{◌≡◌, ℕ, ◌+◌, ◌≤◌, ◌<◌, suc, Bool, true, false, cond, List, [], ◌∷◌, ◌++◌, length, take, Option, Some, None, refl, sym, ap, subst, ◌∙◌, arith, inl, inr, ◌⊎◌}
 use Rattle.std.specs.Prelude.{nat_lt, not, ◌&&◌, ◌||◌, ◌==◌}
 use Rattle.std.proofs.lemmas.Bool.Decides.{nat_tests}
-use Rattle.sn_rules.specs.Tokens.{Lexeme, word, is_last, Tok}
-use Rattle.sn_rules.proofs.Common.{either_way}
-use Rattle.sn_rules.proofs.Bounded.{Ended}
+use Rattle.sn_text_rules.specs.Tokens.{Lexeme, word, is_last, Tok}
+use Rattle.sn_text_rules.proofs.Common.{either_way}
+use Rattle.sn_text_rules.proofs.Bounded.{Ended}
 use Rattle.sn_text.specs.Cutting.{is_digit, is_name_start, is_word_byte, run, number_lexeme, number_of, long_symbol, short_symbol, short_lexeme, long_lexeme, symbol_at, lexeme_at, Place, gap, behind, when_gap, skip_from, skip, tok_at, after_at, tokens, tokens_of}
 use Rattle.sn_text.proofs.Next.{tokens_next}
 use Rattle.sn_text.proofs.Ends.{tokens_ended}

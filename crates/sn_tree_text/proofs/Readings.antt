@@ -1,19 +1,19 @@
 -- The text of a cost and a tree is read as exactly one thing.
 use Rattle.std.proofs.Common.{◌≡◌, ℕ, List, Result, Ok, Err, refl, sym, ap, ◌∙◌, inl, inr}
 use Rattle.std.specs.Prelude.{◌≢◌}
-use Rattle.sn_rules.specs.declared.Flaw.{Flaw}
-use Rattle.sn_rules.specs.declared.Flaw.TheVariants as kinds
-use Rattle.sn_rules.specs.Tokens.{Tok}
-use Rattle.sn_rules.specs.Rules.{FirstFault}
-use Rattle.sn_rules.proofs.Faults.{again_of, only_of, same_fault, not_both}
-use Rattle.sn_rules.proofs.Bounded.{what_it_is}
+use Rattle.sn_text_rules.specs.declared.Flaw.{Flaw}
+use Rattle.sn_text_rules.specs.declared.Flaw.TheVariants as kinds
+use Rattle.sn_text_rules.specs.Tokens.{Tok}
+use Rattle.sn_text_rules.specs.Rules.{FirstFault}
+use Rattle.sn_text_rules.proofs.Faults.{again_of, only_of, same_fault, not_both}
+use Rattle.sn_text_rules.proofs.Bounded.{what_it_is}
 use Rattle.sn_text.specs.Cutting.{tokens_of}
 use Rattle.sn_text.proofs.Ends.{tokens_ended}
-use Rattle.sn_space.specs.declared.node.Node.{Node}
-use Rattle.sn_tree_rules.specs.Grammar.{tree_rule}
-use Rattle.sn_tree_rules.proofs.Goods.{tree_good, ends}
-use Rattle.sn_tree_rules.proofs.Starts.{tree_starts}
-use Rattle.sn_tree_rules.proofs.Bounded.{tree_whole}
+use Rattle.sn_tree_space.specs.declared.node.Node.{Node}
+use Rattle.sn_tree_grammar.specs.Grammar.{tree_rule}
+use Rattle.sn_tree_grammar.proofs.Goods.{tree_good, ends}
+use Rattle.sn_tree_grammar.proofs.Starts.{tree_starts}
+use Rattle.sn_tree_grammar.proofs.Bounded.{tree_whole}
 use Rattle.sn_tree_text.specs.declared.fault.TextFault.{TextFault}
 use Rattle.sn_tree_text.specs.declared.fault.TextFault.TheVariants as faults
 use Rattle.sn_tree_text.specs.Places.{from_byte}

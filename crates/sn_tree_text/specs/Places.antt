@@ -1,6 +1,6 @@
 -- The tokens of a text from a byte on.
 use Rattle.std.specs.Prelude.{ℕ, List, [], ◌∷◌, not, nat_lt, ◌&&◌, if◌then◌else◌}
-use Rattle.sn_rules.specs.Tokens.{Tok, is_last}
+use Rattle.sn_text_rules.specs.Tokens.{Tok, is_last}
 
 -- those tokens that begin at this byte or behind it, and the last one in any case
 abbrev pub from_byte : ℕ → List Tok → List Tok

@@ -1,8 +1,8 @@
 -- The canonical text of a tree.
 use Rattle.std.specs.Prelude.{ℕ, List, [], ◌∷◌, ◌++◌, ◌<◌, ◌^◌, codes}
 use Rattle.std.specs.Fmt.{decimal}
-use Rattle.sn_space.specs.declared.node.Node.{Node}
-use Rattle.sn_space.specs.declared.node.Node.TheVariants.{Expand, Bound, Broken, Chosen}
+use Rattle.sn_tree_space.specs.declared.node.Node.{Node}
+use Rattle.sn_tree_space.specs.declared.node.Node.TheVariants.{Expand, Bound, Broken, Chosen}
 
 -- the line of a node
 abbrev pub node_text : Node → List ℕ

@@ -10,7 +10,7 @@ use crate::tree::Tree;
 use sn_base::bytes::push_bytes;
 use sn_base::memory::Memory;
 use sn_base::seq::Seq;
-use sn_space::node::Node;
+use sn_tree_space::node::Node;
 use std::alloc::Global;
 
 /// Writes a line of a letter and a number.

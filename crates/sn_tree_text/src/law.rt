@@ -1,8 +1,8 @@
 //! Laws on texts of trees.
 ghost use Rattle.std.specs.Prelude.{◌≡◌, ℕ, List, ◌∷◌, ◌++◌, Result};
-ghost use Rattle.sn_rules.specs.Tokens.{Tok};
+ghost use Rattle.sn_text_rules.specs.Tokens.{Tok};
 ghost use Rattle.sn_text.specs.Cutting.{tokens_of};
-ghost use Rattle.sn_space.specs.declared.node.Node.{Node};
+ghost use Rattle.sn_tree_space.specs.declared.node.Node.{Node};
 ghost use Rattle.sn_tree_text.specs.declared.fault.TextFault.{TextFault};
 ghost use Rattle.sn_tree_text.specs.Places.{from_byte};
 ghost use Rattle.sn_tree_text.specs.Texts.{IsRead, HasReading};

@@ -1,21 +1,21 @@
 //! The nodes of a tree text, and all that stands around them.
 ghost use Rattle.std.specs.Prelude.{◌≡◌, ℕ, List, codes};
-ghost use Rattle.sn_rules.specs.Rules.{kept};
-ghost use Rattle.sn_rules.specs.Words.{keyword, never, ◌▸◌};
+ghost use Rattle.sn_text_rules.specs.Rules.{kept};
+ghost use Rattle.sn_text_rules.specs.Words.{keyword, never, ◌▸◌};
 ghost use Rattle.sn_text.specs.Lexing.{left};
-ghost use Rattle.sn_read.specs.Reading.{Reads, ReadsAll, Peeked};
-ghost use Rattle.sn_tree_rules.specs.Grammar.{any_number, node_rule, begins, nodes_rule, tree_rule};
-ghost use Rattle.sn_tree_rules.proofs.Goods.{nodes_alike};
+ghost use Rattle.sn_text_read.specs.Reading.{Reads, ReadsAll, Peeked};
+ghost use Rattle.sn_tree_grammar.specs.Grammar.{any_number, node_rule, begins, nodes_rule, tree_rule};
+ghost use Rattle.sn_tree_grammar.proofs.Goods.{nodes_alike};
 
 use crate::tree::Tree;
 use sn_base::seq::Seq;
-use sn_read::list::{Items, further};
-use sn_read::stop::Stop;
-use sn_read::words::{end, is_the_word, next_is_word, number, symbol, word};
-use sn_rules::Flaw;
-use sn_space::node::Node;
 use sn_text::place::Lexer;
 use sn_text::scan::scan;
+use sn_text_read::list::{Items, further};
+use sn_text_read::stop::Stop;
+use sn_text_read::words::{end, is_the_word, next_is_word, number, symbol, word};
+use sn_text_rules::Flaw;
+use sn_tree_space::node::Node;
 use std::alloc::Global;
 
 /// The semicolon among the symbols.
@@ -51,7 +51,7 @@ fn node<'a>(at: Lexer<'a>) -> Result<(Node, Lexer<'a>), Stop<'a>>
 }
 
 /// Whether a node begins here.
-#[tactic(auto, using(sn_read::proofs::Tokens::peeked))]
+#[tactic(auto, using(sn_text_read::proofs::Tokens::peeked))]
 fn node_begins(at: Lexer<'_>) -> bool
     ensures { Peeked result begins (left at.entry) }
 {
@@ -94,7 +94,7 @@ impl Items for TreeNodes {
     }
 }
 
-#[tactic(auto, unfolding(sn_tree_rules::specs::Grammar::nodes_rule))]
+#[tactic(auto, unfolding(sn_tree_grammar::specs::Grammar::nodes_rule))]
 fn nodes<'a>(alloc: Global, at: Lexer<'a>) -> Result<(Tree, Lexer<'a>), Stop<'a>>
     ensures { Reads result (nodes_rule.read kept (left at.entry)) }
 {
@@ -102,7 +102,7 @@ fn nodes<'a>(alloc: Global, at: Lexer<'a>) -> Result<(Tree, Lexer<'a>), Stop<'a>
 }
 
 /// The cost and the tree, and nothing behind them.
-#[tactic(auto, unfolding(sn_tree_rules::specs::Grammar::tree_rule))]
+#[tactic(auto, unfolding(sn_tree_grammar::specs::Grammar::tree_rule))]
 pub(crate) fn read<'a>(alloc: Global, at: Lexer<'a>) -> Result<(u64, Tree), Stop<'a>>
     ensures { ReadsAll result (tree_rule.read kept (left at.entry)) }
 {

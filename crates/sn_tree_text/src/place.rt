@@ -1,6 +1,6 @@
 //! A place inside a text.
 ghost use Rattle.std.specs.Prelude.{◌≡◌, ◌≤◌, ◌^◌, length};
-ghost use Rattle.sn_rules.specs.Tokens.{is_last};
+ghost use Rattle.sn_text_rules.specs.Tokens.{is_last};
 ghost use Rattle.sn_text.specs.Cutting.{tokens_of};
 ghost use Rattle.sn_text.specs.Lexing.{left, seen};
 ghost use Rattle.sn_tree_text.specs.Places.{from_byte};

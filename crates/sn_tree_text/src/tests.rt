@@ -2,7 +2,7 @@
 use crate::canonical::print;
 use crate::fault::TextFault;
 use crate::text::parse;
-use sn_space::node::Node;
+use sn_tree_space::node::Node;
 use std::test::Fail;
 
 /// A plan, its cost and its tree.

@@ -2,7 +2,7 @@
 ghost use Rattle.std.specs.Prelude.{◌≡◌, ◌≤◌, ◌^◌, ℕ, List, length, IfOk, IfErr};
 ghost use Rattle.sn_text.specs.Cutting.{tokens_of};
 ghost use Rattle.sn_text.specs.Lexing.{left};
-ghost use Rattle.sn_space.specs.declared.node.Node.{Node};
+ghost use Rattle.sn_tree_space.specs.declared.node.Node.{Node};
 ghost use Rattle.sn_tree_text.specs.Places.{from_byte};
 ghost use Rattle.sn_tree_text.specs.Texts.{StandsFor, IsFault, IsValue, fault_of, line_of, Answers};
 
@@ -10,10 +10,10 @@ use crate::fault::TextFault;
 use crate::nodes::read;
 use crate::place::lexer_at;
 use crate::tree::Tree;
-use sn_read::stop::Stop;
-use sn_rules::Flaw;
 use sn_text::place::Lexer;
 use sn_text::scan::scan;
+use sn_text_read::stop::Stop;
+use sn_text_rules::Flaw;
 use std::alloc::Global;
 
 fn fault(flaw: Flaw, line: u32) -> TextFault

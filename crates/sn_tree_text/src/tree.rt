@@ -1,7 +1,7 @@
 //! Trees of bounds.
 
 use sn_base::seq::Seq;
-use sn_space::node::Node;
+use sn_tree_space::node::Node;
 
 /// A tree of bounds: its nodes in preorder.
 pub type Tree = Seq<Node>;

@@ -10,20 +10,20 @@ use Rattle.sn_base.proofs.Lists.{by_test, nat_same, or_none}
 use Rattle.sn_base.specs.declared.column.Column.{Column}
 use Rattle.sn_fields.specs.declared.field.Field.{Field}
 use Rattle.sn_fields.specs.Fields.{with_name, width_of, is_address}
-use Rattle.sn_query_rules.specs.declared.ast.Query.{Query}
-use Rattle.sn_query_rules.specs.declared.ast.Branch.{Branch}
-use Rattle.sn_query_rules.specs.declared.ast.Refine.{Refine}
-use Rattle.sn_query_rules.specs.declared.ast.Join.{Join}
-use Rattle.sn_query_rules.specs.declared.ast.Op.{Op}
-use Rattle.sn_walk.specs.declared.fault.TypeFault.{TypeFault}
-use Rattle.sn_walk.specs.declared.scope.Scope.{Scope}
-use Rattle.sn_walk.specs.Names.{fields_among, packet_fields, names_read, names_to_map, is_map, needs_map}
-use Rattle.sn_walk.specs.declared.fault.TypeFault.TheVariants.{UnknownField, UnknownColumn, TooWide, NoMap, RefineLost, RefineFilter, Levels}
-use Rattle.sn_walk.specs.Columns.{columns_after, packet_columns}
-use Rattle.sn_walk.specs.Faults.{unknown_field, unknown_column, too_wide, no_map, refine_lost, refine_filter, wrong_levels, narrow_sum, are_rising, wrong_refine, wrong_field_levels, out_of_range, refine_fault}
-use Rattle.sn_query_rules.specs.Limits.{BranchLimits, BranchOp, AreJoined, Within}
-use Rattle.sn_walk.specs.Walk.Place.{Operator}
-use Rattle.sn_walk.specs.Walk.{Place, is_end, first_fault, fault_at, refine_places, branch_places, join_places, query_places, operator_places, scope_after, scope_before, refine_levels}
+use Rattle.sn_query_grammar.specs.declared.ast.Query.{Query}
+use Rattle.sn_query_grammar.specs.declared.ast.Branch.{Branch}
+use Rattle.sn_query_grammar.specs.declared.ast.Refine.{Refine}
+use Rattle.sn_query_grammar.specs.declared.ast.Join.{Join}
+use Rattle.sn_query_grammar.specs.declared.ast.Op.{Op}
+use Rattle.sn_types_faults.specs.declared.fault.TypeFault.{TypeFault}
+use Rattle.sn_types_faults.specs.declared.scope.Scope.{Scope}
+use Rattle.sn_types_faults.specs.Names.{fields_among, packet_fields, names_read, names_to_map, is_map, needs_map}
+use Rattle.sn_types_faults.specs.declared.fault.TypeFault.TheVariants.{UnknownField, UnknownColumn, TooWide, NoMap, RefineLost, RefineFilter, Levels}
+use Rattle.sn_types_faults.specs.Columns.{columns_after, packet_columns}
+use Rattle.sn_types_faults.specs.Faults.{unknown_field, unknown_column, too_wide, no_map, refine_lost, refine_filter, wrong_levels, narrow_sum, are_rising, wrong_refine, wrong_field_levels, out_of_range, refine_fault}
+use Rattle.sn_query_grammar.specs.Limits.{BranchLimits, BranchOp, AreJoined, Within}
+use Rattle.sn_types_faults.specs.Walk.Place.{Operator}
+use Rattle.sn_types_faults.specs.Walk.{Place, is_end, first_fault, fault_at, refine_places, branch_places, join_places, query_places, operator_places, scope_after, scope_before, refine_levels}
 use Rattle.sn_types.specs.declared.typed_query.TypedBranch.{TypedBranch}
 use Rattle.sn_types.specs.declared.typed_query.TypedQuery.{TypedQuery}
 use Rattle.sn_types.specs.Typing.{behind_branches, typed_ops, typed_branch, typed_query, posts_of, levels_of, field_of}

@@ -10,19 +10,19 @@ use Rattle.sn_base.proofs.FoldedLemmas.{same_row_exact}
 use Rattle.sn_base.specs.declared.column.Column.{Column}
 use Rattle.sn_base.specs.Groups.{Apart, same_row}
 use Rattle.sn_fields.specs.Fields.{fields, name_of}
-use Rattle.sn_query_rules.specs.declared.ast.Join.{Join}
-use Rattle.sn_query_rules.specs.declared.ast.Op.{Op}
-use Rattle.sn_query_rules.specs.declared.ast.Reduce.{Reduce}
-use Rattle.sn_query_rules.specs.declared.ast.What.{What}
-use Rattle.sn_query_rules.specs.declared.ast.What.TheVariants as what
-use Rattle.sn_walk.specs.declared.fault.TypeFault.{TypeFault}
-use Rattle.sn_walk.specs.declared.fault.TypeFault.TheVariants.{TooWide, RefineLost, JoinKeys}
-use Rattle.sn_walk.specs.declared.scope.Scope.{Scope}
-use Rattle.sn_walk.specs.Names.{Name, same_name, is_in, fields_among, names_to_map, packet_fields}
-use Rattle.sn_walk.specs.Columns.{has_column, column_named, field_column, mapped_column, folded_column, columns_after, packet_columns, as_schema, others, joined_columns}
-use Rattle.sn_walk.specs.Faults.{in_both, wrong_key, wrong_keys, join_too_wide, join_loses}
-use Rattle.sn_walk.specs.Walk.{fault_at}
-use Rattle.sn_walk.specs.Walk.Place.{JoinLine}
+use Rattle.sn_query_grammar.specs.declared.ast.Join.{Join}
+use Rattle.sn_query_grammar.specs.declared.ast.Op.{Op}
+use Rattle.sn_query_grammar.specs.declared.ast.Reduce.{Reduce}
+use Rattle.sn_query_grammar.specs.declared.ast.What.{What}
+use Rattle.sn_query_grammar.specs.declared.ast.What.TheVariants as what
+use Rattle.sn_types_faults.specs.declared.fault.TypeFault.{TypeFault}
+use Rattle.sn_types_faults.specs.declared.fault.TypeFault.TheVariants.{TooWide, RefineLost, JoinKeys}
+use Rattle.sn_types_faults.specs.declared.scope.Scope.{Scope}
+use Rattle.sn_types_faults.specs.Names.{Name, same_name, is_in, fields_among, names_to_map, packet_fields}
+use Rattle.sn_types_faults.specs.Columns.{has_column, column_named, field_column, mapped_column, folded_column, columns_after, packet_columns, as_schema, others, joined_columns}
+use Rattle.sn_types_faults.specs.Faults.{in_both, wrong_key, wrong_keys, join_too_wide, join_loses}
+use Rattle.sn_types_faults.specs.Walk.{fault_at}
+use Rattle.sn_types_faults.specs.Walk.Place.{JoinLine}
 use Rattle.sn_types.proofs.Facts.{if_none}
 use Rattle.sn_types.proofs.Known.{IsKnown, whole_schema, fails_for_each}
 use Rattle.sn_types.proofs.Schemas.{IsSchema, HasWidth, mapped_whole, reduced_whole, columns_along, named_widths, packet_whole, schema_after}

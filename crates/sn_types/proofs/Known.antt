@@ -10,16 +10,16 @@ use Rattle.sn_base.proofs.FoldedLemmas.{same_row_exact}
 use Rattle.sn_base.specs.declared.column.Column.{Column}
 use Rattle.sn_fields.specs.declared.field.Field.{Field}
 use Rattle.sn_fields.specs.Fields.{fields, name_of, with_name}
-use Rattle.sn_query_rules.specs.declared.ast.Cond.{Cond}
-use Rattle.sn_query_rules.specs.declared.ast.MapCol.{MapCol}
-use Rattle.sn_query_rules.specs.declared.ast.Expr.{Expr}
-use Rattle.sn_query_rules.specs.declared.ast.Expr.TheVariants.{Const, Copy, Mask, Shift, Sum, Ratio}
-use Rattle.sn_query_rules.specs.declared.ast.Op.{Op}
-use Rattle.sn_query_rules.specs.declared.ast.What.{What}
-use Rattle.sn_query_rules.specs.declared.ast.What.TheVariants as what
-use Rattle.sn_walk.specs.Names.{Name, same_name, is_in, names_in, names_read, names_to_map, fields_among, packet_fields}
-use Rattle.sn_walk.specs.Columns.{has_column, place_of, field_column, packet_columns, as_schema}
-use Rattle.sn_query_rules.specs.Limits.{IsPostExpr}
+use Rattle.sn_query_grammar.specs.declared.ast.Cond.{Cond}
+use Rattle.sn_query_grammar.specs.declared.ast.MapCol.{MapCol}
+use Rattle.sn_query_grammar.specs.declared.ast.Expr.{Expr}
+use Rattle.sn_query_grammar.specs.declared.ast.Expr.TheVariants.{Const, Copy, Mask, Shift, Sum, Ratio}
+use Rattle.sn_query_grammar.specs.declared.ast.Op.{Op}
+use Rattle.sn_query_grammar.specs.declared.ast.What.{What}
+use Rattle.sn_query_grammar.specs.declared.ast.What.TheVariants as what
+use Rattle.sn_types_faults.specs.Names.{Name, same_name, is_in, names_in, names_read, names_to_map, fields_among, packet_fields}
+use Rattle.sn_types_faults.specs.Columns.{has_column, place_of, field_column, packet_columns, as_schema}
+use Rattle.sn_query_grammar.specs.Limits.{IsPostExpr}
 use Rattle.sn_types.specs.declared.typed_op.TCond.{TCond}
 use Rattle.sn_types.specs.Typing.{typed_cond, typed_expr, typed_op}
 use Rattle.sn_types.specs.Values.{ReadsWithin}

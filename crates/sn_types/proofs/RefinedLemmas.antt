@@ -4,22 +4,22 @@ use Rattle.std.specs.List.{AllByRecursion, flat_map, list_any}
 use Rattle.std.specs.Option.{option_map, option_map_or}
 use Rattle.sn_base.proofs.Lists.{by_test, not_false, or_none}
 use Rattle.sn_fields.specs.Fields.{with_name}
-use Rattle.sn_query_rules.specs.declared.ast.Query.{Query}
-use Rattle.sn_query_rules.specs.declared.ast.Branch.{Branch}
-use Rattle.sn_query_rules.specs.declared.ast.Refine.{Refine}
-use Rattle.sn_query_rules.specs.declared.ast.Join.{Join}
-use Rattle.sn_query_rules.specs.declared.ast.MapCol.{MapCol}
-use Rattle.sn_query_rules.specs.declared.ast.Op.{Op}
-use Rattle.sn_query_rules.specs.declared.ast.What.{What}
-use Rattle.sn_query_rules.specs.declared.ast.What.TheVariants as what
-use Rattle.sn_walk.specs.declared.fault.TypeFault.{TypeFault}
-use Rattle.sn_walk.specs.declared.fault.TypeFault.TheVariants.{UnknownField, UnknownColumn, TooWide, NoMap, RefineLost, RefineFilter, Levels}
-use Rattle.sn_walk.specs.declared.scope.Scope.{Scope}
-use Rattle.sn_walk.specs.Names.{Name}
-use Rattle.sn_walk.specs.Columns.{is_copy, copy_name, carried_after, place_of}
-use Rattle.sn_walk.specs.Faults.{unknown_field, unknown_column, too_wide, no_map, loses, ends_unmapped, refine_lost, refine_filter, wrong_levels, wrong_refine, refine_fault}
-use Rattle.sn_walk.specs.Walk.Place.{Operator, JoinLine}
-use Rattle.sn_walk.specs.Walk.{Place, is_end, ops_at, carried_along, first_fault, fault_at, refine_places, branch_places, branch_end, join_places, query_places, operator_places, scope_after, scope_before, scope_joined, scope_end, refine_levels}
+use Rattle.sn_query_grammar.specs.declared.ast.Query.{Query}
+use Rattle.sn_query_grammar.specs.declared.ast.Branch.{Branch}
+use Rattle.sn_query_grammar.specs.declared.ast.Refine.{Refine}
+use Rattle.sn_query_grammar.specs.declared.ast.Join.{Join}
+use Rattle.sn_query_grammar.specs.declared.ast.MapCol.{MapCol}
+use Rattle.sn_query_grammar.specs.declared.ast.Op.{Op}
+use Rattle.sn_query_grammar.specs.declared.ast.What.{What}
+use Rattle.sn_query_grammar.specs.declared.ast.What.TheVariants as what
+use Rattle.sn_types_faults.specs.declared.fault.TypeFault.{TypeFault}
+use Rattle.sn_types_faults.specs.declared.fault.TypeFault.TheVariants.{UnknownField, UnknownColumn, TooWide, NoMap, RefineLost, RefineFilter, Levels}
+use Rattle.sn_types_faults.specs.declared.scope.Scope.{Scope}
+use Rattle.sn_types_faults.specs.Names.{Name}
+use Rattle.sn_types_faults.specs.Columns.{is_copy, copy_name, carried_after, place_of}
+use Rattle.sn_types_faults.specs.Faults.{unknown_field, unknown_column, too_wide, no_map, loses, ends_unmapped, refine_lost, refine_filter, wrong_levels, wrong_refine, refine_fault}
+use Rattle.sn_types_faults.specs.Walk.Place.{Operator, JoinLine}
+use Rattle.sn_types_faults.specs.Walk.{Place, is_end, ops_at, carried_along, first_fault, fault_at, refine_places, branch_places, branch_end, join_places, query_places, operator_places, scope_after, scope_before, scope_joined, scope_end, refine_levels}
 use Rattle.sn_types.specs.Typing.{behind_branches, typed_query, posts_of, field_of}
 use Rattle.sn_types.proofs.Sources.{none_in_both, none_in_each, later_none}
 use Rattle.sn_types.proofs.Facts.{if_none}

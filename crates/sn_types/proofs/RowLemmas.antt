@@ -9,13 +9,13 @@ use Rattle.std.specs.List.{AllByRecursion, list_any, find, position, position_or
 use Rattle.sn_base.proofs.Lists.{by_test}
 use Rattle.sn_base.specs.declared.column.Column.{Column}
 use Rattle.sn_base.specs.Columns.{IsOf}
-use Rattle.sn_query_rules.specs.declared.ast.Expr.{Expr}
-use Rattle.sn_query_rules.specs.declared.ast.Expr.TheVariants.{Const, Copy, Mask, Shift, Sum, Ratio}
-use Rattle.sn_query_rules.specs.declared.ast.MapCol.{MapCol}
-use Rattle.sn_walk.specs.Names.{Name, same_name, names_in}
-use Rattle.sn_walk.specs.Widths.{constant_width}
-use Rattle.sn_walk.specs.Columns.{place_of, column_named, expr_width, mapped_column}
-use Rattle.sn_query_rules.specs.Limits.{IsPostExpr}
+use Rattle.sn_query_grammar.specs.declared.ast.Expr.{Expr}
+use Rattle.sn_query_grammar.specs.declared.ast.Expr.TheVariants.{Const, Copy, Mask, Shift, Sum, Ratio}
+use Rattle.sn_query_grammar.specs.declared.ast.MapCol.{MapCol}
+use Rattle.sn_types_faults.specs.Names.{Name, same_name, names_in}
+use Rattle.sn_types_faults.specs.Widths.{constant_width}
+use Rattle.sn_types_faults.specs.Columns.{place_of, column_named, expr_width, mapped_column}
+use Rattle.sn_query_grammar.specs.Limits.{IsPostExpr}
 use Rattle.sn_types.specs.Values.{value_of, ratio, greatest}
 use Rattle.sn_types.specs.Typing.{typed_expr}
 use Rattle.sn_types.proofs.Known.{IsKnown}

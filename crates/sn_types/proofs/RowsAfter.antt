@@ -18,16 +18,16 @@ use Rattle.sn_base.specs.declared.any_fold.AnyFold.{AnyFold}
 use Rattle.sn_base.specs.declared.column.Column.{Column}
 use Rattle.sn_fields.specs.declared.field.Field.{Field}
 use Rattle.sn_fields.specs.Fields.{number_of, width_of}
-use Rattle.sn_query_rules.specs.declared.ast.FoldWord.TheVariants as words
-use Rattle.sn_query_rules.specs.declared.ast.FoldWord.{FoldWord}
-use Rattle.sn_query_rules.specs.declared.ast.MapCol.{MapCol}
-use Rattle.sn_query_rules.specs.declared.ast.Reduce.{Reduce}
-use Rattle.sn_query_rules.specs.declared.ast.What.{What}
-use Rattle.sn_query_rules.specs.declared.ast.What.TheVariants as what
-use Rattle.sn_walk.specs.Columns.{place_of, column_named, folded_column, mapped_column, field_column, columns_after}
-use Rattle.sn_query_rules.specs.Limits.{Within, IsPostExpr}
-use Rattle.sn_walk.specs.Names.{Name, names_in}
-use Rattle.sn_walk.specs.Widths.{lawful, fold_of}
+use Rattle.sn_query_grammar.specs.declared.ast.FoldWord.TheVariants as words
+use Rattle.sn_query_grammar.specs.declared.ast.FoldWord.{FoldWord}
+use Rattle.sn_query_grammar.specs.declared.ast.MapCol.{MapCol}
+use Rattle.sn_query_grammar.specs.declared.ast.Reduce.{Reduce}
+use Rattle.sn_query_grammar.specs.declared.ast.What.{What}
+use Rattle.sn_query_grammar.specs.declared.ast.What.TheVariants as what
+use Rattle.sn_types_faults.specs.Columns.{place_of, column_named, folded_column, mapped_column, field_column, columns_after}
+use Rattle.sn_query_grammar.specs.Limits.{Within, IsPostExpr}
+use Rattle.sn_types_faults.specs.Names.{Name, names_in}
+use Rattle.sn_types_faults.specs.Widths.{lawful, fold_of}
 use Rattle.sn_types.specs.Typed.{HasWidths, read_at, packet_row, is_field}
 use Rattle.sn_types.specs.Typing.{typed_cond, typed_expr, typed_op}
 use Rattle.sn_types.specs.Values.{holds, value_of, op_at}

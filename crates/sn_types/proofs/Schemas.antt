@@ -10,20 +10,20 @@ use Rattle.sn_base.specs.Groups.{Apart, same_row}
 use Rattle.sn_fields.specs.declared.field.Field.{Field}
 use Rattle.sn_fields.specs.declared.field.Field.TheVariants.{PacketLength, EthernetDestination, EthernetSource, EthernetType, VlanId, IpValid, IpLength, IpTimeToLive, IpProtocol, IpSource, IpDestination, TcpValid, TcpSourcePort, TcpDestinationPort, TcpSequence, TcpAcknowledgment, TcpFlags, UdpValid, UdpSourcePort, UdpDestinationPort, UdpLength, IcmpValid, IcmpType, IcmpCode}
 use Rattle.sn_fields.specs.Fields.{width_of}
-use Rattle.sn_query_rules.specs.declared.ast.Op.{Op}
-use Rattle.sn_query_rules.specs.declared.ast.Expr.{Expr}
-use Rattle.sn_query_rules.specs.declared.ast.Expr.TheVariants.{Const, Copy, Mask, Shift, Sum, Ratio}
-use Rattle.sn_query_rules.specs.declared.ast.MapCol.{MapCol}
-use Rattle.sn_query_rules.specs.declared.ast.Reduce.{Reduce}
-use Rattle.sn_query_rules.specs.declared.ast.FoldWord.TheVariants as fold
-use Rattle.sn_query_rules.specs.declared.ast.FoldWord.{FoldWord}
-use Rattle.sn_query_rules.specs.declared.ast.What.{What}
-use Rattle.sn_query_rules.specs.declared.ast.What.TheVariants as what
-use Rattle.sn_walk.specs.Names.{Name, same_name, packet_fields}
-use Rattle.sn_walk.specs.Widths.{folded_width}
-use Rattle.sn_walk.specs.Columns.{has_column, column_named, expr_width, mapped_column, folded_column, field_column, as_schema, columns_after, packet_columns}
-use Rattle.sn_walk.specs.Faults.{is_sum}
-use Rattle.sn_query_rules.specs.Limits.{Within, FoldWidth}
+use Rattle.sn_query_grammar.specs.declared.ast.Op.{Op}
+use Rattle.sn_query_grammar.specs.declared.ast.Expr.{Expr}
+use Rattle.sn_query_grammar.specs.declared.ast.Expr.TheVariants.{Const, Copy, Mask, Shift, Sum, Ratio}
+use Rattle.sn_query_grammar.specs.declared.ast.MapCol.{MapCol}
+use Rattle.sn_query_grammar.specs.declared.ast.Reduce.{Reduce}
+use Rattle.sn_query_grammar.specs.declared.ast.FoldWord.TheVariants as fold
+use Rattle.sn_query_grammar.specs.declared.ast.FoldWord.{FoldWord}
+use Rattle.sn_query_grammar.specs.declared.ast.What.{What}
+use Rattle.sn_query_grammar.specs.declared.ast.What.TheVariants as what
+use Rattle.sn_types_faults.specs.Names.{Name, same_name, packet_fields}
+use Rattle.sn_types_faults.specs.Widths.{folded_width}
+use Rattle.sn_types_faults.specs.Columns.{has_column, column_named, expr_width, mapped_column, folded_column, field_column, as_schema, columns_after, packet_columns}
+use Rattle.sn_types_faults.specs.Faults.{is_sum}
+use Rattle.sn_query_grammar.specs.Limits.{Within, FoldWidth}
 use Rattle.sn_types.proofs.Known.{IsKnown, whole_schema, fails_for_each, all_front, all_back}
 use Rattle.sn_types.proofs.Sound.{IsSound, AreSound}
 

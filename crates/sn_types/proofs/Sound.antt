@@ -6,23 +6,23 @@ use Rattle.sn_base.proofs.Lists.{by_test, or_right, all_weaker, all_append, or_n
 use Rattle.sn_base.specs.declared.column.Column.{Column}
 use Rattle.sn_base.specs.Groups.{Apart, same_row}
 use Rattle.sn_fields.specs.Fields.{with_name}
-use Rattle.sn_query_rules.specs.declared.ast.Branch.{Branch}
-use Rattle.sn_query_rules.specs.declared.ast.Refine.{Refine}
-use Rattle.sn_query_rules.specs.declared.ast.Join.{Join}
-use Rattle.sn_query_rules.specs.declared.ast.Op.{Op}
-use Rattle.sn_query_rules.specs.declared.ast.Expr.{Expr}
-use Rattle.sn_query_rules.specs.declared.ast.Expr.TheVariants.{Const, Copy, Mask, Shift, Sum, Ratio}
-use Rattle.sn_query_rules.specs.declared.ast.What.{What}
-use Rattle.sn_query_rules.specs.declared.ast.What.TheVariants as what
-use Rattle.sn_walk.specs.declared.fault.TypeFault.{TypeFault}
-use Rattle.sn_walk.specs.declared.fault.TypeFault.TheVariants.{UnknownField, UnknownColumn, TooWide, NoMap, RefineLost, RefineFilter, Levels}
-use Rattle.sn_walk.specs.declared.scope.Scope.{Scope}
-use Rattle.sn_walk.specs.Names.{Name, names_read, names_to_map, is_map, needs_map}
-use Rattle.sn_walk.specs.Columns.{has_column, columns_after, packet_columns}
-use Rattle.sn_walk.specs.Faults.{unknown_field, unknown_column, ninth_field, narrow_sum, too_wide, no_map, refine_lost, refine_filter, wrong_levels}
-use Rattle.sn_query_rules.specs.Limits.{AreJoined, BranchOp, PostOp, IsBranchExpr, IsPostExpr, ReduceLimits}
-use Rattle.sn_walk.specs.Walk.Place.{Operator, JoinLine}
-use Rattle.sn_walk.specs.Walk.{is_end, ops_at, first_fault, fault_at, branch_places, branch_end, join_places, operator_places, scope_after, scope_before, scope_joined, refine_levels}
+use Rattle.sn_query_grammar.specs.declared.ast.Branch.{Branch}
+use Rattle.sn_query_grammar.specs.declared.ast.Refine.{Refine}
+use Rattle.sn_query_grammar.specs.declared.ast.Join.{Join}
+use Rattle.sn_query_grammar.specs.declared.ast.Op.{Op}
+use Rattle.sn_query_grammar.specs.declared.ast.Expr.{Expr}
+use Rattle.sn_query_grammar.specs.declared.ast.Expr.TheVariants.{Const, Copy, Mask, Shift, Sum, Ratio}
+use Rattle.sn_query_grammar.specs.declared.ast.What.{What}
+use Rattle.sn_query_grammar.specs.declared.ast.What.TheVariants as what
+use Rattle.sn_types_faults.specs.declared.fault.TypeFault.{TypeFault}
+use Rattle.sn_types_faults.specs.declared.fault.TypeFault.TheVariants.{UnknownField, UnknownColumn, TooWide, NoMap, RefineLost, RefineFilter, Levels}
+use Rattle.sn_types_faults.specs.declared.scope.Scope.{Scope}
+use Rattle.sn_types_faults.specs.Names.{Name, names_read, names_to_map, is_map, needs_map}
+use Rattle.sn_types_faults.specs.Columns.{has_column, columns_after, packet_columns}
+use Rattle.sn_types_faults.specs.Faults.{unknown_field, unknown_column, ninth_field, narrow_sum, too_wide, no_map, refine_lost, refine_filter, wrong_levels}
+use Rattle.sn_query_grammar.specs.Limits.{AreJoined, BranchOp, PostOp, IsBranchExpr, IsPostExpr, ReduceLimits}
+use Rattle.sn_types_faults.specs.Walk.Place.{Operator, JoinLine}
+use Rattle.sn_types_faults.specs.Walk.{is_end, ops_at, first_fault, fault_at, branch_places, branch_end, join_places, operator_places, scope_after, scope_before, scope_joined, refine_levels}
 use Rattle.sn_types.specs.Typing.{behind_branches, posts_of}
 use Rattle.sn_types.proofs.Sources.{later_none}
 use Rattle.sn_types.proofs.Facts.{if_none, few_packet_fields}

@@ -2,11 +2,11 @@
 -- and has no fault.
 use Rattle.std.proofs.Common.{◌≡◌, ℕ, zero, suc, ◌<◌, List, [], ◌∷◌, ◌++◌, map, length, Option, None, Some, slice_get, unwrap_or, refl, sym, ◌∙◌, subst, arith}
 use Rattle.std.specs.List.{AllByRecursion, flat_map}
-use Rattle.sn_query_rules.specs.declared.ast.Query.{Query}
-use Rattle.sn_walk.specs.declared.fault.TypeFault.{TypeFault}
-use Rattle.sn_query_rules.specs.Limits.{QueryLimits}
-use Rattle.sn_walk.specs.Walk.{Place, first_fault, or_later, query_places}
-use Rattle.sn_walk.proofs.WalkLemmas.{first_fault-append}
+use Rattle.sn_query_grammar.specs.declared.ast.Query.{Query}
+use Rattle.sn_types_faults.specs.declared.fault.TypeFault.{TypeFault}
+use Rattle.sn_query_grammar.specs.Limits.{QueryLimits}
+use Rattle.sn_types_faults.specs.Walk.{Place, first_fault, or_later, query_places}
+use Rattle.sn_types_faults.proofs.WalkLemmas.{first_fault-append}
 use Rattle.sn_types.specs.declared.typed_query.TypedQuery.{TypedQuery}
 use Rattle.sn_types.specs.Typing.{typed_query}
 use Rattle.sn_types.specs.Typed.{IsTyped, blank_query, query_at}

@@ -5,10 +5,10 @@ use Rattle.sn_base.specs.Columns.{IsOf}
 use Rattle.sn_base.specs.Groups.{Row}
 use Rattle.sn_base.specs.declared.column.Column.{Column}
 use Rattle.sn_fields.specs.declared.field.Field.{Field}
-use Rattle.sn_query_rules.specs.declared.ast.Op.{Op}
-use Rattle.sn_walk.specs.Columns.{columns_after, field_column, packet_columns}
-use Rattle.sn_walk.specs.Walk.{scope_after, scope_end}
-use Rattle.sn_walk.specs.declared.scope.Scope.{Scope}
+use Rattle.sn_query_grammar.specs.declared.ast.Op.{Op}
+use Rattle.sn_types_faults.specs.Columns.{columns_after, field_column, packet_columns}
+use Rattle.sn_types_faults.specs.Walk.{scope_after, scope_end}
+use Rattle.sn_types_faults.specs.declared.scope.Scope.{Scope}
 use Rattle.sn_types.specs.declared.typed_query.TypedBranch.{TypedBranch}
 use Rattle.sn_types.specs.declared.typed_query.TypedQuery.{TypedQuery}
 use Rattle.sn_types.specs.Typed.{IsTyped, query_at, branch_at, schema_at, first_columns, packet_row}

@@ -3,20 +3,20 @@ use Rattle.std.proofs.Common.{◌≡◌, ℕ, List, [], ◌∷◌, ◌++◌, Opt
 use Rattle.std.specs.List.{AllByRecursion, flat_map}
 use Rattle.sn_base.proofs.Lists.{all_map, all_weaker}
 use Rattle.sn_base.specs.declared.column.Column.{Column}
-use Rattle.sn_query_rules.specs.declared.ast.Query.{Query}
-use Rattle.sn_query_rules.specs.declared.ast.Branch.{Branch}
-use Rattle.sn_query_rules.specs.declared.ast.Refine.{Refine}
-use Rattle.sn_query_rules.specs.declared.ast.Op.{Op}
-use Rattle.sn_query_rules.specs.declared.ast.What.{What}
-use Rattle.sn_query_rules.specs.declared.ast.What.TheVariants as what
-use Rattle.sn_walk.specs.Columns.{columns_after}
-use Rattle.sn_query_rules.specs.Limits.{QueryLimits, BranchLimits}
-use Rattle.sn_walk.specs.Walk.{Place, first_fault, refine_places, branch_places, join_places, query_places}
+use Rattle.sn_query_grammar.specs.declared.ast.Query.{Query}
+use Rattle.sn_query_grammar.specs.declared.ast.Branch.{Branch}
+use Rattle.sn_query_grammar.specs.declared.ast.Refine.{Refine}
+use Rattle.sn_query_grammar.specs.declared.ast.Op.{Op}
+use Rattle.sn_query_grammar.specs.declared.ast.What.{What}
+use Rattle.sn_query_grammar.specs.declared.ast.What.TheVariants as what
+use Rattle.sn_types_faults.specs.Columns.{columns_after}
+use Rattle.sn_query_grammar.specs.Limits.{QueryLimits, BranchLimits}
+use Rattle.sn_types_faults.specs.Walk.{Place, first_fault, refine_places, branch_places, join_places, query_places}
 use Rattle.sn_types.specs.declared.typed_query.TypedQuery.{TypedQuery}
 use Rattle.sn_types.specs.Typing.{typed_ops, schemas_along, behind_branches, typed_branch, typed_query, posts_of}
 use Rattle.sn_types.specs.Typed.{IsTyped}
 use Rattle.sn_types.specs.WellFormed.{StayWithin, IsWellFormedBranch, IsWellFormedQuery}
-use Rattle.sn_walk.specs.Columns.{packet_columns}
+use Rattle.sn_types_faults.specs.Columns.{packet_columns}
 use Rattle.sn_types.proofs.Sources.{none_in_both, none_in_each, both_of}
 use Rattle.sn_types.proofs.Facts.{few_packet_fields}
 use Rattle.sn_types.proofs.Known.{ShiftsLawfully, stays_within}

@@ -5,9 +5,9 @@ use Rattle.sn_base.specs.Groups.{Row}
 use Rattle.sn_base.specs.Mask.{masked}
 use Rattle.sn_fields.specs.declared.field.Field.{Field}
 use Rattle.sn_fields.specs.Fields.{number_of, width_of}
-use Rattle.sn_query_rules.specs.declared.ast.QueryFile.{QueryFile}
-use Rattle.sn_query_rules.specs.Limits.{KeepsLimits}
-use Rattle.sn_walk.specs.Walk.{walk, first_fault}
+use Rattle.sn_query_grammar.specs.declared.ast.QueryFile.{QueryFile}
+use Rattle.sn_query_grammar.specs.Limits.{KeepsLimits}
+use Rattle.sn_types_faults.specs.Walk.{walk, first_fault}
 use Rattle.sn_types.specs.declared.typed_op.TOp.{TOp}
 use Rattle.sn_types.specs.declared.typed_op.TOp.TheVariants.{Distinct}
 use Rattle.sn_types.specs.declared.typed_query.TypedBranch.{TypedBranch}

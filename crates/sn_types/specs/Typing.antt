@@ -4,18 +4,18 @@ use Rattle.std.specs.Option.{option_map}
 use Rattle.sn_base.specs.declared.column.Column.{Column}
 use Rattle.sn_fields.specs.declared.field.Field.{Field}
 use Rattle.sn_fields.specs.Fields.{with_name}
-use Rattle.sn_query_rules.specs.declared.ast.Query.{Query}
-use Rattle.sn_query_rules.specs.declared.ast.Branch.{Branch}
-use Rattle.sn_query_rules.specs.declared.ast.Refine.{Refine}
-use Rattle.sn_query_rules.specs.declared.ast.Join.{Join}
-use Rattle.sn_query_rules.specs.declared.ast.Op.{Op}
-use Rattle.sn_query_rules.specs.declared.ast.Cond.{Cond}
-use Rattle.sn_query_rules.specs.declared.ast.Reduce.{Reduce}
-use Rattle.sn_query_rules.specs.declared.ast.What.{What}
-use Rattle.sn_query_rules.specs.declared.ast.What.TheVariants as what
-use Rattle.sn_query_rules.specs.declared.ast.Expr.{Expr}
-use Rattle.sn_query_rules.specs.declared.ast.Expr.TheVariants as expr
-use Rattle.sn_walk.specs.declared.scope.Scope.{Scope}
+use Rattle.sn_query_grammar.specs.declared.ast.Query.{Query}
+use Rattle.sn_query_grammar.specs.declared.ast.Branch.{Branch}
+use Rattle.sn_query_grammar.specs.declared.ast.Refine.{Refine}
+use Rattle.sn_query_grammar.specs.declared.ast.Join.{Join}
+use Rattle.sn_query_grammar.specs.declared.ast.Op.{Op}
+use Rattle.sn_query_grammar.specs.declared.ast.Cond.{Cond}
+use Rattle.sn_query_grammar.specs.declared.ast.Reduce.{Reduce}
+use Rattle.sn_query_grammar.specs.declared.ast.What.{What}
+use Rattle.sn_query_grammar.specs.declared.ast.What.TheVariants as what
+use Rattle.sn_query_grammar.specs.declared.ast.Expr.{Expr}
+use Rattle.sn_query_grammar.specs.declared.ast.Expr.TheVariants as expr
+use Rattle.sn_types_faults.specs.declared.scope.Scope.{Scope}
 use Rattle.sn_types.specs.declared.typed_op.TOp.{TOp}
 use Rattle.sn_types.specs.declared.typed_op.TOp.TheVariants.{Filter, Map, Distinct, Reduce as Reduced}
 use Rattle.sn_types.specs.declared.typed_op.TCond.{TCond}
@@ -25,12 +25,12 @@ use Rattle.sn_types.specs.declared.typed_op.TReduce.{TReduce}
 use Rattle.sn_types.specs.declared.typed_op.JoinKey.{JoinKey}
 use Rattle.sn_types.specs.declared.typed_query.TypedBranch.{TypedBranch}
 use Rattle.sn_types.specs.declared.typed_query.TypedQuery.{TypedQuery}
-use Rattle.sn_walk.specs.Names.{Name, packet_fields}
-use Rattle.sn_walk.specs.Widths.{fold_of, folded_width}
-use Rattle.sn_walk.specs.Columns.{place_of, column_named, columns_after, packet_columns}
+use Rattle.sn_types_faults.specs.Names.{Name, packet_fields}
+use Rattle.sn_types_faults.specs.Widths.{fold_of, folded_width}
+use Rattle.sn_types_faults.specs.Columns.{place_of, column_named, columns_after, packet_columns}
 use Rattle.sn_types.specs.Cuts.{greatest_cut}
 use Rattle.sn_types.specs.Values.{greatest}
-use Rattle.sn_walk.specs.Walk.{scope_end, scope_joined, branch_end, ops_at}
+use Rattle.sn_types_faults.specs.Walk.{scope_end, scope_joined, branch_end, ops_at}
 
 -- ---- operators
 

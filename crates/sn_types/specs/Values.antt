@@ -5,9 +5,9 @@ use Rattle.std.specs.List.{find, list_all}
 use Rattle.sn_base.specs.Groups.{Row}
 use Rattle.sn_base.specs.Operators.{Op}
 use Rattle.sn_base.specs.Operators.Op.{Filter, Map, Distinct, Reduce}
-use Rattle.sn_query_rules.specs.declared.ast.Cmp.{Cmp}
-use Rattle.sn_query_rules.specs.declared.ast.Cmp.TheVariants.{Eq, Ne, Lt, Le, Gt, Ge}
-use Rattle.sn_query_rules.specs.declared.ast.Relax.{Relax}
+use Rattle.sn_query_grammar.specs.declared.ast.Cmp.{Cmp}
+use Rattle.sn_query_grammar.specs.declared.ast.Cmp.TheVariants.{Eq, Ne, Lt, Le, Gt, Ge}
+use Rattle.sn_query_grammar.specs.declared.ast.Relax.{Relax}
 use Rattle.sn_types.specs.declared.typed_op.TOp.{TOp}
 use Rattle.sn_types.specs.declared.typed_op.TOp.TheVariants as ops
 use Rattle.sn_types.specs.declared.typed_op.TCond.{TCond}

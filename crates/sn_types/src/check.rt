@@ -1,15 +1,15 @@
 //! The check of types.
 ghost use Rattle.std.specs.Prelude.{◌≡◌, ◌≢◌, Some, IfOk, IfErr};
-ghost use Rattle.sn_query_rules.specs.Limits.{KeepsLimits};
-ghost use Rattle.sn_walk.specs.Walk.{walk, first_fault};
+ghost use Rattle.sn_query_grammar.specs.Limits.{KeepsLimits};
+ghost use Rattle.sn_types_faults.specs.Walk.{walk, first_fault};
 ghost use Rattle.sn_types.specs.Typed.{IsTypingOf};
 
 use crate::typed::Typed;
 use crate::typing::typed_queries;
-use sn_query_rules::ast::QueryFile;
+use sn_query_grammar::ast::QueryFile;
 use sn_seed::Seed;
-use sn_walk::fault::TypeFault;
-use sn_walk::walk::file_fault;
+use sn_types_faults::fault::TypeFault;
+use sn_types_faults::walk::file_fault;
 use std::alloc::Global;
 
 /// Resolves the names and widths of a file. The fault is that of the first place of the walk that has one: query by

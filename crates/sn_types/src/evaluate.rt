@@ -7,7 +7,7 @@ ghost use Rattle.sn_types.specs.Values.{compared, constant_at, holds, ratio, val
 use crate::columns::Columns;
 use crate::typed_op::{TCond, TExpr};
 use sn_base::row::Row;
-use sn_query_rules::ast::{Cmp, Relax};
+use sn_query_grammar::ast::{Cmp, Relax};
 
 fn compares(cmp: Cmp, left: u64, right: u64) -> bool
     ensures { result ≡ compared cmp left right }

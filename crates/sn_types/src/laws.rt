@@ -1,14 +1,14 @@
 //! What holds of every typed file.
 ghost use Rattle.std.specs.Prelude.{◌≡◌, ◌<◌, ◌^◌, ℕ, List, true, is_some};
-ghost use Rattle.sn_query_rules.specs.declared.ast.Query.{Query};
-ghost use Rattle.sn_walk.specs.Walk.{query_places, first_fault};
+ghost use Rattle.sn_query_grammar.specs.declared.ast.Query.{Query};
+ghost use Rattle.sn_types_faults.specs.Walk.{query_places, first_fault};
 ghost use Rattle.std.specs.List.{AllByRecursion};
 ghost use Rattle.sn_base.specs.declared.column.Column.{Column};
 ghost use Rattle.sn_base.specs.Columns.{IsOf};
-ghost use Rattle.sn_query_rules.specs.declared.ast.Expr.{Expr};
-ghost use Rattle.sn_walk.specs.Columns.{expr_width, has_column};
-ghost use Rattle.sn_query_rules.specs.Limits.{IsPostExpr};
-ghost use Rattle.sn_walk.specs.Names.{names_in};
+ghost use Rattle.sn_query_grammar.specs.declared.ast.Expr.{Expr};
+ghost use Rattle.sn_types_faults.specs.Columns.{expr_width, has_column};
+ghost use Rattle.sn_query_grammar.specs.Limits.{IsPostExpr};
+ghost use Rattle.sn_types_faults.specs.Names.{names_in};
 ghost use Rattle.sn_types.specs.declared.typed_query.TypedQuery.{TypedQuery};
 ghost use Rattle.sn_types.specs.Typed.{IsTyped};
 ghost use Rattle.sn_types.specs.Typing.{typed_expr, typed_query};

@@ -15,7 +15,7 @@ pub mod typed_op;
 pub mod typed_query;
 mod typing;
 
-pub use sn_walk::fault::TypeFault;
+pub use sn_types_faults::fault::TypeFault;
 
 #[cfg(test)]
 mod tests;

@@ -4,7 +4,7 @@ ghost use Rattle.std.proofs.Props.{props};
 ghost use Rattle.sn_base.specs.Columns.{IsOf};
 ghost use Rattle.sn_fields.specs.Fields.{width_of};
 ghost use Rattle.sn_types.specs.Typed.{is_field, read_at, packet_row};
-ghost use Rattle.sn_walk.specs.Columns.{field_column};
+ghost use Rattle.sn_types_faults.specs.Columns.{field_column};
 
 use crate::columns::Columns;
 use sn_base::mask::mask;

@@ -1,6 +1,6 @@
 //! Operators with places for their names.
 ghost use Rattle.std.specs.Prelude.{◌≡◌, IfOk, map};
-ghost use Rattle.sn_walk.specs.Columns.{place_of};
+ghost use Rattle.sn_types_faults.specs.Columns.{place_of};
 ghost use Rattle.sn_types.specs.Typing.{typed_cond, typed_expr, typed_reduce, typed_op, join_key};
 
 use crate::typed_op::{JoinKey, TCond, TExpr, TOp, TReduce};
@@ -8,9 +8,9 @@ use sn_base::memory::Memory;
 use sn_base::name::Name;
 use sn_base::schema::Schema;
 use sn_base::seq::Seq;
-use sn_query_rules::ast::{Cond, Expr, MapCol, Reduce, What};
-use sn_walk::columns::{column_named, place_of};
-use sn_walk::widths::{fold_of, folded_width};
+use sn_query_grammar::ast::{Cond, Expr, MapCol, Reduce, What};
+use sn_types_faults::columns::{column_named, place_of};
+use sn_types_faults::widths::{fold_of, folded_width};
 use std::alloc::Global;
 
 fn typed_cond(alloc: Global, columns: &Schema, cond: &Cond) -> Result<TCond, Memory>

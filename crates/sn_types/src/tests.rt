@@ -1,7 +1,7 @@
 //! Checked files, made by hand.
 ghost use Rattle.std.specs.Prelude.{◌≡◌, ◌<◌, ◌≤◌, [], ◌∷◌, length, IfOk, IfSome};
 ghost use Rattle.std.specs.List.{AllByRecursion};
-ghost use Rattle.sn_query_rules.specs.Limits.{BranchOp, IsBranchExpr, RefineLimits, KeepsLimits, Within};
+ghost use Rattle.sn_query_grammar.specs.Limits.{BranchOp, IsBranchExpr, RefineLimits, KeepsLimits, Within};
 
 use crate::check::check;
 use crate::evaluate::expr;
@@ -10,10 +10,10 @@ use sn_base::memory::Memory;
 use sn_base::name::Name;
 use sn_base::row::Row;
 use sn_base::seq::Seq;
-use sn_query_rules::ast::{
+use sn_query_grammar::ast::{
     Branch, Cmp, Cond, Expr, FoldWord, Join, MapCol, Op, Query, QueryFile, Reduce, Refine, What,
 };
-use sn_walk::fault::TypeFault;
+use sn_types_faults::fault::TypeFault;
 use std::alloc::Global;
 use std::test::Fail;
 

@@ -2,7 +2,7 @@
 
 use sn_base::any_fold::AnyFold;
 use sn_base::seq::Seq;
-use sn_query_rules::ast::{Cmp, Relax};
+use sn_query_grammar::ast::{Cmp, Relax};
 
 /// An operator over rows.
 #[derive(Drop)]

@@ -1,8 +1,8 @@
 //! Well typed queries with their names resolved.
 ghost use Rattle.std.specs.Prelude.{◌≡◌, ◌≤◌, IfOk, length, map};
 ghost use Rattle.std.specs.List.{AllByRecursion};
-ghost use Rattle.sn_query_rules.specs.Limits.{BranchLimits, QueryLimits};
-ghost use Rattle.sn_walk.specs.Walk.{scope_end};
+ghost use Rattle.sn_query_grammar.specs.Limits.{BranchLimits, QueryLimits};
+ghost use Rattle.sn_types_faults.specs.Walk.{scope_end};
 ghost use Rattle.sn_types.specs.Typing.{typed_ops, schemas_along, typed_branch, behind_branches, join_keys, posts_of, field_of, levels_of, carried_place, typed_query};
 
 use crate::cuts::greatest_cut;
@@ -13,11 +13,11 @@ use sn_base::memory::Memory;
 use sn_base::schema::Schema;
 use sn_base::seq::Seq;
 use sn_fields::field::{Field, field_named};
-use sn_query_rules::ast::{Branch, Join, Op, Query, Refine};
-use sn_walk::columns::{columns_after, packet_columns, place_of};
-use sn_walk::names::packet_fields;
-use sn_walk::scope::Scope;
-use sn_walk::walk::{branch_end, ops_at, scope_end, scope_joined};
+use sn_query_grammar::ast::{Branch, Join, Op, Query, Refine};
+use sn_types_faults::columns::{columns_after, packet_columns, place_of};
+use sn_types_faults::names::packet_fields;
+use sn_types_faults::scope::Scope;
+use sn_types_faults::walk::{branch_end, ops_at, scope_end, scope_joined};
 use std::alloc::Global;
 
 fn typed_ops(alloc: Global, begin: &Schema, ops: &[Op]) -> Result<Seq<TOp>, Memory>

@@ -1,8 +1,8 @@
 //! `sonata`: query-driven network telemetry over packet captures.
 #![tactic(auto)]
 
+use sn_core_net::net::Net;
 use sn_io::real::{RealInputs, RealSink};
-use sn_machine::net::Net;
 use sn_top::top::top;
 use std::alloc::Global;
 use std::env;

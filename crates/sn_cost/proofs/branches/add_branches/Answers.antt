@@ -1,8 +1,8 @@
 use Rattle.std.proofs.Common.{◌≡◌, ℕ, ◌+◌, ◌<◌, List, length, ap, sym, subst, ◌∙◌, arith}
 use Rattle.std.proofs.lemmas.List.{length-map}
 use Rattle.sn_base.specs.Groups.{Row}
-use Rattle.sn_counts.specs.Counts.{counts_of, setting_count}
-use Rattle.sn_counts.specs.Settings.{settings}
+use Rattle.sn_cost_counts.specs.Counts.{counts_of, setting_count}
+use Rattle.sn_cost_counts.specs.Settings.{settings}
 use Rattle.sn_types.specs.declared.typed_query.TypedBranch.{TypedBranch}
 use Rattle.sn_types.specs.declared.typed_query.TypedQuery.{TypedQuery}
 use Rattle.sn_types.specs.Typed.{branch_at, query_at}

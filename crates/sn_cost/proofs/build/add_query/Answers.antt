@@ -1,7 +1,7 @@
 use Rattle.std.proofs.Common.{◌≡◌, ℕ, ◌+◌, ◌≤◌, ◌<◌, ◌^◌, List, length, ap, sym, subst, ◌∙◌, arith}
 use Rattle.std.proofs.lemmas.Bool.{eqb-false, eqb-true}
 use Rattle.std.proofs.lemmas.Nat.{one_shl}
-use Rattle.sn_choices.specs.declared.costs.CostTable.{CostTable}
+use Rattle.sn_plan_choices.specs.declared.costs.CostTable.{CostTable}
 use Rattle.sn_refine.specs.Steps.{Given, IsPathOf}
 use Rattle.sn_types.specs.declared.typed_query.TypedQuery.{TypedQuery}
 use Rattle.sn_types.specs.Typed.{query_at}

@@ -1,6 +1,6 @@
 use Rattle.std.proofs.Common.{◌≡◌, ℕ, ◌+◌, ◌-◌, ◌≤◌, List, Option, length, take, drop, get_or, subst, sym, ap, ◌∙◌, arith, refl}
 use Rattle.std.proofs.lemmas.List.{length-drop, take_all}
-use Rattle.sn_choices.specs.Costs.{HasPlaces}
+use Rattle.sn_plan_choices.specs.Costs.{HasPlaces}
 use Rattle.sn_refine.specs.Steps.{Set, kept_at, kept_of, parts_in}
 use Rattle.sn_types.specs.declared.typed_query.TypedQuery.{TypedQuery}
 use Rattle.sn_types.specs.Typed.{query_at}

@@ -1,6 +1,6 @@
 use Rattle.std.proofs.Common.{◌≡◌, ◌≤◌, List, map, length, ap, sym, ◌∙◌, subst}
 use Rattle.sn_base.specs.Groups.{Row}
-use Rattle.sn_items.specs.Value.{is_at, rows_with, value}
+use Rattle.sn_pipe_items.specs.Value.{is_at, rows_with, value}
 use Rattle.sn_ops.proofs.Steps.{ok_weaker}
 use Rattle.sn_types.specs.declared.typed_op.TOp.{TOp}
 use Rattle.sn_types.specs.Typed.{branch_at, end_columns}

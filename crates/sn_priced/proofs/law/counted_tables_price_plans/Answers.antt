@@ -1,4 +1,4 @@
-use Rattle.sn_choices.specs.Costs.{entry_in}
+use Rattle.sn_plan_choices.specs.Costs.{entry_in}
 use Rattle.sn_priced.proofs.Priced.{counted_alike}
 use Rattle.sn_priced.proofs.law.counted_tables_price_plans.Goals as goal
 

@@ -1,10 +1,10 @@
 use Rattle.std.proofs.Common.{true, false, sym, ap, subst, ◌∙◌}
 use Rattle.std.specs.Prelude.{codes}
 use Rattle.std.proofs.lemmas.Result.{err_from_is_err_and}
-use Rattle.sn_rules.specs.Rules.{kept}
-use Rattle.sn_rules.specs.Words.{is_word}
+use Rattle.sn_text_rules.specs.Rules.{kept}
+use Rattle.sn_text_rules.specs.Words.{is_word}
 use Rattle.sn_text.specs.Lexing.{left}
-use Rattle.sn_read.specs.Reading.{Peeked, Halts}
+use Rattle.sn_text_read.specs.Reading.{Peeked, Halts}
 use Rattle.sn_query.specs.Parts.{column_rule}
 use Rattle.sn_query.proofs.FoldParts.{sum_no_number, sum_value, other_no_column}
 use Rattle.sn_query.proofs.folds.fold.Goals as goal

@@ -1,16 +1,16 @@
 use Rattle.std.proofs.Common.{◌≡◌, ap, sym, ◌∙◌}
-use Rattle.sn_rules.specs.Tokens.{fails}
-use Rattle.sn_rules.specs.Rules.{kept}
-use Rattle.sn_rules.proofs.Faults.{found_of, only_of, none_of, fault_of}
-use Rattle.sn_rules.proofs.Bounded.{whole_ok}
+use Rattle.sn_text_rules.specs.Tokens.{fails}
+use Rattle.sn_text_rules.specs.Rules.{kept}
+use Rattle.sn_text_rules.proofs.Faults.{found_of, only_of, none_of, fault_of}
+use Rattle.sn_text_rules.proofs.Bounded.{whole_ok}
 use Rattle.sn_text.proofs.Ends.{tokens_ended}
 use Rattle.sn_text.specs.Lexing.{left, token_of}
 use Rattle.sn_text.specs.Cutting.{tokens_of}
-use Rattle.sn_query_rules.specs.Grammar.{file_rule}
-use Rattle.sn_query_rules.proofs.Queries.{file_good, file_ends}
-use Rattle.sn_query_rules.proofs.Starts.{file_starts}
-use Rattle.sn_query_rules.proofs.Bounded.{file_whole}
-use Rattle.sn_query_rules.proofs.FileLimits.{accepted_keeps_limits}
+use Rattle.sn_query_grammar.specs.Grammar.{file_rule}
+use Rattle.sn_query_grammar.proofs.Queries.{file_good, file_ends}
+use Rattle.sn_query_grammar.proofs.Starts.{file_starts}
+use Rattle.sn_query_grammar.proofs.Bounded.{file_whole}
+use Rattle.sn_query_grammar.proofs.FileLimits.{accepted_keeps_limits}
 use Rattle.sn_query.proofs.Files.{fault_is}
 use Rattle.sn_query.proofs.parse.parse.Goals as goal
 

@@ -1,6 +1,6 @@
 use Rattle.std.proofs.Common.{sym, ◌∙◌}
 use Rattle.sn_text.specs.Lexing.{left}
-use Rattle.sn_query_rules.specs.Grammar.{col_names}
+use Rattle.sn_query_grammar.specs.Grammar.{col_names}
 use Rattle.sn_query.proofs.Leaves.{fresh_halts, col_gives, col_twice}
 use Rattle.sn_query.proofs.words.new_col_name.Goals as goal
 

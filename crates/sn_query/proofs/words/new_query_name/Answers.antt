@@ -1,6 +1,6 @@
 use Rattle.std.proofs.Common.{sym, ◌∙◌}
 use Rattle.sn_text.specs.Lexing.{left}
-use Rattle.sn_query_rules.specs.Grammar.{query_names}
+use Rattle.sn_query_grammar.specs.Grammar.{query_names}
 use Rattle.sn_query.proofs.Leaves.{fresh_halts, query_gives, query_twice}
 use Rattle.sn_query.proofs.words.new_query_name.Goals as goal
 

@@ -1,5 +1,5 @@
 use Rattle.std.proofs.Common.{slice_index, ◌∙◌}
-use Rattle.sn_split.proofs.Queries.{query_split}
+use Rattle.sn_engine_split.proofs.Queries.{query_split}
 use Rattle.sn_types.specs.Typed.{query_at}
 use Rattle.sn_refine.proofs.Levels.{sees_refined}
 use Rattle.sn_refine.proofs.law.refined_answers_from_items.Goals as goal

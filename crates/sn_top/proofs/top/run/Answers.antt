@@ -3,7 +3,7 @@ use Rattle.std.specs.Borrow.{GName}
 use Rattle.sn_cli.specs.declared.command.Command.{Command}
 use Rattle.sn_cli.specs.Words.{texts}
 use Rattle.sn_cli.proofs.GrammarLemmas.{spells_once}
-use Rattle.sn_stage.specs.Desks.{world}
+use Rattle.sn_command.specs.Desks.{world}
 use Rattle.sn_top.specs.Top.{IsWork}
 use Rattle.sn_top.proofs.TopLemmas.{places_of}
 use Rattle.sn_top.proofs.top.run.Goals as goal

@@ -1,10 +1,10 @@
 use Rattle.std.proofs.Common.{◌≡◌, Err, ap, false, true, sym, ◌∙◌, rules}
 use Rattle.sn_cli.specs.declared.command.Command.TheVariants as commands
 use Rattle.sn_cli.specs.Words.{texts}
-use Rattle.sn_stage.specs.declared.refusal.Refusal.TheVariants.{Usage}
-use Rattle.sn_stage.specs.Ends.{end_status}
-use Rattle.sn_stage.specs.Worlds.{World}
-use Rattle.sn_stage.proofs.EndLemmas.{two_is, ten_is, command_run, status_told}
+use Rattle.sn_command.specs.declared.refusal.Refusal.TheVariants.{Usage}
+use Rattle.sn_command.specs.Ends.{end_status}
+use Rattle.sn_command.specs.Worlds.{World}
+use Rattle.sn_command.proofs.EndLemmas.{two_is, ten_is, command_run, status_told}
 use Rattle.sn_top.proofs.TopLemmas.{by_command, live_as_they_are, no_usage, write_fault_of}
 use Rattle.sn_top.proofs.top.top.Goals as goal
 

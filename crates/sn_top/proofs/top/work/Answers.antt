@@ -1,11 +1,11 @@
 use Rattle.std.proofs.Common.{List, ℕ, [], ◌∷◌}
-use Rattle.sn_checked.specs.Check.{Check}
-use Rattle.sn_emitted.specs.Emit.{Emit}
-use Rattle.sn_finished.specs.Finish.{Finish}
-use Rattle.sn_live.specs.Live.{Plan}
-use Rattle.sn_run.specs.Run.{Run}
-use Rattle.sn_stage.specs.Desks.{world}
-use Rattle.sn_stage.specs.Runs.{WorksFrom}
+use Rattle.sn_command_check.specs.Check.{Check}
+use Rattle.sn_command_emit.specs.Emit.{Emit}
+use Rattle.sn_command_finish.specs.Finish.{Finish}
+use Rattle.sn_command_live.specs.Live.{Plan}
+use Rattle.sn_command_run.specs.Run.{Run}
+use Rattle.sn_command.specs.Desks.{world}
+use Rattle.sn_command.specs.Runs.{WorksFrom}
 use Rattle.sn_top.specs.Plain.{Plain}
 use Rattle.sn_top.proofs.TopLemmas.{of_two, of_three, of_four}
 use Rattle.sn_top.proofs.top.work.Goals as goal

@@ -1,6 +1,6 @@
 use Rattle.std.proofs.Common.{◌≡◌, take, map}
 use Rattle.sn_base.specs.Columns.{IsOf}
-use Rattle.sn_walk.specs.Columns.{field_column}
+use Rattle.sn_types_faults.specs.Columns.{field_column}
 use Rattle.sn_types.specs.Typed.{read_at}
 use Rattle.sn_types.proofs.packet.row_into.Given as goal
 

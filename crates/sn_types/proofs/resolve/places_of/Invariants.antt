@@ -1,5 +1,5 @@
 use Rattle.std.proofs.Common.{◌≡◌, take, map}
-use Rattle.sn_walk.specs.Columns.{place_of}
+use Rattle.sn_types_faults.specs.Columns.{place_of}
 use Rattle.sn_types.proofs.resolve.places_of.Given as goal
 
 abbrev pub invariant-loop-name : goal.invariant-loop-name

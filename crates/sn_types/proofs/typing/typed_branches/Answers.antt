@@ -1,5 +1,5 @@
 use Rattle.std.proofs.Common.{length, arith, ap}
-use Rattle.sn_query_rules.specs.Limits.{BranchLimits}
+use Rattle.sn_query_grammar.specs.Limits.{BranchLimits}
 use Rattle.sn_types.proofs.Items.{of_item}
 use Rattle.sn_types.proofs.typing.typed_branches.Goals as goal
 

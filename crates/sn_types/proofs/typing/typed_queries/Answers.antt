@@ -1,5 +1,5 @@
 use Rattle.std.proofs.Common.{arith}
-use Rattle.sn_query_rules.specs.Limits.{QueryLimits}
+use Rattle.sn_query_grammar.specs.Limits.{QueryLimits}
 use Rattle.sn_types.proofs.Items.{of_item}
 use Rattle.sn_types.proofs.typing.typed_queries.Goals as goal
 

@@ -1,5 +1,5 @@
 use Rattle.std.proofs.Common.{◌≤◌, ◌<◌, ◌^◌, List, length, ap, sym, ◌∙◌, subst, arith}
-use Rattle.sn_plan_rules.specs.declared.plan.Entry.{Entry}
+use Rattle.sn_plan_grammar.specs.declared.plan.Entry.{Entry}
 use Rattle.sn_types.specs.declared.typed_query.TypedQuery.{TypedQuery}
 use Rattle.sn_types.proofs.Facts.{few_queries}
 use Rattle.sn_engine.specs.declared.intake.Intake.{Intake}

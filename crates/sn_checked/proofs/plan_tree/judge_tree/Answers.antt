@@ -1,9 +1,0 @@
-use Rattle.std.proofs.Common.{Ok, refl}
-use Rattle.sn_checked.proofs.Verdicts.{tree_refused}
-use Rattle.sn_checked.proofs.plan_tree.judge_tree.Goals as goal
-
-pub returns-in-Ok : goal.returns-in-Ok
-returns-in-Ok c = record { found = Ok c.in-Ok.found; is = c.in-Ok.ensures.found; same = refl }
-
-pub returns-in-Err : goal.returns-in-Err
-returns-in-Err c = rw c.tree_refusal.ensures (tree_refused c.args.text.now c.args.from c.in-Err.fault c.in-Err.ensures.fault)

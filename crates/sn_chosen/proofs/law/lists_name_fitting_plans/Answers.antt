@@ -1,5 +1,0 @@
-use Rattle.sn_chosen.proofs.Wholes.{lists_name_plans}
-use Rattle.sn_chosen.proofs.law.lists_name_fitting_plans.Goals as goal
-
-pub returns : goal.returns
-returns c = λ s entry queries r rising plan. lists_name_plans s entry c.gaps_decide_placing.ensures queries r rising plan

@@ -1,0 +1,48 @@
+-- What `check` shows where it says yes.
+use Rattle.std.specs.Prelude.{◌≡◌, ℕ, ◌≤◌, List, Ok, Some}
+use Rattle.std.specs.FinMap.{get}
+use Rattle.sn_cost.specs.Entries.{trained}
+use Rattle.sn_plan_fit.specs.Fits.{Fits}
+use Rattle.sn_io.specs.Counts.{ByName}
+use Rattle.sn_paid.specs.Sent.{sent_over}
+use Rattle.sn_plan_grammar.specs.declared.plan.Entry.{Entry}
+use Rattle.sn_plan_grammar.specs.declared.plan.Plan.{Plan}
+use Rattle.sn_command_texts.specs.Queries.{QueriesIn}
+use Rattle.sn_command_texts.specs.Texts.{PlanIn, SwitchIn}
+use Rattle.sn_types_read.specs.Texts.{Queries}
+use Rattle.sn_command_run.specs.Run.{window_ns}
+use Rattle.sn_switch.specs.declared.switch.Switch.{Switch}
+use Rattle.sn_command_training.specs.Training.{TrainingIn}
+use Rattle.sn_command_training.specs.declared.training.Training.{Training}
+use Rattle.sn_command_check.specs.Check.{yes_line}
+
+-- how many items a plan sends of the windows of a training capture
+abbrev pub items_sent : Queries → Switch → Training → List Entry → ℕ
+items_sent read limits training entries = sent_over limits.chain read.queries entries (trained training.numbers training.tuples)
+
+-- What is so where `check` says yes in this text, whoever made the tree.
+pub record ShowsLeast (switch queries train plantree : List ℕ) (files : ByName (List ℕ)) (text : List ℕ) : Type 0 where
+  -- The files hold accepted queries, an accepted switch, a training capture, and a plan.
+  pub query_text : List ℕ
+  pub switch_text : List ℕ
+  pub capture : List ℕ
+  pub plan_text : List ℕ
+  pub has_queries : get files queries ≡ Some query_text
+  pub has_switch : get files switch ≡ Some switch_text
+  pub has_capture : get files train ≡ Some capture
+  pub has_plan : get files plantree ≡ Some plan_text
+  pub read : Queries
+  pub limits : Switch
+  pub training : Training
+  pub plan : Plan
+  pub are_queries : QueriesIn query_text (Ok read)
+  pub is_switch : SwitchIn switch_text (Ok limits)
+  pub is_training : TrainingIn (window_ns read) capture (Ok training)
+  pub is_plan : PlanIn plan_text (Ok plan)
+  -- The plan fits every limit of the switch.
+  pub fits : Fits read.queries limits plan.entries
+  -- No plan that fits sends fewer items of the training capture,
+  pub least : (entries : List Entry) → Fits read.queries limits entries → items_sent read limits training plan.entries ≤ items_sent read limits training entries
+  -- and the line tells how many this one sends.
+  pub nodes : ℕ
+  pub told : text ≡ yes_line (items_sent read limits training plan.entries) nodes

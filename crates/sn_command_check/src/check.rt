@@ -1,0 +1,66 @@
+//! The command `check`.
+ghost use Rattle.std.specs.Prelude.{◌≤◌, ◌^◌, [], ◌∷◌, length};
+ghost use Rattle.sn_command_check.specs.Check.{Check, PlanTree};
+ghost use Rattle.sn_command_texts.specs.Queries.{queries_of};
+ghost use Rattle.sn_command.specs.Desks.{world};
+ghost use Rattle.sn_command.specs.Runs.{Runs, WorksFrom};
+ghost use Rattle.sn_switch.specs.Texts.{IsSwitch};
+ghost use Rattle.sn_command_training.specs.Training.{IsInOrder};
+
+use crate::plan_tree::{judge_plan, judge_tree};
+use crate::shown::test_tree;
+use crate::yes::say_yes;
+use sn_command::desk::Desk;
+use sn_command::files::{MOST_TEXT, read_file};
+use sn_command::refusal::Refusal;
+use sn_command_texts::fit::test_fit;
+use sn_command_texts::queries::read_queries;
+use sn_command_texts::texts::read_switch;
+use sn_command_training::read::read_training;
+use sn_command_training::training::Training;
+use sn_io::inputs::Inputs;
+use sn_io::sink::Sink;
+use sn_switch::switch::Switch;
+use sn_types::typed::Typed;
+use std::alloc::Global;
+
+/// Reads a plan with its cost and its tree from a text, tests the plan, and says yes where the cost and the tree show that no plan
+/// costs less over training windows.
+fn check_text<I: Inputs, O: Sink>(
+    alloc: Global,
+    typed: &Typed,
+    limits: &Switch,
+    training: &Training,
+    text: &[u8],
+    desk: &mut Desk<'_, I, O>,
+) -> Result<(), Refusal>
+    requires switch { IsSwitch limits.now }
+    requires order { IsInOrder training.now }
+    requires within { length text.now ≤ 2 ^ 30 }
+    ensures { Runs [] (PlanTree (queries_of typed.now) limits.now training.now text.now) (world I.Inputs O.Sink desk.old) result (world I.Inputs O.Sink desk.new) }
+{
+    let (plan, byte) = judge_plan(alloc, text)?;
+    test_fit(typed, limits, &plan)?;
+    let (cost, tree) = judge_tree(alloc, text, byte)?;
+    test_tree(alloc, typed, limits, training, &plan, cost, &tree)?;
+    say_yes(cost, tree.as_slice().len() as u64, desk)
+}
+
+/// `check SWITCH QUERIES TRAIN PLANTREE`: reads the queries, the switch, the training capture and the plan, tests the plan, and says
+/// yes where the cost and the tree behind the plan show that no plan costs less on the training capture.
+pub fn check<I: Inputs, O: Sink>(
+    alloc: Global,
+    switch: &str,
+    queries: &str,
+    train: &str,
+    plantree: &str,
+    desk: &mut Desk<'_, I, O>,
+) -> Result<(), Refusal>
+    ensures { WorksFrom 2 (queries.now ∷ switch.now ∷ train.now ∷ plantree.now ∷ []) (Check switch.now queries.now train.now plantree.now) (world I.Inputs O.Sink desk.old) result (world I.Inputs O.Sink desk.new) }
+{
+    let typed = read_queries(alloc, desk, queries)?;
+    let limits = read_switch(alloc, desk, switch)?;
+    let training = read_training(alloc, desk, train, typed.window_ns())?;
+    let text = read_file(alloc, desk, plantree, MOST_TEXT)?;
+    check_text(alloc, &typed, &limits, &training, text.as_slice(), desk)
+}

@@ -1,0 +1,174 @@
+-- A plan that reports, from one window to the next, over plain values.
+use Rattle.std.proofs.Common.{◌≡◌, ℕ, zero, suc, ◌+◌, List, [], ◌∷◌, ◌++◌, map, length, Option, None, Some, Result, Ok, Err, ap, sym, ◌∙◌, subst, append_assoc, append-nil, arith}
+use Rattle.std.specs.List.{AllByRecursion, flat_map, range_with_len}
+use Rattle.std.specs.Result.{OnOk}
+use Rattle.std.specs.declared.vec.Vec.{Vec}
+use Rattle.std.specs.declared.alloc.Global.{Global}
+use Rattle.std.proofs.lemmas.Grind.{flat_map-append}
+use Rattle.std.proofs.lemmas.List.{length-append}
+use Rattle.sn_base.proofs.Lists.{all_append}
+use Rattle.sn_command_capture.specs.Wording.{AreRising, Window}
+use Rattle.sn_engine_lockstep.specs.declared.driver.Driver.{Driver}
+use Rattle.sn_engine_lockstep.specs.declared.source.Source.{Source}
+use Rattle.sn_engine_lockstep.specs.Sources.{kept_in, source_of, sources_of}
+use Rattle.sn_engine_lockstep.specs.Windows.{window_answers}
+use Rattle.sn_engine_lockstep.specs.Work.{AreAtWork, AreIdle, AreUnread}
+use Rattle.sn_engine_lockstep.proofs.Laws.{new_idle, plan_made}
+use Rattle.sn_emit.specs.Plans.{AreLanesOf, AreNewLanes, Placed, pieces_from}
+use Rattle.sn_emit.specs.Senders.{frames_left}
+use Rattle.sn_engine.specs.declared.intake.Intake.{Intake}
+use Rattle.sn_engine.specs.Intakes.{intakes_of}
+use Rattle.sn_plan_fit.specs.Fits.{Fits}
+use Rattle.sn_refine.specs.Steps.{Set}
+use Rattle.sn_report.specs.declared.frame.Frame.{Frame}
+use Rattle.sn_report.specs.Frames.{spelling}
+use Rattle.sn_command_run.specs.Planned.{Planned}
+use Rattle.sn_command_run.proofs.AlongLemmas.{last_more, rising_again}
+use Rattle.sn_command_emit.proofs.DriverLemmas.{begun_at, driver_after}
+use Rattle.sn_switch.specs.declared.switch.Switch.{Switch}
+use Rattle.sn_switch.specs.Texts.{IsSwitch}
+use Rattle.sn_types.specs.declared.answers.Answers.{Answers}
+use Rattle.sn_types.specs.declared.typed_query.TypedQuery.{TypedQuery}
+use Rattle.sn_types.specs.Typed.{HasWidths}
+use Rattle.sn_command_emit.specs.declared.reporter.Reporter.{Reporter}
+use Rattle.sn_command_emit.specs.Causal.{same_frames}
+use Rattle.sn_command_emit.specs.Lanes.{frames_given}
+use Rattle.sn_command_emit.specs.Reporting.{AreBytesOf, IsAtHand, IsDriverOf, IsIdle, kept_now, plan_of}
+use Rattle.sn_command_emit.specs.Sent.{frames_behind, frames_block, kept_of, packet_frames}
+use Rattle.sn_command_emit.proofs.KeptLemmas.{all_let_in}
+use Rattle.sn_command_emit.proofs.LanesLemmas.{all_read, all_send}
+use Rattle.sn_command_emit.proofs.SendingLemmas.{one_behind}
+
+abbrev pub with_sent : Reporter → Driver → Vec ℕ Global → Reporter
+with_sent a d sent = record { typed = a.typed; plan = a.plan; depth = a.depth; driver = d; last = a.last; sent = sent }
+
+-- ---- the bytes of the frames
+
+range_more : (a n : ℕ) → range_with_len a (suc n) ≡ range_with_len a n ++ (a + n) ∷ []
+range_more a zero = let none : a ≡ a + 0 = omega arith in ap (λ m. m ∷ []) none
+range_more a (suc n) = let next : a + 1 + n ≡ a + suc n = omega arith in ap (λ ms. a ∷ ms) (range_more (a + 1) n ∙ ap (λ m. range_with_len (a + 1) n ++ m ∷ []) next)
+
+-- none before the first tuple
+none_sent : (p : Planned) (kept : Placed → Set) (bytes : List ℕ) → bytes ≡ [] → AreBytesOf p kept [] bytes
+none_sent p kept bytes none more widths = none
+
+module _ (a : Reporter) (closed : List Window) (number : ℕ) (tuples : List (List ℕ)) (h : IsAtHand a closed number tuples) where
+  abbrev p : Planned
+  p = plan_of a
+
+  abbrev kept : Placed → Set
+  kept = kept_now p.queries a.last number
+
+  -- those of one tuple more
+  more_sent : (tuple : List ℕ) (bytes : List ℕ) → HasWidths tuple → bytes ≡ a.sent.items ++ flat_map spelling (flat_map (frames_given tuple) a.driver.emitter) → AreBytesOf p kept (tuples ++ tuple ∷ []) bytes
+  more_sent tuple bytes width sent more widths =
+      let all : List (List ℕ) = tuples ++ tuple ∷ more in
+      let frames : ℕ → List Frame = packet_frames p kept all in
+      let count : suc (length tuples) ≡ length (tuples ++ tuple ∷ []) = let both = length-append tuples (tuple ∷ []) in omega (arith, both) in
+      let given : flat_map (frames_given tuple) a.driver.emitter ≡ frames (length tuples) =
+      all_send h.driver.typed_for p.depth p.queries (pieces_from 0 p.entries) (kept_in p.queries a.last number) tuples a.driver.emitter a.driver.engine.lanes.items h.driver.typed h.driver.can h.work
+      tuple more (all_append HasWidths tuples (tuple ∷ more) h.widths (width, widths)) in
+      sent
+      ∙ ap (λ bs. bs ++ flat_map spelling (flat_map (frames_given tuple) a.driver.emitter)) (h.sent (tuple ∷ more) (width, widths))
+      ∙ ap (λ fs. flat_map spelling (flat_map frames (range_with_len 0 (length tuples))) ++ flat_map spelling fs) given
+      ∙ sym (one_behind frames (range_with_len 0 (length tuples)) (length tuples))
+      ∙ ap (λ ns. flat_map spelling (flat_map frames ns)) (ap (λ m. range_with_len 0 (length tuples) ++ m ∷ []) (from (length tuples)) ∙ sym (range_more 0 (length tuples)))
+      ∙ ap (λ n. flat_map spelling (flat_map frames (range_with_len 0 n))) count
+      ∙ ap (λ ts. flat_map spelling (flat_map (packet_frames p kept ts) (range_with_len 0 (length (tuples ++ tuple ∷ []))))) (sym (append_assoc tuples (tuple ∷ []) more))
+    where
+      from : (n : ℕ) → n ≡ 0 + n
+      from n = omega arith
+
+  rising : AreRising None (closed ++ (number, tuples) ∷ [])
+  rising = rising_again None closed number [] tuples h.rising
+
+  -- those of the whole window
+  pub block_is : (bytes : List ℕ) → bytes ≡ a.sent.items ++ flat_map spelling (flat_map (λ s. frames_left s number) a.driver.emitter) → bytes ≡ frames_block p (closed ++ (number, tuples) ∷ []) number tuples
+  block_is bytes sent =
+      let windows : List Window = closed ++ (number, tuples) ∷ [] in
+      let numbers : List ℕ = range_with_len 0 (length tuples) in
+      let behind : List Frame = flat_map (frames_behind p.queries p.depth kept tuples number) (pieces_from 0 p.entries) in
+      sent
+      ∙ ap (λ bs. bs ++ flat_map spelling (flat_map (λ s. frames_left s number) a.driver.emitter))
+      (h.sent [] tt ∙ ap (λ ts. flat_map spelling (flat_map (packet_frames p kept ts) numbers)) (append-nil tuples))
+      ∙ ap (λ fs. flat_map spelling (flat_map (packet_frames p kept tuples) numbers) ++ flat_map spelling fs)
+      (all_read h.driver.typed_for p.depth p.queries (pieces_from 0 p.entries) (kept_in p.queries a.last number) tuples a.driver.emitter a.driver.engine.lanes.items h.driver.typed h.driver.can h.work number h.widths)
+      ∙ sym (flat_map-append spelling (flat_map (packet_frames p kept tuples) numbers) behind)
+      ∙ ap (flat_map spelling) (same_frames p number tuples kept (kept_of p.queries windows number) same)
+    where
+      same : AllByRecursion (λ (x : Placed). kept x ≡ kept_of p.queries (closed ++ (number, tuples) ∷ []) number x) (pieces_from 0 p.entries)
+      same =
+          subst (λ last. AllByRecursion (λ (x : Placed). kept_now p.queries last number x ≡ kept_of p.queries (closed ++ (number, tuples) ∷ []) number x) (pieces_from 0 p.entries)) (sym h.last)
+          (all_let_in p closed number tuples h.driver.entries rising)
+
+  -- the window is closed
+  pub closed_idle : (d : Driver) (answers : Answers) (sent : Vec ℕ Global) → answers ≡ window_answers p.queries p.depth p.entries (kept_in p.queries a.last number) number tuples → IsDriverOf p d
+      → AreIdle p.queries p.depth (pieces_from 0 p.entries) d.emitter d.engine.lanes.items → sent.items ≡ []
+      → IsIdle (record { typed = a.typed; plan = a.plan; depth = a.depth; driver = d; last = Some answers; sent = sent }) (closed ++ (number, tuples) ∷ [])
+  closed_idle d answers sent is driver lanes none = record {
+    driver = driver;
+    lanes = lanes;
+    last = ap Some (is ∙ ap (λ (last : Option Answers). window_answers p.queries p.depth p.entries (kept_in p.queries last number) number tuples) h.last) ∙ sym (last_more p closed number tuples);
+    none_sent = none;
+    rising = rising;
+  }
+
+-- a tuple is given
+pub given_hand : (a : Reporter) (d : Driver) (sent : Vec ℕ Global) (tuple : List ℕ) (closed : List Window) (number : ℕ) (tuples : List (List ℕ)) → IsAtHand a closed number tuples → HasWidths tuple
+    → ((qs : List TypedQuery) (depth : ℕ) (xs : List Placed) (kept : Source → Set) (before : List (List ℕ)) → AreAtWork qs depth xs kept before a.driver.emitter a.driver.engine.lanes.items → AreAtWork qs depth xs kept (before ++ tuple ∷ []) d.emitter d.engine.lanes.items)
+    → sent.items ≡ a.sent.items ++ flat_map spelling (flat_map (frames_given tuple) a.driver.emitter)
+    → AreUnread d.emitter → ((qs : List TypedQuery) (depth : ℕ) (xs : List Placed) → AreLanesOf qs depth xs a.driver.emitter → AreLanesOf qs depth xs d.emitter) → length d.emitter ≡ length a.driver.emitter
+    → d.engine.t.queries ≡ a.driver.engine.t.queries → d.sources ≡ a.driver.sources → IsAtHand (with_sent a d sent) closed number (tuples ++ tuple ∷ [])
+given_hand a d sent tuple closed number tuples h width work bytes unread lanes count queries sources = record {
+  driver = driver_after (plan_of a) a.driver h.driver d queries sources count;
+  work = work a.typed.queries a.depth (pieces_from 0 a.plan.entries) (kept_in a.typed.queries a.last number) tuples h.work;
+  lanes = lanes a.typed.queries a.depth (pieces_from 0 a.plan.entries) h.lanes;
+  unread = unread;
+  widths = all_append HasWidths tuples (tuple ∷ []) h.widths (width, tt);
+  last = h.last;
+  sent = more_sent a closed number tuples h tuple sent.items width bytes;
+  rising = h.rising;
+}
+
+-- a window is begun
+pub begin_hand : (a : Reporter) (d : Driver) (number : ℕ) (closed : List Window) → IsIdle a closed → AreRising None (closed ++ (number, []) ∷ [])
+    → ((depth : ℕ) (xs : List Placed) → a.driver.sources ≡ map source_of xs → AreIdle a.driver.engine.t.queries depth xs a.driver.emitter a.driver.engine.lanes.items → AreAtWork a.driver.engine.t.queries depth xs (kept_in a.driver.engine.t.queries a.last number) [] d.emitter d.engine.lanes.items)
+    → AreUnread d.emitter → ((qs : List TypedQuery) (depth : ℕ) (xs : List Placed) → AreLanesOf qs depth xs a.driver.emitter → AreLanesOf qs depth xs d.emitter) → length d.emitter ≡ length a.driver.emitter
+    → d.engine.t.queries ≡ a.driver.engine.t.queries → d.sources ≡ a.driver.sources → IsAtHand (with_sent a d a.sent) closed number []
+begin_hand a d number closed idle rising work unread lanes count queries sources = record {
+  driver = driver_after (plan_of a) a.driver idle.driver d queries sources count;
+  work = begun_at (plan_of a) a.driver idle.driver a.last number d.emitter d.engine.lanes.items idle.lanes work;
+  lanes = lanes a.typed.queries a.depth (pieces_from 0 a.plan.entries) idle.lanes.lanes;
+  unread = unread;
+  widths = tt;
+  last = idle.last;
+  sent = none_sent (plan_of a) (kept_now a.typed.queries a.last number) a.sent.items idle.none_sent;
+  rising = rising;
+}
+
+-- a plan as it is made
+pub made_idle : (a : Reporter) (s : Switch) → a.depth ≡ s.chain → IsSwitch s → Fits a.typed.queries s a.plan.entries → a.driver.engine.t.queries ≡ a.typed.queries → a.driver.sources ≡ sources_of 0 a.plan.entries
+    → AreNewLanes a.typed.queries s.chain (pieces_from 0 a.plan.entries) a.driver.emitter → a.driver.engine.lanes.items ≡ intakes_of 0 a.plan.entries → length a.driver.sources ≡ length a.driver.emitter → a.last ≡ None → a.sent.items ≡ [] → IsIdle a []
+made_idle a s depth is fits queries sources lanes empty many last none = record {
+  driver = record {
+    typed_for = a.typed.window_us;
+    typed = a.typed.typed;
+    entries = fits.paths;
+    can = plan_made a.typed.window_us a.typed.queries s a.plan.entries a.typed.typed is fits;
+    queries = queries;
+    sources = sources;
+    many = many;
+  };
+  lanes = subst (λ (items : List Intake). AreIdle a.typed.queries a.depth (pieces_from 0 a.plan.entries) a.driver.emitter items) (sym empty)
+      (new_idle a.typed.queries a.depth a.plan.entries a.driver.emitter fits.paths (subst (λ (n : ℕ). AreNewLanes a.typed.queries n (pieces_from 0 a.plan.entries) a.driver.emitter) (sym depth) lanes));
+  last = last;
+  none_sent = none;
+  rising = tt;
+}
+
+-- ---- where all went well
+
+module _ {X Y : Type 0} {P Q R S T U : Type 0} where
+  pub on_five : (r : Result X Y) → OnOk r P → OnOk r Q → OnOk r R → OnOk r S → OnOk r T → (P → Q → R → S → T → U) → OnOk r U
+  on_five (Ok x) one two three four five f = f one two three four five
+  on_five (Err e) one two three four five f = tt

@@ -1,0 +1,50 @@
+use Rattle.std.proofs.Common.{◌<◌, length, refl, sym, subst, ◌∙◌}
+use Rattle.sn_engine_lockstep.proofs.Draining.{begun, less_left, read_all, read_more}
+use Rattle.sn_command_emit.proofs.SendingLemmas.{sent_frame, sent_last, sent_none}
+use Rattle.sn_command_emit.proofs.lane.drain.Goals as goal
+
+pub frames-init : goal.frames-init
+frames-init c = record {
+  read = begun c.args.window c.args.lane c.args.emitter.now c.args.engine.now.lanes.items c.requires;
+  sent = sent_none c.args.window c.args.lane c.args.emitter.now c.args.text.now.items c.requires;
+  count = refl;
+  others = λ other differs. refl;
+  lanes = λ queries depth pieces h. h;
+  queries = refl;
+}
+
+pub frames-smaller : goal.frames-smaller
+frames-smaller c =
+    let v = c.frames.invariant in
+    let lt : c.args.lane < length c.frames.emitter = subst (λ n. c.args.lane < n) (sym v.count) c.requires in
+    less_left c.args.window c.args.lane c.args.emitter.now c.frames.emitter c.read_out.new.self c.args.engine.now.lanes.items c.frames.engine.lanes.items c.send.new.engine.lanes.items v.read
+    c.in-Some.frame c.in-Some.ensures.count lt c.in-Some.ensures.frame
+
+pub frames-preserved : goal.frames-preserved
+frames-preserved c =
+    let v = c.frames.invariant in
+    let lt : c.args.lane < length c.frames.emitter = subst (λ n. c.args.lane < n) (sym v.count) c.requires in
+    record {
+      read = read_more c.args.window c.args.lane c.args.emitter.now c.frames.emitter c.read_out.new.self c.args.engine.now.lanes.items c.frames.engine.lanes.items c.send.new.engine.lanes.items v.read
+          c.in-Some.frame c.in-Some.ensures.count lt c.in-Some.ensures.frame c.in_ok-send-in-Some.ensures.taken;
+      sent = sent_frame c.args.window c.args.lane c.args.emitter.now c.frames.emitter c.read_out.new.self c.args.text.now.items c.frames.text.items c.send.new.text.items v.sent
+          c.in-Some.frame c.in-Some.ensures.count lt c.in-Some.ensures.frame c.in_ok-send-in-Some.ensures.sent;
+      count = c.in-Some.ensures.count ∙ v.count;
+      others = λ other differs. c.in-Some.ensures.others other differs ∙ v.others other differs;
+      lanes = λ queries depth pieces h. c.in-Some.ensures.lanes queries depth pieces (v.lanes queries depth pieces h);
+      queries = c.in_ok-send-in-Some.ensures.queries ∙ v.queries;
+    }
+
+pub returns-in-None-clause-read : goal.returns-in-None-clause-read
+returns-in-None-clause-read c =
+    let v = c.frames.invariant in
+    let lt : c.args.lane < length c.frames.emitter = subst (λ n. c.args.lane < n) (sym v.count) c.requires in
+    read_all c.args.window c.args.lane c.args.emitter.now c.frames.emitter c.read_out.new.self c.args.engine.now.lanes.items c.frames.engine.lanes.items c.frames.engine.lanes.items v.read
+    c.in-None.ensures.count lt c.in-None.ensures.frame refl
+
+pub returns-in-None-clause-sent : goal.returns-in-None-clause-sent
+returns-in-None-clause-sent c =
+    let v = c.frames.invariant in
+    let lt : c.args.lane < length c.frames.emitter = subst (λ n. c.args.lane < n) (sym v.count) c.requires in
+    sent_last c.args.window c.args.lane c.args.emitter.now c.frames.emitter c.read_out.new.self c.args.text.now.items c.frames.text.items c.frames.text.items v.sent
+    c.in-None.ensures.count lt c.in-None.ensures.frame

@@ -1,0 +1,21 @@
+use Rattle.std.proofs.Common.{◌≡◌, ◌≢◌, ℕ, List, length, slice_get}
+use Rattle.std.specs.Option.{option_map_or}
+use Rattle.sn_engine_lockstep.proofs.Draining.{HasRead}
+use Rattle.sn_emit.specs.Plans.{AreLanesOf, Placed}
+use Rattle.sn_emit.specs.Senders.{frames_left}
+use Rattle.sn_types.specs.declared.typed_query.TypedQuery.{TypedQuery}
+use Rattle.sn_command_emit.proofs.SendingLemmas.{HasSent}
+use Rattle.sn_command_emit.proofs.lane.drain.Given as goal
+
+abbrev pub invariant-frames : goal.invariant-frames
+invariant-frames l = record {
+  read : HasRead l.window l.lane l.initial.emitter l.emitter l.initial.engine.lanes.items l.engine.lanes.items;
+  sent : HasSent l.window l.lane l.initial.emitter l.emitter l.initial.text.items l.text.items;
+  count : length l.emitter ≡ length l.initial.emitter;
+  others : (other : ℕ) → other ≢ l.lane → slice_get l.emitter other ≡ slice_get l.initial.emitter other;
+  lanes : (queries : List TypedQuery) (depth : ℕ) (pieces : List Placed) → AreLanesOf queries depth pieces l.initial.emitter → AreLanesOf queries depth pieces l.emitter;
+  queries : l.engine.t.queries ≡ l.initial.engine.t.queries;
+}
+
+abbrev pub decreases-frames : goal.decreases-frames
+decreases-frames l = option_map_or (λ s. length (frames_left s l.window)) (slice_get l.emitter l.lane) 0

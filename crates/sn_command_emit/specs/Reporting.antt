@@ -1,0 +1,65 @@
+-- What is kept of a plan between two windows that it reports, and while a window is at hand.
+use Rattle.std.specs.Prelude.{◌≡◌, ℕ, List, [], ◌∷◌, ◌++◌, length, Option, None}
+use Rattle.std.specs.List.{AllByRecursion, flat_map, range_with_len}
+use Rattle.sn_command_capture.specs.Wording.{AreRising, Window}
+use Rattle.sn_engine_lockstep.specs.declared.driver.Driver.{Driver}
+use Rattle.sn_engine_lockstep.specs.Sources.{kept_in, source_of, sources_of}
+use Rattle.sn_engine_lockstep.specs.Work.{AreAtWork, AreIdle, AreUnread}
+use Rattle.sn_emit.specs.Making.{CanMake}
+use Rattle.sn_emit.specs.Plans.{AreLanesOf, Placed, pieces_from}
+use Rattle.sn_plan_fit.specs.Fits.{AreEntriesOf}
+use Rattle.sn_refine.specs.Steps.{Set}
+use Rattle.sn_report.specs.Frames.{spelling}
+use Rattle.sn_command_run.specs.Along.{last_of}
+use Rattle.sn_command_run.specs.Planned.{Planned}
+use Rattle.sn_types.specs.declared.answers.Answers.{Answers}
+use Rattle.sn_types.specs.declared.typed_query.TypedQuery.{TypedQuery}
+use Rattle.sn_types.specs.Typed.{HasWidths, IsTyped}
+use Rattle.sn_command_emit.specs.declared.reporter.Reporter.{Reporter}
+use Rattle.sn_command_emit.specs.Sent.{packet_frames}
+
+-- the plan
+abbrev pub plan_of : Reporter → Planned
+plan_of a = record { queries = a.typed.queries; depth = a.depth; entries = a.plan.entries }
+
+-- the plan is one of typed queries, and the driver is that of the plan
+pub record IsDriverOf (p : Planned) (d : Driver) : Type 0 where
+  pub typed_for : ℕ
+  pub typed : ∥ IsTyped typed_for p.queries ∥₁
+  pub entries : AreEntriesOf p.queries p.entries
+  pub can : AllByRecursion (CanMake p.queries) (pieces_from 0 p.entries)
+  pub queries : d.engine.t.queries ≡ p.queries
+  pub sources : d.sources ≡ sources_of 0 p.entries
+  pub many : length d.sources ≡ length d.emitter
+
+-- the prefixes that the lane of a piece lets in, where these are the answers of the last window
+abbrev pub kept_now : List TypedQuery → Option Answers → ℕ → Placed → Set
+kept_now queries last number x = kept_in queries last number (source_of x)
+
+-- These bytes are those of the frames of the tuples so far, packet by packet, whatever tuples of the window come behind them.
+abbrev pub AreBytesOf : Planned → (Placed → Set) → List (List ℕ) → List ℕ → Type 0
+AreBytesOf p kept tuples bytes = (more : List (List ℕ)) → AllByRecursion HasWidths more
+    → bytes ≡ flat_map spelling (flat_map (packet_frames p kept (tuples ++ more)) (range_with_len 0 (length tuples)))
+
+-- these windows were closed, and none is at hand
+pub record IsIdle (a : Reporter) (closed : List Window) : Type 0 where
+  pub driver : IsDriverOf (plan_of a) a.driver
+  pub lanes : AreIdle a.typed.queries a.depth (pieces_from 0 a.plan.entries) a.driver.emitter a.driver.engine.lanes.items
+  pub last : a.last ≡ last_of (plan_of a) closed
+  pub none_sent : a.sent.items ≡ []
+  pub rising : AreRising None closed
+
+-- these windows were closed, and of the one with this number these tuples came
+pub record IsAtHand (a : Reporter) (closed : List Window) (number : ℕ) (tuples : List (List ℕ)) : Type 0 where
+  pub driver : IsDriverOf (plan_of a) a.driver
+  pub work : AreAtWork a.typed.queries a.depth (pieces_from 0 a.plan.entries) (kept_in a.typed.queries a.last number) tuples a.driver.emitter a.driver.engine.lanes.items
+  pub lanes : AreLanesOf a.typed.queries a.depth (pieces_from 0 a.plan.entries) a.driver.emitter
+  pub unread : AreUnread a.driver.emitter
+  pub widths : AllByRecursion HasWidths tuples
+  pub last : a.last ≡ last_of (plan_of a) closed
+  pub sent : AreBytesOf (plan_of a) (kept_now a.typed.queries a.last number) tuples a.sent.items
+  pub rising : AreRising None (closed ++ (number, []) ∷ [])
+
+-- some windows were closed, and none is at hand
+abbrev pub Rests : (List Window → Type 0) → Type 0
+Rests idle = (closed : List Window) × idle closed

@@ -1,0 +1,88 @@
+//! One lane at work: what it sends is taken by the engine, and its bytes are added to a text.
+ghost use Rattle.std.specs.Prelude.{◌≡◌, ◌≢◌, ◌<◌, ◌++◌, ℕ, List, length, fold, slice_get, slice_set, IfSome, OnOk};
+ghost use Rattle.std.specs.List.{flat_map};
+ghost use Rattle.sn_engine_lockstep.specs.Work.{IsReadInto};
+ghost use Rattle.sn_emit.specs.Making.{CanEncode};
+ghost use Rattle.sn_emit.specs.Plans.{AreLanesOf, Placed};
+ghost use Rattle.sn_emit.specs.Senders.{frames_left, sender_next};
+ghost use Rattle.sn_command_emit.specs.Lanes.{frames_given};
+ghost use Rattle.sn_engine.specs.Intakes.{after_frame};
+ghost use Rattle.sn_report.specs.Frames.{spelling};
+ghost use Rattle.sn_types.specs.declared.typed_query.TypedQuery.{TypedQuery};
+
+use sn_base::bytes::push_bytes;
+use sn_base::memory::Memory;
+use sn_emit::lanes::Emitter;
+use sn_engine::engine::Engine;
+use sn_fields::tuple::Tuple;
+use sn_report::encode::{MOST_BYTES, encode};
+use sn_report::frame::Frame;
+
+/// Adds the bytes of a frame to a text.
+fn push_frame(text: &mut Vec<u8>, frame: &Frame) -> Result<(), Memory>
+    requires { CanEncode frame.now }
+    ensures { OnOk result (text.new.items ≡ text.old.items ++ spelling frame.now) }
+{
+    let mut spelled = [0; MOST_BYTES];
+    let length = encode(frame, &mut spelled);
+    push_bytes(text, &spelled[..length])
+}
+
+/// The engine takes a frame of a lane, and its bytes are added to the text.
+fn send(engine: &mut Engine, text: &mut Vec<u8>, frame: &Frame) -> Result<(), Memory>
+    requires { CanEncode frame.now }
+    ensures taken { OnOk result (engine.new.lanes.items ≡ after_frame engine.old.lanes.items frame.now) }
+    ensures sent { OnOk result (text.new.items ≡ text.old.items ++ spelling frame.now) }
+    ensures queries { engine.new.t.queries ≡ engine.old.t.queries }
+{
+    match engine.take(frame) {
+        Ok(()) => push_frame(text, frame),
+        Err(_) => Err(Memory),
+    }
+}
+
+/// Gives a tuple to a lane, and sends what it gives.
+pub(crate) fn give(
+    emitter: &mut Emitter,
+    engine: &mut Engine,
+    text: &mut Vec<u8>,
+    lane: u32,
+    tuple: &Tuple,
+) -> Result<(), Memory>
+    requires lane { lane < length emitter.old }
+    requires unread { IfSome (slice_get emitter.old lane) (λ s. s.pipe.prefix.place ≡ 0) }
+    ensures after { IfSome (slice_get emitter.old lane) (λ s. emitter.new ≡ slice_set emitter.old lane (sender_next s tuple.now)) }
+    ensures taken { OnOk result (IfSome (slice_get emitter.old lane) (λ s. engine.new.lanes.items ≡ fold after_frame engine.old.lanes.items (frames_given tuple.now s))) }
+    ensures sent { OnOk result (IfSome (slice_get emitter.old lane) (λ s. text.new.items ≡ text.old.items ++ flat_map spelling (frames_given tuple.now s))) }
+    ensures lanes { (queries : List TypedQuery) (depth : ℕ) (pieces : List Placed) → AreLanesOf queries depth pieces emitter.old → AreLanesOf queries depth pieces emitter.new }
+    ensures queries { engine.new.t.queries ≡ engine.old.t.queries }
+{
+    match emitter.packet(lane, tuple) {
+        Some(frame) => send(engine, text, &frame),
+        None => Ok(()),
+    }
+}
+
+/// Reads a lane out to its end, and sends what it gives.
+pub(crate) fn drain(
+    emitter: &mut Emitter,
+    engine: &mut Engine,
+    text: &mut Vec<u8>,
+    lane: u32,
+    window: u64,
+) -> Result<(), Memory>
+    requires { lane < length emitter.old }
+    ensures read { OnOk result (IfSome (slice_get emitter.old lane) (λ s. IfSome (slice_get emitter.new lane) (λ t. IsReadInto window s t engine.old.lanes.items engine.new.lanes.items))) }
+    ensures sent { OnOk result (IfSome (slice_get emitter.old lane) (λ s. text.new.items ≡ text.old.items ++ flat_map spelling (frames_left s window))) }
+    ensures count { length emitter.new ≡ length emitter.old }
+    ensures others { (other : ℕ) → other ≢ lane → slice_get emitter.new other ≡ slice_get emitter.old other }
+    ensures lanes { (queries : List TypedQuery) (depth : ℕ) (pieces : List Placed) → AreLanesOf queries depth pieces emitter.old → AreLanesOf queries depth pieces emitter.new }
+    ensures queries { engine.new.t.queries ≡ engine.old.t.queries }
+{
+    'frames: loop {
+        match emitter.read_out(lane, window) {
+            Some(frame) => send(engine, text, &frame)?,
+            None => return Ok(()),
+        }
+    }
+}

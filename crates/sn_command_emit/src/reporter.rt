@@ -1,0 +1,21 @@
+//! A plan that reports the windows of a capture.
+
+use sn_engine_lockstep::driver::Driver;
+use sn_plan_grammar::plan::Plan;
+use sn_types::answers::Answers;
+use sn_types::typed::Typed;
+
+/// A plan that fits a switch, its lanes and the engine, which takes what they send, since what a level lets in is told by the
+/// answers of the window before; and the bytes of the frames of the window at hand.
+#[derive(Drop)]
+pub struct Reporter {
+    pub typed: Typed,
+    pub plan: Plan,
+    /// Registers in the chain of a stateful operator.
+    pub depth: u32,
+    pub driver: Driver,
+    /// The answers of the last window.
+    pub last: Option<Answers>,
+    /// The bytes of the frames of the window at hand.
+    pub sent: Vec<u8>,
+}

@@ -1,0 +1,184 @@
+-- The reports of whole windows are answered.
+use Rattle.std.proofs.Common.{◌≡◌, ℕ, ◌+◌, ◌<◌, ◌==◌, List, [], ◌∷◌, ◌++◌, map, length, sum_by, true, false, cond, Option, None, Some, is_none, Result, Ok, Err, refl, ap, sym, ◌∙◌, arith, append_assoc, append-nil}
+use Rattle.std.specs.List.{AllByRecursion, flat_map, list_any}
+use Rattle.std.proofs.lemmas.Bool.{eq-eqb}
+use Rattle.std.proofs.lemmas.List.{length-append}
+use Rattle.sn_base.proofs.Lists.{all_append}
+use Rattle.sn_engine.specs.declared.intake.Intake.{Intake}
+use Rattle.sn_engine.specs.Answers.{answers_of, parts_of, window_of}
+use Rattle.sn_engine.specs.Intakes.{after_frame, first_open, has_started, intake_for, intakes_of, total}
+use Rattle.sn_engine.specs.Taking.{is_above}
+use Rattle.sn_engine.proofs.Firsts.{sum_cons}
+use Rattle.sn_framed.specs.Framed.{Framed, bytes_of}
+use Rattle.sn_io.specs.Counts.{ByName}
+use Rattle.sn_framed.proofs.Cutting.{cut_once, frames_again}
+use Rattle.sn_out.specs.Text.{block_text, total_line}
+use Rattle.sn_plan_grammar.specs.declared.plan.Entry.{Entry}
+use Rattle.sn_plan_grammar.specs.declared.plan.Piece.{Piece}
+use Rattle.sn_report.specs.declared.decode.Decoded.TheVariants.{More}
+use Rattle.sn_report.specs.declared.frame.Frame.{Frame}
+use Rattle.sn_report.specs.declared.frame.Frame.TheVariants.{Row, End}
+use Rattle.sn_report.specs.Frames.{IsFrame, spelling}
+use Rattle.sn_command.specs.declared.fault.ReportKind.TheVariants as kinds
+use Rattle.sn_command.specs.declared.refusal.Refusal.{Refusal}
+use Rattle.sn_command.specs.Outcomes.{Outcome, silent}
+use Rattle.sn_types.specs.declared.typed_query.TypedQuery.{TypedQuery}
+use Rattle.sn_command_finish.specs.Reported.{Reported, reported_from}
+use Rattle.sn_command_finish.specs.Taken.{Standing, begun, close, close_ended, end_at, ended, followed, goes_on, refused_at, take_frame, take_frames, taken_unless}
+use Rattle.sn_command_finish.specs.Whole.{HaveNames, IsIdle, IsWindow, Rise, Sent, answered_text, answers_to, block_of, filled, frames_in, frames_of, name_of}
+use Rattle.sn_command_finish.proofs.LaneLemmas.{after, frame_taken, lanes_after, lanes_before, lanes_emptied, lanes_filled, none_open, none_started, still_open}
+use Rattle.sn_command_finish.proofs.ReportLemmas.{cut_here, followed_twice}
+
+-- ---- outcomes
+
+followed_same : {A B : Type 0} (first : Outcome A) (f g : A → Outcome B) → ((x : A) → f x ≡ g x) → followed first f ≡ followed first g
+followed_same {A} {B} first f g same = of first.text first.end
+  where
+    of : (text : List ℕ) (end : Result A Refusal) → goes_on text end f ≡ goes_on text end g
+    of text (Err refusal) = refl
+    of text (Ok value) = ap (λ (o : Outcome B). record { text = text ++ o.text; end = o.end }) (same value)
+
+frames_then : (queries : List TypedQuery) (at : ℕ) (xs ys : List Frame) (s : Standing) → take_frames queries at (xs ++ ys) s ≡ followed (take_frames queries at xs s) (λ next. take_frames queries (at + length (bytes_of xs)) ys next)
+frames_then queries at [] ys s = let here : at ≡ at + 0 = omega arith in ap (λ (n : ℕ). take_frames queries n ys s) here
+frames_then queries at (x ∷ xs) ys s =
+    let n : (at + length (spelling x)) + length (bytes_of xs) ≡ at + length (bytes_of (x ∷ xs)) = omega (arith, length-append (spelling x) (bytes_of xs)) in
+    followed_same (take_frame queries at x s) (λ next. take_frames queries (at + length (spelling x)) (xs ++ ys) next) (λ next. followed (take_frames queries (at + length (spelling x)) xs next) (λ last. take_frames queries ((at + length (spelling x)) + length (bytes_of xs)) ys last))
+    (λ next. frames_then queries (at + length (spelling x)) xs ys next)
+    ∙ sym (followed_twice (take_frame queries at x s) (λ next. take_frames queries (at + length (spelling x)) xs next) (λ last. take_frames queries ((at + length (spelling x)) + length (bytes_of xs)) ys last))
+    ∙ ap (λ (k : ℕ). followed (take_frames queries at (x ∷ xs) s) (λ last. take_frames queries k ys last)) n
+
+-- ---- one window
+
+-- the lanes at such a standing
+abbrev with_lanes : List Intake → Standing → Standing
+with_lanes lanes s = record s { lanes = lanes }
+
+some_none : (o : Option ℕ) → (o ≡ None → ⊥) → is_none o ≡ false
+some_none None h = absurd (h refl)
+some_none (Some n) h = refl
+
+module _ (queries : List TypedQuery) (lanes : List Intake) (names : HaveNames lanes) (idle : AllByRecursion IsIdle lanes) (some : 0 < length lanes) where
+  -- behind a window
+  abbrev behind : Standing → Sent → Standing
+  behind s sent = record { lanes = lanes; closed = Some sent.window; windows = s.windows + 1; emitted = s.emitted + total (map (filled sent) lanes) }
+
+  abbrev closed_window : Standing → Sent → Outcome Standing
+  closed_window s sent = record { text = block_of queries lanes sent; end = Ok (behind s sent) }
+
+  window_filled : (sent : Sent) (xs : List Intake) → 0 < length xs → window_of (map (filled sent) xs) ≡ sent.window
+  window_filled sent [] none = absurd (omega arith)
+  window_filled sent (x ∷ xs) here = refl
+
+  module _ (sent : Sent) (window : IsWindow queries lanes sent) (s : Standing) (above : is_above s.closed sent.window ≡ true) where
+    abbrev all : List Intake
+    all = map (filled sent) lanes
+
+    one_frame : (at : ℕ) (us : List Frame) (f : Frame) (vs : List Frame) → us ++ f ∷ vs ≡ sent.frames → take_frame queries at f (with_lanes (map (after us) lanes) s) ≡ close_ended queries (with_lanes (map (after (us ++ f ∷ [])) lanes) s)
+    one_frame at us f vs whole =
+        ap (λ o. taken_unless at o (close_ended queries (with_lanes (after_frame (map (after us) lanes) f) s))) (frame_taken queries lanes sent names idle window s.closed above us f vs whole)
+        ∙ ap (λ (ls : List Intake). close_ended queries (with_lanes ls s)) (lanes_after us f lanes names)
+
+    last_frame : close_ended queries (with_lanes all s) ≡ closed_window s sent
+    last_frame =
+        let number : window_of all ≡ sent.window = window_filled sent lanes some in
+        ap (λ (o : Option ℕ). cond (is_none o) (close queries (with_lanes all s)) (silent (Ok (with_lanes all s)))) (none_open sent lanes)
+        ∙ ap (λ (ls : List Intake). record { text = block_text queries (answers_of queries all) true; end = Ok (record { lanes = ls; closed = Some (window_of all); windows = s.windows + 1; emitted = s.emitted + total all }) }) (lanes_emptied sent lanes idle)
+        ∙ ap (λ (n : ℕ). record { text = block_text queries (record { window = n; emitted = total all; parts = parts_of queries all }) true; end = Ok (record { lanes = lanes; closed = Some n; windows = s.windows + 1; emitted = s.emitted + total all }) }) number
+
+    window_goes : (at : ℕ) (us : List Frame) (f : Frame) (vs : List Frame) → us ++ f ∷ vs ≡ sent.frames → take_frames queries at (f ∷ vs) (with_lanes (map (after us) lanes) s) ≡ closed_window s sent
+    window_goes at us f [] whole =
+        ap (λ (o : Outcome Standing). followed o (λ next. silent (Ok next)))
+        (one_frame at us f [] whole ∙ ap (λ (fs : List Frame). close_ended queries (with_lanes (map (after fs) lanes) s)) whole ∙ ap (λ (ls : List Intake). close_ended queries (with_lanes ls s)) (lanes_filled queries lanes sent names idle window) ∙ last_frame)
+        ∙ ap (λ (t : List ℕ). record { text = t; end = Ok (behind s sent) }) (append-nil (block_of queries lanes sent))
+    window_goes at us f (g ∷ vs) whole =
+        let next : (us ++ f ∷ []) ++ g ∷ vs ≡ sent.frames = append_assoc us (f ∷ []) (g ∷ vs) ∙ whole in
+        let now : Standing = with_lanes (map (after (us ++ f ∷ [])) lanes) s in
+        let unended : is_none (first_open now.lanes) ≡ false = some_none (first_open now.lanes) (still_open queries lanes sent names idle window s.closed above (us ++ f ∷ []) g vs next) in
+        ap (λ (o : Outcome Standing). followed o (λ then. take_frames queries (at + length (spelling f)) (g ∷ vs) then))
+        (one_frame at us f (g ∷ vs) whole ∙ ap (λ b. cond b (close queries now) (silent (Ok now))) unended)
+        ∙ window_goes (at + length (spelling f)) (us ++ f ∷ []) g vs next
+
+    whole_window : (at : ℕ) → s.lanes ≡ lanes → take_frames queries at sent.frames s ≡ closed_window s sent
+    whole_window at same = of sent.frames refl
+      where
+        empty : [] ≡ sent.frames → (xs : List Intake) → 0 < length xs → AllByRecursion (λ x. frames_of x sent.frames ≡ map (Row (name_of x)) (sent.items x) ++ End (name_of x) sent.window ∷ []) xs → ⊥
+        empty none [] few each = omega arith
+        empty none (x ∷ xs) few each =
+            let e = ap length (ap (frames_of x) none ∙ each.0) in
+            omega (arith, e, length-append (map (Row (name_of x)) (sent.items x)) (End (name_of x) sent.window ∷ []))
+
+        of : (fs : List Frame) → fs ≡ sent.frames → take_frames queries at sent.frames s ≡ closed_window s sent
+        of [] none = absurd (empty none lanes some window.each)
+        of (f ∷ fs) is =
+            ap (λ (gs : List Frame). take_frames queries at gs s) (sym is)
+            ∙ ap (λ (ls : List Intake). take_frames queries at (f ∷ fs) (with_lanes ls s)) (same ∙ sym (lanes_before lanes))
+            ∙ window_goes at [] f fs is
+
+  -- ---- all windows
+
+  abbrev behind_all : Standing → List Sent → Standing
+  behind_all s [] = s
+  behind_all s (sent ∷ later) = behind_all (behind s sent) later
+
+  all_windows : (at : ℕ) (windows : List Sent) (s : Standing) → s.lanes ≡ lanes → Rise s.closed windows → AllByRecursion (IsWindow queries lanes) windows
+      → take_frames queries at (frames_in windows) s ≡ record { text = flat_map (block_of queries lanes) windows; end = Ok (behind_all s windows) }
+  all_windows at [] s same rise each = refl
+  all_windows at (sent ∷ later) s same rise each =
+      let next : ℕ = at + length (bytes_of sent.frames) in
+      frames_then queries at sent.frames (frames_in later) s
+      ∙ ap (λ (o : Outcome Standing). followed o (λ last. take_frames queries next (frames_in later) last)) (whole_window sent each.0 s rise.0 at same)
+      ∙ ap (λ (o : Outcome Standing). record { text = block_of queries lanes sent ++ o.text; end = o.end }) (all_windows next later (behind s sent) refl rise.1 each.1)
+
+  record IsBehind (s : Standing) (windows : List Sent) : Type 0 where
+    lanes_are : (behind_all s windows).lanes ≡ lanes
+    count : (behind_all s windows).windows ≡ s.windows + length windows
+    emitted : (behind_all s windows).emitted ≡ s.emitted + sum_by (λ sent. (answers_to queries lanes sent).emitted) windows
+
+  is_behind : (windows : List Sent) (s : Standing) → s.lanes ≡ lanes → IsBehind s windows
+  is_behind [] s same = record { lanes_are = same; count = omega arith; emitted = omega arith }
+  is_behind (sent ∷ later) s same =
+      let rest = is_behind later (behind s sent) refl in
+      let count = rest.count in
+      let emitted = rest.emitted in
+      record {
+        lanes_are = rest.lanes_are;
+        count = omega (arith, count);
+        emitted = omega (arith, emitted, sum_cons (λ (x : Sent). (answers_to queries lanes x).emitted) sent later);
+      }
+
+  whole_reports : (windows : List Sent) (s : Standing) → s.lanes ≡ lanes → s.windows ≡ 0 → s.emitted ≡ 0 → Rise s.closed windows → AllByRecursion (IsWindow queries lanes) windows
+      → reported_from queries 0 (length (bytes_of (frames_in windows))) (record { frames = frames_in windows; left = More }) s ≡ record { text = answered_text queries lanes windows; end = Ok tt }
+  whole_reports windows s same none zero rise each =
+      let size : ℕ = length (bytes_of (frames_in windows)) in
+      let last : Standing = behind_all s windows in
+      let blocks : List ℕ = flat_map (block_of queries lanes) windows in
+      let is = is_behind windows s same in
+      let at_end : (0 + size == size) ≡ true = eq-eqb (0 + size) size (omega arith) in
+      let closed : list_any has_started last.lanes ≡ false = ap (list_any has_started) is.lanes_are ∙ none_started lanes idle in
+      let counted : last.windows ≡ length windows = (let c = is.count in omega (arith, c, none)) in
+      let sent_is : last.emitted ≡ sum_by (λ sent. (answers_to queries lanes sent).emitted) windows = (let e = is.emitted in omega (arith, e, zero)) in
+      let total_is : ended size last ≡ record { text = total_line (length windows) (Some (sum_by (λ sent. (answers_to queries lanes sent).emitted) windows)); end = Ok tt } =
+      ap (λ b. cond b (refused_at kinds.Unfinished size) (record { text = total_line last.windows (Some last.emitted); end = Ok tt })) closed
+      ∙ ap (λ (n : ℕ). record { text = total_line n (Some last.emitted); end = Ok tt }) counted
+      ∙ ap (λ (n : ℕ). record { text = total_line (length windows) (Some n); end = Ok tt }) sent_is in
+      ap (λ (o : Outcome Standing). followed o (λ l. end_at (0 + size) size More l)) (all_windows 0 windows s same rise each)
+      ∙ ap (λ (o : Outcome (Unit {0})). record { text = blocks ++ o.text; end = o.end }) (ap (λ b. cond b (ended size last) (refused_at kinds.Cut (0 + size))) at_end ∙ total_is)
+
+-- ---- the reports of a plan
+
+pieces_idle : (q : ℕ) (path : List ℕ) (pieces : List Piece) → AllByRecursion IsIdle (map (intake_for q path) pieces)
+pieces_idle q path [] = tt
+pieces_idle q path (p ∷ ps) = (record { items = refl; end = refl }, pieces_idle q path ps)
+
+pub entries_idle : (q : ℕ) (entries : List Entry) → AllByRecursion IsIdle (intakes_of q entries)
+entries_idle q [] = tt
+entries_idle q (e ∷ es) = all_append IsIdle (map (intake_for q e.levels) e.pieces) (intakes_of (q + 1) es) (pieces_idle q e.levels e.pieces) (entries_idle (q + 1) es)
+
+pub windows_answered : (queries : List TypedQuery) (entries : List Entry) (windows : List Sent) → 0 < length (intakes_of 0 entries) → HaveNames (intakes_of 0 entries) → Rise None windows → AllByRecursion (IsWindow queries (intakes_of 0 entries)) windows
+    → AllByRecursion IsFrame (frames_in windows) → (files : ByName (List ℕ)) (outcome : Outcome (Unit {0})) → Reported queries entries (bytes_of (frames_in windows)) files outcome → outcome ≡ record { text = answered_text queries (intakes_of 0 entries) windows; end = Ok tt }
+windows_answered queries entries windows some names rise each frames files outcome t =
+    let bytes : List ℕ = bytes_of (frames_in windows) in
+    let c = cut_here bytes (λ framed. reported_from queries 0 (length bytes) framed (begun entries)) files outcome t in
+    let same : c.framed ≡ record { frames = frames_in windows; left = More } = cut_once bytes c.framed (record { frames = frames_in windows; left = More }) c.is (frames_again (frames_in windows) frames) in
+    c.same ∙ ap (λ (f : Framed). reported_from queries 0 (length bytes) f (begun entries)) same
+    ∙ whole_reports queries (intakes_of 0 entries) names (entries_idle 0 entries) some windows (begun entries) refl refl refl rise each

@@ -1,0 +1,22 @@
+use Rattle.std.proofs.Common.{map, ap, refl}
+use Rattle.sn_core_net.specs.States.{State}
+use Rattle.sn_command_run.proofs.along.Along.make.Goals as goal
+
+pub returns-clause-begun : goal.returns-clause-begun
+returns-clause-begun g c =
+    let e = c.in_ok-machine.ensures in
+    record {
+      fed = record {
+        typed_for = c.args.typed.window_us;
+        typed = c.args.typed.typed;
+        entries = c.requires.fits.paths;
+        lanes = e.lanes;
+        stands = e.stands;
+        taken = ap (λ (s : State). s.waiting) e.new;
+        sound = tt;
+        owes = λ following falls widths. ap (map g.M.Machine.told) (e.due following falls widths);
+        emitted = refl;
+      };
+      used = (ap (λ (s : State). s.held) e.new, ap (λ (s : State). s.window) e.new);
+      rising = (tt, tt);
+    }

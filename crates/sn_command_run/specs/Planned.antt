@@ -1,0 +1,96 @@
+-- What is written of the windows of a capture that is answered along a plan.
+use Rattle.std.specs.Prelude.{ℕ, List, [], ◌++◌, map, sum, length, Bool, true, false, Some}
+use Rattle.sn_command_capture.specs.Wording.{Window, Wording}
+use Rattle.sn_engine_lockstep.specs.Windows.{plan_answers}
+use Rattle.sn_out.specs.Records.{heading_line, window_records}
+use Rattle.sn_out.specs.Text.{block_text, damage_line, total_line}
+use Rattle.sn_pcap.specs.declared.packet.Ending.{Ending}
+use Rattle.sn_plan_grammar.specs.declared.plan.Entry.{Entry}
+use Rattle.sn_refine.specs.Steps.{windows_of}
+use Rattle.sn_types.specs.declared.answers.Answers.{Answers}
+use Rattle.sn_types.specs.declared.typed_query.TypedQuery.{TypedQuery}
+use Rattle.sn_command_run.specs.declared.form.Form.{Form}
+use Rattle.sn_command_run.specs.declared.form.Form.TheVariants as forms
+
+-- a plan of queries, on a switch with chains of this depth
+pub record Planned : Type 0 where
+  pub queries : List TypedQuery
+  pub depth : ℕ
+  pub entries : List Entry
+
+-- The answers in a window along the plan, in a capture with these windows: the refined answers of the queries along their
+-- paths, of which windows that hold no record have none, and how many items were sent.
+abbrev pub answers_at : Planned → List Window → ℕ → Answers
+answers_at p windows w = plan_answers p.queries p.depth p.entries (windows_of windows) w
+
+-- how many items were sent in all windows
+abbrev pub emitted_at : Planned → List Window → Window → ℕ
+emitted_at p windows w = (answers_at p windows w.0).emitted
+
+abbrev pub emitted_in : Planned → List Window → ℕ
+emitted_in p windows = sum (map (emitted_at p windows) windows)
+
+-- ---- as they are told
+
+-- What a machine tells of answers. It may be more or less than the answers themselves; of what it is nothing is known here.
+abbrev pub Telling : Type 0
+Telling = Answers → Answers
+
+-- answers that are told as they are
+abbrev pub as_they_are : Telling
+as_they_are answers = answers
+
+-- what is told of the answers in a window
+abbrev pub told_at : Telling → Planned → List Window → ℕ → Answers
+told_at told p windows w = told (answers_at p windows w)
+
+-- how many items were told to be sent in all windows
+abbrev pub told_emitted_at : Telling → Planned → List Window → Window → ℕ
+told_emitted_at told p windows w = (told_at told p windows w.0).emitted
+
+abbrev pub told_emitted_in : Telling → Planned → List Window → ℕ
+told_emitted_in told p windows = sum (map (told_emitted_at told p windows) windows)
+
+-- ---- in blocks
+
+-- the block of a window: its line with that number, and its answers
+abbrev pub plan_block : Planned → List Window → ℕ → List (List ℕ) → List ℕ
+plan_block p windows w tuples = block_text p.queries (answers_at p windows w) true
+
+-- behind the blocks: the line of the damage, where there is some, and the total
+abbrev pub plan_lines : Planned → List Window → Ending → List ℕ
+plan_lines p windows ending = damage_line ending ++ total_line (length windows) (Some (emitted_in p windows))
+
+abbrev pub plan_wording : Planned → Wording
+plan_wording p = record { first = []; block = plan_block p; unfinished = λ closed number tuples. []; last = plan_lines p }
+
+-- the same, where the answers are told
+abbrev pub told_block : Telling → Planned → List Window → ℕ → List (List ℕ) → List ℕ
+told_block told p windows w tuples = block_text p.queries (told_at told p windows w) true
+
+abbrev pub told_lines : Telling → Planned → List Window → Ending → List ℕ
+told_lines told p windows ending = damage_line ending ++ total_line (length windows) (Some (told_emitted_in told p windows))
+
+abbrev pub told_wording : Telling → Planned → Wording
+told_wording told p = record { first = []; block = told_block told p; unfinished = λ closed number tuples. []; last = told_lines told p }
+
+-- ---- as comma-separated values
+
+-- the records of a window's rows
+abbrev pub told_records : Telling → Planned → List Window → ℕ → List (List ℕ) → List ℕ
+told_records told p windows w tuples = window_records p.queries (told_at told p windows w)
+
+-- the heading and the records: no window, no damage and no total has a line
+abbrev pub records_wording : Telling → Planned → Wording
+records_wording told p = record { first = heading_line; block = told_records told p; unfinished = λ closed number tuples. []; last = λ windows ending. [] }
+
+-- ---- in either form
+
+abbrev pub wording_in : Form → Telling → Planned → Wording
+wording_in forms.Blocks told p = told_wording told p
+wording_in forms.Records told p = records_wording told p
+
+-- with `--csv` answers are written as comma-separated values, and else in blocks
+abbrev pub form_of : Bool → Form
+form_of true = forms.Records
+form_of false = forms.Blocks

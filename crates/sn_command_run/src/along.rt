@@ -1,0 +1,26 @@
+//! A plan at work over the windows of a capture.
+
+use crate::form::Form;
+use sn_gen::draws::Draws;
+use sn_plan_grammar::plan::Plan;
+use sn_types::typed::Typed;
+use std::alloc::Global;
+
+/// A plan that fits a switch, and a machine that answers windows along it.
+#[derive(Drop)]
+pub struct Along<M: Drop> {
+    pub alloc: Global,
+    pub typed: Typed,
+    pub plan: Plan,
+    /// Registers in the chain of a stateful operator.
+    pub depth: u32,
+    pub machine: M,
+    /// How many lanes the machine has.
+    pub lanes: u32,
+    /// They pick what happens next in the machine.
+    pub draws: Draws,
+    /// How its answers are written.
+    pub form: Form,
+    /// How many items were sent in all windows, as the machine told.
+    pub emitted: u64,
+}

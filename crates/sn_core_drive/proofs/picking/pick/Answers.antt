@@ -1,0 +1,43 @@
+use Rattle.std.proofs.Common.{◌≡◌, ◌<◌, ◌∙◌, ◌%◌, zero, suc, refl, ap, ap₂, sym, subst, slice_get, ℕ, arith}
+use Rattle.std.proofs.Math.Nat.{mod-lt}
+use Rattle.sn_core_net.specs.Steps.{IsOneOf}
+use Rattle.sn_core_drive.specs.Schedules.{enabled_events, events_of, may_happen}
+use Rattle.sn_core_drive.proofs.Listing.{got_known, got_passes, none_enabled}
+use Rattle.sn_core_drive.proofs.Owing.{goes_on, is_none_none}
+use Rattle.sn_core_drive.proofs.picking.pick.Goals as goal
+
+some_number : (n : ℕ) → (n ≡ 0 → ⊥) → 0 < n
+some_number zero h = absurd (h refl)
+some_number (suc n) h = omega arith
+
+pub place_of-n-requires : goal.place_of-n-requires
+place_of-n-requires g c =
+    let m = c.args.machine.now in
+    let s = g.M.Machine.state m in
+    some_number c.look-found.result.count (λ e.
+    goes_on (g.M.Machine.works m) (g.met.M.Machine.lawful m) s c.args.lanes c.requires.lanes c.requires.stands c.requires.going c.requires.taken
+    (λ event known. none_enabled s (sym c.look-found.ensures.counted.count ∙ e) event (subst (λ (n : ℕ). IsOneOf n event) c.requires.lanes known)))
+
+pub nth_enabled-requires-clause-within : goal.nth_enabled-requires-clause-within
+nth_enabled-requires-clause-within g c =
+    let m = c.args.machine.now in
+    let s = g.M.Machine.state m in
+    let count = c.look-found.result.count in
+    subst (λ (n : ℕ). n < count) (sym c.place_of-n.ensures) (mod-lt c.draw.result (some_number c.look-found.result.count (λ e.
+    goes_on (g.M.Machine.works m) (g.met.M.Machine.lawful m) s c.args.lanes c.requires.lanes c.requires.stands c.requires.going c.requires.taken
+    (λ event known. none_enabled s (sym c.look-found.ensures.counted.count ∙ e) event (subst (λ (n : ℕ). IsOneOf n event) c.requires.lanes known)))))
+
+pub returns-clause-picked : goal.returns-clause-picked
+returns-clause-picked g c =
+    let s = g.M.Machine.state c.args.machine.now in
+    ap₂ (λ (x n : ℕ). slice_get (enabled_events s) (x % n)) (sym c.draw.ensures.value) (sym c.look-found.ensures.counted.count) ∙ (ap (λ (n : ℕ). slice_get (enabled_events s) n) (sym c.place_of-n.ensures) ∙ c.nth_enabled.ensures)
+
+pub returns-clause-lane : goal.returns-clause-lane
+returns-clause-lane g c =
+    let s = g.M.Machine.state c.args.machine.now in
+    subst (λ (n : ℕ). IsOneOf n c.nth_enabled.result) (sym c.requires.lanes) (got_known s _ c.nth_enabled.result c.nth_enabled.ensures)
+
+pub returns-clause-may : goal.returns-clause-may
+returns-clause-may g c =
+    let s = g.M.Machine.state c.args.machine.now in
+    is_none_none _ (got_passes (may_happen s) (events_of _) _ c.nth_enabled.result c.nth_enabled.ensures)

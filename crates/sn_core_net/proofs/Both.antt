@@ -1,0 +1,139 @@
+-- What happens to the lanes happens to both sides.
+use Rattle.std.proofs.Common.{◌≡◌, ℕ, suc, ◌<◌, ◌==◌, ◌&&◌, List, [], ◌∷◌, ◌++◌, map, length, Bool, true, false, not, is_some, nat_lt, Option, None, Some, refl, ap, ap₂, sym, ◌∙◌, arith, append-nil, take, drop, nat_eq, ◌-◌, eq-eqb}
+use Rattle.std.specs.FinSet as set
+use Rattle.std.specs.List.{AllByRecursion, list_all}
+use Rattle.std.specs.Option.{option_map_or}
+use Rattle.std.specs.Ordering.{nat_cmp}
+use Rattle.std.proofs.lemmas.Bool.{false≢true, eqb-false, eqb-true, ne_eqb}
+use Rattle.std.proofs.lemmas.List.{drop_all, take_all}
+use Rattle.circular_buffer.specs.Buffer.{Buffer}
+use Rattle.sn_base.proofs.Lists.{nat_same, and_parts}
+use Rattle.sn_core.specs.Events as core
+use Rattle.sn_core.specs.Events.{all_started, row_frames, with_start, with_tuple}
+use Rattle.sn_core.specs.Needs.{has_room}
+use Rattle.sn_core.specs.declared.supply.Frame.{Frame}
+use Rattle.sn_engine_lockstep.specs.declared.source.Source.{Source}
+use Rattle.sn_engine.specs.Intakes.{agrees, emptied}
+use Rattle.sn_engine.specs.declared.intake.Intake.{Intake}
+use Rattle.sn_core_plans.proofs.Settling.{unread_settled}
+use Rattle.sn_core_plans.specs.PlanWorkings.{all_ended, workings_of}
+use Rattle.sn_pipe.specs.Pipes.{PipeState, after_packet, at_start, item_of}
+use Rattle.sn_report.specs.declared.frame.Item.{Item}
+use Rattle.sn_types.specs.declared.typed_query.TypedQuery.{TypedQuery}
+use Rattle.sn_core_net.specs.declared.holder.Holder.{Holder}
+use Rattle.sn_core_net.specs.Facts.{are_roomy, are_unread, names_of}
+use Rattle.sn_core_net.specs.Holders.{all_begun, all_took, begun, took, with_row}
+use Rattle.sn_core_net.specs.States.{lane_of, lanes_of}
+use Rattle.sn_core_net.proofs.Zips.{fits, kept_whole}
+
+abbrev pub Set : Type 0
+Set = set.FinSet nat_cmp
+
+pub emptied_lanes : (hs : List Holder) (xs : List Intake) → lanes_of hs (map emptied xs) ≡ map core.emptied (lanes_of hs xs)
+emptied_lanes [] xs = refl
+emptied_lanes (h ∷ hs) [] = refl
+emptied_lanes (h ∷ hs) (x ∷ xs) = ap (λ lanes. core.emptied (lane_of h x) ∷ lanes) (emptied_lanes hs xs)
+
+-- ---- the start of a window
+
+module _ (queries : List TypedQuery) (intakes : List Intake) (sources : List Source) where
+  begun_lane : (kept : Set) (h : Holder) (x : Intake) → lane_of (begun kept h) x ≡ with_start (workings_of queries intakes sources) kept (lane_of h x)
+  begun_lane kept h x = ap (λ (p : PipeState). record (lane_of h x) { pipe = p; ended = false }) (unread_settled (at_start h.pipe kept) refl)
+
+  pub begun_lanes : (hs : List Holder) (xs : List Intake) (kepts : List Set) → lanes_of (all_begun hs kepts) xs ≡ all_started (workings_of queries intakes sources) (lanes_of hs xs) kepts
+  begun_lanes [] xs kepts = refl
+  begun_lanes (h ∷ hs) [] [] = refl
+  begun_lanes (h ∷ hs) [] (kept ∷ kepts) = refl
+  begun_lanes (h ∷ hs) (x ∷ xs) [] = ap₂ (λ lane lanes. lane ∷ lanes) (begun_lane set.empty h x) (begun_lanes hs xs [])
+  begun_lanes (h ∷ hs) (x ∷ xs) (kept ∷ kepts) = ap₂ (λ lane lanes. lane ∷ lanes) (begun_lane kept h x) (begun_lanes hs xs kepts)
+
+pub length_begun : (hs : List Holder) (kepts : List Set) → length (all_begun hs kepts) ≡ length hs
+length_begun [] kepts = refl
+length_begun (h ∷ hs) [] = ap suc (length_begun hs [])
+length_begun (h ∷ hs) (kept ∷ kepts) = ap suc (length_begun hs kepts)
+
+pub roomy_begun : (room : ℕ) (hs : List Holder) (kepts : List Set) → are_roomy room (all_begun hs kepts) ≡ are_roomy room hs
+roomy_begun room [] kepts = refl
+roomy_begun room (h ∷ hs) [] = ap (λ b. (h.ring.capacity == room) && b) (roomy_begun room hs [])
+roomy_begun room (h ∷ hs) (kept ∷ kepts) = ap (λ b. (h.ring.capacity == room) && b) (roomy_begun room hs kepts)
+
+pub names_begun : (hs : List Holder) (kepts : List Set) → names_of (all_begun hs kepts) ≡ names_of hs
+names_begun [] kepts = refl
+names_begun (h ∷ hs) [] = ap (λ names. h.name ∷ names) (names_begun hs [])
+names_begun (h ∷ hs) (kept ∷ kepts) = ap (λ names. h.name ∷ names) (names_begun hs kepts)
+
+pub unread_begun : (hs : List Holder) (kepts : List Set) → are_unread (all_begun hs kepts) ≡ true
+unread_begun [] kepts = refl
+unread_begun (h ∷ hs) [] = unread_begun hs []
+unread_begun (h ∷ hs) (kept ∷ kepts) = unread_begun hs kepts
+
+-- ---- a tuple
+
+pub length_took : (tuple : List ℕ) (hs : List Holder) → length (all_took tuple hs) ≡ length hs
+length_took tuple [] = refl
+length_took tuple (h ∷ hs) = ap suc (length_took tuple hs)
+
+same_capacity : (ring : Buffer (Frame Item)) (o : Option Item) → (with_row ring o).capacity ≡ ring.capacity
+same_capacity ring None = refl
+same_capacity ring (Some item) = refl
+
+pub roomy_took : (room : ℕ) (tuple : List ℕ) (hs : List Holder) → are_roomy room (all_took tuple hs) ≡ are_roomy room hs
+roomy_took room tuple [] = refl
+roomy_took room tuple (h ∷ hs) = ap₂ (λ n b. (n == room) && b) (same_capacity h.ring (item_of h.pipe tuple)) (roomy_took room tuple hs)
+
+pub names_took : (tuple : List ℕ) (hs : List Holder) → names_of (all_took tuple hs) ≡ names_of hs
+names_took tuple [] = refl
+names_took tuple (h ∷ hs) = ap (λ names. h.name ∷ names) (names_took tuple hs)
+
+pub unread_took : (tuple : List ℕ) (hs : List Holder) → are_unread (all_took tuple hs) ≡ are_unread hs
+unread_took tuple [] = refl
+unread_took tuple (h ∷ hs) = ap (λ b. (h.pipe.prefix.place == 0) && b) (unread_took tuple hs)
+
+row_items : (ring : Buffer (Frame Item)) (o : Option Item) → length ring.items < ring.capacity → (with_row ring o).items ≡ ring.items ++ row_frames o
+row_items ring None room = sym (append-nil ring.items)
+row_items ring (Some item) room = kept_whole ring.capacity ring.items _ room
+
+has_some : (b : Bool) → not b ≡ false → b ≡ true
+has_some true e = refl
+has_some false e = absurd (false≢true (sym e))
+
+module _ (queries : List TypedQuery) (intakes : List Intake) (sources : List Source) where
+  took_lane : (tuple : List ℕ) (h : Holder) (x : Intake) → h.pipe.prefix.place ≡ 0 → length h.ring.items < h.ring.capacity → lane_of (took tuple h) x ≡ with_tuple (workings_of queries intakes sources) tuple (lane_of h x)
+  took_lane tuple h x unread fit =
+      ap₂ (λ (p : PipeState) (frames : List (Frame Item)). record (lane_of h x) { pipe = p; ring = frames }) (unread_settled (after_packet h.pipe tuple) unread) (row_items h.ring (item_of h.pipe tuple) fit)
+      ∙ ap (λ (p : PipeState). record (lane_of h x) { pipe = after_packet p tuple; ring = h.ring.items ++ row_frames (item_of p tuple) }) (sym (unread_settled h.pipe unread))
+
+  pub took_lanes : (room : ℕ) (tuple : List ℕ) (hs : List Holder) (xs : List Intake) → are_roomy room hs ≡ true → are_unread hs ≡ true → AllByRecursion (λ lane. not (has_room room lane) ≡ false) (lanes_of hs xs) →
+      lanes_of (all_took tuple hs) xs ≡ map (with_tuple (workings_of queries intakes sources) tuple) (lanes_of hs xs)
+  took_lanes room tuple [] xs roomy unread free = refl
+  took_lanes room tuple (h ∷ hs) [] roomy unread free = refl
+  took_lanes room tuple (h ∷ hs) (x ∷ xs) roomy unread free =
+      let parts = and_parts (h.ring.capacity == room) (are_roomy room hs) roomy in
+      let places = and_parts (h.pipe.prefix.place == 0) (are_unread hs) unread in
+      let fit : length h.ring.items < h.ring.capacity = fits (length h.ring.items) room h.ring.capacity (has_some (nat_lt (length h.ring.items) room) free.0) parts.0 in
+      ap₂ (λ lane lanes. lane ∷ lanes) (took_lane tuple h x (nat_same h.pipe.prefix.place 0 places.0) fit) (took_lanes room tuple hs xs parts.1 places.1 free.1)
+
+pub whole : {X : Type 0} (n : ℕ) (xs ys : List X) → length xs ≡ length ys → n ≡ length ys → take n (xs ++ drop (length xs) ys) ≡ xs
+whole n xs ys same long =
+    ap (λ zs. take n (xs ++ zs)) (drop_all (length xs) ys (omega (arith, same))) ∙ ap (take n) (append-nil xs) ∙ take_all n xs (omega (arith, same, long))
+
+-- ---- the end of a window
+
+end_is : (n : ℕ) (o : Option ℕ) → not (is_some o) ≡ false → option_map_or (λ end. end == n) o true ≡ true → Some n ≡ o
+end_is n None closed agreed = absurd (false≢true (sym closed))
+end_is n (Some end) closed agreed = ap Some (sym (nat_same end n agreed))
+
+-- where all lanes have ended a window, their items are those of the window's end
+pub ended_again : (n : ℕ) (hs : List Holder) (xs : List Intake) → length hs ≡ length xs → AllByRecursion (λ lane. not lane.closed ≡ false) (lanes_of hs xs) → list_all (agrees n) xs ≡ true →
+    all_ended n (map emptied xs) (map (λ lane. lane.taken) (lanes_of hs xs)) ≡ xs
+ended_again n [] [] e closed agreed = refl
+ended_again n [] (x ∷ xs) e closed agreed = absurd (omega (arith, e))
+ended_again n (h ∷ hs) [] e closed agreed = absurd (omega (arith, e))
+ended_again n (h ∷ hs) (x ∷ xs) e closed agreed =
+    let parts = and_parts (agrees n x) (list_all (agrees n) xs) agreed in
+    ap₂ (λ (end : Option ℕ) (ys : List Intake). record x { end = end } ∷ ys) (end_is n x.end closed.0 parts.0) (ended_again n hs xs (omega (arith, e)) closed.1 parts.1)
+
+-- the number behind another
+pub is_next : (number closed : ℕ) → 0 < number → (b : Bool) → nat_eq (number - 1) closed ≡ b → b ≡ nat_eq number (suc closed)
+is_next number closed some true e = sym (eq-eqb number (suc closed) (omega (arith, some, eqb-true (number - 1) closed e)))
+is_next number closed some false e = sym (ne_eqb number (suc closed) (λ s. eqb-false (number - 1) closed e (omega (arith, some, s))))

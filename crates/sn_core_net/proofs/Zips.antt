@@ -1,0 +1,117 @@
+-- A test of one side of the lanes.
+use Rattle.std.proofs.Common.{◌≡◌, ℕ, zero, suc, ◌+◌, ◌<◌, List, [], ◌∷◌, length, Bool, true, not, cond, nat_lt, slice_get, is_some, position, get_or, set, drop, ◌==◌, ◌&&◌, ◌++◌, ◌-◌, OnOk, subst, unwrap_or, Result, Ok, Err, None, Some, refl, ap, ap₂, sym, ◌∙◌, arith}
+use Rattle.std.specs.List.{list_all, position_or_len}
+use Rattle.std.proofs.lemmas.Bool.{eqb-true, ltb-true}
+use Rattle.std.proofs.lemmas.List.{length-append}
+use Rattle.sn_base.proofs.Lists.{and_parts}
+use Rattle.sn_base.specs.declared.lane.Lane.{Lane as Name}
+use Rattle.sn_core.specs.Nets.{Lane}
+use Rattle.sn_core.proofs.Tests.{some_not_none}
+use Rattle.sn_core.specs.Events.{change_at, delivered, delivered_of}
+use Rattle.sn_core.specs.declared.supply.Frame.{Frame}
+use Rattle.sn_core.specs.declared.supply.Frame.TheVariants.{Row, Last}
+use Rattle.sn_core.specs.Needs.{passes}
+use Rattle.sn_engine_lockstep.specs.Work.{taken}
+use Rattle.sn_engine.specs.declared.intake.Intake.{Intake}
+use Rattle.sn_core_plans.specs.Settled.{settled}
+use Rattle.sn_pipe.specs.Pipes.{PipeState}
+use Rattle.sn_report.specs.declared.frame.Item.{Item}
+use Rattle.sn_core_net.specs.declared.holder.Holder.{Holder}
+use Rattle.sn_core_net.specs.States.{lane_of, lanes_of}
+use Rattle.sn_core_net.specs.Reports.{report_of}
+
+pub length_lanes : (hs : List Holder) (xs : List Intake) → length hs ≡ length xs → length (lanes_of hs xs) ≡ length hs
+length_lanes [] xs e = refl
+length_lanes (h ∷ hs) [] e = absurd (omega (arith, e))
+length_lanes (h ∷ hs) (x ∷ xs) e = ap suc (length_lanes hs xs (omega (arith, e)))
+
+len_left : (test : Holder → Bool) (both : Lane PipeState Item → Bool) → ((h : Holder) (x : Intake) → both (lane_of h x) ≡ test h) → (hs : List Holder) (xs : List Intake) → length hs ≡ length xs → position_or_len both (lanes_of hs xs) ≡ position_or_len test hs
+len_left test both same [] xs e = refl
+len_left test both same (h ∷ hs) [] e = absurd (omega (arith, e))
+len_left test both same (h ∷ hs) (x ∷ xs) e = ap₂ (λ b n. cond (not b) (1 + n) 0) (same h x) (len_left test both same hs xs (omega (arith, e)))
+
+pub position_left : (test : Holder → Bool) (both : Lane PipeState Item → Bool) → ((h : Holder) (x : Intake) → both (lane_of h x) ≡ test h) → (hs : List Holder) (xs : List Intake) → length hs ≡ length xs → position both (lanes_of hs xs) ≡ position test hs
+position_left test both same hs xs e = ap₂ (λ n l. cond (nat_lt n l) (Some n) None) (len_left test both same hs xs e) (length_lanes hs xs e)
+
+len_right : (test : Intake → Bool) (both : Lane PipeState Item → Bool) → ((h : Holder) (x : Intake) → both (lane_of h x) ≡ test x) → (hs : List Holder) (xs : List Intake) → length hs ≡ length xs → position_or_len both (lanes_of hs xs) ≡ position_or_len test xs
+len_right test both same [] [] e = refl
+len_right test both same [] (x ∷ xs) e = absurd (omega (arith, e))
+len_right test both same (h ∷ hs) [] e = absurd (omega (arith, e))
+len_right test both same (h ∷ hs) (x ∷ xs) e = ap₂ (λ b n. cond (not b) (1 + n) 0) (same h x) (len_right test both same hs xs (omega (arith, e)))
+
+pub position_right : (test : Intake → Bool) (both : Lane PipeState Item → Bool) → ((h : Holder) (x : Intake) → both (lane_of h x) ≡ test x) → (hs : List Holder) (xs : List Intake) → length hs ≡ length xs → position both (lanes_of hs xs) ≡ position test xs
+position_right test both same hs xs e = ap₂ (λ n l. cond (nat_lt n l) (Some n) None) (len_right test both same hs xs e) (length_lanes hs xs e ∙ e)
+
+pub passes_left : (test : Holder → Bool) (both : Lane PipeState Item → Bool) → ((h : Holder) (x : Intake) → both (lane_of h x) ≡ test h) → (hs : List Holder) (xs : List Intake) (n : ℕ) (d : Holder) → length hs ≡ length xs → n < length hs → passes both (lanes_of hs xs) n ≡ test (get_or hs n d)
+passes_left test both same [] xs n d e within = absurd (omega arith)
+passes_left test both same (h ∷ hs) [] n d e within = absurd (omega (arith, e))
+passes_left test both same (h ∷ hs) (x ∷ xs) zero d e within = same h x
+passes_left test both same (h ∷ hs) (x ∷ xs) (suc n) d e within = passes_left test both same hs xs n d (omega (arith, e)) (omega arith)
+
+pub ok_then : {A E : Type 0} (P Q : Type 0) (r : Result A E) → (P → Q) → OnOk r P → OnOk r Q
+ok_then P Q (Ok a) k h = k h
+ok_then P Q (Err e) k h = h
+
+-- ---- a lane that changes on one side, and on both
+
+pub change_left : (change : Lane PipeState Item → Lane PipeState Item) (hs : List Holder) (xs : List Intake) (n : ℕ) (d h : Holder) → length hs ≡ length xs → n < length hs → ((x : Intake) → change (lane_of (get_or hs n d) x) ≡ lane_of h x) →
+    lanes_of (set hs n h) xs ≡ change_at change (lanes_of hs xs) n
+change_left change [] xs n d h e within same = absurd (omega arith)
+change_left change (k ∷ hs) [] n d h e within same = absurd (omega (arith, e))
+change_left change (k ∷ hs) (x ∷ xs) zero d h e within same = ap (λ lane. lane ∷ lanes_of hs xs) (sym (same x))
+change_left change (k ∷ hs) (x ∷ xs) (suc n) d h e within same = ap (λ lanes. lane_of k x ∷ lanes) (change_left change hs xs n d h (omega (arith, e)) (omega arith) same)
+
+pub change_both : (change : Lane PipeState Item → Lane PipeState Item) (other : Intake → Intake) (hs : List Holder) (xs : List Intake) (n : ℕ) (d h : Holder) → length hs ≡ length xs → n < length hs → ((x : Intake) → change (lane_of (get_or hs n d) x) ≡ lane_of h (other x)) →
+    lanes_of (set hs n h) (change_at other xs n) ≡ change_at change (lanes_of hs xs) n
+change_both change other [] xs n d h e within same = absurd (omega arith)
+change_both change other (k ∷ hs) [] n d h e within same = absurd (omega (arith, e))
+change_both change other (k ∷ hs) (x ∷ xs) zero d h e within same = ap (λ lane. lane ∷ lanes_of hs xs) (sym (same x))
+change_both change other (k ∷ hs) (x ∷ xs) (suc n) d h e within same = ap (λ lanes. lane_of k x ∷ lanes) (change_both change other hs xs n d h (omega (arith, e)) (omega arith) same)
+
+-- ---- rings
+
+pub kept_whole : {X : Type 0} (n : ℕ) (xs : List X) (x : X) → length xs < n → drop (length (xs ++ x ∷ []) - n) (xs ++ x ∷ []) ≡ xs ++ x ∷ []
+kept_whole n xs x room =
+    let none : length (xs ++ x ∷ []) - n ≡ 0 = omega (arith, room, length-append xs (x ∷ [])) in
+    ap (λ k. drop k (xs ++ x ∷ [])) none
+
+-- ---- tests of all holders
+
+pub all_at : {X : Type 0} (test : X → Bool) (xs : List X) (n : ℕ) (d : X) → list_all test xs ≡ true → n < length xs → test (get_or xs n d) ≡ true
+all_at test [] n d e within = absurd (omega arith)
+all_at test (x ∷ xs) zero d e within = (and_parts (test x) (list_all test xs) e).0
+all_at test (x ∷ xs) (suc n) d e within = all_at test xs n d (and_parts (test x) (list_all test xs) e).1 (omega arith)
+
+pub all_set : {X : Type 0} (test : X → Bool) (xs : List X) (n : ℕ) (y : X) → list_all test xs ≡ true → test y ≡ true → list_all test (set xs n y) ≡ true
+all_set test [] n y e passes = refl
+all_set test (x ∷ xs) zero y e passes = ap₂ (λ a b. a && b) passes (and_parts (test x) (list_all test xs) e).1
+all_set test (x ∷ xs) (suc n) y e passes = ap₂ (λ a b. a && b) (and_parts (test x) (list_all test xs) e).0 (all_set test xs n y (and_parts (test x) (list_all test xs) e).1 passes)
+
+pub fits : (len room capacity : ℕ) → nat_lt len room ≡ true → (capacity == room) ≡ true → len < capacity
+fits len room capacity less same = omega (arith, ltb-true len room less, eqb-true capacity room same)
+
+-- ---- the first frame of a lane
+
+pub get_same : {X : Type 0} (xs : List X) (n : ℕ) (d e : X) → n < length xs → get_or xs n d ≡ get_or xs n e
+get_same [] n d e within = absurd (omega arith)
+get_same (x ∷ xs) zero d e within = refl
+get_same (x ∷ xs) (suc n) d e within = get_same xs n d e (omega arith)
+
+none_moves : (lane : Lane PipeState Item) (frames : List (Frame Item)) → slice_get frames 0 ≡ None → delivered_of lane frames ≡ lane
+none_moves lane [] e = refl
+none_moves lane (frame ∷ frames) e = some_not_none frame e
+
+pub nothing_moves : (hs : List Holder) (xs : List Intake) (n : ℕ) (d : Holder) → length hs ≡ length xs → n < length hs → slice_get (get_or hs n d).ring.items 0 ≡ None → change_at delivered (lanes_of hs xs) n ≡ lanes_of hs xs
+nothing_moves [] xs n d e within none = absurd (omega arith)
+nothing_moves (h ∷ hs) [] n d e within none = absurd (omega (arith, e))
+nothing_moves (h ∷ hs) (x ∷ xs) zero d e within none = ap (λ lane. lane ∷ lanes_of hs xs) (none_moves (lane_of h x) h.ring.items none)
+nothing_moves (h ∷ hs) (x ∷ xs) (suc n) d e within none = ap (λ lanes. lane_of h x ∷ lanes) (nothing_moves hs xs n d (omega (arith, e)) (omega arith) none)
+
+abbrev lane_with : Holder → List (Frame Item) → Intake → Lane PipeState Item
+lane_with h frames x = record { pipe = settled h.pipe; ended = h.ended; ring = frames; taken = x.items; closed = is_some x.end }
+
+module _ (name : Name) (window : ℕ) (h : Holder) (x : Intake) where
+  pub first_moves : (frame : Frame Item) (frames : List (Frame Item)) → slice_get frames 0 ≡ Some frame → delivered_of (lane_of h x) frames ≡ lane_with h (drop 1 frames) (taken x (report_of name window frame))
+  first_moves frame [] e = some_not_none frame (sym e)
+  first_moves frame (Row item ∷ frames) e = subst (λ (f : Frame Item). delivered_of (lane_of h x) (Row item ∷ frames) ≡ lane_with h frames (taken x (report_of name window f))) (ap (λ o. unwrap_or o frame) e) refl
+  first_moves frame (Last ∷ frames) e = subst (λ (f : Frame Item). delivered_of (lane_of h x) (Last ∷ frames) ≡ lane_with h frames (taken x (report_of name window f))) (ap (λ o. unwrap_or o frame) e) refl

@@ -1,0 +1,58 @@
+use Rattle.std.proofs.Common.{◌≡◌, ◌<◌, ◌^◌, ◌∙◌, ◌==◌, ap, sym, subst, length, map, true, get_or, set, ℕ, List, refl}
+use Rattle.std.proofs.lemmas.List.{length-set}
+use Rattle.sn_base.specs.declared.lane.Lane.{Lane}
+use Rattle.sn_core.specs.declared.event.Event.TheVariants as event
+use Rattle.sn_engine.specs.Intakes.{emptied}
+use Rattle.sn_engine.specs.declared.intake.Intake.{Intake}
+use Rattle.sn_core_net.specs.declared.holder.Holder.{Holder}
+use Rattle.sn_core_net.specs.declared.net.Net.{Net}
+use Rattle.sn_core_net.specs.Facts.{are_named, are_unread}
+use Rattle.sn_core_net.specs.Nets.{state}
+use Rattle.sn_core_net.specs.States.{state_of}
+use Rattle.sn_core_net.proofs.Changes.{read_out_changes, read_out_may}
+use Rattle.sn_core_net.proofs.Facts.{event_stands, late_unread}
+use Rattle.sn_core_net.proofs.Named.{names_set}
+use Rattle.sn_core_net.proofs.Zips.{all_at, all_set, fits}
+use Rattle.sn_core_net.proofs.net.Net.read_out.Goals as goal
+
+capacity : (net : Net) (n : ℕ) (h : Holder) → n < length net.lanes.items → h ≡ get_or net.lanes.items n h → (h.ring.capacity == net.room) ≡ true
+capacity net n h within own = ap (λ (k : Holder). k.ring.capacity == net.room) own ∙ all_at (λ k. k.ring.capacity == net.room) net.lanes.items n h net.roomy within
+
+pub append_next-requires : goal.append_next-requires
+append_next-requires c =
+    let net : Net = c.args.self.now in
+    let h : Holder = c.index_mut.result.now in
+    let xs : List Intake = net.engine.lanes.items in
+    fits (length h.ring.items) net.room h.ring.capacity
+    (read_out_may net.engine.t.queries xs net.sources net.room net.lanes.items xs net.matched net.installs.items net.waiting net.held net.window c.args.lane c.requires.lane h c.index_mut.ensures.value c.requires.may).1
+    (capacity net c.args.lane h c.requires.lane c.index_mut.ensures.value)
+
+pub invariant_of-self : goal.invariant_of-self
+invariant_of-self c =
+    let net : Net = c.args.self.now in
+    let n : ℕ = c.args.lane in
+    let hs : List Holder = net.lanes.items in
+    let xs : List Intake = net.engine.lanes.items in
+    let h : Holder = c.index_mut.result.now in
+    let own : h ≡ get_or hs n h = c.index_mut.ensures.value in
+    let next : Holder = c.append_next.new.self in
+    let may = read_out_may net.engine.t.queries xs net.sources net.room hs xs net.matched net.installs.items net.waiting net.held net.window n c.requires.lane h own c.requires.may in
+    record {
+      matched = length-set hs n next ∙ net.matched;
+      few = subst (λ (k : ℕ). k < 2 ^ 32) (sym (length-set hs n next)) net.few;
+      roomy = all_set (λ k. k.ring.capacity == net.room) hs n next net.roomy (ap (λ k. k == net.room) c.append_next.ensures.capacity ∙ capacity net n h c.requires.lane own);
+      named = ap (λ (names : List Lane). are_named names (map emptied xs)) (names_set hs n h next c.requires.lane (c.append_next.ensures.name ∙ ap (λ (k : Holder). k.name) own)) ∙ net.named;
+      unread = late_unread net.window net.held (are_unread (set hs n next)) may.0;
+      agreed = net.agreed;
+      known = net.known;
+      standing = event_stands net.engine.t.queries net.engine.t.queries xs xs net.sources refl refl (state net) (state_of net.room net.held net.window (set hs n next) xs net.installs.items net.waiting) (event.ReadOut n) net.standing c.requires.may
+          (read_out_changes net.engine.t.queries xs net.sources net.room hs xs net.matched net.installs.items net.waiting net.held net.window n c.requires.lane h own next
+          (c.append_next.ensures.lane net.engine.t.queries (map emptied xs) net.sources));
+    }
+
+pub returns-clause-state : goal.returns-clause-state
+returns-clause-state c =
+    let net : Net = c.args.self.now in
+    let xs : List Intake = net.engine.lanes.items in
+    read_out_changes net.engine.t.queries xs net.sources net.room net.lanes.items xs net.matched net.installs.items net.waiting net.held net.window c.args.lane c.requires.lane c.index_mut.result.now c.index_mut.ensures.value c.append_next.new.self
+    (c.append_next.ensures.lane net.engine.t.queries (map emptied xs) net.sources)

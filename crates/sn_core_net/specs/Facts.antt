@@ -1,0 +1,51 @@
+-- What holds of every net besides what its state says.
+use Rattle.std.specs.Prelude.{ℕ, ◌<◌, List, [], ◌∷◌, length, map, Bool, true, false, not, ◌&&◌, ◌==◌, Option}
+use Rattle.std.specs.List.{AllByRecursion, AllByRecursion-prop, list_all}
+use Rattle.std.proofs.Math.Bridge.{le_prop}
+use Rattle.sn_base.specs.declared.lane.Lane.{Lane}
+use Rattle.sn_core.specs.Needs.{is_over}
+use Rattle.sn_core.specs.declared.supply.Supply.{Supply}
+use Rattle.sn_core.specs.declared.supply.Window.{Window}
+use Rattle.sn_core.specs.declared.supply.Window.TheVariants.{Idle, Begun, Closed}
+use Rattle.sn_engine_lockstep.specs.declared.source.Source.{Source}
+use Rattle.sn_engine.specs.Intakes.{agrees, is_lane}
+use Rattle.sn_engine.specs.declared.intake.Intake.{Intake}
+use Rattle.sn_types.specs.declared.typed_query.TypedQuery.{TypedQuery}
+use Rattle.sn_core_net.specs.declared.holder.Holder.{Holder}
+
+-- each name is that of the engine's lane at its place, and of no lane before it
+abbrev pub are_named : List Lane → List Intake → Bool
+are_named [] [] = true
+are_named [] (x ∷ xs) = false
+are_named (name ∷ names) [] = false
+are_named (name ∷ names) (x ∷ xs) = is_lane name x && list_all (λ other. not (is_lane other x)) names && are_named names xs
+
+abbrev pub names_of : List Holder → List Lane
+names_of hs = map (λ h. h.name) hs
+
+-- lanes may have been read out: a window is closed, or nothing more comes of it
+abbrev pub may_be_read : Window → Option (Supply (List ℕ)) → Bool
+may_be_read Idle held = false
+may_be_read (Begun number) held = is_over number held
+may_be_read (Closed number) held = true
+
+-- no lane was read out in this window
+abbrev pub are_unread : List Holder → Bool
+are_unread hs = list_all (λ h. h.pipe.prefix.place == 0) hs
+
+-- the engine's lanes have ended no window but this one
+abbrev pub ends_agree : Window → List Intake → Bool
+ends_agree Idle xs = true
+ends_agree (Begun number) xs = list_all (agrees number) xs
+ends_agree (Closed number) xs = true
+
+-- each ring holds so many frames at most
+abbrev pub are_roomy : ℕ → List Holder → Bool
+are_roomy room hs = list_all (λ h. h.ring.capacity == room) hs
+
+-- each source is of a query that is there
+abbrev pub AreKnown : List TypedQuery → List Source → Type 0
+AreKnown queries sources = AllByRecursion (λ (source : Source). source.query < length queries) sources
+
+pub are_known_prop : (queries : List TypedQuery) (sources : List Source) → IsProp (AreKnown queries sources)
+are_known_prop queries sources = AllByRecursion-prop (λ (source : Source). source.query < length queries) (λ source. le_prop) sources

@@ -1,0 +1,41 @@
+-- The state of a net, as it is spoken of.
+use Rattle.std.specs.Prelude.{ℕ, List, [], ◌∷◌, map, is_some, Option}
+use Rattle.std.specs.FinSet as set
+use Rattle.std.specs.Ordering.{nat_cmp}
+use Rattle.sn_core.specs.Nets.{Lane, Net}
+use Rattle.sn_core.specs.Workings.{Workings}
+use Rattle.sn_core.specs.declared.supply.Supply.{Supply}
+use Rattle.sn_core.specs.declared.supply.Window.{Window}
+use Rattle.sn_engine_lockstep.specs.declared.source.Source.{Source}
+use Rattle.sn_engine.specs.Intakes.{emptied}
+use Rattle.sn_engine.specs.declared.intake.Intake.{Intake}
+use Rattle.sn_core_plans.specs.PlanWorkings.{workings_of}
+use Rattle.sn_core_plans.specs.Settled.{settled}
+use Rattle.sn_pipe.specs.Pipes.{PipeState}
+use Rattle.sn_report.specs.declared.frame.Item.{Item}
+use Rattle.sn_types.specs.declared.answers.Answers.{Answers}
+use Rattle.sn_types.specs.declared.typed_query.TypedQuery.{TypedQuery}
+use Rattle.sn_core_net.specs.declared.holder.Holder.{Holder}
+
+abbrev pub State : Type 0
+State = Net PipeState (List ℕ) Item (set.FinSet nat_cmp) Answers
+
+abbrev pub Works : Type 0
+Works = Workings PipeState (List ℕ) Item (set.FinSet nat_cmp) Answers
+
+-- what a net is made over: the pipes of a switch, these lanes of an engine as they are when nothing has come, and the sources of
+-- their prefixes
+abbrev pub works_of : List TypedQuery → List Intake → List Source → Works
+works_of queries intakes sources = workings_of queries (map emptied intakes) sources
+
+-- a lane of the switch, beside what the engine has of it
+abbrev pub lane_of : Holder → Intake → Lane PipeState Item
+lane_of h x = record { pipe = settled h.pipe; ended = h.ended; ring = h.ring.items; taken = x.items; closed = is_some x.end }
+
+abbrev pub lanes_of : List Holder → List Intake → List (Lane PipeState Item)
+lanes_of [] xs = []
+lanes_of (h ∷ hs) [] = []
+lanes_of (h ∷ hs) (x ∷ xs) = lane_of h x ∷ lanes_of hs xs
+
+abbrev pub state_of : ℕ → Option (Supply (List ℕ)) → Window → List Holder → List Intake → List (set.FinSet nat_cmp) → Option Answers → State
+state_of room held window hs xs installs waiting = record { room = room; held = held; window = window; lanes = lanes_of hs xs; installs = installs; waiting = waiting }

@@ -1,0 +1,44 @@
+//! The net: a switch, its lanes, and an engine.
+ghost use Rattle.std.specs.Prelude.{◌≡◌, ◌<◌, ◌^◌, ◌||◌, length, map, true};
+ghost use Rattle.sn_core.specs.Standing.{IsNet};
+ghost use Rattle.sn_engine.specs.Intakes.{emptied};
+ghost use Rattle.sn_core_net.specs.Facts.{AreKnown, are_known_prop, are_named, are_roomy, are_unread, ends_agree, may_be_read, names_of};
+ghost use Rattle.sn_core_net.specs.States.{state_of, works_of};
+
+use crate::holder::Holder;
+use sn_base::members::Members;
+use sn_base::seq::Seq;
+use sn_core::supply::{Supply, Window};
+use sn_engine::engine::Engine;
+use sn_engine_lockstep::source::Source;
+use sn_fields::tuple::Tuple;
+use sn_types::answers::Answers;
+
+/// A switch whose lanes hold frames for an engine, which takes them one by one. What happens next is chosen from outside, among
+/// the events whose needs hold: the answers are the same whatever is chosen.
+#[derive(Drop)]
+pub struct Net {
+    /// How many frames a lane may hold.
+    pub room: u32,
+    /// What was given and isn't used up.
+    pub held: Option<Supply<Tuple>>,
+    pub window: Window,
+    /// The lanes in the switch: the pieces of the plan in their order.
+    pub lanes: Vec<Holder>,
+    pub engine: Engine,
+    /// By lane: whose prefixes it lets in.
+    pub sources: Seq<Source>,
+    /// By lane: the prefixes to install, from the answers of the window that was closed last.
+    pub installs: Vec<Members>,
+    /// The answers that wait to be taken.
+    pub waiting: Option<Answers>,
+    ghost matched: { length lanes.items ≡ length engine.lanes.items },
+    // so that the number of a lane is one for `Full`
+    ghost few: { length lanes.items < 2 ^ 32 },
+    ghost roomy: { are_roomy room lanes.items ≡ true },
+    ghost named: { are_named (names_of lanes.items) (map emptied engine.lanes.items) ≡ true },
+    ghost unread: { (may_be_read window held || are_unread lanes.items) ≡ true },
+    ghost agreed: { ends_agree window engine.lanes.items ≡ true },
+    ghost known: { AreKnown engine.t.queries sources } by { are_known_prop engine.t.queries sources },
+    ghost standing: { ∥ IsNet (works_of engine.t.queries engine.lanes.items sources) (state_of room held window lanes.items engine.lanes.items installs.items waiting) ∥₁ },
+}

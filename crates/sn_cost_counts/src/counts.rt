@@ -1,0 +1,96 @@
+//! The counts of all settings of a prefix.
+ghost use Rattle.std.specs.Prelude.{◌≡◌, ◌*◌, ℕ, List, ◌≤◌, ◌<◌, ◌∷◌, [], ◌++◌, All, length, map, IfOk, OnOk};
+ghost use Rattle.std.specs.List.{AllByRecursion};
+ghost use Rattle.sn_cost_counts.specs.Flows.{counted, counts_from, starting, wider};
+ghost use Rattle.sn_cost_counts.specs.Fitting.{AllGo, Takes, most_rows};
+ghost use Rattle.sn_ops.specs.Flow.{AllFit};
+ghost use Rattle.sn_types.specs.declared.typed_op.TOp.{TOp};
+
+use crate::flow::Flow;
+use crate::sizes::by_size;
+use crate::stateless::pass_all;
+use sn_base::memory::Memory;
+use sn_base::row::Row;
+use sn_base::seq::Seq;
+use sn_types::cuts::is_stateful;
+use sn_types::typed_op::TOp;
+use std::alloc::Global;
+
+/// Adds how many items each of these makes.
+fn add_counts(flows: &[Flow], counts: &mut Seq<u64>) -> Result<(), Memory>
+    requires sent { All (λ f. f.sent ≤ 13 * most_rows) flows.now }
+    requires few { All (λ f. length f.rows ≤ most_rows) flows.now }
+    ensures { OnOk result (counts.new ≡ counts.old ++ map counted flows.now) }
+{
+    for flow in flows {
+        counts.push(flow.count())?;
+    }
+    Ok(())
+}
+
+/// All rows behind an operator.
+fn behind(
+    alloc: Global,
+    op: &TOp,
+    level: u32,
+    depth: u32,
+    slots: &[u32],
+    flows: Vec<Flow>,
+) -> Result<Vec<Flow>, Memory>
+    requires some_depth { 1 ≤ depth }
+    requires most_depth { depth ≤ 4 }
+    requires sizes { All (λ size. (1 ≤ size) × (size ≤ 65536)) slots.now }
+    requires go { (passed : ℕ) × (ahead : List TOp) × (passed < 12) × AllGo level passed (op.now ∷ ahead) flows.items }
+    ensures { IfOk result (λ out. out.items ≡ wider depth level slots.now op.now flows.items) }
+{
+    if is_stateful(op) {
+        return by_size(alloc, op, depth, slots, flows.as_slice());
+    }
+    let mut flows = flows;
+    pass_all(alloc, op, level, flows.as_mut_slice())?;
+    Ok(flows)
+}
+
+/// The rows of a window before the first operator, alone in a list.
+fn at_start(alloc: Global, rows: Seq<Row>) -> Result<Vec<Flow>, Memory>
+    ensures { IfOk result (λ flows. flows.items ≡ starting rows ∷ []) }
+{
+    let flow = Flow {
+        sent: 0,
+        rows,
+        spilled: false,
+        whole: false,
+    };
+    match Vec::from_array(alloc, [flow]) {
+        Ok(flows) => Ok(flows),
+        Err(_) => Err(Memory),
+    }
+}
+
+/// How many items a prefix of these operators sends of these rows, for each cut and all sizes of its registers.
+pub(crate) fn counts_along(
+    alloc: Global,
+    ops: &[TOp],
+    level: u32,
+    depth: u32,
+    slots: &[u32],
+    rows: Seq<Row>,
+) -> Result<Seq<u64>, Memory>
+    requires some_depth { 1 ≤ depth }
+    requires most_depth { depth ≤ 4 }
+    requires sizes { All (λ size. (1 ≤ size) × (size ≤ 65536)) slots.now }
+    requires operators { length ops.now ≤ 12 }
+    requires few { length rows ≤ most_rows }
+    requires takes { AllByRecursion (Takes level ops.now) rows }
+    requires fits { AllFit level ops.now [] }
+    ensures counts { IfOk result (λ counts. counts ≡ counts_from depth level slots.now ops.now (starting rows ∷ [])) }
+{
+    let mut counts = Seq::new(alloc);
+    let mut flows = at_start(alloc, rows)?;
+    for op in ops {
+        add_counts(flows.as_slice(), &mut counts)?;
+        flows = behind(alloc, op, level, depth, slots, flows)?;
+    }
+    add_counts(flows.as_slice(), &mut counts)?;
+    Ok(counts)
+}

@@ -1,0 +1,31 @@
+//! Rows on their way through operators.
+ghost use Rattle.std.specs.Prelude.{◌≡◌, ◌*◌, ◌+◌, ◌≤◌, length};
+ghost use Rattle.sn_cost_counts.specs.Flows.{counted};
+ghost use Rattle.sn_cost_counts.specs.Fitting.{most_rows};
+
+use sn_base::row::Row;
+use sn_base::seq::Seq;
+
+/// The rows of a window behind some operators, and how many were sent before them.
+#[derive(Drop)]
+pub struct Flow {
+    /// How many rows overflowed on the way.
+    pub sent: u64,
+    /// The rows that came as far.
+    pub rows: Seq<Row>,
+    /// Whether a distinct on the way overflowed.
+    pub spilled: bool,
+    /// Whether no filter drops a row from here on.
+    pub whole: bool,
+}
+
+impl Flow {
+    /// How many items are sent where the prefix ends here.
+    pub(crate) fn count(&self) -> u64
+        requires sent { self.now.sent ≤ 13 * most_rows }
+        requires few { length self.now.rows ≤ most_rows }
+        ensures { result ≡ counted self.now }
+    {
+        self.sent + self.rows.as_slice().len() as u64
+    }
+}

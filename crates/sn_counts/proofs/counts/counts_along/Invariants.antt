@@ -1,5 +1,0 @@
-use Rattle.sn_counts.proofs.Going.{Along}
-use Rattle.sn_counts.proofs.counts.counts_along.Given as goal
-
-abbrev pub invariant-loop-op : goal.invariant-loop-op
-invariant-loop-op l = Along l.depth l.level l.slots l.ops l.initial.flows.items l.op-index l.flows.items l.counts

@@ -1,9 +1,0 @@
-use Rattle.std.proofs.Common.{ℕ, subst}
-use Rattle.sn_machine.specs.Steps.{IsOneOf}
-use Rattle.sn_machine.proofs.Zips.{length_lanes}
-use Rattle.sn_drive.proofs.is_machine.NetMachine.enabled.Goals as goal
-
-pub enabled-requires : goal.enabled-requires
-enabled-requires c =
-    let net = c.args.self.now in
-    subst (λ (n : ℕ). IsOneOf n c.args.event) (length_lanes net.lanes.items net.engine.lanes.items net.matched) c.requires

@@ -1,8 +1,0 @@
-use Rattle.sn_driver.proofs.Laws.{answered_count, answered_parts}
-use Rattle.sn_driver.proofs.law.answers_are_those_of_the_window.Goals as goal
-
-pub returns-clause-parts : goal.returns-clause-parts
-returns-clause-parts c = answered_parts
-
-pub returns-clause-count : goal.returns-clause-count
-returns-clause-count c = answered_count

@@ -1,5 +1,0 @@
-use Rattle.sn_driver.proofs.Laws.{all_windows}
-use Rattle.sn_driver.proofs.law.windows_get_the_answers_of_the_plan.Goals as goal
-
-pub returns : goal.returns
-returns c = all_windows

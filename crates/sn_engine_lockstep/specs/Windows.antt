@@ -1,0 +1,87 @@
+-- What a plan answers in a window, and how many items it sends.
+use Rattle.std.specs.Prelude.{◌≡◌, ◌<◌, ℕ, zero, suc, List, [], ◌∷◌, ◌++◌, map, length, sum, slice_index, Option, None, Some}
+use Rattle.std.specs.Option.{option_map}
+use Rattle.sn_emit.specs.Plans.{Placed, items_of, pieces_from}
+use Rattle.sn_plan_fit.specs.Paths.{place_in}
+use Rattle.sn_plan_grammar.specs.declared.plan.Entry.{Entry}
+use Rattle.sn_refine.specs.Refined.{Windows, answered, before, refined_parts, refined_rows}
+use Rattle.sn_refine.specs.Steps.{Given, IsAbove, Set, parts_in}
+use Rattle.sn_engine_split.specs.Branches.{branch_items}
+use Rattle.sn_types.specs.declared.answers.Answers.{Answers}
+use Rattle.sn_types.specs.declared.answers.Part.{Part}
+use Rattle.sn_types.specs.declared.typed_query.TypedQuery.{TypedQuery}
+use Rattle.sn_types.specs.Typed.{query_at}
+use Rattle.sn_engine_lockstep.specs.declared.source.Source.{Source}
+use Rattle.sn_engine_lockstep.specs.Sources.{kept_in, source_at, source_of}
+
+-- ---- with the prefixes that each lane lets in
+
+-- the answers of the queries from this number on, level by level
+abbrev pub parts_from : List TypedQuery → (Source → Set) → List (List ℕ) → ℕ → List Entry → List Part
+parts_from queries kept tuples q [] = []
+parts_from queries kept tuples q (e ∷ es) =
+    parts_in q (query_at queries q) e.levels (λ j. kept (source_at q (Some (slice_index e.levels j)))) tuples ++ parts_from queries kept tuples (suc q) es
+
+-- how many items the pieces send
+abbrev pub sent_by : List TypedQuery → ℕ → List Placed → (Source → Set) → List (List ℕ) → ℕ
+sent_by queries depth pieces kept tuples = sum (map (λ x. length (items_of queries depth x (kept (source_of x)) tuples)) pieces)
+
+abbrev pub window_answers : List TypedQuery → ℕ → List Entry → (Source → Set) → ℕ → List (List ℕ) → Answers
+window_answers queries depth entries kept w tuples = record {
+  window = w;
+  emitted = sent_by queries depth (pieces_from 0 entries) kept tuples;
+  parts = parts_from queries kept tuples 0 entries;
+}
+
+-- ---- along the plan
+
+-- the refined answers of the queries from this number on, along the paths of a plan
+abbrev pub refined_from : List TypedQuery → Windows → ℕ → ℕ → List Entry → List Part
+refined_from queries windows w q [] = []
+refined_from queries windows w q (e ∷ es) = refined_parts q (query_at queries q) windows e.levels w ++ refined_from queries windows w (suc q) es
+
+-- the tuples of a window that the level at a place of a path sees: all, or those whose prefix the level before it answered in
+-- the window before
+abbrev pub seen_at : TypedQuery → Windows → List ℕ → ℕ → ℕ → Option (List (List ℕ))
+seen_at query windows path zero w = windows w
+seen_at query windows path (suc j) w = option_map (answered query (slice_index path j) (before (refined_rows query windows path j) w)) (windows w)
+
+-- how many items a piece sends of the tuples that its level sees
+abbrev pub count_of : List TypedQuery → ℕ → Placed → Option (List (List ℕ)) → ℕ
+count_of queries depth x None = 0
+count_of queries depth x (Some seen) = length (branch_items (query_at queries x.query) x.piece.branch x.piece.level None x.piece.cut depth x.piece.slots seen)
+
+abbrev pub piece_count : List TypedQuery → ℕ → Windows → ℕ → Placed → ℕ
+piece_count queries depth windows w x = count_of queries depth x (seen_at (query_at queries x.query) windows x.path (place_in x.path x.piece.level) w)
+
+-- The answers of a plan in a window: the refined answers of its queries along their paths, and the number of the items that its
+-- pieces send.
+abbrev pub plan_answers : List TypedQuery → ℕ → List Entry → Windows → ℕ → Answers
+plan_answers queries depth entries windows w = record {
+  window = w;
+  emitted = sum (map (piece_count queries depth windows w) (pieces_from 0 entries));
+  parts = refined_from queries windows w 0 entries;
+}
+
+-- ---- one window after another
+
+abbrev pub window_of : Option Answers → Option ℕ
+window_of None = None
+window_of (Some answers) = Some answers.window
+
+-- a window comes behind the last one that was answered, and none between them holds a record
+pub record Follows (windows : Windows) (last : Option Answers) (w : ℕ) : Type 0 where
+  pub above : IsAbove (window_of last) w
+  pub none : (v : ℕ) → IsAbove (window_of last) v → v < w → windows v ≡ None
+
+-- the last answers are those along the plan
+abbrev pub Remembers : List TypedQuery → List Entry → Windows → Option Answers → Type 0
+Remembers queries entries windows None = Unit {0}
+Remembers queries entries windows (Some answers) = answers.parts ≡ refined_from queries windows answers.window 0 entries
+
+-- what windows that are given one after another are answered, where the last one before them was answered so
+abbrev pub answers_from : List TypedQuery → ℕ → List Entry → Option Answers → List Given → List Answers
+answers_from queries depth entries last [] = []
+answers_from queries depth entries last (given ∷ rest) =
+    window_answers queries depth entries (kept_in queries last given.0) given.0 given.1
+    ∷ answers_from queries depth entries (Some (window_answers queries depth entries (kept_in queries last given.0) given.0 given.1)) rest

@@ -1,0 +1,124 @@
+//! A plan at work, window by window.
+ghost use Rattle.std.specs.Prelude.{◌≡◌, ◌<◌, ◌≤◌, ◌++◌, ◌∷◌, [], ℕ, List, length, map, IfOk, OnOk};
+ghost use Rattle.std.specs.List.{AllByRecursion};
+ghost use Rattle.sn_engine_lockstep.specs.declared.source.Source.{Source};
+ghost use Rattle.sn_engine_lockstep.specs.Sources.{kept_in, source_of, sources_of};
+ghost use Rattle.sn_engine_lockstep.specs.Work.{AreAtWork, AreIdle, AreUnread, done};
+ghost use Rattle.sn_emit.specs.Making.{CanMake};
+ghost use Rattle.sn_emit.specs.Plans.{AreLanesOf, AreNewLanes, Placed, pieces_from};
+ghost use Rattle.sn_engine.specs.Answers.{parts_of};
+ghost use Rattle.sn_engine.specs.Intakes.{intakes_of, total};
+ghost use Rattle.sn_plan_fit.specs.Fits.{Fits};
+ghost use Rattle.sn_refine.specs.Steps.{Set};
+ghost use Rattle.sn_switch.specs.Texts.{IsSwitch};
+ghost use Rattle.sn_types.specs.Typed.{HasWidths, IsTyped};
+ghost use Rattle.sn_types.specs.declared.typed_query.TypedQuery.{TypedQuery};
+
+use crate::lanes::{begin_lanes, close, drain_lanes, give_lanes};
+use crate::source::{Source, sources};
+use sn_base::memory::Memory;
+use sn_base::seq::Seq;
+use sn_emit::lanes::Emitter;
+use sn_engine::engine::Engine;
+use sn_fields::tuple::Tuple;
+use sn_plan_grammar::plan::Plan;
+use sn_switch::switch::Switch;
+use sn_types::answers::Answers;
+use sn_types::typed::Typed;
+use std::alloc::Global;
+
+/// The lanes of a plan, and the engine that takes what they send at once.
+///
+/// A window is begun, its tuples are given in their order, and then it is closed. After an `Err` nothing is known of it.
+#[derive(Drop)]
+pub struct Driver {
+    pub alloc: Global,
+    /// By lane: whose prefixes it lets in.
+    pub sources: Seq<Source>,
+    pub emitter: Emitter,
+    pub engine: Engine,
+}
+
+impl Driver {
+    /// The lanes and the engine of a plan that fits. No window was begun.
+    pub fn make(t: &Typed, s: &Switch, plan: &Plan) -> Result<Driver, Memory>
+        requires switch { IsSwitch s.now }
+        requires fits { Fits t.now.queries s.now plan.now.entries }
+        ensures queries { IfOk result (λ driver. driver.engine.t.queries ≡ t.now.queries) }
+        ensures sources { IfOk result (λ driver. driver.sources ≡ sources_of 0 plan.now.entries) }
+        ensures lanes { IfOk result (λ driver. AreNewLanes t.now.queries s.now.chain (pieces_from 0 plan.now.entries) driver.emitter) }
+        ensures empty { IfOk result (λ driver. driver.engine.lanes.items ≡ intakes_of 0 plan.now.entries) }
+        ensures many { IfOk result (λ driver. length driver.sources ≡ length driver.emitter) }
+        ensures known { IfOk result (λ driver. AllByRecursion (λ source. source.query < length driver.engine.t.queries) driver.sources) }
+    {
+        let sources = sources(t.alloc, plan.entries.as_slice())?;
+        let emitter = Emitter::make(t, s, plan)?;
+        let engine = Engine::make(t.alloc, t, plan)?;
+        Ok(Driver {
+            alloc: t.alloc,
+            sources,
+            emitter,
+            engine,
+        })
+    }
+
+    /// Begins a window, `last` being the answers of the last one before it. Each lane lets in the prefixes that its source
+    /// answered, where that was the window before this one.
+    pub fn begin(&mut self, last: &Option<Answers>, window: u64) -> Result<(), Memory>
+        requires many { length self.old.sources ≡ length self.old.emitter }
+        requires known { AllByRecursion (λ source. source.query < length self.old.engine.t.queries) self.old.sources }
+        ensures work { OnOk result ((depth : ℕ) (pieces : List Placed) → self.old.sources ≡ map source_of pieces → AreIdle self.old.engine.t.queries depth pieces self.old.emitter self.old.engine.lanes.items →
+            AreAtWork self.old.engine.t.queries depth pieces (kept_in self.old.engine.t.queries last.now window) [] self.new.emitter self.new.engine.lanes.items) }
+        ensures unread { OnOk result (AreUnread self.new.emitter) }
+        ensures lanes { OnOk result ((queries : List TypedQuery) (depth : ℕ) (pieces : List Placed) → AreLanesOf queries depth pieces self.old.emitter → AreLanesOf queries depth pieces self.new.emitter) }
+        ensures count { OnOk result (length self.new.emitter ≡ length self.old.emitter) }
+        ensures queries { self.new.engine.t.queries ≡ self.old.engine.t.queries }
+        ensures sources { self.new.sources ≡ self.old.sources }
+    {
+        let engine = &self.engine;
+        begin_lanes(
+            self.alloc,
+            &engine.t,
+            self.sources.as_slice(),
+            &mut self.emitter,
+            last,
+            window,
+        )
+    }
+
+    /// Gives a tuple of the window to all lanes, and what they send to the engine.
+    pub fn packet(&mut self, tuple: &Tuple) -> Result<(), Memory>
+        requires { AreUnread self.old.emitter }
+        ensures work { OnOk result ((queries : List TypedQuery) (depth : ℕ) (pieces : List Placed) (kept : Source → Set) (tuples : List (List ℕ)) →
+            AreAtWork queries depth pieces kept tuples self.old.emitter self.old.engine.lanes.items → AreAtWork queries depth pieces kept (tuples ++ tuple.now ∷ []) self.new.emitter self.new.engine.lanes.items) }
+        ensures unread { OnOk result (AreUnread self.new.emitter) }
+        ensures lanes { OnOk result ((queries : List TypedQuery) (depth : ℕ) (pieces : List Placed) → AreLanesOf queries depth pieces self.old.emitter → AreLanesOf queries depth pieces self.new.emitter) }
+        ensures count { OnOk result (length self.new.emitter ≡ length self.old.emitter) }
+        ensures queries { self.new.engine.t.queries ≡ self.old.engine.t.queries }
+        ensures sources { self.new.sources ≡ self.old.sources }
+    {
+        give_lanes(&mut self.emitter, &mut self.engine, tuple)
+    }
+
+    /// Reads all lanes out, and answers the window.
+    pub fn close(&mut self, window: u64) -> Result<Answers, Memory>
+        ensures window { IfOk result (λ answers. answers.window ≡ window) }
+        ensures answers { IfOk result (λ answers. (typed_for depth : ℕ) (pieces : List Placed) (kept : Source → Set) (tuples : List (List ℕ)) → let queries = self.old.engine.t.queries in
+            ∥ IsTyped typed_for queries ∥₁ → AllByRecursion (CanMake queries) pieces → AllByRecursion HasWidths tuples → AreAtWork queries depth pieces kept tuples self.old.emitter self.old.engine.lanes.items →
+            (answers.emitted ≡ total (map (done queries depth kept tuples window) pieces)) × (answers.parts ≡ parts_of queries (map (done queries depth kept tuples window) pieces))) }
+        ensures empty { OnOk result ((typed_for depth : ℕ) (pieces : List Placed) (kept : Source → Set) (tuples : List (List ℕ)) → let queries = self.old.engine.t.queries in
+            ∥ IsTyped typed_for queries ∥₁ → AllByRecursion (CanMake queries) pieces → AllByRecursion HasWidths tuples → AreAtWork queries depth pieces kept tuples self.old.emitter self.old.engine.lanes.items →
+            AreLanesOf queries depth pieces self.old.emitter → AreIdle queries depth pieces self.new.emitter self.new.engine.lanes.items) }
+        ensures count { OnOk result (length self.new.emitter ≡ length self.old.emitter) }
+        ensures queries { OnOk result (self.new.engine.t.queries ≡ self.old.engine.t.queries) }
+        ensures sources { self.new.sources ≡ self.old.sources }
+    {
+        drain_lanes(&mut self.emitter, &mut self.engine, window)?;
+        let answers = close(&mut self.engine)?;
+        Ok(Answers {
+            window,
+            emitted: answers.emitted,
+            parts: answers.parts,
+        })
+    }
+}

@@ -1,0 +1,47 @@
+//! What a plan answers over windows. A program never calls these functions; each states a fact about the definitions that
+//! the contracts of `Driver` cite.
+ghost use Rattle.std.specs.Prelude.{◌≡◌, ℕ, List, None, map};
+ghost use Rattle.std.specs.List.{AllByRecursion};
+ghost use Rattle.sn_engine_lockstep.specs.declared.source.Source.{Source};
+ghost use Rattle.sn_engine_lockstep.specs.Sources.{source_of, sources_of};
+ghost use Rattle.sn_engine_lockstep.specs.Windows.{answers_from, parts_from, plan_answers, sent_by};
+ghost use Rattle.sn_engine_lockstep.specs.Work.{AreIdle, done};
+ghost use Rattle.sn_emit.specs.declared.sender.Sender.{Sender};
+ghost use Rattle.sn_emit.specs.Making.{CanMake};
+ghost use Rattle.sn_emit.specs.Plans.{AreNewLanes, pieces_from};
+ghost use Rattle.sn_engine.specs.Answers.{parts_of};
+ghost use Rattle.sn_engine.specs.Intakes.{intakes_of, total};
+ghost use Rattle.sn_plan_fit.specs.Fits.{AreEntriesOf, Fits};
+ghost use Rattle.sn_plan_grammar.specs.declared.plan.Entry.{Entry};
+ghost use Rattle.sn_refine.specs.Steps.{Given, Rises, Set, windows_of};
+ghost use Rattle.sn_switch.specs.declared.switch.Switch.{Switch};
+ghost use Rattle.sn_switch.specs.Texts.{IsSwitch};
+ghost use Rattle.sn_types.specs.declared.typed_query.TypedQuery.{TypedQuery};
+ghost use Rattle.sn_types.specs.Typed.{HasWidths, IsTyped};
+
+/// A driver as it was made is between two windows, and each of its lanes can be made and has its source.
+pub fn new_drivers_are_idle()
+    ensures idle { (queries : List TypedQuery) (depth : ℕ) (entries : List Entry) (senders : List Sender) → AreEntriesOf queries entries → AreNewLanes queries depth (pieces_from 0 entries) senders →
+        AreIdle queries depth (pieces_from 0 entries) senders (intakes_of 0 entries) }
+    ensures can { (window : ℕ) (queries : List TypedQuery) (s : Switch) (entries : List Entry) → ∥ IsTyped window queries ∥₁ → IsSwitch s → Fits queries s entries → AllByRecursion (CanMake queries) (pieces_from 0 entries) }
+    ensures sources { (q : ℕ) (entries : List Entry) → sources_of q entries ≡ map source_of (pieces_from q entries) }
+{}
+
+/// What `close` answers is, query by query and level by level, the answer to the tuples with the prefixes that the lanes let
+/// in, and the number of the items of all pieces: whatever the cuts, chains and sizes.
+pub fn answers_are_those_of_the_window()
+    ensures parts { (typed_for depth window : ℕ) (queries : List TypedQuery) (entries : List Entry) (kept : Source → Set) (tuples : List (List ℕ)) →
+        ∥ IsTyped typed_for queries ∥₁ → AreEntriesOf queries entries → AllByRecursion (CanMake queries) (pieces_from 0 entries) → AllByRecursion HasWidths tuples →
+        parts_of queries (map (done queries depth kept tuples window) (pieces_from 0 entries)) ≡ parts_from queries kept tuples 0 entries }
+    ensures count { (typed_for depth window : ℕ) (queries : List TypedQuery) (entries : List Entry) (kept : Source → Set) (tuples : List (List ℕ)) →
+        ∥ IsTyped typed_for queries ∥₁ → AreEntriesOf queries entries → AllByRecursion (CanMake queries) (pieces_from 0 entries) → AllByRecursion HasWidths tuples →
+        total (map (done queries depth kept tuples window) (pieces_from 0 entries)) ≡ sent_by queries depth (pieces_from 0 entries) kept tuples }
+{}
+
+/// Windows that are given by rising number, each with the prefixes that the one before it answered, get the refined answers
+/// along the plan, and the number of the items that its pieces send of what their levels see. Those that were left out held
+/// no record.
+pub fn windows_get_the_answers_of_the_plan()
+    ensures { (queries : List TypedQuery) (depth : ℕ) (entries : List Entry) (given : List Given) → AreEntriesOf queries entries → Rises None given →
+        answers_from queries depth entries None given ≡ map (λ g. plan_answers queries depth entries (windows_of given) g.0) given }
+{}

@@ -1,5 +1,0 @@
-use Rattle.sn_fit.proofs.LoadLaws.{nothing_stands}
-use Rattle.sn_fit.proofs.loads.Loads.new.Goals as goal
-
-pub returns : goal.returns
-returns c = nothing_stands

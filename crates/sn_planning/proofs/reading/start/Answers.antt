@@ -1,6 +1,0 @@
-use Rattle.std.proofs.Common.{refl}
-use Rattle.sn_planning.proofs.Reaching.{starts}
-use Rattle.sn_planning.proofs.reading.start.Goals as goal
-
-pub returns : goal.returns
-returns c = λ s entry queries e. starts s entry queries _ refl refl e refl

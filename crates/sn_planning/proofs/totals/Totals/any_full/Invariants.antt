@@ -1,8 +1,0 @@
-use Rattle.std.proofs.Common.{◌≡◌, ◌-◌, List}
-use Rattle.std.specs.List.{list_any, range_with_len}
-use Rattle.sn_choices.specs.Planning.{Taken, is_full}
-use Rattle.sn_planning.specs.Totals.{AreTotals, any_full}
-use Rattle.sn_planning.proofs.totals.Totals.any_full.Given as goal
-
-abbrev pub invariant-loop-stage : goal.invariant-loop-stage
-invariant-loop-stage l = (taken : List Taken) → AreTotals l.self taken → list_any (is_full l.s taken) (range_with_len l.stage (l.s.stages - l.stage)) ≡ any_full l.s taken

@@ -1,0 +1,109 @@
+//! One query on each of its cuts, from the switch's lanes to the engine's answer.
+ghost use Rattle.std.specs.Prelude.{◌≡◌, ◌<◌, ℕ, IfSome, length, slice_get};
+ghost use Rattle.sn_plan_fit.specs.Fits.{Fits};
+ghost use Rattle.sn_switch.specs.Texts.{IsSwitch};
+
+use crate::texts::{NET, plan, queries, row, syn};
+use sn_emit::lanes::Emitter;
+use sn_engine::engine::Engine;
+use sn_engine::fault::TakeFault;
+use sn_fields::tuple::Tuple;
+use sn_plan_fit::{fits, shape};
+use sn_plan_grammar::plan::Plan;
+use sn_switch::switch::Switch;
+use sn_types::answers::Answers;
+use sn_types::typed::Typed;
+use std::alloc::Global;
+use std::test::Fail;
+
+/// Sums that are capped at four bits, over destinations with their sources.
+const CAPPED: &[u8] =
+    b"window 1000000 query q { packets | map ip.dst as d, ip.src as s | distinct | map d as d, 9 as n | reduce d: sum(n) width 4; }";
+
+const SMALL: &[u8] = b"stages 5; actions 2; bits 1000; meta 1000; chain 1; slots 1;";
+
+fn switch(alloc: Global, text: &[u8]) -> Option<Switch>
+    ensures { IfSome result (λ s. IsSwitch s) }
+{
+    if text.len() > 1000 {
+        return None;
+    }
+    match sn_switch::parse(alloc, text) {
+        Ok(switch) => Some(switch),
+        Err(_) => None,
+    }
+}
+
+#[tactic(auto, using(sn_emit::proofs::Unread::new_unread))]
+fn lanes_of(t: &Typed, s: &Switch, plan: &Plan) -> Option<Emitter>
+    requires switch { IsSwitch s.now }
+    requires fits { Fits t.now.queries s.now plan.now.entries }
+    ensures { IfSome result (λ lanes. (lane : ℕ) → IfSome (slice_get lanes lane) (λ s. s.pipe.prefix.place ≡ 0)) }
+{
+    match Emitter::make(t, s, plan) {
+        Ok(emitter) => Some(emitter),
+        Err(_) => None,
+    }
+}
+
+/// Sends a window of the first lane to an engine.
+fn send(
+    emitter: &mut Emitter,
+    engine: &mut Engine,
+    tuples: &[Tuple],
+    number: u64,
+) -> Result<(), TakeFault>
+    requires lane { 0 < length emitter.old }
+    requires unread { IfSome (slice_get emitter.old 0) (λ s. s.pipe.prefix.place ≡ 0) }
+{
+    for tuple in tuples {
+        if let Some(frame) = emitter.packet(0, tuple) {
+            engine.take(&frame)?;
+        }
+    }
+    for _ in 0..10 {
+        if let Some(frame) = emitter.read_out(0, number) {
+            engine.take(&frame)?;
+        }
+    }
+    Ok(())
+}
+
+/// The answers of two packets to 10.0.0.9 by this plan. `None` where it isn't read or doesn't fit.
+fn answers(rt: &HostRuntime, plan_text: &[u8]) -> Option<Answers> {
+    let t = queries(rt.alloc(), CAPPED)?;
+    let s = switch(rt.alloc(), SMALL)?;
+    let plan = plan(rt.alloc(), plan_text)?;
+    let mut engine = match shape(&t, &plan) {
+        Ok(()) => Engine::make(rt.alloc(), &t, &plan).ok()?,
+        Err(_) => return None,
+    };
+    let mut emitter = match fits(&t, &s, &plan) {
+        Ok(()) => lanes_of(&t, &s, &plan)?,
+        Err(_) => return None,
+    };
+    if emitter.lanes() == 0 {
+        return None;
+    }
+    send(&mut emitter, &mut engine, &[syn(1, 9), syn(2, 9)], 0).ok()?;
+    engine.close_window().ok()
+}
+
+#[test]
+fn every_cut_has_the_same_answer(rt: HostRuntime) -> Result<(), Fail> {
+    for plan in [
+        b"plan query q path 0; piece 0 0 cut 0;".as_slice(),
+        b"plan query q path 0; piece 0 0 cut 1;",
+        b"plan query q path 0; piece 0 0 cut 2 slots 1 stages 1;",
+        b"plan query q path 0; piece 0 0 cut 3 slots 1 stages 1;",
+        b"plan query q path 0; piece 0 0 cut 4 slots 1, 1 stages 1, 3;",
+    ] {
+        let answers = answers(&rt, plan).ok_or("no answers")?;
+        assert_eq!(rt; answers.emitted, 2);
+        assert_eq!(rt; answers.parts.as_slice().len(), 1);
+        for part in answers.parts.as_slice() {
+            assert_eq!(rt; part.rows.as_slice(), [row(&[NET + 9, 15])].as_slice());
+        }
+    }
+    Ok(())
+}

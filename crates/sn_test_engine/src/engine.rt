@@ -1,0 +1,162 @@
+//! What an engine takes, and what it answers.
+use crate::texts::{NET, plan, queries, row};
+use sn_base::lane::Lane;
+use sn_base::row::Row;
+use sn_engine::engine::Engine;
+use sn_engine::fault::{CloseFault, TakeFault};
+use sn_plan_fit::shape;
+use sn_report::frame::{Frame, Item, Tag};
+use sn_types::answers::Answers;
+use std::test::Fail;
+
+/// Destinations that more than one source reaches.
+const SPREAD: &[u8] =
+    b"window 1000000 query q { packets | map ip.dst as d, ip.src as s | distinct | map d as d, 1 as n | reduce d: sum(n) width 16 | filter n > 1; }";
+
+/// All of it in the switch, with one register of one slot for the distinct and one for the reduce.
+const PLAN: &[u8] = b"plan query q path 0; piece 0 0 cut 5 slots 1, 1 stages 1, 3;";
+
+fn engine(rt: &HostRuntime) -> Option<Engine> {
+    let t = queries(rt.alloc(), SPREAD)?;
+    let plan = plan(rt.alloc(), PLAN)?;
+    match shape(&t, &plan) {
+        Ok(()) => Engine::make(rt.alloc(), &t, &plan).ok(),
+        Err(_) => None,
+    }
+}
+
+fn lane(query: u8) -> Lane {
+    Lane {
+        query,
+        level: 0,
+        branch: 0,
+    }
+}
+
+fn sent(tag: Tag, row: Row) -> Frame {
+    Frame::Row(lane(0), Item { tag, row })
+}
+
+fn end(window: u64) -> Frame {
+    Frame::End(lane(0), window)
+}
+
+/// The rows of the first part.
+fn rows(answers: &Answers) -> &[Row] {
+    match answers.parts.as_slice().first() {
+        Some(part) => part.rows.as_slice(),
+        None => &[],
+    }
+}
+
+#[test]
+fn strangers_are_refused_first(rt: HostRuntime) -> Result<(), Fail> {
+    let mut engine = engine(&rt).ok_or("no engine")?;
+    let item = Item {
+        tag: Tag::At(1),
+        row: row(&[NET + 9, NET + 2]),
+    };
+    let other = Frame::Row(lane(1), item);
+    assert_eq!(rt; engine.take(&other), Err(TakeFault::Stranger));
+    let other = Frame::End(lane(1), 0);
+    assert_eq!(rt; engine.take(&other), Err(TakeFault::Stranger));
+    let short = row(&[1]);
+    for tag in [
+        Tag::At(0),
+        Tag::At(2),
+        Tag::At(4),
+        Tag::At(6),
+        Tag::Partial(1),
+        Tag::Partial(5),
+    ] {
+        assert_eq!(rt; engine.take(&sent(tag, short)), Err(TakeFault::Stranger));
+    }
+    assert!(rt; !engine.started());
+    Ok(())
+}
+
+#[test]
+fn rows_have_the_columns_of_their_place(rt: HostRuntime) -> Result<(), Fail> {
+    let mut engine = engine(&rt).ok_or("no engine")?;
+    let wide = sent(Tag::At(1), row(&[NET + 9, 4294967296]));
+    let three = sent(Tag::At(1), row(&[NET + 9, NET + 2, 0]));
+    let part = sent(Tag::Partial(3), row(&[NET + 9, 65536]));
+    assert_eq!(rt; engine.take(&wide), Err(TakeFault::Width));
+    assert_eq!(rt; engine.take(&three), Err(TakeFault::Width));
+    assert_eq!(rt; engine.take(&part), Err(TakeFault::Width));
+    assert_eq!(rt; engine.take(&end(7)), Ok(()));
+    assert_eq!(rt; engine.take(&three), Err(TakeFault::Width));
+    let good = sent(Tag::At(1), row(&[NET + 9, NET + 2]));
+    assert_eq!(rt; engine.take(&good), Err(TakeFault::AfterEnd));
+    assert_eq!(rt; engine.take(&end(8)), Err(TakeFault::AfterEnd));
+    Ok(())
+}
+
+#[test]
+fn answers_what_a_pipe_sends(rt: HostRuntime) -> Result<(), Fail> {
+    let mut engine = engine(&rt).ok_or("no engine")?;
+    assert_eq!(rt; engine.value().err(), Some(CloseFault::Unfinished(0)));
+    assert_eq!(rt;
+        engine.close_window().err(),
+        Some(CloseFault::Unfinished(0))
+    );
+    let over = sent(Tag::At(1), row(&[NET + 9, NET + 2]));
+    let part = sent(Tag::Partial(3), row(&[NET + 9, 1]));
+    assert_eq!(rt; engine.take(&over), Ok(()));
+    assert_eq!(rt; engine.take(&part), Ok(()));
+    assert!(rt; engine.started());
+    assert!(rt; !engine.lane_ended(0));
+    assert_eq!(rt;
+        engine.close_window().err(),
+        Some(CloseFault::Unfinished(0))
+    );
+    assert_eq!(rt; engine.take(&end(4)), Ok(()));
+    assert!(rt; engine.lane_ended(0));
+    let value = engine.value()?;
+    assert_eq!(rt; rows(&value), [row(&[NET + 9, 2])].as_slice());
+    let answers = engine.close_window()?;
+    assert_eq!(rt; answers.window, 4);
+    assert_eq!(rt; answers.emitted, 2);
+    assert_eq!(rt; rows(&answers), [row(&[NET + 9, 2])].as_slice());
+    assert!(rt; !engine.started());
+    assert_eq!(rt; engine.take(&end(4)), Err(TakeFault::Window));
+    assert_eq!(rt; engine.take(&end(3)), Err(TakeFault::Window));
+    assert_eq!(rt; engine.take(&end(5)), Ok(()));
+    let next = engine.close_window()?;
+    assert_eq!(rt; next.emitted, 0);
+    assert_eq!(rt; rows(&next).len(), 0);
+    Ok(())
+}
+
+/// One of many frames that a pipe of this plan may send.
+fn frame(number: u64) -> Frame {
+    let n = number
+        .wrapping_mul(2862933555777941757)
+        .wrapping_add(3037000493)
+        >> 33;
+    let key = NET + n % 5;
+    match n / 35 % 3 {
+        0 => sent(Tag::At(1), row(&[key, NET + n / 5 % 7])),
+        1 => sent(Tag::Partial(3), row(&[key, n / 5 % 7])),
+        _ => sent(Tag::At(3), row(&[key, 1])),
+    }
+}
+
+#[test]
+fn the_order_of_items_is_free(rt: HostRuntime) -> Result<(), Fail> {
+    let mut straight = engine(&rt).ok_or("no engine")?;
+    let mut shuffled = engine(&rt).ok_or("no engine")?;
+    for k in 0..41 {
+        assert_eq!(rt; straight.take(&frame(k)), Ok(()));
+        assert_eq!(rt; shuffled.take(&frame(k * 7 % 41)), Ok(()));
+    }
+    assert_eq!(rt; straight.take(&end(0)), Ok(()));
+    assert_eq!(rt; shuffled.take(&end(0)), Ok(()));
+    let one = straight.close_window()?;
+    let other = shuffled.close_window()?;
+    assert_eq!(rt; one.emitted, 41);
+    assert_eq!(rt; other.emitted, 41);
+    assert_eq!(rt; rows(&one).len(), 5);
+    assert_eq!(rt; rows(&one), rows(&other));
+    Ok(())
+}

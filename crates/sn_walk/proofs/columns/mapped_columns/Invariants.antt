@@ -1,6 +1,0 @@
-use Rattle.std.proofs.Common.{◌≡◌, take, map}
-use Rattle.sn_walk.specs.Columns.{mapped_column}
-use Rattle.sn_walk.proofs.columns.mapped_columns.Given as goal
-
-abbrev pub invariant-loop-col : goal.invariant-loop-col
-invariant-loop-col l = l.made ≡ map (mapped_column l.columns) (take l.col-index l.cols)

@@ -1,6 +1,0 @@
-use Rattle.std.proofs.Common.{◌≡◌, ◌++◌, drop}
-use Rattle.sn_walk.specs.Names.{names_to_map}
-use Rattle.sn_walk.proofs.names.names_to_map.Given as goal
-
-abbrev pub invariant-loop-op : goal.invariant-loop-op
-invariant-loop-op l = l.names ++ names_to_map (drop l.op-index l.ops) ≡ names_to_map l.ops
