@@ -8,7 +8,7 @@ pub fold_had : {has : ℕ → Type 0} {unit : ℕ} {step : ℕ → ℕ → ℕ} 
 fold_had L a [] h all = h
 fold_had {step = step} L a (x ∷ xs) h all = fold_had L (step a x) xs (L.closed a x h all.0) all.1
 
--- a fold from a is a, put together with the fold from the unit
+-- a fold from a is a, combined with the fold from the unit
 pub fold_from : {has : ℕ → Type 0} {unit : ℕ} {step : ℕ → ℕ → ℕ} → FoldLaws has unit step → (a : ℕ) (xs : List ℕ) → has a → AllByRecursion has xs → fold step a xs ≡ step a (fold step unit xs)
 fold_from {unit = unit} {step = step} L a [] h all = sym (L.starts a h) ∙ L.commutes unit a L.unit_had h
 fold_from {unit = unit} {step = step} L a (x ∷ xs) h all =

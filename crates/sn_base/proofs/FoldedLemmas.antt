@@ -25,7 +25,7 @@ last_in : {K Y : Type 0} (b : Bool) (f : K → Y) (ks : List K) (k : K) (y : Y) 
 last_in true f ks k y e = refl
 last_in false f ks k y e = map-append f ks (k ∷ []) ∙ ap (λ z. map f ks ++ z ∷ []) e
 
--- behind a key that is the same, the others keep what they have
+-- after a key that is the same, the others keep what they have
 unmoved : {K : Type 0} {same : K → K → Bool} → IsEquivalence same → (k d : K) (g h : K → ℕ) → same k d ≡ true → ((x : K) → same k x ≡ false → h x ≡ g x) → (ks : List K) → AllByRecursion (λ x. same d x ≡ false) ks → map (paired h) ks ≡ map (paired g) ks
 unmoved E k d g h is there [] far = refl
 unmoved {same = same} E k d g h is there (x ∷ xs) far =

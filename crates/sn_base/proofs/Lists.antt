@@ -63,7 +63,7 @@ nat_self a = eq-eqb a a refl
 
 -- ---- options
 
--- what holds of a value holds of the one that is told, where they are equal
+-- what holds of a value holds of one that equals it
 pub told_is : {X : Type 0} (P : X → Type 0) (told : Option X) (x y : X) → y ≡ x → IfSome told (λ z. x ≡ z) → P y → IfSome told P
 told_is P None x y e same h = tt
 told_is P (Some z) x y e same h = subst P (e ∙ same) h
@@ -99,7 +99,7 @@ any_push t xs x = list_any-append t xs (x ∷ []) ∙ ap (λ b. list_any t xs ||
 
 -- ---- filters
 
--- a filter behind a wider one
+-- a filter after a wider one
 pub filter_within : {A : Type 0} (p q : A → Bool) → ((x : A) → p x ≡ true → q x ≡ true) → (xs : List A) → filter p (filter q xs) ≡ filter p xs
 filter_within p q wider [] = refl
 filter_within p q wider (x ∷ xs) =
@@ -108,7 +108,7 @@ filter_within p q wider (x ∷ xs) =
     (λ isnt. ap (λ b. filter p (cond b (x ∷ filter q xs) (filter q xs))) isnt ∙ filter_within p q wider xs
     ∙ sym (by_test (p x) (λ was. absurd (false≢true (sym isnt ∙ wider x was))) (λ wasnt. ap (λ b. cond b (x ∷ filter p xs) (filter p xs)) wasnt)))
 
--- a filter behind one that excludes it
+-- a filter after one that excludes it
 pub filter_never : {A : Type 0} (p q : A → Bool) → ((x : A) → p x ≡ true → q x ≡ false) → (xs : List A) → filter p (filter q xs) ≡ []
 filter_never p q apart [] = refl
 filter_never p q apart (x ∷ xs) =

@@ -16,7 +16,7 @@ use Rattle.sn_base.proofs.GroupLemmas.{keys, keys_of, AllHad, total, total_had, 
 abbrev pub AllOf : List Op → List Row → Type 0
 AllOf ops rows = AllByRecursion (Had ops) rows
 
--- the pairs of rows that are had by a reduce
+-- the pairs of rows bring a reduce numbers that its fold has
 pub pairs_had : (g : Grouping) (ops : List Op) (rows : List Row) → AllOf (Reduce g ∷ ops) rows → AllHad g (map (pair_of g) rows)
 pairs_had g ops rows h =
     all_map (λ (p : Row × ℕ). any_has g.by p.1) (pair_of g) rows (all_weaker (Had (Reduce g ∷ ops)) (λ row. any_has g.by (slice_index row g.value)) (λ row had. had.0) rows h)
@@ -27,7 +27,7 @@ had_filter t ops (row ∷ rows) h =
     let rest = had_filter t ops rows h.1 in
     (elim (t row) as (λ b. (b ≡ true → Had ops row) → AllOf ops (cond b (row ∷ filter t rows) (filter t rows))) [ true ↦ λ had. (had refl, rest) | false ↦ λ had. rest ]) h.0
 
--- rows of keys, with any folds that are had
+-- rows of keys, with any numbers of the fold
 pub had_rows_for : (g : Grouping) (ops : List Op) (pairs : List (Row × ℕ)) → AllHad g pairs → (ks : List Row) → AllByRecursion (λ k. (a : ℕ) → any_has g.by a → Had ops (k ++ a ∷ [])) ks → AllOf ops (map (row_for g pairs) ks)
 had_rows_for g ops pairs had ks h =
     all_map (Had ops) (row_for g pairs) ks (all_weaker (λ k. (a : ℕ) → any_has g.by a → Had ops (k ++ a ∷ [])) (λ k. Had ops (row_for g pairs k)) (λ k of_any. of_any (total g pairs k) (total_had g pairs k had)) ks h)
@@ -37,7 +37,7 @@ keys_had g ops rows h =
     all_map (λ k. (a : ℕ) → any_has g.by a → Had ops (k ++ a ∷ [])) (key_of g) rows
     (all_weaker (Had (Reduce g ∷ ops)) (λ row. (a : ℕ) → any_has g.by a → Had ops (key_of g row ++ a ∷ [])) (λ row had. had.1) rows h)
 
--- what an operator gives is had by those after it
+-- what an operator gives brings the folds after it numbers that they have
 pub had_after : (op : Op) (ops : List Op) (rows : List Row) → AllOf (op ∷ ops) rows → AllOf ops (apply op rows)
 had_after (Filter t) ops rows h = had_filter t ops rows h
 had_after (Map f) ops rows h = all_map (Had ops) f rows h

@@ -1,3 +1,4 @@
+-- to be believed
 use Rattle.std.specs.Prelude.{ℕ, min, max, bit_or}
 use Rattle.sn_base.specs.Folds.{FoldLaws, HasBits, top_of, capped_sum, capped_sum_laws, max_laws, min_laws, bit_or_laws}
 use Rattle.sn_base.specs.declared.any_fold.AnyFold.{AnyFold}
@@ -17,7 +18,7 @@ any_unit (Max f) = 0
 any_unit (Min f) = top_of f.v
 any_unit (Or f) = 0
 
--- two values put together
+-- two values combined
 abbrev pub any_step : AnyFold → ℕ → ℕ → ℕ
 any_step (SatSum f) a b = capped_sum f.v a b
 any_step (Max f) a b = max a b

@@ -1,3 +1,4 @@
+-- to be believed
 use Rattle.std.specs.Prelude.{List, ◌∷◌}
 
 -- two lists are the same bag: exchanges of neighbours lead from one to the other

@@ -1,3 +1,4 @@
+-- serves proofs
 -- A list with one item changed.
 use Rattle.std.specs.Prelude.{List, [], ◌∷◌, Bool, if◌then◌else◌}
 

@@ -1,3 +1,4 @@
+-- to be believed
 use Rattle.std.specs.Prelude.{◌≡◌, ℕ, ◌<◌, ◌≤◌, ◌-◌, ◌^◌, List, [], ◌∷◌, ◌++◌, length, take, replicate, false}
 use Rattle.std.proofs.Common.{sym, arith, length-take-le}
 use Rattle.sn_base.specs.declared.column.Column.{Column}

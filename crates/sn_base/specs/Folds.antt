@@ -1,3 +1,4 @@
+-- to be believed
 use Rattle.std.specs.Prelude.{◌≡◌, ℕ, ◌+◌, ◌-◌, ◌^◌, ◌<◌, min, max, bit_or}
 use Rattle.std.proofs.Common.{arith, sym, ap, ◌∙◌}
 use Rattle.std.proofs.Math.Pow.{pow_pos}
@@ -6,7 +7,7 @@ use Rattle.std.proofs.lemmas.Nat.Bits.{same_from_bits, bit_at_or}
 use Rattle.std.specs.Int.{bit_at}
 use Rattle.std.specs.Int.Bits.{or_zero_l}
 
--- the laws of a fold over the numbers that it has: where it starts and what it gives are had, the start
+-- the laws of a fold over the numbers that it has: where it starts and what it gives are among them, the start
 -- changes nothing, and neither order nor grouping matters
 pub record FoldLaws (has : ℕ → Type 0) (unit : ℕ) (step : ℕ → ℕ → ℕ) : Type 0 where
   pub unit_had : has unit

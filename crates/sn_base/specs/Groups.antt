@@ -1,3 +1,4 @@
+-- to be believed
 use Rattle.std.specs.Prelude.{◌≡◌, ℕ, List, [], ◌∷◌, map, filter, fold, Bool, false, not, nat_eq, slice_index, if◌then◌else◌}
 use Rattle.std.specs.List.{AllByRecursion}
 use Rattle.std.specs.Cmp.Lexicographic.{pointwise}
@@ -32,7 +33,7 @@ paired f k = (k, f k)
 abbrev pub folded : {K : Type 0} → (K → K → Bool) → (ℕ → ℕ → ℕ) → ℕ → List (K × ℕ) → List (K × ℕ)
 folded same step unit pairs = map (paired (λ k. fold step unit (values_at same k pairs))) (once same (map (λ p. p.0) pairs))
 
--- a key takes a number: in the place of the one that it has, or behind all others
+-- a key takes a number: in the place of the one that it has, or after all others
 abbrev pub put_entry : {K : Type 0} → (K → K → Bool) → List (K × ℕ) → K → ℕ → List (K × ℕ)
 put_entry same [] k n = (k, n) ∷ []
 put_entry same (e ∷ es) k n = if same k e.0 then (e.0, n) ∷ es else e ∷ put_entry same es k n

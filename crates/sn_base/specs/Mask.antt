@@ -1,3 +1,4 @@
+-- to be believed
 use Rattle.std.specs.Prelude.{ℕ, ◌-◌, ◌*◌, ◌/◌, ◌^◌}
 
 -- the highest keep of width bits of a number are kept, and the rest is cleared

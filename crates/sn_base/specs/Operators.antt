@@ -1,3 +1,4 @@
+-- to be believed
 use Rattle.std.specs.Prelude.{◌≡◌, ℕ, List, [], ◌∷◌, ◌++◌, map, filter, fold, take, length, Bool, true, slice_index}
 use Rattle.std.specs.List.{flat_map}
 use Rattle.sn_base.specs.declared.any_fold.AnyFold.{AnyFold}

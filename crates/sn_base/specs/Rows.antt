@@ -1,3 +1,4 @@
+-- serves proofs
 use Rattle.std.specs.Prelude.{◌≡◌, ℕ, ◌≤◌, ◌-◌, List, ◌++◌, length, take, replicate}
 use Rattle.std.proofs.Common.{sym, arith, length-take-le}
 

@@ -1,8 +1,8 @@
-//! Folds: ways to put the values of a key together, whose order is free.
+//! Folds: ways to combine the values of a key, in any order.
 ghost use Rattle.std.specs.Prelude.{◌≡◌, ℕ, ◌-◌, ◌^◌, ◌≤◌, ◌↔◌, IsTrue, min, max, bit_or};
 ghost use Rattle.sn_base.specs.Folds.{FoldLaws, HasBits, top_of, capped_sum, capped_sum_laws, max_laws, min_laws, bit_or_laws};
 
-/// A way to put values together. Over the values that it has, the order and the grouping are free, and the
+/// A way to combine values. Over the values that it has, the order and the grouping are free, and the
 /// unit changes nothing.
 pub trait Fold: Copy {
     /// The values that it has.
@@ -11,7 +11,7 @@ pub trait Fold: Copy {
     /// The fold of no value.
     ghost start: { Self → ℕ };
 
-    /// Two values put together.
+    /// Two values combined.
     ghost join: { Self → ℕ → ℕ → ℕ };
 
     /// Whether it has a value.
@@ -22,7 +22,7 @@ pub trait Fold: Copy {
     fn unit(self) -> u64
         ensures { result ≡ start self };
 
-    /// Two values put together.
+    /// Two values combined.
     fn step(self, a: u64, b: u64) -> u64
         requires first { takes self a }
         requires second { takes self b }
@@ -158,25 +158,5 @@ impl Fold for Or {
 
     fn step(self, a: u64, b: u64) -> u64 {
         a | b
-    }
-}
-
-#[cfg(test)]
-mod tests {
-    use super::*;
-    use crate::any_fold::AnyFold;
-    use std::test::Fail;
-
-    #[test]
-    fn folds_the_known_values(rt: HostRuntime) -> Result<(), Fail> {
-        assert_eq!(rt; SatSum { v: 4 }.step(9, 9), 15);
-        assert_eq!(rt; Min { v: 3 }.unit(), 7);
-        assert_eq!(rt; Or { v: 8 }.step(5, 2), 7);
-        assert_eq!(rt; Max { v: 64 }.step(5, u64::MAX), u64::MAX);
-        assert_eq!(rt; Max { v: 3 }.has(8), false);
-        assert_eq!(rt; AnyFold::SatSum(SatSum { v: 4 }).step(9, 9), 15);
-        assert_eq!(rt; AnyFold::Min(Min { v: 3 }).unit(), 7);
-        assert_eq!(rt; AnyFold::Or(Or { v: 8 }).step(5, 2), 7);
-        Ok(())
     }
 }

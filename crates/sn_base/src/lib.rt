@@ -1,5 +1,5 @@
 //! Values that every crate above speaks of: rows, names, lists, schemas, folds, slots, prefix sets, links,
-//! lanes, and want of memory.
+//! lanes, and being out of memory.
 #![tactic(auto)]
 
 pub mod any_fold;
@@ -14,5 +14,6 @@ pub mod memory;
 pub mod name;
 pub mod row;
 pub mod schema;
+pub mod seed;
 pub mod seq;
 pub mod slot;

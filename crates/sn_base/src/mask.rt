@@ -15,18 +15,3 @@ pub fn mask(x: u64, width: u32, keep: u32) -> u64
     }
     (x >> cleared) << cleared
 }
-
-#[cfg(test)]
-mod tests {
-    use super::*;
-    use std::test::Fail;
-
-    #[test]
-    fn keeps_the_highest_bits(rt: HostRuntime) -> Result<(), Fail> {
-        assert_eq!(rt; mask(167772169, 32, 8), 167772160);
-        assert_eq!(rt; mask(5, 8, 0), 0);
-        assert_eq!(rt; mask(u64::MAX, 64, 0), 0);
-        assert_eq!(rt; mask(u64::MAX, 64, 64), u64::MAX);
-        Ok(())
-    }
-}

@@ -55,19 +55,3 @@ impl Members {
         self.prefixes.contains(&prefix)
     }
 }
-
-#[cfg(test)]
-mod tests {
-    use super::*;
-    use std::test::Fail;
-
-    #[test]
-    fn has_what_was_added(rt: HostRuntime) -> Result<(), Fail> {
-        let mut members = Members::new(rt.alloc());
-        assert_eq!(rt; members.add(7), Ok(()));
-        assert!(rt; members.has(7));
-        assert!(rt; !members.has(8));
-        assert_eq!(rt; members.add(7), Ok(()));
-        Ok(())
-    }
-}

@@ -108,19 +108,3 @@ impl Hash for Name {
         self.as_bytes().hash(state);
     }
 }
-
-#[cfg(test)]
-mod tests {
-    use super::*;
-    use std::test::Fail;
-
-    #[test]
-    fn takes_one_to_thirty_two_bytes(rt: HostRuntime) -> Result<(), Fail> {
-        assert!(rt; Name::new(b"").is_none());
-        assert!(rt; Name::new(&[b'a'; 33]).is_none());
-        assert!(rt;
-            Name::new(&[b'a'; 32]).is_some_and(|name| name.as_bytes() == [b'a'; 32].as_slice())
-        );
-        Ok(())
-    }
-}

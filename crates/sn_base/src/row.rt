@@ -87,7 +87,7 @@ impl Row {
         self.as_slice().get(place).copied()
     }
 
-    /// Puts one more column behind the others, in place.
+    /// Puts one more column after the others, in place.
     pub fn push(&mut self, value: u64)
         requires { length self.old < 8 }
         ensures { self.new ≡ self.old ++ value ∷ [] }
@@ -155,21 +155,5 @@ impl Hash for Row {
 
     fn hash<H: Hasher>(&self, state: &mut H) {
         self.as_slice().hash(state);
-    }
-}
-
-#[cfg(test)]
-mod tests {
-    use super::*;
-    use std::test::Fail;
-
-    #[test]
-    fn holds_eight_columns(rt: HostRuntime) -> Result<(), Fail> {
-        assert!(rt; Row::new(&[0; 9]).is_none());
-        let row = Row::new(&[1, 2, 3, 4, 5, 6, 7]).and_then(|row| row.with(8));
-        assert_eq!(rt; row, Row::new(&[1, 2, 3, 4, 5, 6, 7, 8]));
-        assert!(rt; row.is_some_and(|row| row.with(9).is_none()));
-        assert!(rt; Row::empty() < Row::empty().with(0).unwrap_or(Row::empty()));
-        Ok(())
     }
 }

@@ -91,23 +91,3 @@ impl Schema {
         &self.columns[..self.count]
     }
 }
-
-#[cfg(test)]
-mod tests {
-    use super::*;
-    use std::test::Fail;
-
-    #[test]
-    fn holds_eight_columns(rt: HostRuntime) -> Result<(), Fail> {
-        let mut schema = Schema::new();
-        for width in 1..9 {
-            let column = Column { width, ..blank() };
-            assert!(rt; schema.add(column));
-        }
-        assert!(rt; !schema.add(blank()));
-        assert_eq!(rt; schema.len(), 8);
-        assert_eq!(rt; schema.get(7).map(|column| column.width), Some(8));
-        assert_eq!(rt; schema.get(8), None);
-        Ok(())
-    }
-}

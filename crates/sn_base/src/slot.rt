@@ -45,7 +45,7 @@ fn mix_column(hash: u64, column: u64) -> u64
     }
 }
 
-/// What is left of a hash by a number of slots. That is mostly a power of two, and a division takes as long as all else.
+/// The remainder of a hash by a number of slots. That is mostly a power of two, and a division takes as long as all else.
 fn remainder(hash: u64, slots: u32) -> u32
     requires { 1 ≤ slots }
     ensures { result ≡ hash % slots }
@@ -70,47 +70,4 @@ pub fn slot_of(index: u32, key: &Row, slots: u32) -> u32
         hash = mix_column(hash, *column);
     }
     remainder(hash, slots)
-}
-
-#[cfg(test)]
-mod tests {
-    use super::*;
-    use std::test::Fail;
-
-    #[test]
-    fn gives_the_known_slots(rt: HostRuntime) -> Result<(), Fail> {
-        let table: [(u32, &[u64], u32); 5] = [
-            (0, &[], 37),
-            (1, &[], 36),
-            (0, &[0], 197),
-            (1, &[0], 164),
-            (0, &[1], 164),
-        ];
-        for (index, columns, slot) in table {
-            let Some(key) = Row::new(columns) else {
-                continue;
-            };
-            assert_eq!(rt; slot_of(index, &key, 256), slot);
-        }
-        Ok(())
-    }
-    // By the formula in whole numbers, worked out elsewhere.
-    #[test]
-    fn gives_the_slots_of_wide_columns(rt: HostRuntime) -> Result<(), Fail> {
-        let table: [(u32, &[u64], u32, u32); 6] = [
-            (0, &[4294967295], 1000, 441),
-            (0, &[4294967296], 1000, 484),
-            (3, &[18446744073709551615, 7], 65535, 4042),
-            (2, &[167772169, 80, 1099511627781], 65536, 28986),
-            (1, &[5], 1, 0),
-            (0, &[9223372036854775808], 3, 2),
-        ];
-        for (index, columns, slots, slot) in table {
-            let Some(key) = Row::new(columns) else {
-                continue;
-            };
-            assert_eq!(rt; slot_of(index, &key, slots), slot);
-        }
-        Ok(())
-    }
 }

@@ -69,7 +69,7 @@ module _ {X : Type 0} (key : X → Row) where
   abbrev firsts : (Row → Bool) → List X → List X
   firsts home xs = once same_key (filter (λ x. home (key x)) xs)
 
-  -- new behind one key more: new to those before, and not that key
+  -- new after one key more: new to those before, and not that key
   both_new : (x y : X) (came : List Row) → new_to (came ++ key x ∷ []) y ≡ cond (not (same_key x y)) (new_to came y) false
   both_new x y came =
       ap not (any_push (same_row (key y)) came (key x) ∙ ap (λ b. list_any (same_row (key y)) came || b) (nat_list_eq_equiv.symm (key y) (key x)))

@@ -164,8 +164,8 @@ made_cells has depth slots round value cells first some_depth most_depth some_sl
       stand = subst (λ (cs : List (Option (Row × ℕ))). KeysStand depth slots cs) (sym (ap (all_shown_by round) is ∙ empty_made round (depth * slots) value first)) (stand_bare depth slots (depth * slots));
     }
 
-pub made_empty : {F : Type 0} (f : F) (depth slots value : ℕ) (cells : List Cell) → cells ≡ replicate (depth * slots) (untaken value) → state_of f depth slots 1 cells ≡ empty_chain f depth slots
-made_empty f depth slots value cells is = ap (state_with f depth slots) (ap (all_shown_by 1) is ∙ empty_made 1 (depth * slots) value (omega arith))
+pub made_empty : {F : Type 0} (f : F) (depth slots round value : ℕ) (cells : List Cell) → 1 ≤ round → cells ≡ replicate (depth * slots) (untaken value) → state_of f depth slots round cells ≡ empty_chain f depth slots
+made_empty f depth slots round value cells first is = ap (state_with f depth slots) (ap (all_shown_by round) is ∙ empty_made round (depth * slots) value first)
 
 module _ {has : ℕ → Type 0} {depth slots round : ℕ} {cells : List Cell} (c : AreCells has depth slots round cells) where
   pub are_next : AreCells has depth slots (round + 1) cells

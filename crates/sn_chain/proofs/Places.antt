@@ -15,7 +15,7 @@ use Rattle.sn_chain.specs.Registers.{cell}
 one_left : (depth register : ℕ) → register < depth → depth - register ≡ suc (depth - (register + 1))
 one_left depth register h = omega arith
 
--- the search goes on behind a place that fails, and ends at one that passes
+-- the search goes on after a place that fails, and ends at one that passes
 place_first : (t : ℕ → Bool) (slots register depth : ℕ) (key : Row) → register < depth →
     find t (places_from slots register (depth - register) key) ≡ cond (t (place_for slots key register)) (Some (place_for slots key register)) (find t (places_from slots (register + 1) (depth - (register + 1)) key))
 place_first t slots register depth key within = ap (λ n. find t (places_from slots register n key)) (one_left depth register within)

@@ -1,3 +1,4 @@
+-- serves proofs
 use Rattle.std.specs.Prelude.{◌≡◌, ℕ, ◌*◌, ◌≤◌, List, [], map, length, Option, Some, None, if◌then◌else◌, nat_eq}
 use Rattle.std.specs.List.{AllByRecursion}
 use Rattle.sn_base.specs.Groups.{Row}
@@ -33,7 +34,7 @@ pub record IsCell (has : ℕ → Type 0) (round : ℕ) (c : Cell) : Type 0 where
   pub no_later : c.round ≤ round
   pub had : has c.value
 
--- the cells of so many registers with so many slots each. A key of the round stands at one of its places, and once
+-- the cells of n registers with m slots each. A key of the round stands at one of its places, and once
 pub record AreCells (has : ℕ → Type 0) (depth slots round : ℕ) (cells : List Cell) : Type 0 where
   pub some_depth : 1 ≤ depth
   pub most_depth : depth ≤ 4

@@ -1,3 +1,4 @@
+-- serves proofs
 use Rattle.std.specs.Prelude.{◌≡◌, ℕ, ◌+◌, ◌*◌, ◌<◌, List, map, fold, replicate, Bool, true, false, nat_eq, slice_index, refl, Option, Some, None}
 use Rattle.std.specs.Option.{option_map}
 use Rattle.std.specs.Map.{lookup}
@@ -18,7 +19,7 @@ place_for slots key register = register * slots + slot register key slots
 abbrev pub AreSlots : ℕ → ℕ → Row → List ℕ → Type 0
 AreSlots depth slots key at = (register : ℕ) → register < depth → slice_index at register ≡ slot register key slots
 
--- a key's places in so many registers from this one on
+-- a key's places in this many registers from this one on
 abbrev pub places_from : ℕ → ℕ → ℕ → Row → List ℕ
 places_from slots register count key = map (place_for slots key) (range_with_len register count)
 
@@ -26,7 +27,7 @@ places_from slots register count key = map (place_for slots key) (range_with_len
 abbrev pub places_of : ℕ → ℕ → Row → List ℕ
 places_of depth slots key = places_from slots 0 depth key
 
--- the resident keys of a list, each behind its place
+-- the resident keys of a list, each beside its place
 abbrev pub homes_of : ℕ → ℕ → List Row → List (ℕ × Row)
 homes_of depth slots keys = residents same_row (places_of depth slots) keys
 

@@ -1,3 +1,4 @@
+-- to be believed
 -- The resident keys of a list in the order in which a chain is read out.
 use Rattle.std.specs.Prelude.{ℕ, List, [], ◌∷◌, map, nat_le, Option, if◌then◌else◌}
 use Rattle.std.specs.List.{filter_map}

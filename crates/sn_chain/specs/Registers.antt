@@ -1,3 +1,4 @@
+-- serves proofs
 -- What one offer does to the cells of a chain of registers.
 use Rattle.std.specs.Prelude.{ℕ, List, Bool, false, Option, Some, None, is_none, slice_set, slice_index_or}
 use Rattle.std.specs.Option.{option_map}

@@ -1,3 +1,4 @@
+-- to be believed
 -- Where keys reside: a definition over the whole list of keys that come, each distinct key placed once.
 use Rattle.std.specs.Prelude.{ℕ, List, [], ◌∷◌, map, fold, Bool, not, nat_eq, Option, Some, None}
 use Rattle.std.specs.List.{find, list_any}
@@ -16,7 +17,7 @@ module _ {K : Type 0} (same : K → K → Bool) (places : K → List ℕ) where
   abbrev pub seated : List (ℕ × K) → K → List (ℕ × K)
   seated taken k = seated_at taken k (free_place taken k)
 
-  -- the resident keys of a list, each behind its place. Each later repeat of a key is dropped. The others, in
+  -- the resident keys of a list, each beside its place. Each later repeat of a key is dropped. The others, in
   -- order, take each the first of its places that isn't taken; a key without such a place is an overflow key.
   abbrev pub residents : List K → List (ℕ × K)
   residents keys = fold seated [] (once same keys)

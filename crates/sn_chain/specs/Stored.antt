@@ -1,10 +1,11 @@
+-- serves proofs
 -- The cells of a chain, as they lie in memory.
 use Rattle.std.specs.Prelude.{◌≡◌, ℕ, ◌-◌, ◌≤◌, List, [], ◌∷◌, ◌++◌, length, take}
 use Rattle.std.specs.List.{AllByRecursion}
 use Rattle.sn_chain.specs.Cells.{Cell}
 use Rattle.sn_chain.specs.declared.cells.Head.{Head}
 
--- the cell of a head and of the columns behind the third
+-- the cell of a head and of the columns after the third
 abbrev pub cell_of : Head → List ℕ → Cell
 cell_of head tail = record { round = head.round; key = take head.count head.front ++ take (head.count - 3) tail; value = head.value }
 

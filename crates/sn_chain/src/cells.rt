@@ -26,7 +26,7 @@ struct Head {
 
 /// The cells of a chain. A search looks at a few cells that lie far apart, and most of its time goes by in
 /// waiting for them, so what it looks at is small and lies together: 40 bytes a cell, of which the nearer
-/// caches hold more. The columns behind a key's third lie elsewhere, and are touched only where a key has
+/// caches hold more. The columns after a key's third lie elsewhere, and are touched only where a key has
 /// them.
 #[derive(Drop)]
 pub(crate) struct Cells {
@@ -48,7 +48,7 @@ impl Model for Cells {
 }
 
 impl Cells {
-    /// So many cells, taken in no round, each with this value. All memory that they ever need is taken here.
+    /// This many cells, taken in no round, each with this value. All memory that they ever need is taken here.
     pub fn make(alloc: Global, count: usize, value: u64) -> Result<Cells, Memory>
         ensures { IfOk result (λ cells. cells ≡ replicate count (untaken value)) }
     {
@@ -164,7 +164,7 @@ fn put_back(heads: &mut [Head])
     }
 }
 
-/// Puts columns behind those of a row.
+/// Puts columns after those of a row.
 fn extend(row: &mut Row, columns: &[u64])
     requires { length row.old + length columns.now ≤ 8 }
     ensures { row.new ≡ row.old ++ columns.now }
@@ -184,7 +184,7 @@ fn front_of(columns: &[u64]) -> [u64; 3]
     front
 }
 
-/// The columns behind the third.
+/// The columns after the third.
 fn tail_of(columns: &[u64]) -> [u64; 5]
     requires some { 3 < length columns.now }
     requires most { length columns.now ≤ 8 }

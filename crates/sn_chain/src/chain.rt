@@ -48,13 +48,31 @@ impl<F: Fold> Chain<F> {
         requires most_slots { slots ≤ 65536 }
         ensures { IfOk result (λ chain. chain ≡ empty_chain fold depth slots) }
     {
+        Chain::make_in_round(alloc, fold, depth, slots, 1)
+    }
+
+    /// What `make` gives, in a later round: as if it had been cleared once for each round before this one.
+    pub fn make_in_round(
+        alloc: Global,
+        fold: F,
+        depth: u32,
+        slots: u32,
+        round: u32,
+    ) -> Result<Chain<F>, Memory>
+        requires some_depth { 1 ≤ depth }
+        requires most_depth { depth ≤ 4 }
+        requires some_slots { 1 ≤ slots }
+        requires most_slots { slots ≤ 65536 }
+        requires first_round { 1 ≤ round }
+        ensures { IfOk result (λ chain. chain ≡ empty_chain fold depth slots) }
+    {
         let value = fold.unit();
         let cells = Cells::make(alloc, depth as usize * slots as usize, value)?;
         Ok(Chain {
             fold,
             depth,
             slots,
-            round: 1,
+            round,
             cells,
         })
     }
@@ -138,131 +156,5 @@ impl<F: Fold> Chain<F> {
             self.round = 0;
         }
         self.round += 1;
-    }
-}
-
-#[cfg(test)]
-mod tests {
-    use super::*;
-    use sn_base::any_fold::AnyFold;
-    use sn_base::fold::{Max, SatSum};
-    use sn_base::slot::slot_of;
-    use std::test::Fail;
-
-    fn key(column: u64) -> Row {
-        Row::empty().with(column).unwrap_or(Row::empty())
-    }
-
-    #[test]
-    fn holds_one_key_in_one_cell(rt: HostRuntime) -> Result<(), Fail> {
-        let mut chain = Chain::make(rt.alloc(), SatSum { v: 16 }, 1, 1)?;
-        assert_eq!(rt; chain.offer(&key(1), 1), Offer::New);
-        assert_eq!(rt; chain.offer(&key(2), 1), Offer::Over);
-        assert_eq!(rt; chain.offer(&key(1), 1), Offer::Held);
-        assert_eq!(rt; chain.get(0), Some((key(1), 2)));
-        chain.clear();
-        assert_eq!(rt; chain.get(0), None);
-        assert_eq!(rt; chain.offer(&key(2), 1), Offer::New);
-        Ok(())
-    }
-
-    #[test]
-    fn takes_the_second_register(rt: HostRuntime) -> Result<(), Fail> {
-        let mut chain = Chain::make(rt.alloc(), SatSum { v: 16 }, 2, 1)?;
-        assert_eq!(rt; chain.offer(&key(1), 1), Offer::New);
-        assert_eq!(rt; chain.offer(&key(2), 1), Offer::New);
-        assert_eq!(rt; chain.offer(&key(3), 1), Offer::Over);
-        assert_eq!(rt; chain.get(1), Some((key(2), 1)));
-        assert_eq!(rt; chain.get(2), None);
-        Ok(())
-    }
-
-    #[test]
-    fn folds_by_the_fold_that_is_given(rt: HostRuntime) -> Result<(), Fail> {
-        let fold = AnyFold::Max(Max { v: 8 });
-        let mut chain = Chain::make(rt.alloc(), fold, 4, 65536)?;
-        assert_eq!(rt; chain.offer(&key(1), 7), Offer::New);
-        assert_eq!(rt; chain.offer(&key(1), 5), Offer::Held);
-        let place = slot_of(0, &key(1), 65536);
-        assert_eq!(rt; chain.get(place), Some((key(1), 7)));
-        Ok(())
-    }
-
-    #[test]
-    fn takes_a_slot_that_is_known(rt: HostRuntime) -> Result<(), Fail> {
-        let mut chain = Chain::make(rt.alloc(), SatSum { v: 16 }, 1, 256)?;
-        let first = key(1);
-        let at = [slot_of(0, &first, 256), 0, 0, 0];
-        assert_eq!(rt; chain.offer_at(&first, 3, &at), Offer::New);
-        assert_eq!(rt; chain.get(164), Some((first, 3)));
-        Ok(())
-    }
-
-    fn row(columns: &[u64]) -> Row {
-        Row::new(columns).unwrap_or(Row::empty())
-    }
-
-    /// Whether a chain of two cells keeps two keys apart, the one offered first.
-    fn are_apart(alloc: Global, one: &Row, other: &Row) -> Result<bool, Memory> {
-        let mut chain = Chain::make(alloc, SatSum { v: 16 }, 2, 1)?;
-        let came = chain.offer(one, 1) == Offer::New && chain.offer(other, 2) == Offer::New;
-        let again = chain.offer(one, 4) == Offer::Held && chain.offer(other, 8) == Offer::Held;
-        let shown = chain.get(0) == Some((*one, 5)) && chain.get(1) == Some((*other, 10));
-        Ok(came && again && shown)
-    }
-
-    #[test]
-    fn tells_keys_apart_by_their_last_column(rt: HostRuntime) -> Result<(), Fail> {
-        let three = row(&[7, 7, 1]);
-        assert!(rt; are_apart(rt.alloc(), &three, &row(&[7, 7, 2]))?);
-        assert!(rt; are_apart(rt.alloc(), &row(&[7, 7, 2]), &three)?);
-        let four = row(&[7, 7, 7, 1]);
-        assert!(rt; are_apart(rt.alloc(), &four, &row(&[7, 7, 7, 2]))?);
-        assert!(rt; are_apart(rt.alloc(), &row(&[7, 7, 7, 2]), &four)?);
-        let eight = row(&[7, 7, 7, 7, 7, 7, 7, 1]);
-        assert!(rt; are_apart(rt.alloc(), &eight, &row(&[7, 7, 7, 7, 7, 7, 7, 2]))?);
-        assert!(rt; are_apart(rt.alloc(), &row(&[7, 7, 7, 7, 7, 7, 7, 2]), &eight)?);
-        Ok(())
-    }
-
-    #[test]
-    fn shows_nothing_of_what_was_cleared(rt: HostRuntime) -> Result<(), Fail> {
-        let mut chain = Chain::make(rt.alloc(), SatSum { v: 16 }, 2, 1)?;
-        assert_eq!(rt; chain.offer(&row(&[1, 2, 3, 4, 5, 6, 7, 8]), 1), Offer::New);
-        assert_eq!(rt; chain.offer(&row(&[1, 2, 3, 4, 5]), 1), Offer::New);
-        chain.clear();
-        assert_eq!(rt; chain.get(0), None);
-        assert_eq!(rt; chain.get(1), None);
-        assert_eq!(rt; chain.offer(&row(&[1, 2, 3, 4]), 3), Offer::New);
-        assert_eq!(rt; chain.get(0), Some((row(&[1, 2, 3, 4]), 3)));
-        assert_eq!(rt; chain.get(1), None);
-        Ok(())
-    }
-
-    /// An empty chain of two cells in the last round that 32 bits number.
-    fn in_last_round(alloc: Global) -> Result<Chain<SatSum>, Memory>
-        ensures { IfOk result (λ chain. chain.fold.v ≡ 16) }
-    {
-        let cells = Cells::make(alloc, 2, 0)?;
-        Ok(Chain {
-            fold: SatSum { v: 16 },
-            depth: 2,
-            slots: 1,
-            round: u32::MAX,
-            cells,
-        })
-    }
-
-    #[test]
-    fn clears_in_the_last_round(rt: HostRuntime) -> Result<(), Fail> {
-        let mut chain = in_last_round(rt.alloc())?;
-        assert_eq!(rt; chain.offer(&key(1), 1), Offer::New);
-        assert_eq!(rt; chain.offer(&key(2), 2), Offer::New);
-        chain.clear();
-        assert_eq!(rt; chain.get(0), None);
-        assert_eq!(rt; chain.get(1), None);
-        assert_eq!(rt; chain.offer(&key(2), 3), Offer::New);
-        assert_eq!(rt; chain.get(0), Some((key(2), 3)));
-        Ok(())
     }
 }

@@ -15,7 +15,7 @@ use Rattle.sn_cli.specs.Reading.{same, is_flag, flag_of, numbered_of, options_fr
 use Rattle.sn_cli.proofs.NumberLemmas.{and_left, and_right, none_some, some_same, taken, passed, number_is, is_number}
 use Rattle.sn_cli.proofs.OptionLemmas.{flag_step, options_found, options_are_said, is_free, is_false, word_is}
 
--- what was found behind a step
+-- what was found after a step
 record Behind {A B : Type 0} (f : A → Option B) (from : Option A) (to : B) : Type 0 where
   value : A
   is : from ≡ Some value

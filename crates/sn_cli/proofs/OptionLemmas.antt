@@ -40,7 +40,7 @@ or_false false = refl
 both_none : (given : Options) → both given no_options ≡ given
 both_none given = options_are (both given no_options) given (or_else_none given.nodes) (or_else_none given.schedule) (or_false given.csv) (or_false given.trace)
 
--- an option more, whether it is given before or behind
+-- an option more, whether it is given before or after
 nodes_both : (given rest : Options) (n : ℕ) → given.nodes ≡ None → both (with_nodes given n) rest ≡ both given (with_nodes rest n)
 nodes_both given rest n free = options_are (both (with_nodes given n) rest) (both given (with_nodes rest n)) (sym (ap (λ o. or_else o (Some n)) free)) refl refl refl
 

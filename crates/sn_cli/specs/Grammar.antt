@@ -1,3 +1,4 @@
+-- to be believed
 -- The words that spell a command.
 use Rattle.std.specs.Prelude.{◌≡◌, ℕ, List, [], ◌∷◌, ◌++◌, true, false, Option, Some, None, unwrap_or, length, codes}
 use Rattle.std.specs.List.{list_all}
@@ -23,7 +24,7 @@ pub data AreOptions : List (List ℕ) → Options → Type 0 where
   -- `--trace` before options without it
   trace : (words : List (List ℕ)) (rest : Options) → rest.trace ≡ false → AreOptions words rest → AreOptions (codes "--trace" ∷ words) (record rest { trace = true })
 
--- a command word, so many file words, and behind all of them the options that say this
+-- a command word, this many file words, and after all of them the options that say this
 pub record Line (command : List ℕ) (files : ℕ) (options : Options) (words : List (List ℕ)) : Type 0 where
   pub names : List (List ℕ)
   pub behind : List (List ℕ)

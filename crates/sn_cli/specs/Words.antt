@@ -1,3 +1,4 @@
+-- to be believed
 -- Words: those that name files, and those that are numbers.
 use Rattle.std.specs.Prelude.{◌≡◌, ℕ, ◌+◌, ◌-◌, ◌*◌, ◌≤◌, List, [], ◌∷◌, Bool, true, not, ◌&&◌, ◌==◌, nat_lt, nat_le, length, slice_index, slice_index_or, map, String}
 use Rattle.std.specs.List.{list_all}
@@ -20,7 +21,7 @@ is_file_word word = nat_lt 0 (length word) && not (slice_index word 0 == 45)
 abbrev pub is_digit : ℕ → Bool
 is_digit byte = nat_le 48 byte && nat_le byte 57
 
--- the number that digits stand for behind this one
+-- the number that digits stand for after this one
 abbrev pub value_behind : ℕ → List ℕ → ℕ
 value_behind n [] = n
 value_behind n (digit ∷ digits) = value_behind (n * 10 + (digit - 48)) digits

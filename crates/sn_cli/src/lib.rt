@@ -5,6 +5,4 @@ pub mod command;
 pub mod law;
 mod numbers;
 pub mod options;
-#[cfg(test)]
-mod tests;
 pub mod words;

@@ -2,7 +2,7 @@
 ghost use Rattle.std.specs.Prelude.{◌≡◌};
 ghost use Rattle.sn_cli.specs.Reading.{value_within, number_of};
 
-/// The number that decimal digits stand for, if they all are digits and it is at most so large.
+/// The number that decimal digits stand for, if they all are digits and it is at most this large.
 fn value_of(digits: &[u8], most: u32) -> Option<u32>
     ensures { result ≡ value_within most digits.now }
 {

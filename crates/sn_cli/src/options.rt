@@ -8,9 +8,9 @@ use crate::numbers::number;
 /// What options say: each may be given once.
 #[derive(Clone, Copy, Debug, PartialEq, Eq)]
 pub struct Options {
-    /// The number behind `--nodes`.
+    /// The number after `--nodes`.
     pub nodes: Option<u32>,
-    /// The number behind `--schedule`.
+    /// The number after `--schedule`.
     pub schedule: Option<u32>,
     /// `--csv` is given.
     pub csv: bool,

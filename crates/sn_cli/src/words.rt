@@ -30,7 +30,7 @@ fn are_file_words(words: &[String]) -> bool
     true
 }
 
-/// What the options behind so many file words say.
+/// What the options after this many file words say.
 fn line(words: &[String], files: usize) -> Option<Options>
     ensures { result ≡ line_of files (texts words.now) }
 {
@@ -117,7 +117,7 @@ fn live(given: Options) -> Option<Command>
     }
 }
 
-/// The command of a command word and the words behind it.
+/// The command of a command word and the words after it.
 fn command(word: &str, rest: &[String]) -> Option<Command>
     ensures { result ≡ command_with word.now (texts rest.now) }
 {

@@ -15,7 +15,7 @@ use Rattle.sn_command.specs.Runs.{WorksFrom}
 use Rattle.sn_command.specs.Ends.{end_status, end_line, Excused, Comes, IsRun, IsTold, IsStatusTold, IsCommandRun}
 use Rattle.sn_command.proofs.FaultLemmas.{faults_own, three_of, four_of}
 
--- status 1 is that of want of memory alone
+-- status 1 is that of being out of memory alone
 one_is : (answer : Result (Unit {0}) Refusal) → end_status answer ≡ 1 → answer ≡ Err Memory
 one_is (Ok u) e = absurd (omega arith)
 one_is (Err Memory) e = refl
@@ -149,7 +149,7 @@ chance_line (Err (Refused f)) due chance e = absurd (false≢true chance)
 line_due : (outcome : Outcome (Unit {0})) (answer : Result (Unit {0}) Refusal) (before now : Option (List ℕ)) → Keeps outcome answer before now → end_status answer ≡ end_status outcome.end → end_line answer ≡ end_line outcome.end
 line_due outcome answer before now k e = by_test (by_chance answer) (λ chance. chance_line answer outcome.end chance (sym e)) (λ sure. ap end_line (k.ends sure))
 
--- what is told of an answer
+-- what is printed of an answer
 pub status_told : (answer : Result (Unit {0}) Refusal) (before now : Sunk) → IsTold (end_line answer) before now → IsStatusTold (end_status answer) before now
 status_told answer before now told = (answer, refl, told)
 

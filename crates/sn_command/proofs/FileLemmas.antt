@@ -35,7 +35,7 @@ module _ (name : List ℕ) (old new : ByName ℕ) (rises : OnlyRises name old ne
       (λ is. let e = (bytes_decides other name).0 is in rw e rises.later)
       (λ isnt. let e : count_of new other ≡ count_of old other = ap (λ o. unwrap_or o 0) (rises.others other (λ e. false≢true (sym isnt ∙ (bytes_decides other name).1 e))) in omega arith)
 
--- a known name's file, where contents are told
+-- a known name's file, where contents are known
 pub known_file : (held : ByName (List ℕ)) (told : Option (ByName (List ℕ))) (name : List ℕ) (P : List ℕ → Type 0) → told ≡ Some held → is_some (get held name) ≡ true → IfSome (told_file told name) P → (file : List ℕ) × (get held name ≡ Some file) × P file
 known_file held told name P same known h = of (get held name) refl known (subst (λ (t : Option (ByName (List ℕ))). IfSome (told_file t name) P) same h)
   where

@@ -24,11 +24,11 @@ all_front text before now e = (length text, omega arith, e ∙ ap (append_known 
 pub no_front : (text : List ℕ) (before : Option (List ℕ)) → WentOutFront text before before
 no_front text before = (0, omega arith, told_none before)
 
--- a front of a text is one of the text with more behind it
+-- a front of a text is one of the text with more after it
 pub front_longer : (text more : List ℕ) (before now : Option (List ℕ)) → WentOutFront text before now → WentOutFront (text ++ more) before now
 front_longer text more before now (k, within, e) = (k, rw length-append (omega arith), e ∙ ap (append_known before) (sym (take-append-le k text more within)))
 
--- a front of a text behind one that went out
+-- a front of a text after one that went out
 pub front_behind : (first text : List ℕ) (before now later : Option (List ℕ)) → now ≡ append_known before first → WentOutFront text now later → WentOutFront (first ++ text) before later
 front_behind first text before now later told (k, within, e) = (
   length first + k,
@@ -36,7 +36,7 @@ front_behind first text before now later told (k, within, e) = (
   e ∙ ap (λ t. append_known t (take k text)) told ∙ told_twice before first (take k text) ∙ ap (append_known before) (sym (take-append-add first text k)),
 )
 
--- a text behind one that went out
+-- a text after one that went out
 pub behind_text : {A : Type 0} (first : List ℕ) (o : Outcome A) (answer : Result A Refusal) (before now later : Option (List ℕ)) → now ≡ append_known before first → Keeps o answer now later → Keeps (record { text = first ++ o.text; end = o.end }) answer before later
 behind_text first o answer before now later told k = record {
   front = front_behind first o.text before now later told k.front;

@@ -1,4 +1,4 @@
--- One stage behind another.
+-- One stage after another.
 use Rattle.std.proofs.Common.{◌≡◌, ℕ, ◌≤◌, List, [], ◌∷◌, ◌++◌, false, Option, Result, Ok, Err, take, refl, ap, sym, ◌∙◌, subst, arith}
 use Rattle.std.specs.Io.KnownBytes.{append_known}
 use Rattle.sn_io.specs.Counts.{ByName}
@@ -73,7 +73,7 @@ module _ {A B : Type 0} {first : Stage A} {second : A → Stage B} {unread : ℕ
     follows = follows_then before now later r.follows s.follows;
   }
 
-  -- the same, where the second is behind the queries and the switch
+  -- the same, where the second is after the queries and the switch
   pub runs_then : {value : A} {answer : Result B Refusal} {later : World} → RunsFrom unread names first before (Ok value) now → Runs more (second value) now answer later → RunsFrom unread (names ++ more) (Then first second) before answer later
   runs_then r s = goes_on r s (λ fault e. absurd (let no : 0 ≡ 2 = (s.queries fault e).0 in omega arith)) (λ fault e. absurd (let no : 1 ≤ 0 = (s.switch fault e).0 in omega arith))
 
@@ -108,7 +108,7 @@ module _ {A B : Type 0} {first : Stage A} {second : A → Stage B} {more : List 
     unknown = λ e. absurd (let no = w.unknown e in cc);
   }
 
--- a run behind the queries and the switch is one from before them
+-- a run after the queries and the switch is one from before them
 pub runs_any : {A : Type 0} {unread : ℕ} {names : List (List ℕ)} {stage : Stage A} {before now : World} {answer : Result A Refusal} → Runs names stage before answer now → RunsFrom unread names stage before answer now
 runs_any r = record {
   keeps = r.keeps;
@@ -143,7 +143,7 @@ runs_chance stage w = record {
   follows = follows_self w;
 }
 
--- A verdict that may come while so many of the two files were not read before: the queries are refused while neither was, and the
+-- A verdict that may come while this many of the two files were not read before: the queries are refused while neither was, and the
 -- switch while it wasn't.
 abbrev pub MayCome : {A : Type 0} → ℕ → Result A Fault → Type 0
 MayCome unread (Ok value) = Unit {0}

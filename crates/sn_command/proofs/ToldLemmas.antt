@@ -1,4 +1,4 @@
--- A line told piece by piece, over plain values.
+-- A line printed piece by piece, over plain values.
 use Rattle.std.proofs.Common.{◌≡◌, ℕ, ◌+◌, ◌≤◌, List, [], ◌∷◌, ◌++◌, Bool, true, false, length, drop, get_or, ◌<◌, subst, add-one, inl, inr, refl, ap, sym, ◌∙◌, arith}
 use Rattle.std.proofs.lemmas.Bool.{false≢true}
 use Rattle.std.specs.Io.KnownBytes.{append_known}
@@ -20,7 +20,7 @@ pub told_begin : (whole : List ℕ) (now : Sunk) → TellsOn whole whole now now
 told_begin whole now = λ all later k. k
 
 module _ (first rest whole : List ℕ) (before now after : Sunk) (on : TellsOn (first ++ rest) whole before now) where
-  -- behind a piece that failed nothing more is told
+  -- after a piece that failed nothing more is printed
   pub told_stops : Tells first false now after → Tells whole false before after
   told_stops k = on false after (record { front = front_longer first rest now.written after.written k.front; whole = λ e. absurd (false≢true e); rose = k.rose; faults = k.faults; takes = k.takes })
 
@@ -34,7 +34,7 @@ module _ (first rest whole : List ℕ) (before now after : Sunk) (on : TellsOn (
     takes = let x = k.takes in let y = r.takes in omega arith;
   })
 
--- all of it is told where no count rose
+-- all of it is printed where no count rose
 pub is_told : (line : List ℕ) (all : Bool) (before now : Sunk) → Tells line all before now → IsTold line before now
 is_told line all before now k = record {
   front = k.front;

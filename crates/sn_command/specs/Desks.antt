@@ -1,3 +1,4 @@
+-- to be believed
 -- What stands on a desk.
 use Rattle.sn_io.specs.declared.inputs.Inputs.{Ghosts as InputsOf}
 use Rattle.sn_io.specs.declared.sink.Sink.{Ghosts as SinkOf}

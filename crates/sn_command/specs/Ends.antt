@@ -1,3 +1,4 @@
+-- to be believed
 -- How a command ends, and why.
 use Rattle.std.specs.Prelude.{◌≡◌, ℕ, ◌⊎◌, List, [], Option, Some, is_some, Result, Ok, Err, ◌≤◌, take}
 use Rattle.std.specs.Io.KnownBytes.{append_known}
@@ -18,7 +19,7 @@ abbrev pub end_line : Result (Unit {0}) Refusal → List ℕ
 end_line (Ok _) = []
 end_line (Err refusal) = line_of refusal
 
--- Why a run may end otherwise than its outcome: want of memory, a count of a file word that rose, or a count of the
+-- Why a run may end otherwise than its outcome: memory ran out, a count of a file word that rose, or a count of the
 -- output that rose.
 abbrev pub Excused : Type 0 → Type 0 → ℕ → Type 0
 Excused read_rose write_rose status = (status ≡ 1) ⊎ (((status ≡ 9) × read_rose) ⊎ ((status ≡ 10) × write_rose))
@@ -56,15 +57,15 @@ pub record IsRun (outcome : Outcome (Unit {0})) (read_rose write_rose : Type 0) 
   -- What was written is always a front of the text, and all of it unless the run is excused.
   pub front : WentOutFront outcome.text before now
   pub whole : (Excused read_rose write_rose status → ⊥) → now ≡ append_known before outcome.text
-  -- Where no count rose, the status is the outcome's and the whole text is written, unless memory was wanting.
+  -- Where no count rose, the status is the outcome's and the whole text is written, unless memory ran out.
   pub complete : (read_rose → ⊥) → (write_rose → ⊥) → (status ≡ 1) ⊎ ((status ≡ end_status outcome.end) × (now ≡ append_known before outcome.text))
 
--- a line is told: a front of it always, and all of it where no count rose
+-- a line is printed: a front of it always, and all of it where no count rose
 pub record IsTold (line : List ℕ) (before now : Sunk) : Type 0 where
   pub front : WentOutFront line before.written now.written
   pub whole : (OutRose before now → ⊥) → now.written ≡ append_known before.written line
 
--- a line of this status is told, by the table of statuses and lines
+-- a line of this status is printed, by the table of statuses and lines
 abbrev pub IsStatusTold : ℕ → Sunk → Sunk → Type 0
 IsStatusTold status before now = (end : Result (Unit {0}) Refusal) × (status ≡ end_status end) × IsTold (end_line end) before now
 
@@ -76,7 +77,7 @@ pub record Around : Type 0 where
 
 -- A call with the words of a command that reads the files of these names, against the stages of the command's work.
 pub record IsCommandRun (names : List (List ℕ)) (work : Stage (Unit {0})) (before : Around) (status : ℕ) (now : Around) : Type 0 where
-  -- Over files whose contents are told, it is the run of the work's outcome.
+  -- Over files whose contents are known, it is the run of the work's outcome.
   pub run : (files : ByName (List ℕ)) → before.files.told ≡ Some files → (outcome : Outcome (Unit {0})) → work files outcome →
       IsRun outcome (AnyRose names before.files now.files) (OutRose before.out now.out) status before.out.written now.out.written
   -- Then, where the status is the one that is due, the line is that of the outcome.
@@ -85,7 +86,7 @@ pub record IsCommandRun (names : List (List ℕ)) (work : Stage (Unit {0})) (bef
   -- 9 over any files: only where the count of a file word rose, or a file word isn't known; always where the first one isn't.
   pub read_fault : status ≡ 9 → AnyRose names before.files now.files ⊎ AnyUnknown names before.files
   pub unknown : FirstUnknown names before.files → status ≡ 9
-  -- Over any files: what is told of them stays, the same names are known, and no count falls.
+  -- Over any files: what is known of their contents stays, the same names are known, and no count falls.
   pub told : now.files.told ≡ before.files.told
   pub known : (name : List ℕ) → is_some (get now.files.faults name) ≡ is_some (get before.files.faults name)
   pub faults : (name : List ℕ) → count_of before.files.faults name ≤ count_of now.files.faults name

@@ -1,3 +1,4 @@
+-- to be believed
 -- The status of each fault.
 use Rattle.std.specs.Prelude.{ℕ}
 use Rattle.sn_command.specs.declared.fault.Fault.{Fault}

@@ -1,3 +1,4 @@
+-- to be believed
 -- What a stage of a command's work does.
 use Rattle.std.specs.Prelude.{◌≡◌, ℕ, ◌≤◌, List, [], Result, Option, false, length, take}
 use Rattle.std.specs.Io.KnownBytes.{append_known}

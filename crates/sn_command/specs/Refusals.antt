@@ -1,3 +1,4 @@
+-- to be believed
 -- The status of each refusal, and which refusals are chances.
 use Rattle.std.specs.Prelude.{ℕ, Bool, true, false, Result, Ok, Err}
 use Rattle.sn_command.specs.declared.refusal.Refusal.{Refusal}
@@ -13,7 +14,7 @@ status_of ReadFault = 9
 status_of WriteFault = 10
 status_of (Refused fault) = fault_status fault
 
--- Want of memory, or a read or a write that failed: these don't follow from the words and the files.
+-- Out of memory, or a read or a write that failed: these don't follow from the words and the files.
 abbrev pub is_chance : Refusal → Bool
 is_chance Memory = true
 is_chance ReadFault = true

@@ -1,3 +1,4 @@
+-- serves proofs
 -- What a function that does a stage answers, and why.
 use Rattle.std.specs.Prelude.{◌≡◌, ℕ, ◌≤◌, List, Result, Ok, Err, Some, take}
 use Rattle.sn_io.specs.Counts.{ByName}
@@ -11,9 +12,9 @@ use Rattle.sn_command.specs.Worlds.{World, AnyRose, AnyUnknown, FirstUnknown, Sp
 use Rattle.sn_command.specs.Outcomes.{Outcome, Stage, Keeps}
 
 -- A run of a stage that reads the files of these names, each when its turn comes. A command reads the queries first, and then
--- the switch, if it reads one: of these two files so many stand at the front of the names, and the others were read before.
+-- the switch, if it reads one: of these two files this many stand at the front of the names, and the others were read before.
 pub record RunsFrom {A : Type 0} (unread : ℕ) (names : List (List ℕ)) (stage : Stage A) (before : World) (answer : Result A Refusal) (now : World) : Type 0 where
-  -- Over files whose contents are told, it is the run of each outcome of the stage.
+  -- Over files whose contents are known, it is the run of each outcome of the stage.
   pub keeps : (files : ByName (List ℕ)) → before.files.told ≡ Some files → (outcome : Outcome A) → stage files outcome → Keeps outcome answer before.out.written now.out.written
   -- A name is missing only where one of them isn't known.
   pub missing : answer ≡ Err Missing → AnyUnknown names before.files
@@ -27,11 +28,11 @@ pub record RunsFrom {A : Type 0} (unread : ℕ) (names : List (List ℕ)) (stage
   pub others : Spares names before.files now.files
   -- The queries are refused only while none of the two files was read before, and then no name's count but the first one's changes.
   pub queries : (fault : QueryFault) → answer ≡ Err (Refused (Queries fault)) → (unread ≡ 2) × Spares (take 1 names) before.files now.files
-  -- The switch is refused only while it wasn't read before, and then no count changes of a name behind the two.
+  -- The switch is refused only while it wasn't read before, and then no count changes of a name after the two.
   pub switch : (fault : TextFault) → answer ≡ Err (Refused (Switch fault)) → (1 ≤ unread) × Spares (take unread names) before.files now.files
   pub follows : Follows before now
 
--- a run behind the queries and the switch
+-- a run after the queries and the switch
 abbrev pub Runs : {A : Type 0} → List (List ℕ) → Stage A → World → Result A Refusal → World → Type 0
 Runs = RunsFrom 0
 
@@ -43,7 +44,7 @@ pub record WorksFrom {A : Type 0} (unread : ℕ) (names : List (List ℕ)) (stag
 abbrev pub Works : {A : Type 0} → List (List ℕ) → Stage A → World → Result A Refusal → World → Type 0
 Works = WorksFrom 0
 
--- What a function answers that reads and writes nothing: what is judged, or want of memory.
+-- What a function answers that reads and writes nothing: what is judged, or that memory ran out.
 abbrev pub Answers : {A : Type 0} → (Result A Fault → Type 0) → Result A Refusal → Type 0
 Answers judgement (Ok value) = judgement (Ok value)
 Answers judgement (Err Memory) = Unit {0}

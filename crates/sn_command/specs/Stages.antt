@@ -1,3 +1,4 @@
+-- to be believed
 -- The stages of which commands are made.
 use Rattle.std.specs.Prelude.{◌≡◌, ℕ, List, ◌++◌, Result, Ok, Err, Option, Some, None, nat_lt, ◌^◌, length, if◌then◌else◌}
 use Rattle.std.specs.FinMap.{get}
@@ -44,12 +45,12 @@ pub record ReadAs {A F : Type 0} (name : F → Fault) (reading : Result A F → 
   pub is : reading found
   pub same : verdict ≡ named name found
 
--- the bytes of a file, of which there may be so many
+-- the bytes of a file, of which there may be this many
 abbrev pub within_limit : ℕ → Option (List ℕ) → Result (List ℕ) Refusal
 within_limit most None = Err Missing
 within_limit most (Some bytes) = if nat_lt most (length bytes) then Err (Refused TooLarge) else Ok bytes
 
--- A stage that gives the bytes of a file, at most so many: it refuses where the name isn't known, or the file has more.
+-- A stage that gives the bytes of a file, at most this many: it refuses where the name isn't known, or the file has more.
 abbrev pub Bytes : ℕ → List ℕ → Stage (List ℕ)
 Bytes most name files outcome = outcome ≡ silent (within_limit most (get files name))
 
@@ -57,12 +58,12 @@ Bytes most name files outcome = outcome ≡ silent (within_limit most (get files
 abbrev pub most_text : ℕ
 most_text = 2 ^ 30
 
--- What follows an outcome: nothing behind a refusal, and behind a value what goes on from it.
+-- What follows an outcome: nothing after a refusal, and after a value what goes on from it.
 abbrev pub GoesOn : {A B : Type 0} → (A → Stage B) → ByName (List ℕ) → List ℕ → Result A Refusal → Outcome B → Type 0
 GoesOn second files text (Err refusal) whole = whole ≡ record { text = text; end = Err refusal }
 GoesOn {B = B} second files text (Ok value) whole = (rest : Outcome B) × second value files rest × (whole ≡ record { text = text ++ rest.text; end = rest.end })
 
--- One stage and then another, which goes on from the value of the first. Its text stands behind the first one's. Where the
+-- One stage and then another, which goes on from the value of the first. Its text stands after the first one's. Where the
 -- first refuses, nothing follows.
 pub record Then {A B : Type 0} (first : Stage A) (second : A → Stage B) (files : ByName (List ℕ)) (whole : Outcome B) : Type 0 where
   pub begun : Outcome A

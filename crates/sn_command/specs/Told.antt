@@ -1,4 +1,5 @@
--- A line that is told piece by piece.
+-- serves proofs
+-- A line that is printed piece by piece.
 use Rattle.std.specs.Prelude.{◌≡◌, ℕ, ◌≤◌, List, Bool, true, false}
 use Rattle.std.specs.Fmt.{decimal}
 use Rattle.std.specs.List.{flat_map}
@@ -15,7 +16,7 @@ piece_text (Number number) = decimal number
 abbrev pub pieces_text : List Piece → List ℕ
 pieces_text = flat_map piece_text
 
--- What was told is a front of the text: all of it, or a count rose. No count fell.
+-- What was printed is a front of the text: all of it, or a count rose. No count fell.
 pub record Tells (text : List ℕ) (all : Bool) (before now : Sunk) : Type 0 where
   pub front : WentOutFront text before.written now.written
   pub whole : all ≡ true → now.written ≡ append_known before.written text

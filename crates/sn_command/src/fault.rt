@@ -10,13 +10,13 @@ use sn_types_read::fault::QueryFault;
 pub enum TextKind {
     /// No token begins here, or a number is past 64 bits.
     Lex,
-    /// The token goes on no such text.
+    /// No such text goes on with this token.
     Expected,
     /// The number is out of its range.
     Range,
     /// The item stands a second time.
     Twice,
-    /// The text ends before each item was there.
+    /// The text ends before every item has come.
     Missing,
 }
 

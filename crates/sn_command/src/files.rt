@@ -15,7 +15,7 @@ use std::alloc::Global;
 /// The most bytes of a text.
 pub const MOST_TEXT: u64 = 1 << 30;
 
-/// Reads a file of at most so many bytes whole.
+/// Reads a file of at most this many bytes whole.
 pub fn read_file<I: Inputs, O: Sink>(
     alloc: Global,
     desk: &mut Desk<'_, I, O>,

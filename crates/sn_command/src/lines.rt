@@ -102,7 +102,7 @@ fn head_line(fault: HeadFault) -> &'static [u8]
     }
 }
 
-/// Tells words for what is refused, its kind, and the place.
+/// Prints words for what is refused, its kind, and the place.
 fn tell_place<'x, E: Sink>(
     words: &'x [u8],
     kind: &'x [u8],
@@ -124,14 +124,14 @@ fn tell_place<'x, E: Sink>(
     )
 }
 
-/// Tells a word for what is refused, its kind, and the line.
+/// Prints a word for what is refused, its kind, and the line.
 fn tell_line<'x, E: Sink>(words: &'x [u8], kind: &'x [u8], line: u32, err: &mut E) -> bool
     ensures { Tells (words.now ++ kind.now ++ codes " line " ++ decimal line ++ 10 ∷ []) result (sunk E.Sink err.old) (sunk E.Sink err.new) }
 {
     tell_place(words, kind, b" line ", u64::from(line), err)
 }
 
-/// Tells words, two numbers with words between them, and the end of the line.
+/// Prints words, two numbers with words between them, and the end of the line.
 fn tell_two<'x, E: Sink>(
     words: &'x [u8],
     first: u32,
@@ -153,7 +153,7 @@ fn tell_two<'x, E: Sink>(
     )
 }
 
-/// Tells words, a number, and the end of the line.
+/// Prints words, a number, and the end of the line.
 fn tell_byte<E: Sink>(words: &[u8], byte: u64, err: &mut E) -> bool
     ensures { Tells (words.now ++ decimal byte ++ 10 ∷ []) result (sunk E.Sink err.old) (sunk E.Sink err.new) }
 {
@@ -190,7 +190,7 @@ fn tell_numbers<E: Sink>(want: u64, got: u64, err: &mut E) -> bool
     )
 }
 
-/// Tells the name of the check that a plan fails, and the two numbers.
+/// Prints the name of the check that a plan fails, and the two numbers.
 fn tell_misfit<E: Sink>(kind: &[u8], want: u64, got: u64, err: &mut E) -> bool
     ensures { Tells ((codes "sonata: plan " ++ kind.now ++ codes " want ") ++ (decimal want ++ codes " got " ++ decimal got ++ 10 ∷ [])) result (sunk E.Sink err.old) (sunk E.Sink err.new) }
 {
@@ -200,7 +200,7 @@ fn tell_misfit<E: Sink>(kind: &[u8], want: u64, got: u64, err: &mut E) -> bool
     tell_numbers(want, got, err)
 }
 
-/// Tells words for what is refused, its kind, a number with words before it, and words.
+/// Prints words for what is refused, its kind, a number with words before it, and words.
 fn tell_number<'x, E: Sink>(
     words: &'x [u8],
     kind: &'x [u8],
@@ -223,7 +223,7 @@ fn tell_number<'x, E: Sink>(
     )
 }
 
-/// Tells what a tree lacks, the node, and the two numbers.
+/// Prints what a tree lacks, the node, and the two numbers.
 fn tell_flaw<E: Sink>(kind: &[u8], flaw: TreeFlaw, err: &mut E) -> bool
     ensures { Tells ((codes "sonata: tree " ++ kind.now ++ codes " node " ++ decimal flaw.node ++ codes " want ") ++ (decimal flaw.want ++ codes " got " ++ decimal flaw.got ++ 10 ∷ [])) result (sunk E.Sink err.old) (sunk E.Sink err.new) }
 {
@@ -285,7 +285,7 @@ fn tell_refusal<E: Sink>(refusal: Refusal, err: &mut E) -> bool
     }
 }
 
-/// Tells the line on an answer, piece by piece, without memory. Behind a piece that failed nothing more is told.
+/// Prints the line on an answer, piece by piece, without memory. After a piece that failed nothing more is printed.
 pub fn tell<E: Sink>(answer: Result<(), Refusal>, err: &mut E)
     ensures { IsTold (end_line answer) (sunk E.Sink err.old) (sunk E.Sink err.new) }
 {

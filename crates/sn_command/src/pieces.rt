@@ -1,4 +1,4 @@
-//! A line told piece by piece, without memory.
+//! A line printed piece by piece, without memory.
 ghost use Rattle.std.specs.Prelude.{◌≡◌};
 ghost use Rattle.std.specs.Fmt.{decimal};
 ghost use Rattle.sn_command.specs.Desks.{sunk};
@@ -15,7 +15,7 @@ pub enum Piece<'a> {
     Number(u64),
 }
 
-/// Tells a text, and says whether all of it went out.
+/// Prints a text, and says whether all of it went out.
 pub fn tell_text<E: Sink>(text: &[u8], err: &mut E) -> bool
     ensures { Tells text.now result (sunk E.Sink err.old) (sunk E.Sink err.new) }
 {
@@ -41,7 +41,7 @@ fn tell_piece<E: Sink>(piece: Piece<'_>, err: &mut E) -> bool
     }
 }
 
-/// Tells the pieces in order, up to one that doesn't go out whole.
+/// Prints the pieces in order, up to one that doesn't go out whole.
 pub fn tell_pieces<E: Sink>(pieces: &[Piece<'_>], err: &mut E) -> bool
     ensures { Tells (pieces_text pieces.now) result (sunk E.Sink err.old) (sunk E.Sink err.new) }
 {

@@ -8,7 +8,7 @@ use sn_windows::windows::TooMany;
 /// Why a command ends otherwise than with its whole text.
 #[derive(Clone, Copy, Debug, PartialEq, Eq)]
 pub enum Refusal {
-    /// Want of memory.
+    /// Out of memory.
     Memory,
     /// The words are no command.
     Usage,

@@ -27,9 +27,9 @@ use Rattle.sn_command_capture.specs.Gathering.{Gathering, begins, closing, closi
 use Rattle.sn_command_capture.proofs.RisingLemmas.{rising_next, rising_other}
 use Rattle.sn_command_capture.proofs.WindowLemmas.{left_outcome, left_none, left_large, left_next, run_long, windows_more}
 
--- ---- one run, and what stands behind it
+-- ---- one run, and what stands after it
 
--- the records of the window at hand, each with its number
+-- the records of the current window, each with its number
 abbrev at_hand : ℕ → List Packet → List (ℕ × Packet)
 at_hand n held = map (λ p. (n, p)) held
 
@@ -133,14 +133,14 @@ cut_rises last.TooLarge z zs r = filter_rises (λ p. nat_lt p.0 (last_number (z 
 
 -- ---- what is left of a capture
 
--- a capture is refused behind this text
+-- a capture is refused after this text
 abbrev refused_as : Refusal → List ℕ → Outcome (List Window × Ending)
 refused_as refusal text = record { text = text; end = Err refusal }
 
 abbrev refused_behind : List ℕ → Outcome (List Window × Ending)
 refused_behind text = refused_as (Refused TooLarge) text
 
--- blocks, and behind them what stands of the window at hand where the capture is refused
+-- blocks, and after them what stands of the current window where the capture is refused
 abbrev ended_with : Ending → List ℕ → Result (List Window) Refusal → List ℕ → Outcome (List Window × Ending)
 ended_with ending text (Ok ws) more = record { text = text; end = Ok (ws, ending) }
 ended_with ending text (Err refusal) more = record { text = text ++ more; end = Err refusal }
@@ -149,7 +149,7 @@ abbrev ended : Last → Outcome (List Window) → List ℕ → Outcome (List Win
 ended (last.Ended ending) o more = ended_with ending o.text o.end more
 ended last.TooLarge o more = refused_behind (o.text ++ more)
 
--- an outcome behind a text
+-- an outcome after a text
 abbrev pub put_before : {B : Type 0} → List ℕ → Outcome B → Outcome B
 put_before text o = record { text = text ++ o.text; end = o.end }
 
@@ -170,7 +170,7 @@ either_true : (a b : Bool) → b ≡ true → (a || b) ≡ true
 either_true true b e = refl
 either_true false b e = e
 
--- records are counted that have the number of the window at hand
+-- records are counted that have the number of the current window
 counted_here : (some same : Bool) (count : ℕ) → 4194304 ≤ cond (some && same) count 0 → (some ≡ true) × (same ≡ true) × (4194304 ≤ count)
 counted_here true true count h = (refl, refl, h)
 counted_here true false count h = absurd (omega arith)
@@ -198,7 +198,7 @@ module _ (wording : Wording) (shown : Packet → List ℕ)
   abbrev windows_left : List Window → List (ℕ × Packet) → Last → Outcome (List Window × Ending)
   windows_left closed ys l = ended l (left_outcome wording shown closed (cut l ys)) (unfinished_in wording l closed (windows_in shown ys))
 
-  -- the state has these packets at hand
+  -- the state holds these packets
   pub record Holds (g : Gathering) (held : List Packet) : Type 0 where
     pub tuples : g.tuples ≡ map shown held
     pub count : is_some g.numbering.first ≡ true → g.numbering.count ≡ length held
@@ -210,14 +210,14 @@ module _ (wording : Wording) (shown : Packet → List ℕ)
   hand_first : (n : ℕ) (h : Packet) (hs : List Packet) (zs : List (ℕ × Packet)) → run_of n zs ≡ 0 → first_run (at_hand n (h ∷ hs) ++ zs) ≡ length (at_hand n (h ∷ hs))
   hand_first n h hs zs none = let run = run_held n hs zs in let long = hand_long n hs in omega arith
 
-  -- the records of the window at hand, and those behind it
+  -- the records of the current window, and those after it
   hand_front : (n : ℕ) (h : Packet) (hs : List Packet) (zs : List (ℕ × Packet)) → run_of n zs ≡ 0 → take (first_run (at_hand n (h ∷ hs) ++ zs)) (at_hand n (h ∷ hs) ++ zs) ≡ at_hand n (h ∷ hs)
   hand_front n h hs zs none = ap (λ (k : ℕ). take k (at_hand n (h ∷ hs) ++ zs)) (hand_first n h hs zs none) ∙ take-append_seam (at_hand n (h ∷ hs)) zs
 
   hand_back : (n : ℕ) (h : Packet) (hs : List Packet) (zs : List (ℕ × Packet)) → run_of n zs ≡ 0 → drop (first_run (at_hand n (h ∷ hs) ++ zs)) (at_hand n (h ∷ hs) ++ zs) ≡ zs
   hand_back n h hs zs none = ap (λ (k : ℕ). drop k (at_hand n (h ∷ hs) ++ zs)) (hand_first n h hs zs none) ∙ drop-append_seam (at_hand n (h ∷ hs)) zs
 
-  -- the window at hand comes first
+  -- the current window comes first
   hand_windows : (n : ℕ) (h : Packet) (hs : List Packet) (zs : List (ℕ × Packet)) → Behind n zs → AtLeast n zs → Rises zs → windows_in shown (at_hand n (h ∷ hs) ++ zs) ≡ held_window n (h ∷ hs) ∷ windows_in shown zs
   hand_windows n h hs zs behind least rises =
       let ys : List (ℕ × Packet) = at_hand n (h ∷ hs) ++ zs in
@@ -234,7 +234,7 @@ module _ (wording : Wording) (shown : Packet → List ℕ)
   some_behind (last.Ended ending) z zs = refl
   some_behind last.TooLarge z zs = refl
 
-  -- the capture isn't refused in the window at hand
+  -- the capture isn't refused in the current window
   unfinished_next : (closed : List Window) (n : ℕ) (h : Packet) (hs : List Packet) (z : ℕ × Packet) (zs : List (ℕ × Packet)) (l : Last) → n < z.0 → AtLeast z.0 zs → Rises zs → length (h ∷ hs) ≤ 4194304
       → unfinished_in wording l closed (windows_in shown (at_hand n (h ∷ hs) ++ z ∷ zs)) ≡ unfinished_in wording l (closed_with closed n (h ∷ hs)) (windows_in shown (z ∷ zs))
   unfinished_next closed n h hs z zs l lt least rises few =
@@ -244,7 +244,7 @@ module _ (wording : Wording) (shown : Packet → List ℕ)
       ap (unfinished_in wording l closed) (hand_windows n h hs (z ∷ zs) lt (omega arith, at_least_le n z.0 (omega arith) zs least) (least, rises))
       ∙ ap (λ b. cond b (wording.unfinished closed n (take most_records tuples)) (unfinished_in wording l (closed_with closed n (h ∷ hs)) more)) others
 
-  -- it is, since the window at hand has too many records
+  -- it is, since the current window has too many records
   unfinished_large : (closed : List Window) (n : ℕ) (held : List Packet) (p : Packet) (zs : List (ℕ × Packet)) (l : Last) → length held ≡ 4194304 → AtLeast n zs → Rises zs
       → unfinished_in wording l closed (windows_in shown (at_hand n held ++ (n, p) ∷ zs)) ≡ wording.unfinished closed n (map shown held)
   unfinished_large closed n [] p zs l many least rises = absurd (omega arith)
@@ -290,7 +290,7 @@ module _ (wording : Wording) (shown : Packet → List ℕ)
   unfinished_some closed n [] some = absurd (omega arith)
   unfinished_some closed n (h ∷ hs) some = refl
 
-  -- the window at hand has its block, and the others are left
+  -- the current window has its block, and the others are left
   hand_next : (closed : List Window) (n : ℕ) (h : Packet) (hs : List Packet) (zs : List (ℕ × Packet)) → AreRising None (closed_with closed n (h ∷ hs)) → Behind n zs → AtLeast n zs → Rises zs → length (h ∷ hs) ≤ 4194304
       → left_outcome wording shown closed (at_hand n (h ∷ hs) ++ zs) ≡ put_before (packet_block closed n (h ∷ hs)) (left_outcome wording shown (closed_with closed n (h ∷ hs)) zs)
   hand_next closed n h hs zs rising behind least rises few =
@@ -323,7 +323,7 @@ module _ (wording : Wording) (shown : Packet → List ℕ)
       ∙ ap (ended l (put_before (packet_block closed n (h ∷ hs)) (left_outcome wording shown (closed_with closed n (h ∷ hs)) rest))) (unfinished_next closed n h hs z zs l lt least rises few)
       ∙ ended_behind l (packet_block closed n (h ∷ hs)) (left_outcome wording shown (closed_with closed n (h ∷ hs)) rest) (unfinished_in wording l (closed_with closed n (h ∷ hs)) (windows_in shown (z ∷ zs)))
 
-  -- the window at hand has too many records
+  -- the current window has too many records
   hand_large : (closed : List Window) (n : ℕ) (held : List Packet) (p : Packet) (zs : List (ℕ × Packet)) → 4194304 ≤ length held → AtLeast n zs → Rises zs → left_outcome wording shown closed (at_hand n held ++ (n, p) ∷ zs) ≡ silent (Err (Refused TooLarge))
   hand_large closed n [] p zs many least rises = absurd (omega arith)
   hand_large closed n (h ∷ hs) p zs many least rises =
@@ -377,7 +377,7 @@ module _ (wording : Wording) (shown : Packet → List ℕ)
       ∙ ap (λ (o : Outcome (List Window)). ended (last.Ended ending) (put_before (packet_block g.closed n (p ∷ ps)) o) unfinished) (left_none wording shown (closed_with g.closed n (p ∷ ps)))
       ∙ ap (λ (text : List ℕ). text_end text (closed_with g.closed n (p ∷ ps), ending)) (append-nil (packet_block g.closed n (p ∷ ps))))
 
-  -- a record goes to the window at hand
+  -- a record goes to the current window
   holds_more : (g : Gathering) (held : List Packet) (p : Packet) → Holds g held → next_count g.numbering p.time < 4194304 → (next_number g.numbering p.time == g.numbering.number) ≡ true
       → Holds (joined g p.time (shown p)) (held ++ p ∷ [])
   holds_more g held p h few same =
@@ -424,7 +424,7 @@ module _ (wording : Wording) (shown : Packet → List ℕ)
       let is : next_number s time ≡ s.number = omega arith in
       eq-eqb (next_number s time) s.number is
 
-  -- the window at hand is some, where the next record begins another
+  -- there is a current window, where the next record begins another
   some_at_hand : (g : Gathering) (held : List Packet) (p : Packet) → Holds g held → (next_number g.numbering p.time == g.numbering.number) ≡ false → 0 < length held
   some_at_hand g held p h other =
       elim g.numbering.first as (λ o. g.numbering.first ≡ o → 0 < length held) [

@@ -2,7 +2,7 @@
 use Rattle.std.proofs.Common.{ℕ, ◌<◌, List, [], ◌∷◌, ◌++◌, Option, Some, None}
 use Rattle.sn_command_capture.specs.Wording.{AreRising, Window}
 
--- windows behind a window rise from it on
+-- windows after a window rise from it on
 pub rising_join : (before : Option ℕ) (closed : List Window) (number : ℕ) (tuples other : List (List ℕ)) (more : List Window) → AreRising before (closed ++ (number, tuples) ∷ []) → AreRising (Some number) more → AreRising before (closed ++ (number, other) ∷ more)
 rising_join before [] number tuples other more r m = (r.0, m)
 rising_join before (w ∷ ws) number tuples other more r m = (r.0, rising_join (Some w.0) ws number tuples other more r.1 m)
@@ -15,6 +15,6 @@ rising_behind : (before : Option ℕ) (closed : List Window) (number next : ℕ)
 rising_behind before [] number next tuples other r lt = (r.0, (lt, tt))
 rising_behind before (w ∷ ws) number next tuples other r lt = (r.0, rising_behind (Some w.0) ws number next tuples other r.1 lt)
 
--- a later window comes behind them
+-- a later window comes after them
 pub rising_next : (closed : List Window) (number next : ℕ) (tuples other : List (List ℕ)) → AreRising None (closed ++ (number, tuples) ∷ []) → number < next → AreRising None ((closed ++ (number, tuples) ∷ []) ++ (next, other) ∷ [])
 rising_next closed number next tuples other r lt = rising_behind None closed number next tuples other r lt

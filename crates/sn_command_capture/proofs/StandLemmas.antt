@@ -23,7 +23,7 @@ pub ok_weaker : {X Y : Type 0} (P Q : X → Type 0) (r : Result X Y) → ((x : X
 ok_weaker P Q (Ok x) f h = f x h
 ok_weaker P Q (Err e) f h = tt
 
--- the ending that is told is the one that was found
+-- the ending that is reported is the one that was found
 pub seen_same : (windows : List Window) (ending : Ending) (r : Result (ℕ × Ending) Refusal) → IfOk r (λ found. found.1 ≡ ending)
     → ◌≡◌ {A = Result (List Window × Ending) Refusal} (seen_as (λ found. (windows, ending)) r) (seen_as (λ found. (windows, found.1)) r)
 seen_same windows ending (Ok found) same = ap (λ (e : Ending). Ok (windows, e)) (sym same)
@@ -46,7 +46,7 @@ module _ (hand : List Window → ℕ → List (List ℕ) → Type 0) (kept : Gat
   pub number_is : g.numbering.number ≡ kept.windows.number
   number_is = ap (λ n. n.number) s.numbering
 
-  -- the window at hand
+  -- the current window
   pub at_number : (at_hand : ℕ) → at_hand ≡ kept.windows.number → hand g.closed at_hand g.tuples
   at_number at_hand e = subst (λ (n : ℕ). hand g.closed n g.tuples) (number_is ∙ sym e) s.at_hand
 
@@ -69,17 +69,17 @@ module _ (hand : List Window → ℕ → List (List ℕ) → Type 0) (kept : Gat
   pub other_here : (time : ℕ) → (next_number (numbering kept.windows) time ≡ kept.windows.number → ⊥) → next_number g.numbering time ≡ g.numbering.number → ⊥
   other_here time other e = other (sym (ap (λ n. next_number n time) s.numbering) ∙ e ∙ number_is)
 
-  -- a later window comes only behind some tuples
+  -- a later window comes only after some tuples
   pub some_here : (time : ℕ) → (next_number (numbering kept.windows) time ≡ kept.windows.number → ⊥) → 0 < length g.tuples
   some_here time other = by_test kept.some s.some (λ isnt. absurd (other_here time other (first_same g.numbering time (s.fresh isnt).0 (s.fresh isnt).1)))
 
-  -- the next window comes behind the one at hand
+  -- the next window comes after the current one
   pub rising_at : (time at_hand number : ℕ) → at_hand ≡ kept.windows.number → number ≡ next_number (numbering kept.windows) time → (number ≡ at_hand → ⊥) → AreRising None ((g.closed ++ (at_hand, g.tuples) ∷ []) ++ (number, []) ∷ [])
   rising_at time at_hand number e f apart =
       let least : kept.windows.number ≤ next_number (numbering kept.windows) time = omega arith in
       rising_next g.closed at_hand number g.tuples [] (subst (λ (n : ℕ). AreRising None (g.closed ++ (n, g.tuples) ∷ [])) (number_is ∙ sym e) s.rising) (omega arith)
 
-  -- a packet went to the window at hand
+  -- a packet went to the current window
   pub stands_joined : (now : List Window → ℕ → List (List ℕ) → Type 0) (windows : Windows) (time : ℕ) (shown : List ℕ) → numbering windows ≡ stepped (numbering kept.windows) time → next_number (numbering kept.windows) time ≡ kept.windows.number
       → now g.closed g.numbering.number (g.tuples ++ shown ∷ []) → Stands now (record { windows = windows; closed = kept.closed; some = true }) (after g time shown)
   stands_joined now windows time shown stepped_is same hand_is =

@@ -45,7 +45,7 @@ use Rattle.sn_pcap.proofs.OneCapture.{below_or_not}
 use Rattle.sn_pcap.proofs.ToldLemmas.{at_told}
 use Rattle.sn_command_capture.proofs.GatherLemmas.{left_of, put_before, text_end, followed_by, gathered_all}
 
--- a run of a stage is one of another that allows no more over the files that are told
+-- a run of a stage is one of another that allows no more over the files that are known
 pub runs_told : {A : Type 0} {names : List (List ℕ)} {from to : Stage A} {before now : World} {answer : Result A Refusal}
     → ((files : ByName (List ℕ)) → before.files.told ≡ Some files → (outcome : Outcome A) → to files outcome → from files outcome) → Runs names from before answer now → Runs names to before answer now
 runs_told within r = record {
@@ -94,7 +94,7 @@ read_follows name before now told rises out places = record {
   places = places;
 }
 
--- over told files, a known name has a file
+-- over files with known contents, a known name has a file
 pub file_known : (files : ByName (List ℕ)) (counts : ByName ℕ) (name : List ℕ) → is_some (get files name) ≡ is_some (get counts name) → is_some (get counts name) ≡ true → (file : List ℕ) × (get files name ≡ Some file)
 file_known files counts name law known = of (get files name) refl (law ∙ known)
   where
@@ -102,7 +102,7 @@ file_known files counts name law known = of (get files name) refl (law ∙ known
     of None e k = absurd (false≢true k)
     of (Some file) e k = (file, e)
 
--- want of memory, before anything was read or written
+-- out of memory, before anything was read or written
 pub runs_memory : {A : Type 0} (names : List (List ℕ)) (stage : Stage A) (w : World) → Runs names stage w (Err Memory) w
 runs_memory names stage w = record {
   keeps = λ files told outcome is. chance_keeps outcome Memory w.out.written refl;
@@ -136,7 +136,7 @@ head_outcome name files file outcome held t =
     let goes = goes_whole (λ bytes. Gives (named faults.Head (head_of bytes))) files name file outcome held t in
     goes.same ∙ goes.is
 
--- the header of a file that is told
+-- the header of a file with known contents
 pub head_due : (told : Option (ByName (List ℕ))) (counts : ByName ℕ) (name : List ℕ) (found : Result Header HeadFault) → is_some (get counts name) ≡ true → ((held : ByName (List ℕ)) (other : List ℕ) → told ≡ Some held → is_some (get held other) ≡ is_some (get counts other))
     → IfSome (told_file told name) (λ file. found ≡ head_of file) → (files : ByName (List ℕ)) → told ≡ Some files → (outcome : Outcome Header) → Head name files outcome → outcome ≡ silent (refusing (named faults.Head found))
 head_due told counts name found known law head files same outcome is =
@@ -198,7 +198,7 @@ front_bytes bytes cap len is =
     (λ few. ap (λ (k : ℕ). take k (take cap bytes)) (let e : len ≡ cap = omega arith in e)
     ∙ take_all cap (take cap bytes) (omega (arith, length-take cap bytes)) ∙ sym (take_all 128 (take cap bytes) (omega (arith, length-take cap bytes))))
 
--- the tuple of a packet that was told is the packet's
+-- the tuple of a packet that was read is the packet's
 tuple_is : (link : Link) (file : List ℕ) (packet : Packet) (seen : Seen) → IsSeen file packet seen → tuple link seen.wire (take seen.len seen.front) ≡ packet_tuple link file packet
 tuple_is link file packet seen is =
     ap (λ (w : ℕ). tuple link w (take seen.len seen.front)) is.wire
@@ -349,13 +349,13 @@ module _ (wording : Wording) (g : Gathering) (time : ℕ) (shown : List ℕ) whe
   pub after_next : (next_number g.numbering time ≡ g.numbering.number → ⊥) → after g time shown ≡ begins g time shown
   after_next other = ap (λ (b : Bool). if b then joined g time shown else begins g time shown) (ne_eqb (next_number g.numbering time) g.numbering.number other)
 
-  -- the window at hand has too many records
+  -- the current window has too many records
   pub runs_many : (w later : World) (refusal : Refusal) → 4194304 ≤ next_count g.numbering time → Runs [] (Does (refused {A = Gathering} wording g)) w (Err refusal) later → Runs [] (Does (taken wording g time shown)) w (Err refusal) later
   runs_many w later refusal many r =
       let is : taken wording g time shown ≡ refused wording g = ap (λ (b : Bool). if b then refused wording g else few_taken) (le-leb 4194304 (next_count g.numbering time) many) in
       subst (λ (o : Outcome Gathering). Runs [] (Does o) w (Err refusal) later) (sym is) r
 
-  -- the record is of the window at hand
+  -- the record is of the current window
   pub runs_joined : (w : World) → next_count g.numbering time < 4194304 → next_number g.numbering time ≡ g.numbering.number → Runs [] (Does (taken wording g time shown)) w (Ok (after g time shown)) w
   runs_joined w few same =
       let is : taken wording g time shown ≡ silent (Ok (joined g time shown)) = few_is few ∙ ap (λ (b : Bool). if b then silent (Ok (joined g time shown)) else text_end (hand_text wording g) (begins g time shown)) (eq-eqb (next_number g.numbering time) g.numbering.number same) in
@@ -366,7 +366,7 @@ module _ (wording : Wording) (g : Gathering) (time : ℕ) (shown : List ℕ) whe
       few_is few ∙ ap (λ (b : Bool). if b then silent (Ok (joined g time shown)) else text_end (hand_text wording g) (begins g time shown)) (ne_eqb (next_number g.numbering time) g.numbering.number other)
       ∙ ap (λ (text : List ℕ). text_end text (begins g time shown)) (sym (append-nil (hand_text wording g)))
 
-  -- it begins the next one, and the block of the one at hand went out; then all went well, or memory was wanted
+  -- it begins the next one, and the block of the current one went out; then all went well, or memory ran out
   pub runs_begun : (w later : World) → next_count g.numbering time < 4194304 → (next_number g.numbering time ≡ g.numbering.number → ⊥) → Runs [] (Adds (hand_text wording g)) w (Ok tt) later
       → Runs [] (Does (taken wording g time shown)) w (Ok (after g time shown)) later
   runs_begun w later few other r =
@@ -378,13 +378,13 @@ module _ (wording : Wording) (g : Gathering) (time : ℕ) (shown : List ℕ) whe
   runs_wanting w later few other r =
       subst (λ (o : Outcome Gathering). Runs [] (Does o) w (Err Memory) later) (sym (begun_is few other)) (text_then (hand_text wording g) (silent (Ok (begins g time shown))) r (runs_chance _ later))
 
-  -- the block of the one at hand couldn't go out, or the next one couldn't be begun
+  -- the block of the current one couldn't go out, or the next one couldn't be begun
   pub runs_unwritten : (w later : World) (refusal : Refusal) → next_count g.numbering time < 4194304 → (next_number g.numbering time ≡ g.numbering.number → ⊥) → Runs [] (Adds (hand_text wording g)) w (Err refusal) later
       → Runs [] (Does (taken wording g time shown)) w (Err refusal) later
   runs_unwritten w later refusal few other r =
       subst (λ (o : Outcome Gathering). Runs [] (Does o) w (Err refusal) later) (sym (begun_is few other)) (text_stops (hand_text wording g) (silent (Ok (begins g time shown))) r)
 
--- a text went out, or couldn't, and the work is refused behind it
+-- a text went out, or couldn't, and the work is refused after it
 module _ {A : Type 0} (text : List ℕ) (before now : World) where
   abbrev refused_then : Outcome A
   refused_then = record { text = text; end = Err (Refused faults.TooLarge) }
@@ -419,7 +419,7 @@ refused_elsewhere {A} {B} {text} {due} {refusal} {before} {now} r = record {
   follows = r.follows;
 }
 
--- a text went out, and then memory was wanted
+-- a text went out, and then memory ran out
 pub added_wanting : (text : List ℕ) (before now : World) → Runs [] (Adds text) before (Ok tt) now → Runs [] (Adds text) before (Err Memory) now
 added_wanting text before now r =
     subst (λ (bytes : List ℕ). Runs [] (Adds bytes) before (Err Memory) now) (append-nil text) (text_then text (silent (Ok tt)) r (runs_chance _ now))
@@ -440,7 +440,7 @@ module _ (wording : Wording) (number : ℕ) (closed : List Window) (ending : End
   pub runs_none : (tuples : List (List ℕ)) (w : World) → tuples ≡ [] → Runs [] (Does (closing_of wording number closed ending tuples)) w (Ok (all_of number closed tuples, ending)) w
   runs_none tuples w none = rw none (runs_gives (Ok (closed, ending)) w tt)
 
-  -- the block of the window at hand went out, or couldn't
+  -- the block of the current window went out, or couldn't
   pub runs_closed : (tuples : List (List ℕ)) (w later : World) → 0 < length tuples → Runs [] (Adds (wording.block (shut tuples) number tuples)) w (Ok tt) later
       → Runs [] (Does (closing_of wording number closed ending tuples)) w (Ok (all_of number closed tuples, ending)) later
   runs_closed tuples w later some r =

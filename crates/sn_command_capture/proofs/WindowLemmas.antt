@@ -30,7 +30,7 @@ few_run p ps r = few_here (λ w qs. []) p ps r ∙ ap (λ n. nat_le n most_recor
 
 -- ---- the windows of records
 
--- the first window, and those behind it
+-- the first window, and those after it
 here : (p : ℕ × Packet) (ps : List (ℕ × Packet)) → Rises (p ∷ ps) → in_window p.0 (p ∷ ps) ≡ map record_at (take (first_run (p ∷ ps)) (p ∷ ps))
 here p ps r = rw (eq-eqb p.0 p.0 refl, run_is p.0 ps r.0 r.1) refl
 
@@ -69,7 +69,7 @@ module _ (shown : Packet → List ℕ) where
 -- ---- what is left
 
 module _ (wording : Wording) (shown : Packet → List ℕ) where
-  -- the blocks of the windows that are left behind those that are closed, and all windows
+  -- the blocks of the windows that are left after those that are closed, and all windows
   abbrev pub left_outcome : List Window → List (ℕ × Packet) → Outcome (List Window)
   left_outcome closed ys = record { text = blocks (block_in wording shown (closed ++ windows_in shown ys)) ys; end = cond (all_few ys) (Ok (closed ++ windows_in shown ys)) (Err (Refused TooLarge)) }
 

@@ -1,3 +1,4 @@
+-- to be believed
 -- The stages of an answered capture.
 use Rattle.std.specs.Prelude.{◌≡◌, ℕ, nat_lt, List, [], ◌∷◌, ◌++◌, Bool, true, false, ◌||◌, length, take, map, filter, Result, Ok, Err, Option, Some, None, if◌then◌else◌}
 use Rattle.std.specs.FinMap.{get}
@@ -88,13 +89,13 @@ block_in wording shown windows number packets = wording.block windows number (ma
 abbrev pub blocks_in : Wording → (Packet → List ℕ) → List (ℕ × Packet) → List ℕ
 blocks_in wording shown packets = blocks (block_in wording shown (windows_in shown packets)) packets
 
--- the capture has too many bytes, and no window comes behind these
+-- the capture has too many bytes, and no window comes after these
 abbrev pub ends_large : Last → List Window → Bool
 ends_large (last.Ended ending) windows = false
 ends_large last.TooLarge [] = true
 ends_large last.TooLarge (w ∷ ws) = false
 
--- What stands of the window at hand where the capture is refused, behind some windows that were closed: it's the first of
+-- What stands of the current window where the capture is refused, after some windows that were closed: it's the first of
 -- the others with too many records, of which the first 4194304 came. Where none has, and the capture has too many bytes, it's
 -- the last one.
 abbrev pub unfinished_in : Wording → Last → List Window → List Window → List ℕ
@@ -102,7 +103,7 @@ unfinished_in wording end closed [] = []
 unfinished_in wording end closed (w ∷ ws) =
     if ends_large end ws || nat_lt most_records (length w.1) then wording.unfinished closed w.0 (take most_records w.1) else unfinished_in wording end (closed ++ w ∷ []) ws
 
--- a capture with these windows is refused, behind these blocks
+-- a capture with these windows is refused, after these blocks
 abbrev pub windows_refused : Wording → Last → List ℕ → List Window → Outcome (List Window × Ending)
 windows_refused wording end text windows = record { text = text ++ unfinished_in wording end [] windows; end = Err (Refused faults.TooLarge) }
 
@@ -114,7 +115,7 @@ windows_outcome wording shown packets (last.Ended ending) =
     else windows_refused wording (last.Ended ending) (blocks_in wording shown packets) (windows_in shown packets)
 windows_outcome wording shown packets last.TooLarge = windows_refused wording last.TooLarge (blocks_in wording shown (before_last packets)) (windows_in shown packets)
 
--- the windows of a capture's first 2^40 bytes, each of so many nanoseconds
+-- the windows of a capture's first 2^40 bytes, each of this many nanoseconds
 abbrev pub WindowsIn : Wording → ℕ → Header → List ℕ → Stage (List Window × Ending)
 WindowsIn wording window header file =
     Then (Judges (RecordsIn header (within file))) (λ found.
@@ -123,23 +124,23 @@ WindowsIn wording window header file =
 abbrev pub WindowsOf : Wording → ℕ → List ℕ → Header → Stage (List Window × Ending)
 WindowsOf wording window capture header = Then (Whole capture) (WindowsIn wording window header)
 
--- a capture that ends in a damaged record is refused behind its whole records
+-- a capture that ends in a damaged record is refused after its whole records
 abbrev pub ending_verdict : Ending → Result (Unit {0}) Fault
 ending_verdict endings.Clean = Ok tt
 ending_verdict (endings.Cut at) = Err (faults.Cut at)
 ending_verdict (endings.Bad at) = Err (faults.Bad at)
 
--- what stands behind the blocks
+-- what stands after the blocks
 abbrev pub LastLines : Wording → List Window → Ending → Stage (Unit {0})
 LastLines wording windows ending = Then (Adds (wording.last windows ending)) (λ _. Gives (ending_verdict ending))
 
--- a capture behind its header: what stands first, the blocks of its windows, and the last lines where no limit is passed
+-- a capture after its header: what stands first, the blocks of its windows, and the last lines where no limit is passed
 abbrev pub AfterHead : Wording → ℕ → List ℕ → Header → Stage (Unit {0})
 AfterHead wording window capture header =
     Then (Adds wording.first) (λ _.
     Then (WindowsOf wording window capture header) (λ closed.
     LastLines wording closed.0 closed.1))
 
--- a capture is answered, in windows of so many nanoseconds
+-- a capture is answered, in windows of this many nanoseconds
 abbrev pub Answered : Wording → ℕ → List ℕ → Stage (Unit {0})
 Answered wording window capture = Then (Head capture) (AfterHead wording window capture)

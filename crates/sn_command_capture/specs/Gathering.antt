@@ -1,3 +1,4 @@
+-- serves proofs
 -- What is kept of a capture while its records are read one after another.
 use Rattle.std.specs.Prelude.{◌≡◌, ℕ, ◌<◌, nat_le, ◌==◌, List, [], ◌∷◌, ◌++◌, Bool, true, false, Ok, Err, None, length, if◌then◌else◌}
 use Rattle.sn_io.specs.declared.inputs.ReadError.{ReadError}
@@ -16,7 +17,7 @@ use Rattle.sn_command_capture.specs.Capture.{read_refusal}
 use Rattle.sn_command_capture.specs.Wording.{AreRising, Window, Wording}
 use Rattle.sn_command_capture.specs.declared.gathered.Gathered.{Gathered}
 
--- the numbering of the windows, the tuples of the one at hand, and the windows that were closed
+-- the numbering of the windows, the tuples of the current one, and the windows that were closed
 pub record Gathering : Type 0 where
   pub numbering : Numbering
   pub tuples : List (List ℕ)
@@ -26,15 +27,15 @@ pub record Gathering : Type 0 where
 abbrev pub none_gathered : ℕ → Gathering
 none_gathered window = record { numbering = begun window; tuples = []; closed = [] }
 
--- the windows that were closed, and the one at hand
+-- the windows that were closed, and the current one
 abbrev pub with_hand : Gathering → List Window
 with_hand g = g.closed ++ (g.numbering.number, g.tuples) ∷ []
 
--- the block of the window at hand
+-- the block of the current window
 abbrev pub hand_text : Wording → Gathering → List ℕ
 hand_text wording g = wording.block (with_hand g) g.numbering.number g.tuples
 
--- What stands of the window at hand where the capture is refused. Before the first record no window is at hand.
+-- What stands of the current window where the capture is refused. Before the first record no window is open.
 abbrev pub unfinished_of : Wording → ℕ → List Window → List (List ℕ) → List ℕ
 unfinished_of wording number closed [] = []
 unfinished_of wording number closed (t ∷ ts) = wording.unfinished closed number (t ∷ ts)
@@ -42,33 +43,33 @@ unfinished_of wording number closed (t ∷ ts) = wording.unfinished closed numbe
 abbrev pub unfinished_text : Wording → Gathering → List ℕ
 unfinished_text wording g = unfinished_of wording g.numbering.number g.closed g.tuples
 
--- the capture is refused, behind what stands of the window at hand
+-- the capture is refused, after what stands of the current window
 abbrev pub refused : {A : Type 0} → Wording → Gathering → Outcome A
 refused wording g = record { text = unfinished_text wording g; end = Err (Refused TooLarge) }
 
--- behind a record of the window at hand
+-- after a record of the current window
 abbrev pub joined : Gathering → ℕ → List ℕ → Gathering
 joined g time tuple = record { numbering = stepped g.numbering time; tuples = g.tuples ++ tuple ∷ []; closed = g.closed }
 
--- behind a record that begins the next window
+-- after a record that begins the next window
 abbrev pub begins : Gathering → ℕ → List ℕ → Gathering
 begins g time tuple = record { numbering = stepped g.numbering time; tuples = tuple ∷ []; closed = with_hand g }
 
 abbrev pub is_here : Gathering → ℕ → Bool
 is_here g time = next_number g.numbering time == g.numbering.number
 
--- behind a record at this time, with this tuple
+-- after a record at this time, with this tuple
 abbrev pub after : Gathering → ℕ → List ℕ → Gathering
 after g time tuple = if is_here g time then joined g time tuple else begins g time tuple
 
--- A record at this time, with this tuple, is of the window at hand or begins the next one: then the block of the one at
--- hand goes out. Where the window at hand would have too many records, the capture is refused.
+-- A record at this time, with this tuple, is of the current window or begins the next one: then the block of the current
+-- one goes out. Where the current window would have too many records, the capture is refused.
 abbrev pub taken : Wording → Gathering → ℕ → List ℕ → Outcome Gathering
 taken wording g time tuple =
     if nat_le 4194304 (next_count g.numbering time) then refused wording g
     else (if is_here g time then silent (Ok (joined g time tuple)) else record { text = hand_text wording g; end = Ok (begins g time tuple) })
 
--- The records end: the block of the window at hand goes out, if there is one.
+-- The records end: the block of the current window goes out, if there is one.
 abbrev pub closing_of : Wording → ℕ → List Window → Ending → List (List ℕ) → Outcome (List Window × Ending)
 closing_of wording number closed ending [] = silent (Ok (closed, ending))
 closing_of wording number closed ending (t ∷ ts) = record { text = wording.block (closed ++ (number, t ∷ ts) ∷ []) number (t ∷ ts); end = Ok (closed ++ (number, t ∷ ts) ∷ [], ending) }
@@ -84,7 +85,7 @@ all_of number closed (t ∷ ts) = closed ++ (number, t ∷ ts) ∷ []
 abbrev pub all_closed : Gathering → List Window
 all_closed g = all_of g.numbering.number g.closed g.tuples
 
--- what is kept in code is this, and what answers has the same at hand
+-- what is kept in code is this, and what answers holds the same
 pub record Stands (hand : List Window → ℕ → List (List ℕ) → Type 0) (kept : Gathered) (g : Gathering) : Type 0 where
   pub numbering : g.numbering ≡ numbering kept.windows
   pub closed : kept.closed ≡ length g.closed
@@ -94,7 +95,7 @@ pub record Stands (hand : List Window → ℕ → List (List ℕ) → Type 0) (k
   pub at_hand : hand g.closed g.numbering.number g.tuples
   pub rising : AreRising None (with_hand g)
 
--- A capture that can't be read on is refused. Where it has too many bytes, what stands of the window at hand went out before;
+-- A capture that can't be read on is refused. Where it has too many bytes, what stands of the current window went out before;
 -- else nothing did.
 abbrev pub Stops : (List Window → ℕ → List (List ℕ) → Type 0) → Wording → Gathered → ReadError → World → Refusal → World → Type 0
 Stops hand wording kept errors.TooLarge before refusal now = (g : Gathering) → Stands hand kept g → Runs [] (Does (refused {A = Gathering} wording g)) before (Err refusal) now

@@ -1,3 +1,4 @@
+-- to be believed
 -- How the windows of a capture are answered.
 use Rattle.std.specs.Prelude.{◌≡◌, ◌⊎◌, ℕ, ◌<◌, List, [], ◌∷◌, ◌++◌, length, Option, None, Some}
 use Rattle.sn_pcap.specs.declared.packet.Ending.{Ending}
@@ -17,8 +18,8 @@ AreRising before [] = Unit {0}
 AreRising before (w ∷ ws) = IsAbove before w.0 × AreRising (Some w.0) ws
 
 -- What stands before the blocks of a capture; the block of a window with this number and these tuples, in a capture that has
--- these windows; what stands of the window with this number behind the blocks of these windows, where the capture is refused
--- behind these tuples of it; and what stands behind the blocks of a capture with these windows, whose records end so.
+-- these windows; what stands of the window with this number after the blocks of these windows, where the capture is refused
+-- after these tuples of it; and what stands after the blocks of a capture with these windows, whose records end so.
 pub record Wording : Type 0 where
   pub first : List ℕ
   pub block : List Window → ℕ → List (List ℕ) → List ℕ
@@ -30,7 +31,7 @@ abbrev pub IsCausal : Wording → Type 0
 IsCausal wording = (closed : List Window) (number : ℕ) (tuples : List (List ℕ)) (more : List Window) → AreRising None (closed ++ (number, tuples) ∷ more)
     → wording.block (closed ++ (number, tuples) ∷ more) number tuples ≡ wording.block (closed ++ (number, tuples) ∷ []) number tuples
 
--- some windows were closed, and the one with this number is at hand
+-- some windows were closed, and the one with this number is open
 abbrev pub Holds : (List Window → ℕ → List (List ℕ) → Type 0) → ℕ → Type 0
 Holds hand number = (closed : List Window) × (tuples : List (List ℕ)) × hand closed number tuples
 

@@ -8,8 +8,8 @@ use sn_fields::tuple::Tuple;
 use sn_pcap::packet::Ending;
 
 /// A way of answering the windows of a capture, which come one after another. Each is given its tuples in capture order. It is
-/// over where the first tuple of a later one comes, or the records end: then its block is told. Want of memory is the one error;
-/// nothing is called behind it.
+/// over where the first tuple of a later one comes, or the records end: then its block is given. Running out of memory is the one error;
+/// nothing is called after it.
 pub trait Answering {
     /// How it answers, over all windows of a capture.
     ghost wording: { Self → Wording };
@@ -25,13 +25,13 @@ pub trait Answering {
     fn first(&self) -> Result<Seq<u8>, Memory>
         ensures { IfOk result (λ text. text ≡ (wording self.now).first) };
 
-    /// Takes the next tuple of the window at hand, which has this number.
+    /// Takes the next tuple of the current window, which has this number.
     fn packet(&mut self, number: u64, tuple: &Tuple) -> Result<(), Memory>
         requires { Holds (hand self.old) number }
         ensures given { OnOk result ((closed : List Window) (tuples : List (List ℕ)) → hand self.old closed number tuples → hand self.new closed number (tuples ++ tuple.now ∷ [])) }
         ensures wording { OnOk result (wording self.new ≡ wording self.old) };
 
-    /// Takes the first tuple of a later window. Closes the window at hand, and gives its block.
+    /// Takes the first tuple of a later window. Closes the current window, and gives its block.
     fn pass(&mut self, at_hand: u64, number: u64, tuple: &Tuple) -> Result<Seq<u8>, Memory>
         requires hand { HoldsSome (hand self.old) at_hand }
         requires above { at_hand < number }
@@ -40,19 +40,19 @@ pub trait Answering {
             hand self.new (closed ++ (at_hand, tuples) ∷ []) number (tuple.now ∷ [])) }
         ensures wording { OnOk result (wording self.new ≡ wording self.old) };
 
-    /// Closes the window at hand, which is the last one, and gives its block.
+    /// Closes the current window, which is the last one, and gives its block.
     fn close(&mut self, number: u64) -> Result<Seq<u8>, Memory>
         requires { HoldsSome (hand self.old) number }
         ensures text { IfOk result (λ text. (closed : List Window) (tuples : List (List ℕ)) → 0 < length tuples → hand self.old closed number tuples → text ≡ (wording self.old).block (closed ++ (number, tuples) ∷ []) number tuples) }
         ensures closed { OnOk result ((closed : List Window) (tuples : List (List ℕ)) → 0 < length tuples → hand self.old closed number tuples → idle self.new (closed ++ (number, tuples) ∷ [])) }
         ensures wording { OnOk result (wording self.new ≡ wording self.old) };
 
-    /// What stands of the window at hand, which has this number, where the capture is refused there.
+    /// What stands of the current window, which has this number, where the capture is refused there.
     fn unfinished(&self, number: u64) -> Result<Seq<u8>, Memory>
         requires { Holds (hand self.now) number }
         ensures { IfOk result (λ text. (closed : List Window) (tuples : List (List ℕ)) → hand self.now closed number tuples → text ≡ (wording self.now).unfinished closed number tuples) };
 
-    /// What stands behind the blocks of all windows, of which there were so many, where the records end so.
+    /// What stands after the blocks of all windows, of which there were this many, where the records end so.
     fn last(&self, windows: u64, ending: Ending) -> Result<Seq<u8>, Memory>
         ensures { IfOk result (λ text. (closed : List Window) → Closed (idle self.now) (hand self.now) closed → windows ≡ length closed → text ≡ (wording self.now).last closed ending) };
 

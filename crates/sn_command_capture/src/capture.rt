@@ -29,7 +29,7 @@ use sn_pcap::seen::{Next, Seen};
 use sn_windows::windows::Windows;
 use std::alloc::Global;
 
-/// Closes the window at hand, which is the last one, and writes its block.
+/// Closes the current window, which is the last one, and writes its block.
 fn write_window<A: Answering, I: Inputs, O: Sink>(
     answering: &mut A,
     number: u64,
@@ -45,7 +45,7 @@ fn write_window<A: Answering, I: Inputs, O: Sink>(
     write_text(text.as_slice(), desk)
 }
 
-/// Takes the first tuple of a later window: closes the window at hand, and writes its block.
+/// Takes the first tuple of a later window: closes the current window, and writes its block.
 fn next_window<A: Answering, I: Inputs, O: Sink>(
     answering: &mut A,
     at_hand: u64,
@@ -65,7 +65,7 @@ fn next_window<A: Answering, I: Inputs, O: Sink>(
     write_text(text.as_slice(), desk)
 }
 
-/// Writes what stands of the window at hand, if there is one, where the capture is refused there.
+/// Writes what stands of the current window, if there is one, where the capture is refused there.
 fn write_unfinished<A: Answering, I: Inputs, O: Sink>(
     answering: &A,
     gathered: Gathered,
@@ -81,7 +81,7 @@ fn write_unfinished<A: Answering, I: Inputs, O: Sink>(
     write_text(text.as_slice(), desk)
 }
 
-/// Refuses a capture that is too large, behind what stands of the window at hand.
+/// Refuses a capture that is too large, after what stands of the current window.
 fn refuse_large<A: Answering, I: Inputs, O: Sink>(
     answering: &A,
     gathered: Gathered,
@@ -97,7 +97,7 @@ fn refuse_large<A: Answering, I: Inputs, O: Sink>(
     }
 }
 
-/// Takes a packet: it is of the window at hand, or the block of that one is written and it begins the next.
+/// Takes a packet: it is of the current window, or the block of that one is written and it begins the next.
 fn take_packet<A: Answering, I: Inputs, O: Sink>(
     answering: &mut A,
     link: Link,
@@ -138,7 +138,7 @@ fn take_packet<A: Answering, I: Inputs, O: Sink>(
     })
 }
 
-/// Closes the window at hand, if there is one, where the records end. Says how many windows there were.
+/// Closes the current window, if there is one, where the records end. Says how many windows there were.
 fn close_last<A: Answering, I: Inputs, O: Sink>(
     answering: &mut A,
     gathered: Gathered,
@@ -159,7 +159,7 @@ fn close_last<A: Answering, I: Inputs, O: Sink>(
     Ok((gathered.closed + 1, ending))
 }
 
-/// Refuses a capture that can't be read on. Where it has too many bytes, what stands of the window at hand is written before.
+/// Refuses a capture that can't be read on. Where it has too many bytes, what stands of the current window is written before.
 fn refuse_capture<A: Answering, I: Inputs, O: Sink>(
     answering: &A,
     gathered: Gathered,
@@ -212,7 +212,7 @@ fn write_windows<A: Answering, I: Inputs, O: Sink>(
     }
 }
 
-/// How a command ends behind the whole records of a capture.
+/// How a command ends after the whole records of a capture.
 fn end_of(ending: Ending) -> Result<(), Refusal>
     ensures { result ≡ refusing (ending_verdict ending) }
 {
@@ -234,7 +234,7 @@ fn write_first_lines<A: Answering, I: Inputs, O: Sink>(
     write_text(lines.as_slice(), desk)
 }
 
-/// Writes what stands behind the blocks.
+/// Writes what stands after the blocks.
 fn write_last_lines<A: Answering, I: Inputs, O: Sink>(
     answering: &A,
     windows: u64,
@@ -265,7 +265,7 @@ fn read_header<I: Inputs, O: Sink>(
     }
 }
 
-/// Answers the records of a capture, behind what stands before all blocks.
+/// Answers the records of a capture, after what stands before all blocks.
 fn answer_records<A: Answering, I: Inputs, O: Sink>(
     alloc: Global,
     window_ns: u64,
@@ -284,7 +284,7 @@ fn answer_records<A: Answering, I: Inputs, O: Sink>(
     write_last_lines(answering, windows, ending, desk)
 }
 
-/// Answers a capture in windows of so many nanoseconds, of which none was closed, and none was given a tuple.
+/// Answers a capture in windows of this many nanoseconds, of which none was closed, and none was given a tuple.
 pub fn answer_capture<A: Answering, I: Inputs, O: Sink>(
     alloc: Global,
     window_ns: u64,

@@ -1,4 +1,4 @@
-//! The lines behind the blocks of printed answers.
+//! The lines after the blocks of printed answers.
 ghost use Rattle.std.specs.Prelude.{◌≡◌, ◌++◌, IfOk};
 ghost use Rattle.sn_out.specs.Text.{damage_line, total_line};
 

@@ -1,15 +1,15 @@
--- What the checker tells of the space of a table is so of the plans by their cost over the windows that the table counts.
+-- What the checker says of the space of a table is so of the plans by their cost over the windows that the table counts.
 use Rattle.std.proofs.Common.{◌≡◌, ℕ, List, Result, ap, sym, ◌∙◌, subst}
-use Rattle.sn_alike.proofs.Faults.{fault_alike}
+use Rattle.sn_tree.proofs.AlikeFaults.{fault_alike}
 use Rattle.sn_plan_choices.specs.Costs.{entry_in}
 use Rattle.sn_plan_choices.specs.declared.costs.CostTable.{CostTable}
 use Rattle.sn_plan_lists.specs.Chosen.{plan_choices}
 use Rattle.sn_plan_lists.specs.Theorems.{plans_of}
 use Rattle.sn_cost.specs.Entries.{trained}
 use Rattle.sn_plan_grammar.specs.declared.plan.Plan.{Plan}
-use Rattle.sn_priced.proofs.Priced.{counted_alike}
-use Rattle.sn_priced.specs.Priced.{AreCounted}
-use Rattle.sn_priced.specs.Space.{trained_plans}
+use Rattle.sn_cost_laws.proofs.Priced.{counted_alike}
+use Rattle.sn_cost_laws.specs.Priced.{AreCounted}
+use Rattle.sn_cost_laws.specs.Space.{trained_plans}
 use Rattle.sn_refine.specs.Steps.{Given}
 use Rattle.sn_tree_space.specs.declared.node.Node.{Node}
 use Rattle.sn_tree_space.specs.Space.{IsPlan, Space}

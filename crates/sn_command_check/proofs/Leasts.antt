@@ -9,12 +9,12 @@ use Rattle.sn_plan_fit.proofs.Placings.{placing_by_gaps}
 use Rattle.sn_plan_fit.specs.Fits.{Fits}
 use Rattle.sn_plan_fit.specs.Pieces.{fit_misfit}
 use Rattle.sn_plan_fit.specs.declared.misfit.Misfit.{Misfit}
-use Rattle.sn_paid.proofs.Plans.{trained_priced}
-use Rattle.sn_paid.specs.Sent.{sent_over}
+use Rattle.sn_cost_laws.proofs.Plans.{trained_priced}
+use Rattle.sn_cost_laws.specs.Sent.{sent_over}
 use Rattle.sn_plan_grammar.specs.declared.plan.Entry.{Entry}
 use Rattle.sn_command_texts.specs.Fitting.{misfit_verdict}
 use Rattle.sn_command_texts.proofs.Accepted.{ok_err}
-use Rattle.sn_priced.specs.Space.{trained_entry, trained_plans}
+use Rattle.sn_cost_laws.specs.Space.{trained_entry, trained_plans}
 use Rattle.sn_refine.specs.Steps.{Given}
 use Rattle.sn_tree_space.proofs.Least.{least_by_cover}
 use Rattle.sn_tree_space.specs.declared.node.Node.{Node}
@@ -49,7 +49,7 @@ module _ (s : Switch) (queries : List TypedQuery) (given : List Given) (rising :
   named_as : (es : List Entry) → Fits queries s es → IsNamed s (trained_entry s queries given) queries es
   named_as es k = plans_named s (trained_entry s queries given) placing_by_gaps queries es rising k
 
-  -- what the bound of a plan's choices tells
+  -- what the bound of a plan's choices says
   pub bound_is_sent : (es : List Entry) → Fits queries s es → plans.lower (plan_choices s queries es) ≡ sent_over s.chain queries es given
   bound_is_sent es k = (named_as es k).one.cost ∙ trained_priced s queries given es rising k
 

@@ -26,7 +26,7 @@ use Rattle.sn_command_check.specs.Shown.{ShownFor}
 use Rattle.sn_command_check.proofs.Leasts.{cost_is_sent, none_sends_less, plan_fits}
 use Rattle.sn_command_check.proofs.Stopping.{given, held, judged, passed, was_read}
 
--- a plan that is read with the byte behind it is read
+-- a plan that is read with the byte after it is read
 plan_read : (text : List ℕ) (found : Plan × ℕ) → PlanBefore text (Ok found) → PlanIn text (Ok found.0)
 plan_read text found r = by_found r.found r.is r.same
   where

@@ -17,7 +17,7 @@ ok_is x y e = cc
 ok_err : {A : Type 0} {x : A} {r : Refusal} {G : Type 0} → ◌≡◌ {A = Result A Refusal} (Ok x) (Err r) → G
 ok_err e = absurd cc
 
--- a stage that gave this value, and the stages behind it, which came to their end
+-- a stage that gave this value, and the stages after it, which came to their end
 pub record Passed {A B : Type 0} (first : Stage A) (second : A → Stage B) (files : ByName (List ℕ)) (whole : Outcome B) (last : B) : Type 0 where
   pub value : A
   pub text : List ℕ

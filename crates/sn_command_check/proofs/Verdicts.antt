@@ -7,7 +7,7 @@ use Rattle.sn_plan.specs.declared.fault.PlanFault.TheVariants as plan_faults
 use Rattle.sn_plan.proofs.Readings as plan_readings
 use Rattle.sn_plan_grammar.specs.declared.plan.Plan.{Plan}
 use Rattle.sn_plan_lists.specs.Chosen.{plan_choices}
-use Rattle.sn_priced.specs.Space.{trained_plans}
+use Rattle.sn_cost_laws.specs.Space.{trained_plans}
 use Rattle.sn_refine.specs.Steps.{Given}
 use Rattle.sn_tree_space.specs.declared.node.Node.{Node}
 use Rattle.sn_command.specs.declared.fault.Fault.{Fault}
@@ -84,7 +84,7 @@ module _ (s : Switch) (queries : List TypedQuery) (given : List Given) (plan : P
   pub one_shown : HasVerdict (ShownFor s queries given plan cost nodes)
   one_shown = record { verdict = _; is = refl; once = shown_once }
 
--- an answer tells a fault, or that there is none
+-- an answer reports a fault, or that there is none
 module _ (fault : Option TreeFault) where
   abbrev Verdict : Result (Unit {0}) Fault → Type 0
   Verdict verdict = verdict ≡ flaw_verdict fault

@@ -1,3 +1,4 @@
+-- to be believed
 -- What `check` does.
 use Rattle.std.specs.Prelude.{ℕ, List, [], ◌∷◌, ◌++◌, codes, length}
 use Rattle.std.specs.Fmt.{decimal}
@@ -17,7 +18,7 @@ use Rattle.sn_command_training.specs.declared.training.Training.{Training}
 use Rattle.sn_command_check.specs.PlanTrees.{PlanBefore, TreeBehind}
 use Rattle.sn_command_check.specs.Shown.{ShownFor}
 
--- the line on a cost, and on a tree with so many nodes, that show what they say
+-- the line on a cost, and on a tree with this many nodes, that show what they say
 abbrev pub yes_line : ℕ → ℕ → List ℕ
 yes_line cost nodes = codes "yes cost " ++ decimal cost ++ codes " nodes " ++ decimal nodes ++ 10 ∷ []
 

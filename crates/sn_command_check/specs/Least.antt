@@ -1,10 +1,11 @@
+-- to be believed
 -- What `check` shows where it says yes.
 use Rattle.std.specs.Prelude.{◌≡◌, ℕ, ◌≤◌, List, Ok, Some}
 use Rattle.std.specs.FinMap.{get}
 use Rattle.sn_cost.specs.Entries.{trained}
 use Rattle.sn_plan_fit.specs.Fits.{Fits}
 use Rattle.sn_io.specs.Counts.{ByName}
-use Rattle.sn_paid.specs.Sent.{sent_over}
+use Rattle.sn_cost_laws.specs.Sent.{sent_over}
 use Rattle.sn_plan_grammar.specs.declared.plan.Entry.{Entry}
 use Rattle.sn_plan_grammar.specs.declared.plan.Plan.{Plan}
 use Rattle.sn_command_texts.specs.Queries.{QueriesIn}
@@ -43,6 +44,6 @@ pub record ShowsLeast (switch queries train plantree : List ℕ) (files : ByName
   pub fits : Fits read.queries limits plan.entries
   -- No plan that fits sends fewer items of the training capture,
   pub least : (entries : List Entry) → Fits read.queries limits entries → items_sent read limits training plan.entries ≤ items_sent read limits training entries
-  -- and the line tells how many this one sends.
+  -- and the line says how many this one sends.
   pub nodes : ℕ
   pub told : text ≡ yes_line (items_sent read limits training plan.entries) nodes

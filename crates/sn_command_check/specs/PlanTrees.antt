@@ -1,4 +1,5 @@
--- What the text of a plan with a cost and a tree behind it is judged to be.
+-- to be believed
+-- What the text of a plan with a cost and a tree after it is judged to be.
 use Rattle.std.specs.Prelude.{ℕ, List, Result}
 use Rattle.sn_plan.specs.Texts as plans
 use Rattle.sn_plan_grammar.specs.declared.plan.Plan.{Plan}
@@ -15,15 +16,15 @@ use Rattle.sn_tree_text.specs.Texts as trees
 use Rattle.sn_tree_text.specs.declared.fault.TextFault.{TextFault}
 use Rattle.sn_tree_text.specs.declared.fault.TextFault.TheVariants as tree_faults
 
--- a plan, and the byte where the word `cost` or the end of the text stands behind it
+-- a plan, and the byte where the word `cost` or the end of the text stands after it
 abbrev pub PlanBefore : List ℕ → Result (Plan × ℕ) Fault → Type 0
 PlanBefore text = ReadAs plan_fault (plans.IsRead text)
 
 abbrev pub tree_at : TextKind → ℕ → Fault
 tree_at kind line = faults.Tree (record { kind = kind; line = line })
 
--- The fault of a command whose tree text has this fault. Want of memory is no fault of a text, so what stands beside it here is
--- never told.
+-- The fault of a command whose tree text has this fault. Being out of memory is no fault of a text, so what stands beside it here is
+-- never reported.
 abbrev pub tree_text_fault : TextFault → Fault
 tree_text_fault (tree_faults.Lex line) = tree_at kinds.Lex line
 tree_text_fault (tree_faults.Expected line) = tree_at kinds.Expected line

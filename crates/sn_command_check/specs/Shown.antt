@@ -1,8 +1,9 @@
+-- to be believed
 -- Whether a cost and a tree show that no plan costs less over training windows.
 use Rattle.std.specs.Prelude.{◌≡◌, ℕ, List, Option, None, Some, Result, Ok, Err}
 use Rattle.sn_plan_lists.specs.Chosen.{plan_choices}
 use Rattle.sn_plan_grammar.specs.declared.plan.Plan.{Plan}
-use Rattle.sn_priced.specs.Space.{trained_plans}
+use Rattle.sn_cost_laws.specs.Space.{trained_plans}
 use Rattle.sn_refine.specs.Steps.{Given}
 use Rattle.sn_tree_space.specs.declared.node.Node.{Node}
 use Rattle.sn_command.specs.declared.fault.Fault.{Fault}
@@ -20,8 +21,8 @@ use Rattle.sn_types.specs.declared.typed_query.TypedQuery.{TypedQuery}
 abbrev pub flaw : TreeKind → ℕ → ℕ → ℕ → Fault
 flaw kind node want got = faults.Unshown (record { kind = kind; node = node; want = want; got = got })
 
--- The fault of a command whose tree has this one. Want of memory is no fault of a tree, so what stands beside it here is never
--- told.
+-- The fault of a command whose tree has this one. Being out of memory is no fault of a tree, so what stands beside it here is never
+-- reported.
 abbrev pub flaw_of : TreeFault → Fault
 flaw_of (trees.Cost node want got) = flaw kinds.Cost node want got
 flaw_of (trees.Shape node want got) = flaw kinds.Shape node want got

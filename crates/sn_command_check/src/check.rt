@@ -47,7 +47,7 @@ fn check_text<I: Inputs, O: Sink>(
 }
 
 /// `check SWITCH QUERIES TRAIN PLANTREE`: reads the queries, the switch, the training capture and the plan, tests the plan, and says
-/// yes where the cost and the tree behind the plan show that no plan costs less on the training capture.
+/// yes where the cost and the tree after the plan show that no plan costs less on the training capture.
 pub fn check<I: Inputs, O: Sink>(
     alloc: Global,
     switch: &str,

@@ -5,6 +5,4 @@ pub mod check;
 pub mod law;
 mod plan_tree;
 mod shown;
-#[cfg(test)]
-mod tests;
 mod yes;

@@ -1,4 +1,4 @@
-//! A plan with a cost and a tree behind it, in one text.
+//! A plan with a cost and a tree after it, in one text.
 ghost use Rattle.std.specs.Prelude.{◌≡◌, ◌≤◌, ◌^◌, length};
 ghost use Rattle.sn_command_check.specs.PlanTrees.{PlanBefore, TreeBehind, tree_text_refusal};
 ghost use Rattle.sn_command.specs.Runs.{Answers};
@@ -13,7 +13,7 @@ use sn_tree_text::parse as parse_tree;
 use sn_tree_text::tree::Tree;
 use std::alloc::Global;
 
-/// The plan of a text, and the byte where the word `cost` or the end of the text stands behind it.
+/// The plan of a text, and the byte where the word `cost` or the end of the text stands after it.
 pub(crate) fn judge_plan(alloc: Global, text: &[u8]) -> Result<(Plan, u64), Refusal>
     requires { length text.now ≤ 2 ^ 30 }
     ensures { Answers (PlanBefore text.now) result }

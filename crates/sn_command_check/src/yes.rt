@@ -11,7 +11,7 @@ use sn_command::refusal::Refusal;
 use sn_io::inputs::Inputs;
 use sn_io::sink::Sink;
 
-/// Writes that a cost and a tree with so many nodes show what they say. It takes no memory.
+/// Writes that a cost and a tree with this many nodes show what they say. It takes no memory.
 pub(crate) fn say_yes<I: Inputs, O: Sink>(
     cost: u64,
     nodes: u64,

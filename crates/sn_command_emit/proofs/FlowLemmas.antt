@@ -1,4 +1,4 @@
--- What a pipe gives packet by packet, where also the packets that it doesn't let in have a number.
+-- What a pipe gives packet by packet, where also the packets that it doesn't admit have a number.
 use Rattle.std.proofs.Common.{◌≡◌, ℕ, suc, ◌+◌, ◌<◌, List, [], ◌∷◌, ◌++◌, map, filter, length, Bool, true, false, cond, nat_eq, Option, Some, None, refl, ap, ◌∙◌, append-nil, arith}
 use Rattle.std.specs.List.{AllByRecursion}
 use Rattle.std.proofs.lemmas.Bool.{ne_eqb}
@@ -29,7 +29,7 @@ none_above level n (x ∷ flow) ss h =
     give_other n x.0 (item_from level 0 ss x.1) (run level 0 (stages_after level ss x.1) flow) (ne_eqb n x.0 (λ e. omega (arith, h.0, e)))
     ∙ none_above level n flow (stages_after level ss x.1) h.1
 
--- ---- the rows that a pipe lets in
+-- ---- the rows that a pipe admits
 
 abbrev pub with_stages : PipeState → List Stage → PipeState
 with_stages p ss = record p { prefix = record p.prefix { stages = ss } }
@@ -103,7 +103,7 @@ module _ (p : PipeState) where
         | false ↦ run_at (suc n) before later tuple ss
       ]
 
-  -- the stages behind all of them
+  -- the stages after all of them
   pub after_run : (n : ℕ) (tuples : List (List ℕ)) (ss : List Stage) → after_packets (with_stages p ss) tuples ≡ with_stages p (stages_behind level ss (rows_of (flow n tuples)))
   after_run n [] ss = refl
   after_run n (tuple ∷ tuples) ss =

@@ -1,4 +1,4 @@
--- What the lanes let in is what the levels before answered along the plan.
+-- What the lanes admit is what the levels before answered along the plan.
 use Rattle.std.proofs.Common.{◌≡◌, ℕ, zero, suc, ◌+◌, ◌-◌, ◌<◌, ◌==◌, List, [], ◌∷◌, ◌++◌, map, length, Bool, true, false, cond, Option, Some, None, slice_get, slice_index, refl, ap, ◌∙◌, subst, arith}
 use Rattle.std.specs.FinSet as set
 use Rattle.std.specs.List.{AllByRecursion}
@@ -119,7 +119,7 @@ module _ (p : Planned) (windows : Windows) (h : AreEntriesOf p.queries p.entries
       window_right p.queries p.depth p.entries windows last c.0 c.1 h (agrees c.0 rises.0 ∙ here c rest) (record { above = rises.0; none = λ v above lt. agrees v above ∙ earlier c rest v rises.1 lt }) r in
       last_right (Some now) closed number tuples rises.1 (λ v lt. agrees v (above_last (window_of last) c.0 v rises.0 lt) ∙ later c rest v lt) (ap (λ (a : Answers). a.parts) e)
 
--- the lanes let in the prefixes that were answered along the plan
+-- the lanes admit the prefixes that were answered along the plan
 pub all_let_in : (p : Planned) (closed : List Window) (number : ℕ) (tuples : List (List ℕ)) → AreEntriesOf p.queries p.entries → AreRising None (closed ++ (number, tuples) ∷ [])
     → AllByRecursion (λ (x : Placed). kept_now p.queries (last_of p closed) number x ≡ kept_of p.queries (closed ++ (number, tuples) ∷ []) number x) (pieces_from 0 p.entries)
 all_let_in p closed number tuples h rising =

@@ -44,7 +44,7 @@ module _ (typed_for depth : ℕ) (queries : List TypedQuery) (pieces : List Plac
       (λ j x s p q. let w = (lane_work j x s p q).1 in
       ap (frames_given tuple) w.sender ∙ lane_sends typed_for queries depth x w.base (kept (source_of x)) typed (all_get (CanMake queries) pieces j x can p) w.lane tuples more tuple widths)
 
-  -- what is left of all behind the last one
+  -- what is left of all after the last one
   pub all_read : (number : ℕ) → AllByRecursion HasWidths tuples
       → flat_map (λ s. frames_left s number) senders ≡ flat_map (frames_behind queries depth (λ x. kept (source_of x)) tuples number) pieces
   all_read number widths =

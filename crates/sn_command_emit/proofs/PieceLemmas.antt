@@ -61,7 +61,7 @@ sized_same depth size other i [] e h = tt
 sized_same depth size other i (s ∷ ss) e h =
     (subst (λ n. HasRegisters depth n s) (e i (omega arith)) h.0, sized_same depth size other (suc i) ss (λ j lt. e j (omega (arith, lt))) h.1)
 
--- only filters stand behind the reduce of a cut
+-- only filters stand after the reduce of a cut
 only_filters : (level : ℕ) (ss : List Stage) → OnlyFilters (acting level ss) → AreFilters ss
 only_filters level [] h = tt
 only_filters level (Filter conds ∷ ss) h = only_filters level ss h
@@ -156,7 +156,7 @@ module _ (window : ℕ) (queries : List TypedQuery) (depth : ℕ) (x : Placed) (
       ∙ ap (λ os. at_packet (sent_from depth size 0 os (flow start 0 all)) (length before)) ops_are
       ∙ ap (λ fs. at_packet (sent_from depth size 0 (ops_of queries x) fs) (length before)) (flow_is all)
 
-  -- what is left behind the last packet is what is read out
+  -- what is left after the last packet is what is read out
   pub piece_reads : (tuples : List (List ℕ)) → AllByRecursion HasWidths tuples → left_in (after_packets start tuples).prefix ≡ reads_out queries depth x kept tuples
   piece_reads tuples widths =
       ap (λ (p : PipeState). left_in p.prefix) (after_run start 0 tuples (map cleared stages))
@@ -202,7 +202,7 @@ module _ (window : ℕ) (queries : List TypedQuery) (depth : ℕ) (x : Placed) (
       ∙ ap (λ (p : PipeState). map (row_frame (name_of x)) (option_list (item_of p tuple))) (pipe_is before)
       ∙ ap (map (row_frame (name_of x))) (piece_sends window queries depth x (at_start base.pipe set.empty) kept t can lane.pipe before later tuple widths)
 
-  -- what is left behind the last one are the frames behind the last packet
+  -- what is left after the last one are the frames after the last packet
   pub lane_reads : (number : ℕ) (tuples : List (List ℕ)) → AllByRecursion HasWidths tuples
       → frames_left (sender_after first tuples) number ≡ map (row_frame (name_of x)) (reads_out queries depth x kept tuples) ++ End (name_of x) number ∷ []
   lane_reads number tuples widths =

@@ -15,7 +15,7 @@ use Rattle.sn_report.specs.Frames.{spelling}
 
 -- ---- one more
 
--- the bytes of what one more gives stand behind those of the others
+-- the bytes of what one more gives stand after those of the others
 pub one_behind : {X : Type 0} (f : X → List Frame) (xs : List X) (x : X) → flat_map spelling (flat_map f (xs ++ x ∷ [])) ≡ flat_map spelling (flat_map f xs) ++ flat_map spelling (f x)
 one_behind f xs x =
     ap (flat_map spelling) (flat_map-append f xs (x ∷ []) ∙ ap (λ fs. flat_map f xs ++ fs) (append-nil (f x)))
@@ -39,7 +39,7 @@ module _ (f : Sender → List Frame) (all : List Sender) where
   pub sent_all : (i : ℕ) (start before : List ℕ) → length all ≤ i → before ≡ start ++ sent_by i → before ≡ start ++ flat_map spelling (flat_map f all)
   sent_all i start before le h = h ∙ ap (λ ss. start ++ flat_map spelling (flat_map f ss)) (take_all i all le)
 
--- the lanes behind are as they were
+-- the later lanes are as they were
 pub left_more : (all now after : List Sender) (i : ℕ) (change : Sender → Sender) → i < length now → IfSome (slice_get now i) (λ s. after ≡ slice_set now i (change s)) → ((j : ℕ) → i ≤ j → slice_get now j ≡ slice_get all j)
     → (j : ℕ) → i + 1 ≤ j → slice_get after j ≡ slice_get all j
 left_more all now after i change lt changed h j le =

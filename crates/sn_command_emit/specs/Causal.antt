@@ -1,3 +1,4 @@
+-- serves proofs
 -- The frames of a window depend on no later one.
 use Rattle.std.specs.Prelude.{◌≡◌, ℕ, zero, suc, ◌<◌, List, [], ◌∷◌, ◌++◌, map, length, false, ◌==◌, slice_index, Option, None, Some}
 use Rattle.std.specs.List.{AllByRecursion, flat_map, range_with_len}
@@ -58,7 +59,7 @@ none_above last (w ∷ more) v r lt =
     let no : (w.0 == v) ≡ false = ne_eqb w.0 v (λ e. omega (arith, e, lt, above)) in
     rw no (none_above w.0 more v r.1 (omega (arith, lt, above)))
 
--- below a window, neither those behind it nor its tuples matter
+-- below a window, neither those after it nor its tuples matter
 below : (last : Option ℕ) (closed : List Window) (number : ℕ) (tuples other : List (List ℕ)) (more : List Window) (v : ℕ) → AreRising last (closed ++ (number, tuples) ∷ more) → v < number
     → windows_of (closed ++ (number, tuples) ∷ more) v ≡ windows_of (closed ++ (number, other) ∷ []) v
 below last [] number tuples other more v r lt = let no : (number == v) ≡ false = ne_eqb number v (λ e. omega (arith, e, lt)) in rw no (none_above number more v r.1 lt)
@@ -84,7 +85,7 @@ module _ (p : Planned) (number : ℕ) (tuples : List (List ℕ)) (kept other : P
       flat_same f g pieces
       (all_weaker (λ (x : Placed). kept x ≡ other x) (λ (x : Placed). f x ≡ g x) (λ x e. ap (λ (k : Set). map (row_frame (name_of x)) (reads_out p.queries p.depth x k tuples) ++ End (name_of x) number ∷ []) e) pieces same)
 
-  -- lanes that let in the same send the same
+  -- lanes that admit the same send the same
   pub same_frames : flat_map (packet_frames p kept tuples) (range_with_len 0 (length tuples)) ++ flat_map (frames_behind p.queries p.depth kept tuples number) pieces
       ≡ flat_map (packet_frames p other tuples) (range_with_len 0 (length tuples)) ++ flat_map (frames_behind p.queries p.depth other tuples number) pieces
   same_frames =
@@ -97,7 +98,7 @@ same_prefixes : (query : TypedQuery) (windows others : List Window) (path : List
 same_prefixes query windows others path w a zero = refl
 same_prefixes query windows others path w a (suc j) = ap (prefixes_of query) (same_before (windows_of windows) (windows_of others) query path j w a)
 
--- nor do they for what the lanes let in
+-- nor do they for what the lanes admit
 pub kept_is_causal : (queries : List TypedQuery) (closed : List Window) (number : ℕ) (tuples : List (List ℕ)) (more : List Window) → AreRising None (closed ++ (number, tuples) ∷ more)
     → (x : Placed) → kept_of queries (closed ++ (number, tuples) ∷ more) number x ≡ kept_of queries (closed ++ (number, tuples) ∷ []) number x
 kept_is_causal queries closed number tuples more rising x =

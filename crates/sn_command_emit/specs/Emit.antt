@@ -1,3 +1,4 @@
+-- to be believed
 -- What `emit` does.
 use Rattle.std.specs.Prelude.{ℕ, List}
 use Rattle.sn_command_capture.specs.Capture.{Answered}

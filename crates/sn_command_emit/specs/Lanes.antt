@@ -1,3 +1,4 @@
+-- serves proofs
 -- What a lane gives at a tuple.
 use Rattle.std.specs.Prelude.{ℕ, List}
 use Rattle.std.specs.Option.{option_map}

@@ -1,4 +1,5 @@
--- What is kept of a plan between two windows that it reports, and while a window is at hand.
+-- serves proofs
+-- What is kept of a plan between two windows that it reports, and while a window is open.
 use Rattle.std.specs.Prelude.{◌≡◌, ℕ, List, [], ◌∷◌, ◌++◌, length, Option, None}
 use Rattle.std.specs.List.{AllByRecursion, flat_map, range_with_len}
 use Rattle.sn_command_capture.specs.Wording.{AreRising, Window}
@@ -32,16 +33,16 @@ pub record IsDriverOf (p : Planned) (d : Driver) : Type 0 where
   pub sources : d.sources ≡ sources_of 0 p.entries
   pub many : length d.sources ≡ length d.emitter
 
--- the prefixes that the lane of a piece lets in, where these are the answers of the last window
+-- the prefixes that the lane of a piece admits, where these are the answers of the last window
 abbrev pub kept_now : List TypedQuery → Option Answers → ℕ → Placed → Set
 kept_now queries last number x = kept_in queries last number (source_of x)
 
--- These bytes are those of the frames of the tuples so far, packet by packet, whatever tuples of the window come behind them.
+-- These bytes are those of the frames of the tuples so far, packet by packet, whatever tuples of the window come after them.
 abbrev pub AreBytesOf : Planned → (Placed → Set) → List (List ℕ) → List ℕ → Type 0
 AreBytesOf p kept tuples bytes = (more : List (List ℕ)) → AllByRecursion HasWidths more
     → bytes ≡ flat_map spelling (flat_map (packet_frames p kept (tuples ++ more)) (range_with_len 0 (length tuples)))
 
--- these windows were closed, and none is at hand
+-- these windows were closed, and none is open
 pub record IsIdle (a : Reporter) (closed : List Window) : Type 0 where
   pub driver : IsDriverOf (plan_of a) a.driver
   pub lanes : AreIdle a.typed.queries a.depth (pieces_from 0 a.plan.entries) a.driver.emitter a.driver.engine.lanes.items
@@ -60,6 +61,6 @@ pub record IsAtHand (a : Reporter) (closed : List Window) (number : ℕ) (tuples
   pub sent : AreBytesOf (plan_of a) (kept_now a.typed.queries a.last number) tuples a.sent.items
   pub rising : AreRising None (closed ++ (number, []) ∷ [])
 
--- some windows were closed, and none is at hand
+-- some windows were closed, and none is open
 abbrev pub Rests : (List Window → Type 0) → Type 0
 Rests idle = (closed : List Window) × idle closed

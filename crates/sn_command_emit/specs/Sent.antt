@@ -1,3 +1,4 @@
+-- to be believed
 -- The frames that the lanes of a plan send in a window.
 use Rattle.std.specs.Prelude.{ℕ, zero, suc, List, [], ◌∷◌, ◌++◌, map, filter, take, length, false}
 use Rattle.std.specs.FinSet as set
@@ -24,15 +25,15 @@ use Rattle.sn_types.specs.Cuts.{size_at}
 use Rattle.sn_types.specs.Typed.{branch_at, packet_row, query_at}
 use Rattle.sn_types.specs.Values.{op_at}
 
--- ---- what a lane lets in
+-- ---- what a lane admits
 
--- The prefixes that the level at a place of a path lets in: those that the level before it answered in the window before. The
--- first level lets in all tuples.
+-- The prefixes that the level at a place of a path admits: those that the level before it answered in the window before. The
+-- first level admits all tuples.
 abbrev pub prefixes_for : TypedQuery → List Window → List ℕ → ℕ → ℕ → Set
 prefixes_for query windows path w zero = set.empty
 prefixes_for query windows path w (suc j) = prefixes_of query (before (refined_rows query (windows_of windows) path j) w)
 
--- the prefixes that the lane of a piece lets in, in a capture with these windows
+-- the prefixes that the lane of a piece admits, in a capture with these windows
 abbrev pub kept_of : List TypedQuery → List Window → ℕ → Placed → Set
 kept_of queries windows w x = prefixes_for (query_at queries x.query) windows x.path w (place_in x.path x.piece.level)
 
@@ -40,7 +41,7 @@ kept_of queries windows w x = prefixes_for (query_at queries x.query) windows x.
 abbrev pub row_beside : List TypedQuery → Placed → ℕ × List ℕ → ℕ × Row
 row_beside queries x p = (p.0, packet_row (query_at queries x.query).field x.piece.level (branch_at queries x.query x.piece.branch).fields p.1)
 
--- the rows of the tuples of a window that the lane of a piece lets in, each beside the number of its packet in the window
+-- the rows of the tuples of a window that the lane of a piece admits, each beside the number of its packet in the window
 abbrev pub flow_of : List TypedQuery → Placed → Set → List (List ℕ) → List (ℕ × Row)
 flow_of queries x kept tuples =
     map (row_beside queries x) (filter (λ p. is_let_in (query_at queries x.query).field (level_before x.path x.piece.level) kept p.1) (numbered 0 tuples))
@@ -59,7 +60,7 @@ sizes_of queries x = size_at (branch_at queries x.query x.piece.branch).ops x.pi
 abbrev pub sends_at : List TypedQuery → ℕ → Placed → Set → List (List ℕ) → ℕ → List Item
 sends_at queries depth x kept tuples n = at_packet (sent_from depth (sizes_of queries x) 0 (ops_of queries x) (flow_of queries x kept tuples)) n
 
--- the items that are read out behind the last packet
+-- the items that are read out after the last packet
 abbrev pub reads_out : List TypedQuery → ℕ → Placed → Set → List (List ℕ) → List Item
 reads_out queries depth x kept tuples = read_from depth (sizes_of queries x) 0 false (ops_of queries x) (flow_of queries x kept tuples)
 
@@ -69,7 +70,7 @@ reads_out queries depth x kept tuples = read_from depth (sizes_of queries x) 0 f
 abbrev pub frames_at : List TypedQuery → ℕ → (Placed → Set) → List (List ℕ) → ℕ → Placed → List Frame
 frames_at queries depth kept tuples n x = map (row_frame (name_of x)) (sends_at queries depth x (kept x) tuples n)
 
--- the frames of a lane behind the last packet: the rows that are read out, and the End with the window's number
+-- the frames of a lane after the last packet: the rows that are read out, and the End with the window's number
 abbrev pub frames_behind : List TypedQuery → ℕ → (Placed → Set) → List (List ℕ) → ℕ → Placed → List Frame
 frames_behind queries depth kept tuples w x = map (row_frame (name_of x)) (reads_out queries depth x (kept x) tuples) ++ End (name_of x) w ∷ []
 
@@ -77,7 +78,7 @@ frames_behind queries depth kept tuples w x = map (row_frame (name_of x)) (reads
 abbrev pub packet_frames : Planned → (Placed → Set) → List (List ℕ) → ℕ → List Frame
 packet_frames p kept tuples n = flat_map (frames_at p.queries p.depth kept tuples n) (pieces_from 0 p.entries)
 
--- The frames of a window: packet by packet those of all lanes, and then lane by lane those behind the last packet.
+-- The frames of a window: packet by packet those of all lanes, and then lane by lane those after the last packet.
 abbrev pub window_frames : Planned → List Window → ℕ → List (List ℕ) → List Frame
 window_frames p windows w tuples =
     flat_map (packet_frames p (kept_of p.queries windows w) tuples) (range_with_len 0 (length tuples))
@@ -89,7 +90,7 @@ window_frames p windows w tuples =
 abbrev pub frames_block : Planned → List Window → ℕ → List (List ℕ) → List ℕ
 frames_block p windows w tuples = flat_map spelling (window_frames p windows w tuples)
 
--- nothing stands before the blocks, and nothing behind them, whether the capture is damaged or not
+-- nothing stands before the blocks, and nothing after them, whether the capture is damaged or not
 abbrev pub no_lines : List Window → Ending → List ℕ
 no_lines windows ending = []
 

@@ -32,7 +32,7 @@ impl Reporter {
         Ok(reporter)
     }
 
-    /// A plan that fits, with no window at hand.
+    /// A plan that fits, with no window open.
     fn new(typed: Typed, switch: &Switch, plan: Plan) -> Result<Reporter, Memory>
         requires switch { IsSwitch switch.now }
         requires fits { Fits typed.queries switch.now plan.entries }
@@ -60,7 +60,7 @@ impl Reporter {
         self.driver.begin(&self.last, number)
     }
 
-    /// Takes the next tuple of the window at hand.
+    /// Takes the next tuple of the current window.
     fn take(&mut self, tuple: &Tuple) -> Result<(), Memory>
         requires { (number : ℕ) × Holds (IsAtHand self.old) number }
         ensures given { OnOk result ((closed : List Window) (number : ℕ) (tuples : List (List ℕ)) → IsAtHand self.old closed number tuples → IsAtHand self.new closed number (tuples ++ tuple.now ∷ [])) }
@@ -70,7 +70,7 @@ impl Reporter {
         give_packet(&mut self.driver, &mut self.sent, tuple)
     }
 
-    /// Closes the window at hand, and gives its frames.
+    /// Closes the current window, and gives its frames.
     fn end(&mut self, number: u64) -> Result<Seq<u8>, Memory>
         requires { Holds (IsAtHand self.old) number }
         ensures text { IfOk result (λ text. (closed : List Window) (tuples : List (List ℕ)) → IsAtHand self.old closed number tuples → text ≡ frames_block (plan_of self.old) (closed ++ (number, tuples) ∷ []) number tuples) }

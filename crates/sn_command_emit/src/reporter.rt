@@ -5,8 +5,8 @@ use sn_plan_grammar::plan::Plan;
 use sn_types::answers::Answers;
 use sn_types::typed::Typed;
 
-/// A plan that fits a switch, its lanes and the engine, which takes what they send, since what a level lets in is told by the
-/// answers of the window before; and the bytes of the frames of the window at hand.
+/// A plan that fits a switch, its lanes and the engine, which takes what they send, since what a level admits depends on the
+/// answers of the window before; and the bytes of the frames of the current window.
 #[derive(Drop)]
 pub struct Reporter {
     pub typed: Typed,
@@ -16,6 +16,6 @@ pub struct Reporter {
     pub driver: Driver,
     /// The answers of the last window.
     pub last: Option<Answers>,
-    /// The bytes of the frames of the window at hand.
+    /// The bytes of the frames of the current window.
     pub sent: Vec<u8>,
 }

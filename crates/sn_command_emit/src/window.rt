@@ -21,7 +21,7 @@ use sn_engine_lockstep::driver::Driver;
 use sn_fields::tuple::Tuple;
 use sn_types::answers::Answers;
 
-/// Gives a tuple of the window at hand to all lanes. What they send is taken by the engine, and its bytes are added to the text.
+/// Gives a tuple of the current window to all lanes. What they send is taken by the engine, and its bytes are added to the text.
 pub(crate) fn give_packet(
     driver: &mut Driver,
     text: &mut Vec<u8>,

@@ -1,7 +1,7 @@
 -- The stages of `finish` have one outcome each.
 use Rattle.std.proofs.Common.{◌≡◌, ℕ, List, Result, Ok, Err, ap}
-use Rattle.sn_framed.specs.Framed.{Framed}
-use Rattle.sn_framed.proofs.Cutting.{one_cutting}
+use Rattle.sn_report.specs.Framed.{Framed}
+use Rattle.sn_report.proofs.Cutting.{one_cutting}
 use Rattle.sn_plan_grammar.specs.declared.plan.Entry.{Entry}
 use Rattle.sn_command_texts.specs.Queries.{QueriesIn}
 use Rattle.sn_command_texts.specs.Texts.{PlanIn}

@@ -45,7 +45,7 @@ rest_same x y xs ys e = ap (λ l. drop 1 l) e
 not_nothing : {A : Type 0} (xs ys : List A) (x : A) → xs ++ x ∷ ys ≡ [] → ⊥
 not_nothing xs ys x e = let none = ap length e in omega (arith, none, length-append xs (x ∷ ys))
 
--- ---- one lane behind frames of its own
+-- ---- one lane after frames of its own
 
 abbrev pub came : Intake → Frame → Intake
 came x (Row lane item) = with_item item x
@@ -67,7 +67,7 @@ rows_came n (item ∷ items) x = rows_came n items (with_item item x) ∙ ap (λ
 idle_rows : (n : Lane) (items : List Item) (x : Intake) → IsIdle x → fold came x (map (Row n) items) ≡ record x { items = items; end = None }
 idle_rows n items x idle = rows_came n items x ∙ ap (λ (is : List Item). record x { items = is ++ items }) idle.items ∙ ap (λ (e : Option ℕ). record x { items = items; end = e }) idle.end
 
--- frames before one of them, among those of a window: rows alone, and that one is a row too, or the End behind them all
+-- frames before one of them, among those of a window: rows alone, and that one is a row too, or the End after them all
 abbrev IsRowOf : Lane → List Item → List Frame → Frame → Type 0
 IsRowOf n items us f = (done more : List Item) × (item : Item) × (items ≡ done ++ item ∷ more) × (us ≡ map (Row n) done) × (f ≡ Row n item)
 
@@ -113,7 +113,7 @@ agrees_before n w (item ∷ items) (u ∷ us) vs x unended e =
 all_came : (n : Lane) (w : ℕ) (items : List Item) (x : Intake) → IsIdle x → fold came x (map (Row n) items ++ End n w ∷ []) ≡ record x { items = items; end = Some w }
 all_came n w items x idle = fold-append came x (map (Row n) items) (End n w ∷ []) ∙ ap (with_end w) (idle_rows n items x idle)
 
--- ---- all lanes behind frames
+-- ---- all lanes after frames
 
 same_name : (lane : Lane) (x y : Intake) → is_lane lane x ≡ true → is_lane lane y ≡ is_lane (name_of x) y
 same_name lane x y e =

@@ -12,7 +12,7 @@ use Rattle.sn_engine.specs.declared.intake.Intake.{Intake}
 use Rattle.sn_engine.specs.Answers.{part_of, parts_of}
 use Rattle.sn_engine.specs.Intakes.{AreIntakes, IsIntake, items_at, lane_at}
 use Rattle.sn_engine.proofs.Lanes.{items_at_of}
-use Rattle.sn_finish.proofs.FitLemmas.{branch_value_of}
+use Rattle.sn_engine.proofs.FitLemmas.{branch_value_of}
 use Rattle.sn_ops.specs.Joins.{joined}
 use Rattle.sn_ops.proofs.PacketSteps.{some_branch}
 use Rattle.sn_ops.proofs.Queries.{CanBeJoined, query_joined, query_one, query_posts_final}

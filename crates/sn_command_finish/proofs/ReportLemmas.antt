@@ -3,8 +3,8 @@ use Rattle.std.proofs.Common.{◌≡◌, ℕ, ◌+◌, ◌-◌, ◌<◌, ◌≤�
 use Rattle.std.proofs.lemmas.Bool.{eq-eqb, ne_eqb}
 use Rattle.std.proofs.lemmas.List.{drop-drop, length-append, length-drop, length-take, take_all}
 use Rattle.sn_io.specs.Counts.{ByName}
-use Rattle.sn_framed.specs.Framed.{AreReports, Framed, IsNoFrame, bytes_of}
-use Rattle.sn_framed.proofs.Cutting.{first_frame, frame_long, no_frames, nothing_left}
+use Rattle.sn_report.specs.Framed.{AreReports, Framed, IsNoFrame, bytes_of}
+use Rattle.sn_report.proofs.Cutting.{first_frame, frame_long, no_frames, nothing_left}
 use Rattle.sn_report.specs.declared.decode.Decoded.{Decoded}
 use Rattle.sn_report.specs.declared.decode.Decoded.TheVariants.{Whole, More, Bad}
 use Rattle.sn_report.specs.declared.frame.Frame.{Frame}
@@ -24,7 +24,7 @@ use Rattle.sn_types.specs.declared.typed_query.TypedQuery.{TypedQuery}
 use Rattle.sn_command_finish.specs.Reported.{FramedIn, reported_from}
 use Rattle.sn_command_finish.specs.Taken.{Standing, end_at, ended, fault_at, followed, goes_on, refused_at, take_frame, take_frames}
 
--- ---- outcomes behind one another
+-- ---- outcomes after one another
 
 pub followed_twice : {A B C : Type 0} (first : Outcome A) (f : A → Outcome B) (g : B → Outcome C) → followed (followed first f) g ≡ followed first (λ x. followed (f x) g)
 followed_twice {A} {B} {C} first f g = of first.text first.end
@@ -130,7 +130,7 @@ module _ (queries : List TypedQuery) (at size : ℕ) (rest : List ℕ) (s : Stan
         let other : (at == size) ≡ false = ne_eqb at size (λ e. omega arith) in
         ends_so More (refused_at kinds.Cut at) stands tt (ap (λ b. cond b (ended size s) (refused_at kinds.Cut at)) other) (runs_gives (Err (fault_at kinds.Cut at)) now tt)
 
-    -- the reports end behind a frame
+    -- the reports end after a frame
     pub end_goes : at ≡ size → rest ≡ [] → {answer : Result (Unit {0}) Refusal} {after : World} → Runs [] (Does (ended size s)) now answer after → Runs [] whole before answer after
     end_goes is none r =
         ends_so More (ended size s) (subst (λ (xs : List ℕ). Stands xs More) (sym none) nothing_left) tt (ap (λ b. cond b (ended size s) (refused_at kinds.Cut at)) (eq-eqb at size is)) r
@@ -146,7 +146,7 @@ whole_long rest frame len h =
     let spelled = ap length h.1.spelled in
     omega (arith, long, spelled, length-take len rest)
 
--- the bytes behind it
+-- the bytes after it
 pub rest_behind : (bytes : List ℕ) (at len : ℕ) → drop len (drop at bytes) ≡ drop (at + len) bytes
 rest_behind bytes at len = drop-drop len at bytes ∙ ap (λ n. drop n bytes) (omega arith)
 

@@ -9,9 +9,9 @@ use Rattle.sn_engine.specs.Answers.{answers_of, parts_of, window_of}
 use Rattle.sn_engine.specs.Intakes.{after_frame, first_open, has_started, intake_for, intakes_of, total}
 use Rattle.sn_engine.specs.Taking.{is_above}
 use Rattle.sn_engine.proofs.Firsts.{sum_cons}
-use Rattle.sn_framed.specs.Framed.{Framed, bytes_of}
+use Rattle.sn_report.specs.Framed.{Framed, bytes_of}
 use Rattle.sn_io.specs.Counts.{ByName}
-use Rattle.sn_framed.proofs.Cutting.{cut_once, frames_again}
+use Rattle.sn_report.proofs.Cutting.{cut_once, frames_again}
 use Rattle.sn_out.specs.Text.{block_text, total_line}
 use Rattle.sn_plan_grammar.specs.declared.plan.Entry.{Entry}
 use Rattle.sn_plan_grammar.specs.declared.plan.Piece.{Piece}
@@ -58,7 +58,7 @@ some_none None h = absurd (h refl)
 some_none (Some n) h = refl
 
 module _ (queries : List TypedQuery) (lanes : List Intake) (names : HaveNames lanes) (idle : AllByRecursion IsIdle lanes) (some : 0 < length lanes) where
-  -- behind a window
+  -- after a window
   abbrev behind : Standing → Sent → Standing
   behind s sent = record { lanes = lanes; closed = Some sent.window; windows = s.windows + 1; emitted = s.emitted + total (map (filled sent) lanes) }
 

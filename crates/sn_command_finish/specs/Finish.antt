@@ -1,3 +1,4 @@
+-- to be believed
 -- What `finish` does.
 use Rattle.std.specs.Prelude.{ℕ, List}
 use Rattle.sn_command_finish.specs.Reported.{Reported}

@@ -1,3 +1,4 @@
+-- serves proofs
 -- Where a tally stands.
 use Rattle.sn_command_finish.specs.declared.tally.Tally.{Tally}
 use Rattle.sn_command_finish.specs.Taken.{Standing}

@@ -1,3 +1,4 @@
+-- to be believed
 -- What frames of reports leave of an engine, and the text that they add.
 use Rattle.std.specs.Prelude.{ℕ, ◌+◌, List, [], ◌∷◌, ◌++◌, map, length, true, ◌==◌, is_none, Option, None, Some, Result, Ok, Err, if◌then◌else◌}
 use Rattle.std.specs.List.{list_any}
@@ -31,8 +32,8 @@ fault_at kind at = faults.Reports (record { kind = kind; at = at })
 abbrev pub refused_at : {A : Type 0} → ReportKind → ℕ → Outcome A
 refused_at kind at = silent (Err (Refused (fault_at kind at)))
 
--- Why a frame isn't taken, as a fault of reports. Want of memory is no fault of a frame, so what stands beside it here is
--- never told.
+-- Why a frame isn't taken, as a fault of reports. Being out of memory is no fault of a frame, so what stands beside it here is
+-- never reported.
 abbrev pub kind_of : TakeFault → ReportKind
 kind_of takes.Stranger = kinds.Stranger
 kind_of takes.Width = kinds.Width
@@ -45,9 +46,9 @@ abbrev pub take_verdict : ℕ → Option TakeFault → Result (Unit {0}) Fault
 take_verdict at None = Ok tt
 take_verdict at (Some fault) = Err (fault_at (kind_of fault) at)
 
--- ---- one outcome behind another
+-- ---- one outcome after another
 
--- What follows an outcome: nothing behind a refusal, and behind a value what goes on from it.
+-- What follows an outcome: nothing after a refusal, and after a value what goes on from it.
 abbrev pub goes_on : {A B : Type 0} → List ℕ → Result A Refusal → (A → Outcome B) → Outcome B
 goes_on text (Err refusal) second = record { text = text; end = Err refusal }
 goes_on text (Ok value) second = record { text = text ++ (second value).text; end = (second value).end }
@@ -88,18 +89,18 @@ taken_unless at (Some fault) taken = refused_at (kind_of fault) at
 abbrev pub take_frame : List TypedQuery → ℕ → Frame → Standing → Outcome Standing
 take_frame queries at frame s = taken_unless at (take_fault queries s.lanes s.closed frame) (close_ended queries (record s { lanes = after_frame s.lanes frame }))
 
--- frames one behind another, the first of which begins at this byte
+-- frames one after another, the first of which begins at this byte
 abbrev pub take_frames : List TypedQuery → ℕ → List Frame → Standing → Outcome Standing
 take_frames queries at [] s = silent (Ok s)
 take_frames queries at (frame ∷ frames) s = followed (take_frame queries at frame s) (λ next. take_frames queries (at + length (spelling frame)) frames next)
 
--- ---- behind the frames
+-- ---- after the frames
 
--- the reports, of so many bytes, end behind a frame: each window that was begun must have been closed
+-- the reports, of this many bytes, end after a frame: each window that was begun must have been closed
 abbrev pub ended : ℕ → Standing → Outcome (Unit {0})
 ended size s = if list_any has_started s.lanes then refused_at kinds.Unfinished size else record { text = total_line s.windows (Some s.emitted); end = Ok tt }
 
--- what stands behind the last frame, from this byte on
+-- what stands after the last frame, from this byte on
 abbrev pub end_at : ℕ → ℕ → Decoded → Standing → Outcome (Unit {0})
 end_at at size (decoded.Bad n) s = refused_at kinds.Bad (at + n)
 end_at at size left s = if at == size then ended size s else refused_at kinds.Cut at

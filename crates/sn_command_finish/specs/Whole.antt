@@ -1,3 +1,4 @@
+-- to be believed
 -- The frames of whole windows.
 use Rattle.std.specs.Prelude.{◌≡◌, ℕ, List, [], ◌∷◌, ◌++◌, map, filter, length, sum_by, true, false, Option, None, Some}
 use Rattle.std.specs.List.{AllByRecursion, flat_map, list_any}
@@ -62,7 +63,7 @@ answers_to queries lanes sent = record {
   parts = parts_of queries (map (filled sent) lanes);
 }
 
--- the frames of windows, one window behind another
+-- the frames of windows, one window after another
 abbrev pub frames_in : List Sent → List Frame
 frames_in windows = flat_map (λ sent. sent.frames) windows
 

@@ -5,7 +5,7 @@ ghost use Rattle.sn_engine.specs.Intakes.{intakes_of};
 ghost use Rattle.sn_command_finish.specs.Finish.{Finish};
 ghost use Rattle.sn_command_finish.specs.Reported.{Reported};
 ghost use Rattle.sn_command_finish.specs.Whole.{HaveNames, IsWindow, Rise, Sent, answered_text, frames_in};
-ghost use Rattle.sn_framed.specs.Framed.{bytes_of};
+ghost use Rattle.sn_report.specs.Framed.{bytes_of};
 ghost use Rattle.sn_io.specs.Counts.{ByName};
 ghost use Rattle.sn_plan_grammar.specs.declared.plan.Entry.{Entry};
 ghost use Rattle.sn_report.specs.Frames.{IsFrame};

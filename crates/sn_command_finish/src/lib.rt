@@ -6,6 +6,4 @@ pub mod law;
 mod reports;
 mod taking;
 mod tally;
-#[cfg(test)]
-mod tests;
 mod window;

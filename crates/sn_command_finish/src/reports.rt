@@ -40,7 +40,7 @@ fn write_total<I: Inputs, O: Sink>(
     write_text(line.as_slice(), desk)
 }
 
-/// Ends reports of so many bytes, behind their last frame.
+/// Ends reports of this many bytes, after their last frame.
 fn end_reports<I: Inputs, O: Sink>(
     alloc: Global,
     tally: &Tally,

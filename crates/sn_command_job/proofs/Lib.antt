@@ -3,3 +3,4 @@ pub mod SummingLemmas
 pub mod JobLemmas
 pub mod FileLemmas
 pub mod OverLemmas
+pub mod GenLemmas

@@ -43,7 +43,7 @@ module _ {M : Type 0} (machine : MachineOf M) (a : Summing M) where
   all_sent closed (inl idle) = all_emitted machine a.along closed (inl idle.along)
   all_sent closed (inr at) = all_emitted machine a.along closed (inr (at.0, at.1.along))
 
-  -- a window at hand stands behind those that were closed
+  -- a current window stands after those that were closed
   pub rising_at : (closed : List Window) (number : ℕ) (tuples : List (List ℕ)) → IsAtWork machine a closed number tuples → AreRising None (closed ++ (number, tuples) ∷ [])
   rising_at closed number tuples h = rising_again None closed number [] tuples h.along.rising
 

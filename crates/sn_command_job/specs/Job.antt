@@ -1,3 +1,4 @@
+-- to be believed
 -- What `job` does.
 use Rattle.std.specs.Prelude.{ℕ, ◌+◌, List, [], ◌∷◌, length, codes}
 use Rattle.std.specs.FinMap.{from_entries}
@@ -31,7 +32,7 @@ job_files number = from_entries (job_entries number)
 
 -- Over these files a job does what `live` does with 100000 nodes, but that the summary is all that it writes: the queries are read, then the
 -- switch, then the training capture; the plan that costs least on it is searched for; and then the other capture is read and answered along
--- that plan, as a machine tells the answers.
+-- that plan, as a machine reports the answers.
 abbrev pub Summed : Telling → ℕ → Stage (Unit {0})
 Summed told number =
     Then (Text (codes "queries") QueriesIn) (λ read.

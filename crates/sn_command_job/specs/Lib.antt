@@ -2,3 +2,4 @@ pub mod Made
 pub mod Summary
 pub mod Summing
 pub mod Job
+pub mod Gen

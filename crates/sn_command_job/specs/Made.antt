@@ -1,3 +1,4 @@
+-- serves proofs
 -- Files that were made, of which no read fails.
 use Rattle.std.specs.Prelude.{◌≡◌, ℕ, List, [], ◌∷◌, map, Some, is_some}
 use Rattle.std.specs.FinMap.{from_entries, get}

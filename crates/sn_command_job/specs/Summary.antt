@@ -1,3 +1,4 @@
+-- to be believed
 -- What `job` writes of a plan and of the windows that it answers.
 use Rattle.std.specs.Prelude.{ℕ, List, [], ◌∷◌, ◌++◌, length, ◌==◌, codes, if◌then◌else◌}
 use Rattle.std.specs.Fmt.{decimal}
@@ -31,7 +32,7 @@ shown_part queries part = if part.level == finest_level (query_at queries part.q
 abbrev pub shown : List TypedQuery → Answers → List ℕ
 shown queries answers = if answers.window == 3 then flat_map (shown_part queries) answers.parts else []
 
--- of the windows of a capture that is answered along a plan, where this is told of their answers
+-- of the windows of a capture that is answered along a plan, where this is reported of their answers
 abbrev pub shown_at : Telling → Planned → List Window → Window → List ℕ
 shown_at told p windows w = shown p.queries (told_at told p windows w.0)
 
@@ -44,7 +45,7 @@ abbrev pub summary_text : ℕ → ℕ → ℕ → ℕ → ℕ → List ℕ → L
 summary_text number cost nodes windows emitted rows =
     job_line number windows ++ number_line (codes "cost ") cost ++ number_line (codes "emitted ") emitted ++ number_line (codes "nodes ") nodes ++ rows
 
--- the summary of a job, whose plan answers these windows, as it is told
+-- the summary of a job, whose plan answers these windows, as it is printed
 abbrev pub summary : Telling → ℕ → ℕ → ℕ → Planned → List Window → List ℕ
 summary told number cost nodes p windows = summary_text number cost nodes (length windows) (told_emitted_in told p windows) (shown_in told p windows)
 

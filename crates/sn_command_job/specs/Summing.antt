@@ -1,4 +1,5 @@
--- What is kept of a job between two windows, and while a window is at hand.
+-- serves proofs
+-- What is kept of a job between two windows, and while a window is open.
 use Rattle.std.specs.Prelude.{◌≡◌, ℕ, List}
 use Rattle.std.specs.List.{flat_map}
 use Rattle.sn_command_capture.specs.Wording.{Window}

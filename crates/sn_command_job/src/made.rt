@@ -36,7 +36,7 @@ impl MadeFiles {
         }
     }
 
-    /// Puts a file. A name that is known has the new bytes.
+    /// Adds a file. A name that is known gets the new bytes.
     pub fn put(&mut self, name: &str, bytes: Seq<u8>) -> Result<(), Memory>
         ensures { OnOk result (self.new ≡ files_put name.now bytes self.old) }
     {

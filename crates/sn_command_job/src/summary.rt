@@ -86,7 +86,7 @@ pub(crate) fn push_shown(text: &mut Vec<u8>, t: &Typed, answers: &Answers) -> Re
     }
 }
 
-/// The summary of a job, behind so many windows.
+/// The summary of a job, after this many windows.
 pub(crate) fn summary_text<M: Drop>(summing: &Summing<M>, windows: u64) -> Result<Seq<u8>, Memory>
     ensures { IfOk result (λ text. let s = summing.now in text ≡ summary_text s.number s.cost s.nodes windows s.along.emitted s.shown.items) }
 {

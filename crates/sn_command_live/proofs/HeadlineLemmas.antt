@@ -10,14 +10,14 @@ use Rattle.sn_command_search.specs.declared.certificate.Certificate.{Certificate
 use Rattle.sn_plan_lists.specs.Costs.{plan_cost}
 use Rattle.sn_plan_fit.specs.Fits.{Fits}
 use Rattle.sn_io.specs.Counts.{ByName}
-use Rattle.sn_paid.specs.Sent.{sent_over}
+use Rattle.sn_cost_laws.specs.Sent.{sent_over}
 use Rattle.sn_pcap.specs.declared.packet.Ending.{Ending}
 use Rattle.sn_pcap.specs.declared.packet.Ending.TheVariants as endings
 use Rattle.sn_plan.specs.Printing.{plan_text}
 use Rattle.sn_plan_grammar.specs.declared.plan.Entry.{Entry}
 use Rattle.sn_command_texts.specs.Queries.{QueriesIn}
 use Rattle.sn_command_texts.specs.Texts.{SwitchIn, switch_fault}
-use Rattle.sn_priced.specs.Space.{trained_entry, trained_plans}
+use Rattle.sn_cost_laws.specs.Space.{trained_entry, trained_plans}
 use Rattle.sn_types_read.specs.Texts.{IsRead, Queries}
 use Rattle.sn_types_read.specs.declared.fault.QueryFault.{QueryFault}
 use Rattle.sn_command_run.specs.Planned.{Planned, as_they_are, plan_lines, plan_wording}

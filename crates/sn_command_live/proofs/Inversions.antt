@@ -41,7 +41,7 @@ err_is e = cc
 ok_is : {A : Type 0} {x y : A} → ◌≡◌ {A = Result A Refusal} (Ok x) (Ok y) → x ≡ y
 ok_is e = cc
 
--- ---- one stage behind another
+-- ---- one stage after another
 
 module _ {A B : Type 0} (first : Stage A) (second : A → Stage B) (files : ByName (List ℕ)) where
   -- the first stage gave a value, and the second went on from it

@@ -9,7 +9,7 @@ use Rattle.sn_command_run.specs.Planned.{Telling, told_wording}
 use Rattle.sn_command_run.specs.Run.{planned, window_ns}
 use Rattle.sn_command.specs.Outcomes.{HasOne}
 use Rattle.sn_command.proofs.OneLemmas.{one_does, one_judges, one_text, one_then}
-use Rattle.sn_command_trace.specs.Wording.{traced_wording}
+use Rattle.sn_command_run.specs.TraceWording.{traced_wording}
 use Rattle.sn_command_training.specs.Training.{TrainingIn}
 use Rattle.sn_command_training.proofs.TrainingLemmas.{one_training}
 use Rattle.sn_command_live.specs.Live.{Certifies, Live, Plan, TracedLive, trained_windows}

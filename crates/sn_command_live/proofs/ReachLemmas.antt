@@ -23,7 +23,7 @@ use Rattle.sn_pcap.specs.declared.seen.Last.{Last}
 use Rattle.sn_pcap.specs.declared.seen.Last.TheVariants as last
 use Rattle.sn_command_texts.specs.Queries.{QueriesIn}
 use Rattle.sn_command_texts.specs.Texts.{SwitchIn}
-use Rattle.sn_priced.specs.Space.{trained_entry, trained_plans}
+use Rattle.sn_cost_laws.specs.Space.{trained_entry, trained_plans}
 use Rattle.sn_types_read.specs.Texts.{Queries}
 use Rattle.sn_plan_grammar.specs.declared.plan.Plan.{Plan}
 use Rattle.sn_command_run.specs.Planned.{Planned, as_they_are, emitted_at, emitted_in, plan_lines, plan_wording}
@@ -50,7 +50,7 @@ use Rattle.sn_command_live.proofs.TrainLemmas.{all_within, training_so}
 use Rattle.sn_command_live.proofs.HeadlineLemmas.{Costs, Shows, headline_of}
 use Rattle.sn_command_live.proofs.LiveLemmas.{one_live_run}
 
--- ---- one stage behind another
+-- ---- one stage after another
 
 module _ {A B : Type 0} {first : Stage A} {second : A → Stage B} {files : ByName (List ℕ)} where
   pub then_given : (text : List ℕ) (value : A) (rest : Outcome B) → first files (record { text = text; end = Ok value }) → second value files rest → Then first second files (record { text = text ++ rest.text; end = rest.end })
@@ -148,7 +148,7 @@ module _ {switch queries train capture : List ℕ} {files : ByName (List ℕ)} {
   abbrev along : Planned
   along = planned given.read given.limits certificate.plan
 
-  -- what is written behind the certificate
+  -- what is written after the certificate
   abbrev pub behind : List ℕ
   behind = flat_map (window_block along given.second) given.second ++ plan_lines along given.second ending
 

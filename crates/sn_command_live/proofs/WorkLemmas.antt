@@ -1,4 +1,4 @@
--- Stages that add a text and give a value, and work that goes on behind several files.
+-- Stages that add a text and give a value, and work that goes on after several files.
 use Rattle.std.proofs.Common.{◌≡◌, ℕ, List, [], ◌∷◌, ◌++◌, false, Option, Result, Ok, Err, refl, sym, subst}
 use Rattle.std.specs.Io.KnownBytes.{append_known}
 use Rattle.sn_io.specs.Counts.{ByName}

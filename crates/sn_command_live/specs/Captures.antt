@@ -1,3 +1,4 @@
+-- to be believed
 -- Files, and captures as the lists of their windows.
 use Rattle.std.specs.Prelude.{◌≡◌, ℕ, ◌≤◌, List, length, Ok, Some}
 use Rattle.std.specs.FinMap.{get}
@@ -11,7 +12,7 @@ use Rattle.sn_pcap.specs.declared.packet.Ending.{Ending}
 use Rattle.sn_pcap.specs.Reading.{within}
 use Rattle.sn_windows.specs.Windows.{numbered}
 
--- A file is a capture with these windows of so many nanoseconds: its header is accepted, its whole records end so, and the windows are those that hold
+-- A file is a capture with these windows of this many nanoseconds: its header is accepted, its whole records end so, and the windows are those that hold
 -- a record, each with the tuples of its packets.
 pub record IsCapture (window : ℕ) (file : List ℕ) (windows : List Window) (ending : Ending) : Type 0 where
   pub header : Header
@@ -20,7 +21,7 @@ pub record IsCapture (window : ℕ) (file : List ℕ) (windows : List Window) (e
   pub records : Records header (within file) 24 packets ending
   pub are : windows ≡ windows_in (packet_tuple header.link (within file)) (numbered time_of window packets)
 
--- a file holds these bytes, at most so many
+-- a file holds these bytes, at most this many
 pub record IsHeld (files : ByName (List ℕ)) (name : List ℕ) (most : ℕ) (bytes : List ℕ) : Type 0 where
   pub is : get files name ≡ Some bytes
   pub few : length bytes ≤ most

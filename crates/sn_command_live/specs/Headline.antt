@@ -1,3 +1,4 @@
+-- to be believed
 -- What `live` prints, in one statement.
 use Rattle.std.specs.Prelude.{◌≡◌, ◌⊎◌, ℕ, ◌≤◌, List, [], ◌∷◌, ◌++◌, length, Ok, Option, Some}
 use Rattle.std.specs.FinMap.{get}
@@ -8,7 +9,7 @@ use Rattle.sn_command_capture.specs.Wording.{Window}
 use Rattle.sn_plan_lists.specs.Chosen.{plan_choices}
 use Rattle.sn_plan_fit.specs.Fits.{Fits}
 use Rattle.sn_io.specs.Counts.{ByName}
-use Rattle.sn_paid.specs.Sent.{sent_over}
+use Rattle.sn_cost_laws.specs.Sent.{sent_over}
 use Rattle.sn_pcap.specs.declared.packet.Ending.{Ending}
 use Rattle.sn_pcap.specs.declared.packet.Ending.TheVariants.{Clean}
 use Rattle.sn_pcap.specs.Reading.{last_of}
@@ -18,7 +19,7 @@ use Rattle.sn_plan_grammar.specs.declared.plan.Entry.{Entry}
 use Rattle.sn_plan_grammar.specs.declared.plan.Plan.{Plan}
 use Rattle.sn_command_texts.specs.Queries.{QueriesIn}
 use Rattle.sn_command_texts.specs.Texts.{SwitchIn}
-use Rattle.sn_priced.specs.Space.{trained_plans}
+use Rattle.sn_cost_laws.specs.Space.{trained_plans}
 use Rattle.sn_types_read.specs.Texts.{Queries}
 use Rattle.sn_command_run.specs.Planned.{Planned, plan_block, plan_lines}
 use Rattle.sn_command_run.specs.Run.{planned, window_ns}
@@ -64,7 +65,7 @@ pub record AreAccepted (switch queries train capture : List ℕ) (files : ByName
   pub is_second : IsCapture (window_ns read) second_file second ending
 
 -- The limits are kept: the first capture has at most 4194304 records, so has each window of the second one, whose records end within 2^40 bytes; and
--- the tree of the first of the plans that cost least has at most so many nodes that are expanded.
+-- the tree of the first of the plans that cost least has at most this many nodes that are expanded.
 pub record KeepsLimits {switch queries train capture : List ℕ} {files : ByName (List ℕ)} {ending : Ending} (given : AreAccepted switch queries train capture files ending) (nodes : ℕ) : Type 0 where
   pub few_records : length given.is_first.packets ≤ 4194304
   pub few_each : AllByRecursion (λ (w : Window). length w.1 ≤ 4194304) given.second
@@ -86,16 +87,16 @@ pub record Headline {switch queries train capture : List ℕ} {files : ByName (L
   pub printed : text ≡ (plan_text plan ++ tree_text (cost_on given.first given.read given.limits plan.entries) (nodes_text tree))
       ++ (flat_map (window_block (planned given.read given.limits plan) given.second) given.second ++ plan_lines (planned given.read given.limits plan) given.second ending)
 
--- the headline of these files is written, and the status tells how the records of the second capture end
+-- the headline of these files is written, and the status says how the records of the second capture end
 pub record IsPrinted {switch queries train capture : List ℕ} {files : ByName (List ℕ)} {ending : Ending} (given : AreAccepted switch queries train capture files ending) (status : ℕ) (before now : Option (List ℕ)) : Type 0 where
   pub text : List ℕ
   pub headline : Headline given text
   pub written : now ≡ append_known before text
   pub status_is : status ≡ end_status (refusing (ending_verdict ending))
 
--- What a call with the words of `live` leaves, over files whose contents are told.
+-- What a call with the words of `live` leaves, over files whose contents are known.
 pub record KeepsHeadline (switch queries train capture : List ℕ) (nodes : ℕ) (before : Around) (status : ℕ) (now : Around) : Type 0 where
-  -- Of accepted files with limits that are kept the headline is printed, where no count rose, unless memory was wanting.
+  -- Of accepted files with limits that are kept the headline is printed, where no count rose, unless memory ran out.
   pub printed : (files : ByName (List ℕ)) → before.files.told ≡ Some files → (ending : Ending) (given : AreAccepted switch queries train capture files ending) → KeepsLimits given nodes
       → (AnyRose (queries ∷ switch ∷ train ∷ capture ∷ []) before.files now.files → ⊥) → (OutRose before.out now.out → ⊥) → (status ≡ 1) ⊎ IsPrinted given status before.out.written now.out.written
   -- Where the status is 0, the files are accepted, and it is printed.

@@ -1,3 +1,4 @@
+-- to be believed
 -- What `plan` and `live` do.
 use Rattle.std.specs.Prelude.{ℕ, List, Ok}
 use Rattle.sn_command_capture.specs.Wording.{Window}
@@ -12,7 +13,7 @@ use Rattle.sn_command_run.specs.Run.{AlongPlan, window_ns}
 use Rattle.sn_command.specs.Outcomes.{Stage}
 use Rattle.sn_command.specs.Stages.{Does, Gives, Judges, Text, Then}
 use Rattle.sn_switch.specs.declared.switch.Switch.{Switch}
-use Rattle.sn_command_trace.specs.Wording.{TracedAlong}
+use Rattle.sn_command_run.specs.TraceWording.{TracedAlong}
 use Rattle.sn_command_training.specs.declared.training.Training.{Training}
 use Rattle.sn_command_training.specs.Training.{TrainingIn}
 use Rattle.sn_command_live.specs.declared.certified.Certified.{Certified}
@@ -50,7 +51,7 @@ abbrev pub Plan : List ℕ → List ℕ → List ℕ → ℕ → Stage (Unit {0}
 Plan switch queries train nodes = Then (Certifies switch queries train nodes) (λ found. Gives (Ok tt))
 
 -- `live SWITCH QUERIES TRAIN CAPTURE --nodes NODES`: then the capture is read and answered along that plan; the answers are given as a
--- machine tells them.
+-- machine reports them.
 abbrev pub Live : Telling → List ℕ → List ℕ → List ℕ → List ℕ → ℕ → Stage (Unit {0})
 Live told switch queries train capture nodes = Then (Certifies switch queries train nodes) (λ found. AlongPlan told capture found.read found.limits found.certificate.plan)
 

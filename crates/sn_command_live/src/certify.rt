@@ -36,7 +36,7 @@ fn write_certificate<I: Inputs, O: Sink>(
 }
 
 /// Reads the queries, the switch and the training capture, searches for the plan that costs least, and writes it with its cost
-/// and its tree. At most so many nodes of the tree are expanded.
+/// and its tree. At most this many nodes of the tree are expanded.
 pub fn certify<I: Inputs, O: Sink>(
     alloc: Global,
     switch: &str,

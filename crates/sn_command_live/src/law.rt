@@ -13,7 +13,7 @@ ghost use Rattle.sn_command.specs.Outcomes.{HasOne, Outcome};
 ghost use Rattle.sn_command.specs.Refusals.{refusing};
 
 use sn_command_search::law::certificates_show_least;
-use sn_paid::law::costs_are_items_sent;
+use sn_cost_laws::sent::costs_are_items_sent;
 use sn_plan_lists::law::typed_queries_and_switches_rise;
 
 /// Over each set of files `plan` has exactly one outcome.
@@ -22,7 +22,7 @@ pub fn plan_has_one_outcome()
     ensures { (switch queries train : List ℕ) (nodes : ℕ) → HasOne (Plan switch queries train nodes) }
 {}
 
-/// Over each set of files `live` has exactly one outcome, whatever is told of answers.
+/// Over each set of files `live` has exactly one outcome, whatever is reported of answers.
 #[tactic(auto, using(crate::proofs::LiveLemmas::one_live_run))]
 pub fn live_has_one_outcome()
     ensures { (told : Telling) (switch queries train capture : List ℕ) (nodes : ℕ) → HasOne (Live told switch queries train capture nodes) }
@@ -36,7 +36,7 @@ pub fn traced_live_has_one_outcome()
 
 /// Of accepted queries, an accepted switch and two captures `live` prints a plan that fits, a tree that shows that no plan that fits costs less on the
 /// first capture, and for each window of the second one the refined answers along the plan, with the number of items that were sent: so it is where
-/// the machine tells its answers as they are.
+/// the machine reports its answers as they are.
 pub fn live_keeps_the_headline()
     // Where the limits are kept, this is the whole text, and the work ends as the records of the second capture do.
     ensures printed { (switch queries train capture : List ℕ) (files : ByName (List ℕ)) (ending : Ending) (given : AreAccepted switch queries train capture files ending) (nodes : ℕ) (outcome : Outcome (Unit {0})) →
@@ -50,7 +50,7 @@ pub fn live_keeps_the_headline()
     costs_are_items_sent();
 }
 
-/// A call that is a run of the stages of `live`, by a machine that tells its answers as they are, keeps the headline.
+/// A call that is a run of the stages of `live`, by a machine that reports its answers as they are, keeps the headline.
 pub fn runs_of_live_keep_the_headline()
     ensures { (switch queries train capture : List ℕ) (nodes : ℕ) (before : Around) (status : ℕ) (now : Around) →
         IsCommandRun (queries ∷ switch ∷ train ∷ capture ∷ []) (Live as_they_are switch queries train capture nodes) before status now → KeepsHeadline switch queries train capture nodes before status now }

@@ -8,7 +8,7 @@ use crate::certified::Certified;
 use crate::certify::certify;
 use sn_command::desk::Desk;
 use sn_command::refusal::Refusal;
-use sn_command_trace::answer::answer_traced;
+use sn_command_run::trace_answer::answer_traced;
 use sn_core_drive::machine::Machine;
 use sn_io::inputs::Inputs;
 use sn_io::sink::Sink;

@@ -66,7 +66,7 @@ module _ (p : Planned) where
   pub last_more : (closed : List Window) (number : ℕ) (tuples : List (List ℕ)) → last_of p (closed ++ (number, tuples) ∷ []) ≡ Some (next_answers closed number tuples)
   last_more closed number tuples = ap (last_from None) (one_more None closed number tuples) ∙ last_is None (answers_of p closed) (next_answers closed number tuples)
 
-  -- what is told of them
+  -- what is reported of them
   pub told_more : (told : Telling) (closed : List Window) (number : ℕ) (tuples : List (List ℕ)) → told_of told p (closed ++ (number, tuples) ∷ []) ≡ told_of told p closed ++ told (next_answers closed number tuples) ∷ []
   told_more told closed number tuples = ap (map told) (one_more None closed number tuples) ∙ map-append told (answers_of p closed) (next_answers closed number tuples ∷ [])
 

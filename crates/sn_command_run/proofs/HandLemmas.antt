@@ -122,7 +122,7 @@ module _ {M : Type 0} (machine : MachineOf M) (a : Along M) where
     emitted = sent;
   }
 
-  -- a tuple of the window at hand was given
+  -- a tuple of the current window was given
   pub given_hand : (closed : List Window) (number : ℕ) (tuples : List (List ℕ)) (tuple : List ℕ) (found : List Answers) (m : M) (d : Draws) → IsAtHand machine a closed number tuples → HasWidths tuple → Found (Numbered number tuple) found m
       → ((machine.state m).held ≡ None) × ((machine.state m).window ≡ Begun number) → IsAtHand machine (with_machine m d a.emitted) closed number (tuples ++ tuple ∷ [])
   given_hand closed number tuples tuple found m d h width f used =
@@ -152,7 +152,7 @@ module _ {M : Type 0} (machine : MachineOf M) (a : Along M) where
     owes : Owes (machine.works a.machine) told p (supplies_of whole) (told_of told p closed) s
     owes = subst (λ (given : List Window). Owes (machine.works a.machine) told p (supplies_of given) (told_of told p closed) s) (all_of_some at_hand closed tuples some) h.fed.owes
 
-    -- the answers of the window at hand
+    -- the answers of the current window
     pub answers_right : told next ≡ told_at told p whole at_hand
     answers_right = ap told (next_right p closed at_hand tuples h.fed.entries rising)
 

@@ -5,3 +5,5 @@ pub mod MachineLemmas
 pub mod NoteLemmas
 pub mod HandLemmas
 pub mod RunLemmas
+pub mod WatchLemmas
+pub mod AtWork

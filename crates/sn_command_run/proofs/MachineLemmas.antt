@@ -14,7 +14,7 @@ use Rattle.sn_core.specs.declared.supply.Window.TheVariants.{Begun}
 use Rattle.sn_core.proofs.Calling.{done_owes_none}
 use Rattle.sn_plan_fit.specs.Fits.{AreEntriesOf}
 use Rattle.sn_core_net.specs.States.{State, Works}
-use Rattle.sn_core_plans.specs.PlanWorkings.{HaveWidths}
+use Rattle.sn_core_net.specs.PlanWorkings.{HaveWidths}
 use Rattle.sn_types.specs.declared.answers.Answers.{Answers}
 use Rattle.sn_command_run.specs.Along.{IsSound, Owes, answers_for, supplies_of, told_of}
 use Rattle.sn_command_run.specs.Planned.{Planned, Telling}
@@ -68,7 +68,7 @@ module _ (w : Works) (told : Telling) (p : Planned) where
         is = ap (λ (wait : Option Answers). made wait s.held s.window) waiting ∙ ap (λ (hold : Option (Supply (List ℕ))). made None hold s.window) held ∙ ap (made None None) window;
       }
 
-  -- a tuple was given, of the window at hand or the next one
+  -- a tuple was given, of the current window or the next one
   module _ (closed : List Window) (number : ℕ) (tuples : List (List ℕ)) (tuple : List ℕ) (taken found : List Answers) (s t : State) (entries : AreEntriesOf p.queries p.entries)
       (rising : AreRising None (closed ++ (number, tuples ++ tuple ∷ []) ∷ [])) (sound : AllByRecursion IsSound (closed ++ (number, tuples ++ tuple ∷ []) ∷ []))
       (owes : Owes w told p (supplies_of (all_of number closed tuples)) taken s)
@@ -80,7 +80,7 @@ module _ (w : Works) (told : Telling) (p : Planned) where
     some_owes : Owes w told p (supplies_of now) (taken ++ found) t
     some_owes = subst (λ (xs : Supplies). Owes w told p xs (taken ++ found) t) (sym (one_supply closed number tuples tuple)) (owes_more (supplies_of (all_of number closed tuples)) taken found s t (Numbered number tuple) owes moves)
 
-    -- what was told are the answers of the windows that were closed
+    -- what was reported are the answers of the windows that were closed
     pub tuple_told : taken ++ found ≡ told_of told p closed
     tuple_told =
         let last = due_one t number held window waiting in
@@ -99,7 +99,7 @@ module _ (w : Works) (told : Telling) (p : Planned) where
       ap (λ (xs : List Answers). taken ++ xs) (sym (append-nil found) ∙ ap (λ (xs : List Answers). found ++ map told xs) (sym (done_owes_none w law t [] done)) ∙ sym (moves []))
       ∙ owed given taken s entries r sound owes
 
-  -- one window more was told, so these are its answers
+  -- one window more was reported, so these are its answers
   pub found_is : (closed : List Window) (number : ℕ) (tuples : List (List ℕ)) (found : List Answers) → told_of told p closed ++ found ≡ told_of told p (closed ++ (number, tuples) ∷ []) → found ≡ told (next_answers p closed number tuples) ∷ []
   found_is closed number tuples found e = same_behind (told_of told p closed) found (told (next_answers p closed number tuples) ∷ []) (e ∙ told_more p told closed number tuples)
     where

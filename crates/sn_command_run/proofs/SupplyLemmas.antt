@@ -15,7 +15,7 @@ use Rattle.sn_core.specs.declared.supply.Supply.TheVariants.{Numbered, End}
 use Rattle.sn_engine_lockstep.specs.Windows.{plan_answers}
 use Rattle.sn_engine_lockstep.proofs.Laws.{all_windows}
 use Rattle.sn_plan_fit.specs.Fits.{AreEntriesOf}
-use Rattle.sn_core_plans.specs.PlanWorkings.{HaveWidths, given_of}
+use Rattle.sn_core_net.specs.PlanWorkings.{HaveWidths, given_of}
 use Rattle.sn_refine.specs.Steps as refine
 use Rattle.sn_types.specs.declared.answers.Answers.{Answers}
 use Rattle.sn_types.specs.Typed.{HasWidths}
@@ -26,7 +26,7 @@ use Rattle.sn_command_run.proofs.AlongLemmas.{rises_of}
 abbrev Supplies : Type 0
 Supplies = List (Supply (List ℕ))
 
--- the end comes behind the windows
+-- the end comes after the windows
 abbrev pub and_end : List Window → Supplies
 and_end given = supplies_of given ++ End ∷ []
 

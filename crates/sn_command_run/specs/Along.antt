@@ -1,3 +1,4 @@
+-- serves proofs
 -- What is kept of a plan that answers the windows of a capture by a machine.
 use Rattle.std.specs.Prelude.{◌≡◌, ℕ, ◌<◌, List, [], ◌∷◌, ◌++◌, map, sum, length, Option, None, Some}
 use Rattle.std.specs.List.{AllByRecursion, flat_map}
@@ -14,7 +15,7 @@ use Rattle.sn_core_drive.specs.declared.machine.Machine.{Ghosts as MachineOf}
 use Rattle.sn_engine_lockstep.specs.Windows.{answers_from, plan_answers}
 use Rattle.sn_plan_fit.specs.Fits.{AreEntriesOf}
 use Rattle.sn_core_net.specs.States.{State, Works}
-use Rattle.sn_core_plans.specs.PlanWorkings.{HaveWidths, given_of}
+use Rattle.sn_core_net.specs.PlanWorkings.{HaveWidths, given_of}
 use Rattle.sn_refine.specs.Steps.{windows_of}
 use Rattle.sn_types.specs.declared.answers.Answers.{Answers}
 use Rattle.sn_types.specs.Typed.{HasWidths, IsTyped}
@@ -37,7 +38,7 @@ answers_of p closed = answers_from p.queries p.depth p.entries None closed
 abbrev pub last_of : Planned → List Window → Option Answers
 last_of p closed = last_from None (answers_of p closed)
 
--- what is told of it, and how many items were told to be sent
+-- what is reported of it, and how many items were reported as sent
 abbrev pub told_of : Telling → Planned → List Window → List Answers
 told_of told p closed = map told (answers_of p closed)
 
@@ -58,7 +59,7 @@ answers_for p supplies =
     let windows = core.windows_of supplies in
     map (λ x. plan_answers p.queries p.depth p.entries (windows_of (map given_of windows)) x.number) windows
 
--- Whatever follows what was given, what was told and what is told of what is due are what is told of all answers along the plan.
+-- Whatever follows what was given: what was reported, and then what is reported of what is due, is what is reported of all answers along the plan.
 abbrev pub Owes : Works → Telling → Planned → List (Supply (List ℕ)) → List Answers → State → Type 0
 Owes w told p given taken s = (following : List (Supply (List ℕ))) → DontFall 0 (given ++ following) → HaveWidths (core.windows_of (given ++ following))
     → taken ++ map told (due w s following) ≡ map told (answers_for p (given ++ following))
@@ -68,7 +69,7 @@ pub record IsSound (w : Window) : Type 0 where
   pub some : 0 < length w.1
   pub widths : AllByRecursion HasWidths w.1
 
--- The plan is one of typed queries. Its machine stands, and waits for what is given next: it was given these windows, and told the
+-- The plan is one of typed queries. Its machine stands, and waits for what is given next: it was given these windows, and reported the
 -- answers of those that were closed.
 pub record IsFed {M : Type 0} (machine : MachineOf M) (a : Along M) (given closed : List Window) : Type 0 where
   pub typed_for : ℕ

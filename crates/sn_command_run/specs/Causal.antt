@@ -1,3 +1,4 @@
+-- serves proofs
 -- The block of a window depends on no later one.
 use Rattle.std.specs.Prelude.{◌≡◌, ℕ, zero, suc, ◌<◌, ◌≤◌, List, [], ◌∷◌, ◌++◌, map, sum, true, false, ◌==◌, slice_index, length, Option, None, Some}
 use Rattle.std.specs.List.{range_with_len}
@@ -87,7 +88,7 @@ none_above last (w ∷ more) v r le =
     let no : (w.0 == v) ≡ false = ne_eqb w.0 v (λ e. omega arith) in
     rw no (none_above w.0 more v r.1 (omega arith))
 
--- up to a window, those behind it don't matter
+-- up to a window, those after it don't matter
 up_to : (last : Option ℕ) (closed : List Window) (number : ℕ) (tuples : List (List ℕ)) (more : List Window) (v : ℕ) → AreRising last (closed ++ (number, tuples) ∷ more) → v ≤ number
     → windows_of (closed ++ (number, tuples) ∷ more) v ≡ windows_of (closed ++ (number, tuples) ∷ []) v
 up_to last [] number tuples more v r le = by_test (number == v) (λ is. rw is refl) (λ isnt. rw isnt (none_above number more v r.1 le))

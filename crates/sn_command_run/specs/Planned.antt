@@ -1,3 +1,4 @@
+-- to be believed
 -- What is written of the windows of a capture that is answered along a plan.
 use Rattle.std.specs.Prelude.{ℕ, List, [], ◌++◌, map, sum, length, Bool, true, false, Some}
 use Rattle.sn_command_capture.specs.Wording.{Window, Wording}
@@ -30,21 +31,21 @@ emitted_at p windows w = (answers_at p windows w.0).emitted
 abbrev pub emitted_in : Planned → List Window → ℕ
 emitted_in p windows = sum (map (emitted_at p windows) windows)
 
--- ---- as they are told
+-- ---- as they are reported
 
--- What a machine tells of answers. It may be more or less than the answers themselves; of what it is nothing is known here.
+-- What a machine reports of answers. It may be more or less than the answers themselves; nothing is known here of what it is.
 abbrev pub Telling : Type 0
 Telling = Answers → Answers
 
--- answers that are told as they are
+-- answers that are reported as they are
 abbrev pub as_they_are : Telling
 as_they_are answers = answers
 
--- what is told of the answers in a window
+-- what is reported of the answers in a window
 abbrev pub told_at : Telling → Planned → List Window → ℕ → Answers
 told_at told p windows w = told (answers_at p windows w)
 
--- how many items were told to be sent in all windows
+-- how many items were reported as sent in all windows
 abbrev pub told_emitted_at : Telling → Planned → List Window → Window → ℕ
 told_emitted_at told p windows w = (told_at told p windows w.0).emitted
 
@@ -57,14 +58,14 @@ told_emitted_in told p windows = sum (map (told_emitted_at told p windows) windo
 abbrev pub plan_block : Planned → List Window → ℕ → List (List ℕ) → List ℕ
 plan_block p windows w tuples = block_text p.queries (answers_at p windows w) true
 
--- behind the blocks: the line of the damage, where there is some, and the total
+-- after the blocks: the line of the damage, where there is some, and the total
 abbrev pub plan_lines : Planned → List Window → Ending → List ℕ
 plan_lines p windows ending = damage_line ending ++ total_line (length windows) (Some (emitted_in p windows))
 
 abbrev pub plan_wording : Planned → Wording
 plan_wording p = record { first = []; block = plan_block p; unfinished = λ closed number tuples. []; last = plan_lines p }
 
--- the same, where the answers are told
+-- the same, where the answers are reported
 abbrev pub told_block : Telling → Planned → List Window → ℕ → List (List ℕ) → List ℕ
 told_block told p windows w tuples = block_text p.queries (told_at told p windows w) true
 

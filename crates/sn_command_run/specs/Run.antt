@@ -1,3 +1,4 @@
+-- to be believed
 -- What `run` does.
 use Rattle.std.specs.Prelude.{ℕ, ◌*◌, List, Bool}
 use Rattle.sn_command_capture.specs.Capture.{Answered}
@@ -21,7 +22,7 @@ planned read limits plan = record { queries = read.queries; depth = limits.chain
 abbrev pub window_ns : Queries → ℕ
 window_ns read = read.window_us * 1000
 
--- the capture is answered along the plan, in either form, or in blocks; of the answers of each window this is told
+-- the capture is answered along the plan, in either form, or in blocks; of the answers of each window this is reported
 abbrev pub AlongIn : Form → Telling → List ℕ → Queries → Switch → Plan → Stage (Unit {0})
 AlongIn form told capture read limits plan = Answered (wording_in form told (planned read limits plan)) (window_ns read) capture
 
@@ -29,7 +30,7 @@ abbrev pub AlongPlan : Telling → List ℕ → Queries → Switch → Plan → 
 AlongPlan told capture read limits plan = AlongIn forms.Blocks told capture read limits plan
 
 -- `run SWITCH QUERIES PLAN CAPTURE`: the queries are read, then the switch, then the plan, which is tested, and then the capture
--- is read and answered along the plan. With `--csv` the answers are comma-separated values. The answers are given as a machine tells them.
+-- is read and answered along the plan. With `--csv` the answers are comma-separated values. The answers are given as a machine reports them.
 abbrev pub Run : Telling → Bool → List ℕ → List ℕ → List ℕ → List ℕ → Stage (Unit {0})
 Run told csv switch queries plan capture =
     Then (Text queries QueriesIn) (λ read.

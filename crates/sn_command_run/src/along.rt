@@ -21,6 +21,6 @@ pub struct Along<M: Drop> {
     pub draws: Draws,
     /// How its answers are written.
     pub form: Form,
-    /// How many items were sent in all windows, as the machine told.
+    /// How many items were sent in all windows, as the machine reported.
     pub emitted: u64,
 }

@@ -3,7 +3,7 @@
 /// How the answers of windows are written.
 #[derive(Clone, Copy, Debug, PartialEq, Eq)]
 pub enum Form {
-    /// In blocks, behind which come the damage and the total.
+    /// In blocks, after which come the damage and the total.
     Blocks,
     /// As comma-separated values below a heading, with no other line.
     Records,

@@ -1,4 +1,5 @@
-//! The command `run`.
+//! The command `run`; and captures answered along a plan with the lines of what happens in the machine, which stand
+//! before the block of each window: `traced`, and the modules whose names begin with `trace`.
 #![tactic(auto)]
 
 pub mod along;
@@ -9,4 +10,9 @@ pub mod law;
 pub mod run;
 mod texts;
 pub mod told;
+pub mod trace_answer;
+pub mod trace_answering;
+mod trace_texts;
+pub mod trace_windows;
+pub mod traced;
 pub mod windows;

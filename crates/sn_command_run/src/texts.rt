@@ -43,7 +43,7 @@ pub(crate) fn window_text(
     }
 }
 
-/// What stands behind the answers of so many windows, in which so many items were sent.
+/// What stands after the answers of this many windows, in which this many items were sent.
 pub(crate) fn last_text(
     alloc: Global,
     form: Form,

@@ -1,4 +1,4 @@
-//! What a machine told while it was driven.
+//! What a machine reported while it was driven.
 ghost use Rattle.std.specs.Prelude.{◌≡◌, None};
 ghost use Rattle.sn_core_drive.specs.Schedules.{answers_in};
 ghost use Rattle.sn_command_run.specs.Along.{last_from};

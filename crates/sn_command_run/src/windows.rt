@@ -5,7 +5,7 @@ ghost use Rattle.sn_command_capture.specs.Wording.{Holds, HoldsSome, Window};
 ghost use Rattle.sn_core.specs.Calls.{made};
 ghost use Rattle.sn_emit.specs.Plans.{pieces_from};
 ghost use Rattle.sn_plan_fit.specs.Fits.{Fits};
-ghost use Rattle.sn_core_plans.specs.PlanWorkings.{AreLanesFor, workings};
+ghost use Rattle.sn_core_net.specs.PlanWorkings.{AreLanesFor, workings};
 ghost use Rattle.sn_out.specs.Text.{IsPartOf};
 ghost use Rattle.sn_command_run.specs.Along.{IsAtHand, IsIdle, plan_of};
 ghost use Rattle.sn_command_run.specs.Planned.{told_at};
@@ -64,7 +64,7 @@ impl<M: Machine> Along<M> {
         })
     }
 
-    /// Takes the next tuple of the window at hand, which has this number.
+    /// Takes the next tuple of the current window, which has this number.
     pub fn take_tuple(&mut self, number: u64, tuple: &Tuple) -> Result<(), Memory>
         requires { Holds (IsAtHand M.Machine self.old) number }
         ensures given { OnOk result ((closed : List Window) (tuples : List (List ℕ)) → IsAtHand M.Machine self.old closed number tuples → IsAtHand M.Machine self.new closed number (tuples ++ tuple.now ∷ [])) }
@@ -83,7 +83,7 @@ impl<M: Machine> Along<M> {
         Ok(())
     }
 
-    /// Takes the first tuple of a later window, and gives the answers of the one at hand.
+    /// Takes the first tuple of a later window, and gives the answers of the current one.
     pub fn pass_window(
         &mut self,
         at_hand: u64,
@@ -116,7 +116,7 @@ impl<M: Machine> Along<M> {
         Ok(answers)
     }
 
-    /// Gives the answers of the window at hand, which is the last one.
+    /// Gives the answers of the current window, which is the last one.
     pub fn close_window(&mut self, number: u64) -> Result<Answers, Memory>
         requires { HoldsSome (IsAtHand M.Machine self.old) number }
         ensures answers { IfOk result (λ answers. (closed : List Window) (tuples : List (List ℕ)) → 0 < length tuples → IsAtHand M.Machine self.old closed number tuples →

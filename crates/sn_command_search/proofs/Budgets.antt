@@ -108,7 +108,7 @@ module _ (s : Space) (p : List ℕ) (L : SpaceLaws s) (F : IsFirstLeast s p) (t 
 
 -- ---- the bound of a budget
 
--- the least number that more bounds than so many don't pass
+-- the least number that more bounds than this many don't pass
 pub record IsPast (s : Space) (p : List ℕ) (nodes b : ℕ) : Type 0 where
   pub few : count_expands (λ n. nat_lt n b) (tree_of s p) ≤ nodes
   pub many : nodes < count_expands (λ n. nat_le n b) (tree_of s p)

@@ -1,18 +1,18 @@
 -- What is found by a cost table of training windows is what is found by what plans cost over them.
 use Rattle.std.proofs.Common.{◌≡◌, ℕ, ◌≤◌, List, [], ◌∷◌, refl, sym, ◌∙◌, subst, arith}
 use Rattle.std.specs.List.{AllByRecursion}
-use Rattle.sn_alike.specs.Alike.{AreAlike}
-use Rattle.sn_alike.proofs.Plans.{cost_alike, first_least_alike}
-use Rattle.sn_alike.proofs.Trees.{budget_alike, tree_alike}
+use Rattle.sn_tree.specs.Alike.{AreAlike}
+use Rattle.sn_tree.proofs.AlikePlans.{cost_alike, first_least_alike}
+use Rattle.sn_tree.proofs.AlikeTrees.{budget_alike, tree_alike}
 use Rattle.sn_plan_choices.specs.Costs.{entry_in}
 use Rattle.sn_plan_choices.specs.declared.costs.CostTable.{CostTable}
 use Rattle.sn_plan_lists.specs.Chosen.{plan_at}
 use Rattle.sn_cost.specs.Entries.{trained}
 use Rattle.sn_cost.specs.Training as costs
 use Rattle.sn_plan_space.specs.Reading.{plan_space}
-use Rattle.sn_priced.specs.Priced.{AreCounted}
-use Rattle.sn_priced.specs.Space.{trained_plans}
-use Rattle.sn_priced.proofs.Priced.{counted_alike}
+use Rattle.sn_cost_laws.specs.Priced.{AreCounted}
+use Rattle.sn_cost_laws.specs.Space.{trained_plans}
+use Rattle.sn_cost_laws.proofs.Priced.{counted_alike}
 use Rattle.sn_refine.specs.Steps.{Given}
 use Rattle.sn_tree_space.specs.Space.{Space, IsFirstLeast}
 use Rattle.sn_tree_space.specs.Searches.{IsBudgetBound, any_bound}

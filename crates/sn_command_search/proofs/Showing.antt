@@ -6,7 +6,7 @@ use Rattle.sn_plan_lists.specs.Costs.{plan_cost}
 use Rattle.sn_plan_lists.specs.Theorems.{NamesPlan}
 use Rattle.sn_plan_fit.specs.Fits.{Fits}
 use Rattle.sn_plan_grammar.specs.declared.plan.Entry.{Entry}
-use Rattle.sn_priced.specs.Space.{trained_entry, trained_plans}
+use Rattle.sn_cost_laws.specs.Space.{trained_entry, trained_plans}
 use Rattle.sn_refine.specs.Steps.{Given}
 use Rattle.sn_tree_space.specs.Trees.{IsAccepted}
 use Rattle.sn_tree_space.proofs.PlanAccepted.{plan_tree_accepted}

@@ -6,7 +6,7 @@ use Rattle.sn_base.proofs.Lists.{by_test}
 use Rattle.sn_plan_choices.proofs.Easy.{plans_laws}
 use Rattle.sn_plan_lists.specs.Chosen.{plan_at}
 use Rattle.sn_plan_grammar.specs.declared.plan.Entry.{Entry}
-use Rattle.sn_priced.specs.Space.{trained_entry, trained_plans}
+use Rattle.sn_cost_laws.specs.Space.{trained_entry, trained_plans}
 use Rattle.sn_refine.specs.Steps.{Given}
 use Rattle.sn_tree_space.specs.declared.node.Node.{Node}
 use Rattle.sn_tree_space.specs.Space.{Space, SpaceLaws}

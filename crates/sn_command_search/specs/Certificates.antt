@@ -1,8 +1,9 @@
+-- to be believed
 -- What a search for the plan that costs least answers, and the text that is written of it.
 use Rattle.std.specs.Prelude.{◌≡◌, ℕ, ◌≤◌, List, ◌++◌, Result, Ok, Err}
 use Rattle.sn_plan_lists.specs.Chosen.{plan_at}
 use Rattle.sn_plan.specs.Printing.{plan_text}
-use Rattle.sn_priced.specs.Space.{trained_plans}
+use Rattle.sn_cost_laws.specs.Space.{trained_plans}
 use Rattle.sn_refine.specs.Steps.{Given}
 use Rattle.sn_tree_space.specs.Space.{IsFirstLeast}
 use Rattle.sn_tree_space.specs.Searches.{IsBudgetBound, any_bound}
@@ -17,7 +18,7 @@ use Rattle.sn_command_search.specs.declared.certificate.Certificate.{Certificate
 module _ (s : Switch) (queries : List TypedQuery) (given : List Given) (nodes : ℕ) where
   -- A certificate of the plans of queries on a switch, each with what it costs over training windows: the choices are those of
   -- the first of the plans that cost least, the plan is the one that they name, the cost is its cost, and the tree is its
-  -- tree, in which at most so many nodes are expanded.
+  -- tree, in which at most this many nodes are expanded.
   pub record IsCertificate (c : Certificate) : Type 0 where
     pub first : IsFirstLeast (trained_plans s queries given) c.choices
     pub plan : c.plan.entries ≡ plan_at s queries c.choices
@@ -25,14 +26,14 @@ module _ (s : Switch) (queries : List TypedQuery) (given : List Given) (nodes : 
     pub tree : c.tree ≡ tree_of (trained_plans s queries given) c.choices
     pub within : count_expands any_bound c.tree ≤ nodes
 
-  -- In the tree of the first of the plans that cost least more nodes are expanded. The fault tells how many might be, and the
+  -- In the tree of the first of the plans that cost least more nodes are expanded. The fault says how many might be, and the
   -- number below which the search would have come to no further node.
   pub record IsSpent (fault : Fault) : Type 0 where
     pub bound : ℕ
     pub is : IsBudgetBound (trained_plans s queries given) nodes bound
     pub same : fault ≡ Budget (record { nodes = nodes; bound = bound })
 
-  -- what the search answers, where so many nodes may be expanded
+  -- what the search answers, where this many nodes may be expanded
   abbrev pub SearchedIn : Result Certificate Fault → Type 0
   SearchedIn (Ok certificate) = IsCertificate certificate
   SearchedIn (Err fault) = IsSpent fault

@@ -1,10 +1,11 @@
+-- to be believed
 -- What a certificate shows.
 use Rattle.std.specs.Prelude.{◌≡◌, ◌≤◌, List}
 use Rattle.sn_plan_lists.specs.Chosen.{plan_choices}
 use Rattle.sn_plan_lists.specs.Costs.{plan_cost}
 use Rattle.sn_plan_fit.specs.Fits.{Fits}
 use Rattle.sn_plan_grammar.specs.declared.plan.Entry.{Entry}
-use Rattle.sn_priced.specs.Space.{trained_entry, trained_plans}
+use Rattle.sn_cost_laws.specs.Space.{trained_entry, trained_plans}
 use Rattle.sn_refine.specs.Steps.{Given}
 use Rattle.sn_tree_space.specs.Trees.{IsAccepted}
 use Rattle.sn_switch.specs.declared.switch.Switch.{Switch}

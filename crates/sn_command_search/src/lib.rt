@@ -4,6 +4,4 @@
 pub mod certificate;
 pub mod law;
 pub mod search;
-#[cfg(test)]
-mod tests;
 pub mod text;

@@ -22,11 +22,11 @@ use sn_tree_space::plans::Plans;
 use sn_types::typed::Typed;
 use std::alloc::Global;
 
-/// The first of the plans of typed queries that fit a switch and cost least over training windows, with its tree. At most so many nodes of the tree are
+/// The first of the plans of typed queries that fit a switch and cost least over training windows, with its tree. At most this many nodes of the tree are
 /// expanded.
 ///
 /// # Errors
-/// Want of memory, or `Budget` exactly where more nodes of that tree would have to be expanded.
+/// Out of memory, or `Budget` exactly where more nodes of that tree would have to be expanded.
 pub fn search(
     alloc: Global,
     t: &Typed,

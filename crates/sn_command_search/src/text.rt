@@ -28,7 +28,7 @@ fn push_tree(alloc: Global, out: &mut Vec<u8>, cost: u64, tree: &Tree) -> Result
 /// The text of a certificate: the plan, its cost, and the tree with a line for each node.
 ///
 /// # Errors
-/// Want of memory.
+/// Out of memory.
 pub fn certificate_text(alloc: Global, certificate: &Certificate) -> Result<Seq<u8>, Memory>
     ensures { IfOk result (λ text. text ≡ certificate_text certificate.now) }
 {

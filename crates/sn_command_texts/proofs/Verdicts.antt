@@ -61,7 +61,7 @@ switch_may text = named_may 1 of
 pub one_switch : (text : List ℕ) → HasVerdict (SwitchIn text)
 one_switch text = let h : switches.HasReading text = switch_readings.reading_some text in one_reading switch_fault (switches.IsRead text) (switch_readings.reading_once text) h.reading h.is
 
--- a fault that is told is judged so; want of memory may come at any text
+-- a fault that is reported is judged so; memory may run out at any text
 pub switch_refused : (text : List ℕ) (e : SwitchFault) → switches.IsFault (tokens_of text) e → Answers {A = Switch} (SwitchIn text) (Err (switch_refusal e))
 switch_refused text (switch_faults.Lex line) h = record { found = Err (switch_faults.Lex line); is = (h, λ e. cc); same = refl }
 switch_refused text (switch_faults.Expected line) h = record { found = Err (switch_faults.Expected line); is = (h, λ e. cc); same = refl }

@@ -1,3 +1,4 @@
+-- to be believed
 -- Whether a plan is refused.
 use Rattle.std.specs.Prelude.{List, Option, None, Some, Result, Ok, Err}
 use Rattle.sn_plan_fit.specs.Pieces.{fit_misfit, shape_misfit}

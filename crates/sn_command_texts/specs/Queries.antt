@@ -1,3 +1,4 @@
+-- to be believed
 -- What query texts are judged to be.
 use Rattle.std.specs.Prelude.{ℕ, List, Result}
 use Rattle.sn_types_read.specs.Texts.{Queries, IsRead}

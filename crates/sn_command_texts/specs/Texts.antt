@@ -1,3 +1,4 @@
+-- to be believed
 -- What switch and plan texts are judged to be.
 use Rattle.std.specs.Prelude.{◌≡◌, ℕ, List, Result, Ok, Err}
 use Rattle.sn_plan.specs.Texts as plans
@@ -22,8 +23,8 @@ use Rattle.sn_command.specs.Stages.{ReadAs}
 abbrev pub switch_at : TextKind → ℕ → Fault
 switch_at kind line = faults.Switch (record { kind = kind; line = line })
 
--- The fault of a command whose switch text has this fault. Want of memory is no fault of a text, so what stands beside it
--- here is never told.
+-- The fault of a command whose switch text has this fault. Being out of memory is no fault of a text, so what stands beside it
+-- here is never reported.
 abbrev pub switch_fault : SwitchFault → Fault
 switch_fault (switch_faults.Lex line) = switch_at kinds.Lex line
 switch_fault (switch_faults.Expected line) = switch_at kinds.Expected line
@@ -50,7 +51,7 @@ SwitchIn text = ReadAs switch_fault (switches.IsRead text)
 abbrev pub plan_at : TextKind → ℕ → Fault
 plan_at kind line = faults.Plan (record { kind = kind; line = line })
 
--- The fault of a command whose plan text has this fault. Want of memory is no fault of a text here either.
+-- The fault of a command whose plan text has this fault. Being out of memory is no fault of a text here either.
 abbrev pub plan_fault : PlanFault → Fault
 plan_fault (plan_faults.Lex line) = plan_at kinds.Lex line
 plan_fault (plan_faults.Expected line) = plan_at kinds.Expected line

@@ -6,13 +6,13 @@ ghost use Rattle.sn_command.specs.Runs.{Answers, WorksFrom};
 ghost use Rattle.sn_command.specs.Stages.{Text};
 ghost use Rattle.sn_command_texts.specs.Queries.{queries_of, QueriesIn};
 
+use sn_base::seed::Seed;
 use sn_command::desk::Desk;
 use sn_command::fault::Fault;
 use sn_command::files::{MOST_TEXT, read_file};
 use sn_command::refusal::Refusal;
 use sn_io::inputs::Inputs;
 use sn_io::sink::Sink;
-use sn_seed::Seed;
 use sn_types::typed::Typed;
 use sn_types_read::fault::Refused;
 use sn_types_read::read::read;

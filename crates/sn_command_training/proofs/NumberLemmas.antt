@@ -44,7 +44,7 @@ module _ {X : Type 0} (time : X → ℕ) where
   pub numbers_never_fall : (window : ℕ) (xs : List X) → NeverFall (map number_at (numbered time window xs))
   numbers_never_fall window xs = rw (sym (numbered_is time window xs)) (never_fall (numbered_from time (begun window) xs) (numbers_rise time (begun window) xs))
 
--- the records one after another, of which the first so many came
+-- the records one after another, of which the first n came
 module _ {X : Type 0} (time : X → ℕ) (window : ℕ) (xs : List X) (i : ℕ) (s : Numbering) (stands : s ≡ after (begun window) (map time (take i xs))) (some : i < length xs) where
   pub none_too_many : length xs ≤ 4194304 → (t : ℕ) → 4194304 ≤ next_count s t → ⊥
   none_too_many few t many =

@@ -1,3 +1,4 @@
+-- to be believed
 -- What a training capture is judged to be.
 use Rattle.std.specs.Prelude.{◌≡◌, ℕ, ◌≤◌, List, [], ◌∷◌, map, length, nat_lt, Result, Ok, Err, if◌then◌else◌}
 use Rattle.sn_base.specs.declared.link.Link.{Link}
@@ -20,7 +21,7 @@ most_records = 4194304
 abbrev pub tuples_of : Link → List ℕ → List Packet → List (List ℕ)
 tuples_of link file packets = map (packet_tuple link file) packets
 
--- the tuples of packets, and the numbers of their windows, which have so many nanoseconds
+-- the tuples of packets, and the numbers of their windows, which have this many nanoseconds
 abbrev pub training_of : ℕ → Link → List ℕ → List Packet → Training
 training_of window link file packets = record { tuples = tuples_of link file packets; numbers = map number_at (numbered time_of window packets) }
 
@@ -28,7 +29,7 @@ training_of window link file packets = record { tuples = tuples_of link file pac
 abbrev pub judged_records : ℕ → Link → List ℕ → List Packet → Result Training Fault
 judged_records window link file packets = if nat_lt most_records (length packets) then Err faults.TooLarge else Ok (training_of window link file packets)
 
--- behind a header: the whole records count, however they end
+-- after a header: the whole records count, however they end
 pub record JudgedBehind (window : ℕ) (header : Header) (file : List ℕ) (verdict : Result Training Fault) : Type 0 where
   pub packets : List Packet
   pub ending : Ending

@@ -3,6 +3,4 @@
 
 pub mod law;
 pub mod read;
-#[cfg(test)]
-mod tests;
 pub mod training;

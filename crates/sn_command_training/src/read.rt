@@ -54,7 +54,7 @@ fn numbers(alloc: Global, window_ns: u64, packets: &[Packet]) -> Result<Seq<u64>
     Ok(numbers)
 }
 
-/// The records behind a header.
+/// The records after a header.
 fn judge_records(
     alloc: Global,
     window_ns: u64,
@@ -86,7 +86,7 @@ fn judge_training(alloc: Global, window_ns: u64, file: &[u8]) -> Result<Training
     }
 }
 
-/// Reads a training capture of at most 2^30 bytes and 4194304 records, whose windows have so many nanoseconds. Its whole
+/// Reads a training capture of at most 2^30 bytes and 4194304 records, whose windows have this many nanoseconds. Its whole
 /// records count, however they end.
 pub fn read_training<I: Inputs, O: Sink>(
     alloc: Global,

@@ -31,7 +31,7 @@ module _ {Tuple : Type 0} where
       (ap (λ b. cond b (tuple ∷ of_window window following) []) other, ap (λ b. cond b (behind_window window following) (Numbered number tuple ∷ following)) other)
 
 module _ {Pipe Tuple Item Kept Answers : Type 0} (w : Workings Pipe Tuple Item Kept Answers) (law : AreLawful w) where
-  -- the answers of a begun window, and of those behind it, by what they rest on
+  -- the answers of a begun window, and of those after it, by what they rest on
   same_later : (lanes others : List (Lane Pipe Item)) (number : ℕ) (supplies later : List (Supply Tuple)) (items found : List (List Item)) →
       map (blank w) lanes ≡ map (blank w) others → behind_window number supplies ≡ behind_window number later → items ≡ found →
       and_later w lanes number supplies (w.answers number items) ≡ and_later w others number later (w.answers number found)

@@ -1,3 +1,4 @@
+-- serves proofs
 -- The answers still to be taken. No schedule is named.
 use Rattle.std.specs.Prelude.{ℕ, List, [], ◌∷◌, ◌++◌, map, false, nat_eq, Option, None, Some, if◌then◌else◌}
 use Rattle.sn_core.specs.Nets.{Lane, Net}
@@ -18,7 +19,7 @@ pub record Tuples (Tuple : Type 0) : Type 0 where
   pub tuples : List Tuple
 
 module _ {Tuple : Type 0} where
-  -- a tuple joins the window behind it if it is of that window
+  -- a tuple joins the window after it if it is of that window
   abbrev pub before_windows : ℕ → Tuple → List (Tuples Tuple) → List (Tuples Tuple)
   before_windows number tuple [] = record { number = number; tuples = tuple ∷ [] } ∷ []
   before_windows number tuple (x ∷ xs) =
@@ -31,7 +32,7 @@ module _ {Tuple : Type 0} where
   windows_of (End ∷ supplies) = []
   windows_of (Numbered number tuple ∷ supplies) = before_windows number tuple (windows_of supplies)
 
-  -- what comes first of the window of this number, and what comes behind it
+  -- what comes first of the window of this number, and what comes after it
   abbrev pub of_window : ℕ → List (Supply Tuple) → List Tuple
   of_window window [] = []
   of_window window (End ∷ supplies) = []

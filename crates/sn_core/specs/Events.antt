@@ -1,3 +1,4 @@
+-- to be believed
 -- What each event, and each other call, does to a net.
 use Rattle.std.specs.Prelude.{ℕ, zero, suc, List, [], ◌∷◌, ◌++◌, map, true, false, nat_eq, Option, None, Some, if◌then◌else◌}
 use Rattle.sn_core.specs.declared.event.Event.{Event}

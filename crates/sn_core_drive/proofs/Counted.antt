@@ -54,7 +54,7 @@ module _ {X : Type 0} (events : List X) (event : X) (count over : ℕ) (next : L
       same : place ≡ count - over
       same = omega (arith, at)
 
-  -- it is behind them
+  -- it is after them
   pub behind : (place : ℕ) → count ≡ over + place → 8 ≤ place → take (count + 1 - over) next ≡ take 8 (drop over (events ++ event ∷ []))
   behind place at many =
       take_all (count + 1 - over) next (omega (arith, at, many, eight))
@@ -90,7 +90,7 @@ module _ (s : State) where
   passing_first : (event : Event) (events : List Event) (b : Bool) → may_happen s event ≡ b → passing (event ∷ events) ≡ cond b (event ∷ passing events) (passing events)
   passing_first event events b is = ap (λ c. cond c (event ∷ passing events) (passing events)) is
 
-  -- behind one lane more
+  -- after one lane more
   pub lane_more : (of : ℕ → Event) (events : List Event) (lane : ℕ) → (events ++ passing (map of (range_with_len 0 lane))) ++ passing (of lane ∷ []) ≡ events ++ passing (map of (range_with_len 0 (lane + 1)))
   lane_more of events lane =
       append_assoc events (passing (map of (range_with_len 0 lane))) (passing (of lane ∷ []))

@@ -4,7 +4,7 @@ use Rattle.std.proofs.lemmas.List.{length-append, length-map, length-take}
 use Rattle.sn_core.specs.Nets.{Lane}
 use Rattle.sn_emit.proofs.PlanLanes.{pieces_more}
 use Rattle.sn_emit.specs.Plans.{Placed, pieces_from, placed}
-use Rattle.sn_core_plans.specs.PlanWorkings.{AreLanesFor}
+use Rattle.sn_core_net.specs.PlanWorkings.{AreLanesFor}
 use Rattle.sn_pipe.specs.Pipes.{PipeState}
 use Rattle.sn_plan_grammar.specs.declared.plan.Entry.{Entry}
 use Rattle.sn_report.specs.declared.frame.Item.{Item}

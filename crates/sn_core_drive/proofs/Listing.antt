@@ -52,7 +52,7 @@ module _ (lanes : ℕ) where
       same : 0 + k ≡ k
       same = omega arith
 
-  -- behind the packet
+  -- after the packet
   behind : (j : ℕ) (e : Event) → slice_get (reads ++ (delivers ++ lasts)) j ≡ Some e → (i : ℕ) → i ≡ suc j → slice_get (events_of lanes) i ≡ Some e
   behind j e h i is = ap (slice_get (events_of lanes)) is ∙ h
 

@@ -1,4 +1,4 @@
--- Runs: what they note, and what is due behind them.
+-- Runs: what they note, and what is due after them.
 use Rattle.std.proofs.Common.{◌≡◌, ℕ, List, [], ◌∷◌, ◌++◌, map, true, false, Option, None, Some, refl, ap, sym, ◌∙◌, subst, append_assoc, append-nil}
 use Rattle.std.specs.Option.{option_map}
 use Rattle.sn_base.proofs.Lists.{none_some, some_same}
@@ -72,7 +72,7 @@ module _ (w : Works) (law : AreLawful w) (told : Answers → Answers) where
   waiting_due : (s : State) (a : Answers) (following : List (Supply (List ℕ))) → s.waiting ≡ Some a → map told (due w s following) ≡ told a ∷ map told (due w (without_answers s) following)
   waiting_due s a following e = ap (λ (o : Option Answers). map told (due w (record s { waiting = o }) following)) e
 
-  -- what was due before a run is what was told in it, and then what is due behind it
+  -- what was due before a run is what was reported in it, and then what is due after it
   pub run_due : (x : ℕ) (s : State) (notes : List Note) (y : ℕ) (t : State) (following : List (Supply (List ℕ))) → IsNet w s → IsRun w told x s notes y t → map told (due w s following) ≡ answers_in notes ++ map told (due w t following)
   run_due x s [] y t following net run = ap (λ (u : State). map told (due w u following)) (sym run.3)
   run_due x s (Happened event ∷ notes) y t following net run =

@@ -1,3 +1,4 @@
+-- to be believed
 -- A machine that is driven by draws.
 use Rattle.std.specs.Prelude.{◌≡◌, ℕ, ◌%◌, ◌||◌, List, [], ◌∷◌, ◌++◌, filter, length, map, slice_get, Bool, true, false, is_none, Option, None, Some}
 use Rattle.std.specs.List.{range_with_len}
@@ -16,7 +17,7 @@ use Rattle.sn_core_drive.specs.declared.note.Note.TheVariants.{Happened, Told}
 
 -- ---- which events there are
 
--- all events of so many lanes, in their order
+-- all events of this many lanes, in their order
 abbrev pub events_of : ℕ → List Event
 events_of lanes = Packet ∷ (map ReadOut (range_with_len 0 lanes) ++ (map Deliver (range_with_len 0 lanes) ++ (CloseWindow ∷ Install ∷ [])))
 
@@ -38,13 +39,13 @@ abbrev pub is_still : State → Bool
 is_still s = wants s || is_done s
 
 -- From this state, where x was drawn last, these notes are taken until a supply is wanted or all is done, and then y was drawn
--- last. Answers are told as soon as they wait; else a number is drawn, and the event that it picks happens.
+-- last. Answers are reported as soon as they wait; else a number is drawn, and the event that it picks happens.
 abbrev pub IsRun : Works → (Answers → Answers) → ℕ → State → List Note → ℕ → State → Type 0
 IsRun w told x s [] y t = (s.waiting ≡ None) × (is_still s ≡ true) × (y ≡ x) × (t ≡ s)
 IsRun w told x s (Happened event ∷ notes) y t = (s.waiting ≡ None) × (is_still s ≡ false) × (picked s (drawn (next_number x)) ≡ Some event) × IsRun w told (next_number x) (after_event w s event) notes y t
 IsRun w told x s (Told answers ∷ notes) y t = ((found : Answers) × (s.waiting ≡ Some found) × (answers ≡ told found)) × IsRun w told x (without_answers s) notes y t
 
--- the answers that were told
+-- the answers that were reported
 abbrev pub answers_in : List Note → List Answers
 answers_in [] = []
 answers_in (Happened event ∷ notes) = answers_in notes

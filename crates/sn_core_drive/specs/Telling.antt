@@ -1,4 +1,5 @@
--- What may be told of answers.
+-- to be believed
+-- What may be reported of answers.
 use Rattle.std.specs.Prelude.{◌≡◌, ℕ, List, map, refl}
 use Rattle.std.specs.List.{AllByRecursion}
 use Rattle.sn_base.specs.Sorted.{sorted_rows}
@@ -6,7 +7,7 @@ use Rattle.sn_core.specs.Workings.{AreLawful}
 use Rattle.sn_engine.specs.Intakes.{emptied}
 use Rattle.sn_core_net.specs.Nets.{works}
 use Rattle.sn_core_net.specs.declared.net.Net.{Net}
-use Rattle.sn_core_plans.proofs.Lawful.{lawful_of}
+use Rattle.sn_core_net.proofs.Lawful.{lawful_of}
 use Rattle.sn_out.specs.Text.{IsPartOf}
 use Rattle.sn_types.specs.declared.answers.Answers.{Answers}
 use Rattle.sn_types.specs.declared.answers.Part.{Part}
@@ -21,7 +22,7 @@ pub record IsSortedPart (queries : List TypedQuery) (x : Part) : Type 0 where
   pub part : IsPartOf queries x
   pub sorted : sorted_rows x.rows ≡ x.rows
 
--- What is told has the window, the number of items, and the parts of what is answered, each with its query and level; and its
+-- What is reported has the window, the number of items, and the parts of what is answered, each with its query and level; and its
 -- rows are sorted rows of the queries where the answered ones are.
 pub record Tells (queries : List TypedQuery) (answers told : Answers) : Type 0 where
   pub window : told.window ≡ answers.window
@@ -29,7 +30,7 @@ pub record Tells (queries : List TypedQuery) (answers told : Answers) : Type 0 w
   pub places : map place_of told.parts ≡ map place_of answers.parts
   pub rows : AllByRecursion (IsSortedPart queries) answers.parts → AllByRecursion (IsSortedPart queries) told.parts
 
--- answers tell themselves
+-- answers report themselves
 pub tells_itself : (queries : List TypedQuery) (answers : Answers) → Tells queries answers answers
 tells_itself queries answers = record { window = refl; emitted = refl; places = refl; rows = λ h. h }
 

@@ -17,7 +17,7 @@ ghost use Rattle.sn_emit.specs.Plans.{pieces_from};
 ghost use Rattle.sn_plan_fit.specs.Fits.{Fits};
 ghost use Rattle.sn_core_net.specs.States.{State};
 ghost use Rattle.sn_core_net.specs.Steps.{IsOneOf};
-ghost use Rattle.sn_core_plans.specs.PlanWorkings.{AreLanesFor, HaveWidths, given_of, workings};
+ghost use Rattle.sn_core_net.specs.PlanWorkings.{AreLanesFor, HaveWidths, given_of, workings};
 ghost use Rattle.sn_refine.specs.Steps.{windows_of as given_windows};
 ghost use Rattle.sn_switch.specs.Texts.{IsSwitch};
 
@@ -118,7 +118,7 @@ fn settle<M: Machine>(
 }
 
 /// Gives a tuple of a window, or the end, to a machine that wants one. Then events happen, each picked by a draw, until it wants
-/// the next or all is done. Says which events happened, and the answers that were told among them: those of the window before,
+/// the next or all is done. Says which events happened, and the answers that were reported among them: those of the window before,
 /// where this begins a later one or is the end. Which answers these are, the clause `due` says: what was due before are these,
 /// and then what is due now.
 pub fn advance<M: Machine>(

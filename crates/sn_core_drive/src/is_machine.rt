@@ -1,4 +1,4 @@
-//! A net is a machine that tells its answers as they are.
+//! A net is a machine that reports its answers as they are.
 use crate::machine::Machine;
 use sn_base::memory::Memory;
 use sn_core::event::Event;

@@ -7,5 +7,3 @@ pub mod machine;
 pub mod note;
 pub mod notes;
 mod picking;
-#[cfg(test)]
-mod tests;

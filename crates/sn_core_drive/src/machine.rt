@@ -15,7 +15,7 @@ ghost use Rattle.sn_emit.specs.Plans.{pieces_from};
 ghost use Rattle.sn_plan_fit.specs.Fits.{Fits};
 ghost use Rattle.sn_core_net.specs.States.{State, Works};
 ghost use Rattle.sn_core_net.specs.Steps.{IsOneOf, Steps};
-ghost use Rattle.sn_core_plans.specs.PlanWorkings.{AreLanesFor, HaveWidths, given_of, workings};
+ghost use Rattle.sn_core_net.specs.PlanWorkings.{AreLanesFor, HaveWidths, given_of, workings};
 ghost use Rattle.sn_refine.specs.Steps.{windows_of as given_windows};
 ghost use Rattle.sn_switch.specs.Texts.{IsSwitch};
 ghost use Rattle.sn_types.specs.declared.answers.Answers.{Answers as Found};
@@ -31,7 +31,7 @@ use sn_switch::switch::Switch;
 use sn_types::answers::Answers;
 use sn_types::typed::Typed;
 
-/// A machine: its state is that of a net, each call does to it what it does to a net, and its answers are told.
+/// A machine: its state is that of a net, each call does to it what it does to a net, and its answers are reported.
 pub trait Machine: Sized + Drop {
     /// The pipes and answers over which it is made. No call changes them.
     ghost works: { Self → Works };
@@ -39,10 +39,10 @@ pub trait Machine: Sized + Drop {
     /// What it holds.
     ghost state: { Self → State };
 
-    /// What machines of this kind tell of answers.
+    /// What machines of this kind report of answers.
     ghost told: { Found → Found };
 
-    /// The machine of a plan that fits, with room for so many frames in each lane, 1 to 65536. Nothing was given to it.
+    /// The machine of a plan that fits, with room for this many frames in each lane, 1 to 65536. Nothing was given to it.
     fn make(t: &Typed, s: &Switch, plan: &Plan, room: u32) -> Result<Self, Memory>
         requires switch { IsSwitch s.now }
         requires fits { Fits t.now.queries s.now plan.now.entries }
@@ -67,18 +67,18 @@ pub trait Machine: Sized + Drop {
         ensures state { state self.new ≡ given (state self.old) next }
         ensures works { works self.new ≡ works self.old };
 
-    /// Whether every need of an event holds, which names one of the lanes if it names one. Takes no memory.
+    /// Whether every need of an event holds. A lane that it names must be one of the machine's. Takes no memory.
     fn enabled(&self, event: Event) -> bool
         requires { IsOneOf (length (state self.now).lanes) event }
         ensures { result ≡ is_none (first_need_that_fails (state self.now) event) };
 
-    /// Does an event where its needs hold, which names one of the lanes if it names one. After an `Err` the state is as it was.
+    /// Does an event where its needs hold. A lane that it names must be one of the machine's. After an `Err` the state is as it was.
     fn step(&mut self, event: Event) -> Result<(), StepFault>
         requires { IsOneOf (length (state self.old).lanes) event }
         ensures steps { Steps (works self.old) (state self.old) event (state self.new) result }
         ensures works { works self.new ≡ works self.old };
 
-    /// Takes the answers that wait, as they are told. `None` exactly where none do. Takes no memory.
+    /// Takes the answers that wait, as they are reported. `None` exactly where none do. Takes no memory.
     fn take_answers(&mut self) -> Option<Answers>
         ensures answers { result ≡ option_map told (state self.old).waiting }
         ensures rest { state self.new ≡ without_answers (state self.old) }
@@ -91,6 +91,6 @@ pub trait Machine: Sized + Drop {
     /// What is proved of every net holds of it.
     ghost lawful: { (machine : Self) → AreLawful (works machine) };
 
-    /// Whatever is told keeps the window, the number of items, and which parts there are.
+    /// Whatever is reported keeps the window, the number of items, and which parts there are.
     ghost tells: { (queries : List TypedQuery) (answers : Found) → Tells queries answers (told answers) };
 }

@@ -2,11 +2,11 @@
 use sn_core::event::Event;
 use sn_types::answers::Answers;
 
-/// What comes to pass in a machine that is driven.
+/// What happens in a machine that is driven.
 #[derive(Drop)]
 pub enum Note {
     /// This event happened.
     Happened(Event),
-    /// These answers were told.
+    /// These answers were reported.
     Told(Answers),
 }

@@ -18,9 +18,9 @@ use std::marker::Model;
 pub struct Notes {
     /// The notes up to the last answers.
     front: Seq<Note>,
-    /// The events behind them, but for the last.
+    /// The events after them, but for the last.
     events: Seq<Event>,
-    /// The last event behind them, if there is one.
+    /// The last event after them, if there is one.
     last: Option<Event>,
 }
 
@@ -35,7 +35,7 @@ impl Model for Notes {
     ghost view = { λ a. a.front ++ map Happened (a.events ++ option_list a.last) };
 }
 
-/// Puts events behind notes.
+/// Puts events after notes.
 fn move_events(notes: &mut Seq<Note>, events: &mut Seq<Event>) -> Result<(), Memory>
     ensures moved { OnOk result (notes.new ≡ notes.old ++ map Note.Happened events.old) }
     ensures none { OnOk result (events.new ≡ []) }
@@ -47,7 +47,7 @@ fn move_events(notes: &mut Seq<Note>, events: &mut Seq<Event>) -> Result<(), Mem
     Ok(())
 }
 
-/// Puts the last event, if there is one, behind the others.
+/// Puts the last event, if there is one, after the others.
 fn put_last(events: &mut Seq<Event>, last: &mut Option<Event>) -> Result<(), Memory>
     ensures events { OnOk result (events.new ≡ events.old ++ option_list last.old) }
     ensures none { OnOk result (last.new ≡ None) }
@@ -102,7 +102,7 @@ impl Notes {
         Ok(front)
     }
 
-    /// The notes up to the last answers: no answers stand behind them.
+    /// The notes up to the last answers: no answers stand after them.
     pub fn up_to_answers(self) -> Seq<Note>
         ensures { answers_in result ≡ answers_in self }
     {

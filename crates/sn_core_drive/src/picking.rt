@@ -14,7 +14,7 @@ use crate::machine::Machine;
 use sn_core::event::Event;
 use sn_gen::draws::Draws;
 
-/// The events that may happen: how many there are, and eight of them behind those that are passed over.
+/// The events that may happen: how many there are, and eight of them after those that are passed over.
 #[derive(Drop)]
 struct Enabled {
     count: u64,
@@ -22,7 +22,7 @@ struct Enabled {
     next: [Event; 8],
 }
 
-/// Counts an event in, and keeps it where it is one of the eight.
+/// Counts an event, and keeps it where it is one of the eight.
 fn count_in(found: &mut Enabled, event: Event)
     requires { found.old.count < 2 ^ 40 }
     ensures counted { (events : List Counted) → AreCounted events found.old → AreCounted (events ++ event ∷ []) found.new }
@@ -37,7 +37,7 @@ fn count_in(found: &mut Enabled, event: Event)
     found.count += 1;
 }
 
-/// Counts an event in where it may happen.
+/// Counts an event where it may happen.
 fn look_at<M: Machine>(machine: &M, event: Event, found: &mut Enabled)
     requires event { IsOneOf (length (M.state machine.now).lanes) event }
     requires few { found.old.count < 2 ^ 40 }
@@ -50,7 +50,7 @@ fn look_at<M: Machine>(machine: &M, event: Event, found: &mut Enabled)
     }
 }
 
-/// Counts the read-outs in that may happen.
+/// Counts the read-outs that may happen.
 fn look_at_read_outs<M: Machine>(machine: &M, lanes: u32, found: &mut Enabled)
     requires lanes { lanes ≡ length (M.state machine.now).lanes }
     requires few { found.old.count ≤ 2 ^ 34 }
@@ -63,7 +63,7 @@ fn look_at_read_outs<M: Machine>(machine: &M, lanes: u32, found: &mut Enabled)
     }
 }
 
-/// Counts the deliveries in that may happen.
+/// Counts the deliveries that may happen.
 fn look_at_deliveries<M: Machine>(machine: &M, lanes: u32, found: &mut Enabled)
     requires lanes { lanes ≡ length (M.state machine.now).lanes }
     requires few { found.old.count ≤ 2 ^ 34 }
@@ -76,7 +76,7 @@ fn look_at_deliveries<M: Machine>(machine: &M, lanes: u32, found: &mut Enabled)
     }
 }
 
-/// Counts the packet in or the read-outs: where a packet may go in, its window isn't over, and no lane is read out.
+/// Counts the packet or the read-outs: where a packet may go in, its window isn't over, and no lane is read out.
 fn look_at_switch<M: Machine>(machine: &M, lanes: u32, found: &mut Enabled)
     requires lanes { lanes ≡ length (M.state machine.now).lanes }
     requires few { found.old.count ≤ 2 ^ 34 }
@@ -91,7 +91,7 @@ fn look_at_switch<M: Machine>(machine: &M, lanes: u32, found: &mut Enabled)
     }
 }
 
-/// The events that may happen. Of these so many are passed over, and the next eight are kept.
+/// The events that may happen. Of these, the given number is passed over, and the next eight are kept.
 fn look<M: Machine>(machine: &M, lanes: u32, passed_over: u64) -> Enabled
     requires { lanes ≡ length (M.state machine.now).lanes }
     ensures counted { AreCounted (enabled_events (M.state machine.now)) result }

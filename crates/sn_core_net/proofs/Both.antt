@@ -15,8 +15,8 @@ use Rattle.sn_core.specs.declared.supply.Frame.{Frame}
 use Rattle.sn_engine_lockstep.specs.declared.source.Source.{Source}
 use Rattle.sn_engine.specs.Intakes.{agrees, emptied}
 use Rattle.sn_engine.specs.declared.intake.Intake.{Intake}
-use Rattle.sn_core_plans.proofs.Settling.{unread_settled}
-use Rattle.sn_core_plans.specs.PlanWorkings.{all_ended, workings_of}
+use Rattle.sn_core_net.proofs.Settling.{unread_settled}
+use Rattle.sn_core_net.specs.PlanWorkings.{all_ended, workings_of}
 use Rattle.sn_pipe.specs.Pipes.{PipeState, after_packet, at_start, item_of}
 use Rattle.sn_report.specs.declared.frame.Item.{Item}
 use Rattle.sn_types.specs.declared.typed_query.TypedQuery.{TypedQuery}
@@ -133,7 +133,7 @@ ended_again n (h ∷ hs) (x ∷ xs) e closed agreed =
     let parts = and_parts (agrees n x) (list_all (agrees n) xs) agreed in
     ap₂ (λ (end : Option ℕ) (ys : List Intake). record x { end = end } ∷ ys) (end_is n x.end closed.0 parts.0) (ended_again n hs xs (omega (arith, e)) closed.1 parts.1)
 
--- the number behind another
+-- the number after another
 pub is_next : (number closed : ℕ) → 0 < number → (b : Bool) → nat_eq (number - 1) closed ≡ b → b ≡ nat_eq number (suc closed)
 is_next number closed some true e = sym (eq-eqb number (suc closed) (omega (arith, some, eqb-true (number - 1) closed e)))
 is_next number closed some false e = sym (ne_eqb number (suc closed) (λ s. eqb-false (number - 1) closed e (omega (arith, some, s))))

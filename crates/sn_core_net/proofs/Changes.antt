@@ -18,8 +18,8 @@ use Rattle.sn_engine_lockstep.specs.Work.{taken}
 use Rattle.sn_engine.specs.Answers.{answers_of}
 use Rattle.sn_engine.specs.Intakes.{emptied}
 use Rattle.sn_engine.specs.declared.intake.Intake.{Intake}
-use Rattle.sn_core_plans.specs.PlanWorkings.{all_ended}
-use Rattle.sn_core_plans.specs.Settled.{settled}
+use Rattle.sn_core_net.specs.PlanWorkings.{all_ended}
+use Rattle.sn_core_net.specs.Settled.{settled}
 use Rattle.sn_pipe.specs.Pipes.{PipeState}
 use Rattle.sn_report.specs.declared.frame.Item.{Item}
 use Rattle.sn_types.specs.declared.answers.Answers.{Answers}

@@ -19,8 +19,8 @@ use Rattle.sn_core.proofs.Tests.{all_same, not_less}
 use Rattle.sn_engine_lockstep.specs.declared.source.Source.{Source}
 use Rattle.sn_engine.specs.Intakes.{agrees, emptied}
 use Rattle.sn_engine.specs.declared.intake.Intake.{Intake}
-use Rattle.sn_core_plans.proofs.Lawful.{lawful_of}
-use Rattle.sn_core_plans.specs.PlanWorkings.{workings_of}
+use Rattle.sn_core_net.proofs.Lawful.{lawful_of}
+use Rattle.sn_core_net.specs.PlanWorkings.{workings_of}
 use Rattle.sn_pipe.specs.Pipes.{PipeState}
 use Rattle.sn_report.specs.declared.frame.Item.{Item}
 use Rattle.sn_types.specs.declared.typed_query.TypedQuery.{TypedQuery}

@@ -5,3 +5,9 @@ mod Facts
 mod Changes
 mod Reading
 mod Makings
+pub mod ReadOuts
+pub mod Adds
+pub mod Lawful
+pub mod PlanAnswers
+pub mod PlanSchedules
+pub mod Settling

@@ -24,10 +24,10 @@ use Rattle.sn_engine.specs.Intakes.{emptied, is_lane}
 use Rattle.sn_engine.specs.declared.intake.Intake.{Intake}
 use Rattle.sn_plan_fit.specs.Fits.{AreEntriesOf, IsEntryOf}
 use Rattle.sn_plan_fit.specs.Paths.{Place, last_of, piece_place, places}
-use Rattle.sn_core_plans.proofs.Lawful.{lawful_of}
-use Rattle.sn_core_plans.proofs.Settling.{unread_settled}
-use Rattle.sn_core_plans.specs.PlanWorkings.{AreLanesFor, workings_of}
-use Rattle.sn_core_plans.specs.Settled.{settled}
+use Rattle.sn_core_net.proofs.Lawful.{lawful_of}
+use Rattle.sn_core_net.proofs.Settling.{unread_settled}
+use Rattle.sn_core_net.specs.PlanWorkings.{AreLanesFor, workings_of}
+use Rattle.sn_core_net.specs.Settled.{settled}
 use Rattle.sn_pipe.specs.Pipes.{IsNewPipe, PipeState, at_start}
 use Rattle.sn_pipe.specs.declared.stage.Stage.{Stage}
 use Rattle.sn_plan_grammar.specs.declared.plan.Entry.{Entry}

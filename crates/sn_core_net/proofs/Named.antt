@@ -50,7 +50,7 @@ told : (xs : List Intake) (name : Lane) (window : ℕ) (frame : Frame Item) → 
 told xs name window (Row item) = refl
 told xs name window Last = refl
 
--- the engine's lanes behind a frame of the lane of this number
+-- the engine's lanes after a frame of the lane of this number
 pub frame_taken : (hs : List Holder) (xs : List Intake) (n window : ℕ) (h : Holder) (frame : Frame Item) → are_named (names_of hs) (map emptied xs) ≡ true → n < length hs → h ≡ get_or hs n h →
     after_frame xs (report_of h.name window frame) ≡ change_at (λ x. taken x (report_of h.name window frame)) xs n
 frame_taken hs xs n window h frame named within own =

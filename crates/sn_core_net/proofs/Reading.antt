@@ -6,9 +6,9 @@ use Rattle.sn_core.specs.Nets.{Lane}
 use Rattle.sn_core.specs.declared.supply.Frame.TheVariants.{Row, Last}
 use Rattle.sn_engine_lockstep.specs.declared.source.Source.{Source}
 use Rattle.sn_engine.specs.declared.intake.Intake.{Intake}
-use Rattle.sn_core_plans.proofs.Settling.{left_settled, read_settled, stays_settled}
-use Rattle.sn_core_plans.specs.PlanWorkings.{workings_of}
-use Rattle.sn_core_plans.specs.Settled.{settled}
+use Rattle.sn_core_net.proofs.Settling.{left_settled, read_settled, stays_settled}
+use Rattle.sn_core_net.specs.PlanWorkings.{workings_of}
+use Rattle.sn_core_net.specs.Settled.{settled}
 use Rattle.sn_pipe.specs.Pipes.{PipeState}
 use Rattle.sn_pipe.specs.Prefixes.{left_in}
 use Rattle.sn_report.specs.declared.frame.Item.{Item}

@@ -13,7 +13,7 @@ use Rattle.sn_core.specs.declared.supply.Frame.TheVariants.{Row, Last}
 use Rattle.sn_core.specs.Needs.{passes}
 use Rattle.sn_engine_lockstep.specs.Work.{taken}
 use Rattle.sn_engine.specs.declared.intake.Intake.{Intake}
-use Rattle.sn_core_plans.specs.Settled.{settled}
+use Rattle.sn_core_net.specs.Settled.{settled}
 use Rattle.sn_pipe.specs.Pipes.{PipeState}
 use Rattle.sn_report.specs.declared.frame.Item.{Item}
 use Rattle.sn_core_net.specs.declared.holder.Holder.{Holder}

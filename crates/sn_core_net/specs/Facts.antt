@@ -1,3 +1,4 @@
+-- serves proofs
 -- What holds of every net besides what its state says.
 use Rattle.std.specs.Prelude.{ℕ, ◌<◌, List, [], ◌∷◌, length, map, Bool, true, false, not, ◌&&◌, ◌==◌, Option}
 use Rattle.std.specs.List.{AllByRecursion, AllByRecursion-prop, list_all}
@@ -39,7 +40,7 @@ ends_agree Idle xs = true
 ends_agree (Begun number) xs = list_all (agrees number) xs
 ends_agree (Closed number) xs = true
 
--- each ring holds so many frames at most
+-- each ring holds this many frames at most
 abbrev pub are_roomy : ℕ → List Holder → Bool
 are_roomy room hs = list_all (λ h. h.ring.capacity == room) hs
 

@@ -1,3 +1,4 @@
+-- serves proofs
 -- What happens to the lanes of the switch.
 use Rattle.std.specs.Prelude.{ℕ, List, [], ◌∷◌, ◌++◌, false, Option, None, Some}
 use Rattle.std.specs.FinSet as set

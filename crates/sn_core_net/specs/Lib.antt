@@ -5,3 +5,6 @@ pub mod Making
 pub mod Nets
 pub mod Reports
 pub mod Steps
+pub mod ReadOut
+pub mod PlanWorkings
+pub mod Settled

@@ -1,3 +1,4 @@
+-- serves proofs
 -- The lanes of a switch as they are made.
 use Rattle.std.specs.Prelude.{◌≡◌, ℕ, List, [], ◌∷◌, false}
 use Rattle.circular_buffer.specs.Buffer.{buffer}

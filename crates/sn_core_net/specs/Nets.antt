@@ -1,3 +1,4 @@
+-- serves proofs
 -- What a net is made over, and its state.
 use Rattle.sn_core_net.specs.States.{State, Works, state_of, works_of}
 use Rattle.sn_core_net.specs.declared.net.Net.{Net}

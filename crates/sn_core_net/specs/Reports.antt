@@ -1,4 +1,5 @@
--- What the engine is told by the frames of lanes.
+-- serves proofs
+-- What the engine learns from the frames of lanes.
 use Rattle.std.specs.Prelude.{ℕ}
 use Rattle.sn_base.specs.declared.lane.Lane.{Lane}
 use Rattle.sn_core.specs.declared.supply.Frame.{Frame}
@@ -9,7 +10,7 @@ use Rattle.sn_report.specs.declared.frame.Frame.{Frame as Report}
 use Rattle.sn_report.specs.declared.frame.Frame.TheVariants as report
 use Rattle.sn_report.specs.declared.frame.Item.{Item}
 
--- what the engine is told by a frame of the lane of this name, in this window
+-- what the engine learns from a frame of the lane of this name, in this window
 abbrev pub report_of : Lane → ℕ → Frame Item → Report
 report_of name window (Row item) = report.Row name item
 report_of name window Last = report.End name window

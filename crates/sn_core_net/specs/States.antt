@@ -1,3 +1,4 @@
+-- serves proofs
 -- The state of a net, as it is spoken of.
 use Rattle.std.specs.Prelude.{ℕ, List, [], ◌∷◌, map, is_some, Option}
 use Rattle.std.specs.FinSet as set
@@ -9,8 +10,8 @@ use Rattle.sn_core.specs.declared.supply.Window.{Window}
 use Rattle.sn_engine_lockstep.specs.declared.source.Source.{Source}
 use Rattle.sn_engine.specs.Intakes.{emptied}
 use Rattle.sn_engine.specs.declared.intake.Intake.{Intake}
-use Rattle.sn_core_plans.specs.PlanWorkings.{workings_of}
-use Rattle.sn_core_plans.specs.Settled.{settled}
+use Rattle.sn_core_net.specs.PlanWorkings.{workings_of}
+use Rattle.sn_core_net.specs.Settled.{settled}
 use Rattle.sn_pipe.specs.Pipes.{PipeState}
 use Rattle.sn_report.specs.declared.frame.Item.{Item}
 use Rattle.sn_types.specs.declared.answers.Answers.{Answers}

@@ -1,3 +1,4 @@
+-- serves proofs
 -- What a step answers.
 use Rattle.std.specs.Prelude.{◌≡◌, ◌<◌, ℕ, Bool, true, false, None, Some, Result, Ok, Err}
 use Rattle.sn_core.specs.Needs.{first_need_that_fails}
@@ -8,7 +9,7 @@ use Rattle.sn_core_net.specs.States.{State, Works}
 use Rattle.sn_core_net.specs.declared.fault.StepFault.{StepFault}
 use Rattle.sn_core_net.specs.declared.fault.StepFault.TheVariants.{NotEnabled, Memory}
 
--- an event names a lane of so many
+-- an event names a lane of n
 abbrev pub IsOneOf : ℕ → Event → Type 0
 IsOneOf count Packet = Unit {0}
 IsOneOf count (ReadOut lane) = lane < count
@@ -25,7 +26,7 @@ takes_memory CloseWindow = true
 takes_memory Install = false
 
 -- An event happens only where no need fails; else the first that fails is named, and nothing changes. Nothing changes either
--- where memory is wanting, for an event that takes memory and may happen.
+-- where memory runs out, for an event that takes memory and may happen.
 abbrev pub Steps : Works → State → Event → State → Result (Unit {0}) StepFault → Type 0
 Steps w before event after (Ok u) = (first_need_that_fails before event ≡ None) × (after ≡ after_event w before event)
 Steps w before event after (Err (NotEnabled why)) = (first_need_that_fails before event ≡ Some why) × (after ≡ before)

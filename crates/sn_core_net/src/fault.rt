@@ -6,6 +6,6 @@ use sn_core::event::Why;
 pub enum StepFault {
     /// A need of the event fails; this is the first that does.
     NotEnabled(Why),
-    /// Want of memory.
+    /// Out of memory.
     Memory,
 }

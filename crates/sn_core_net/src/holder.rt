@@ -40,7 +40,7 @@ impl Holder {
     ghost use Rattle.sn_core_net.specs.Holders.{begun, took};
     ghost use Rattle.sn_core_net.specs.Reports.{report_of};
     ghost use Rattle.sn_core_net.specs.States.{lane_of};
-    ghost use Rattle.sn_core_plans.specs.PlanWorkings.{workings_of};
+    ghost use Rattle.sn_core_net.specs.PlanWorkings.{workings_of};
     ghost use Rattle.sn_types.specs.declared.typed_query.TypedQuery.{TypedQuery};
 
     /// Whether it holds fewer frames than this.
@@ -60,7 +60,7 @@ impl Holder {
         }
     }
 
-    /// Appends its next row, or its End behind the last.
+    /// Appends its next row, or its End after the last.
     pub(crate) fn append_next(&mut self)
         requires { length self.old.ring.items < self.old.ring.capacity }
         ensures lane { (queries : List TypedQuery) (intakes : List Intake) (sources : List Source) (x : Intake) → lane_of self.new x ≡ with_next (workings_of queries intakes sources) (lane_of self.old x) }
@@ -76,7 +76,7 @@ impl Holder {
         }
     }
 
-    /// What the engine is told by its first frame, in this window.
+    /// What the engine learns from its first frame, in this window.
     pub(crate) fn first_report(&self, window: u64) -> Option<Report>
         ensures { result ≡ option_map (report_of self.now.name window) (slice_get self.now.ring.items 0) }
     {

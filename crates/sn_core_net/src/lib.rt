@@ -8,7 +8,6 @@ mod lanes;
 mod making;
 mod needs;
 pub mod net;
+pub mod plans;
 mod prefixes;
 mod steps;
-#[cfg(test)]
-mod tests;

@@ -14,7 +14,7 @@ ghost use Rattle.sn_emit.specs.Plans.{Placed, pieces_from, placed};
 ghost use Rattle.sn_plan_fit.specs.Fits.{Fits};
 ghost use Rattle.sn_core_net.specs.Making.{AreNewHolders, IsNewHolder};
 ghost use Rattle.sn_core_net.specs.Nets.{state, works};
-ghost use Rattle.sn_core_plans.specs.PlanWorkings.{AreLanesFor, HaveWidths, given_of, workings};
+ghost use Rattle.sn_core_net.specs.PlanWorkings.{AreLanesFor, HaveWidths, given_of, workings};
 ghost use Rattle.sn_refine.specs.Steps.{windows_of as given_windows};
 ghost use Rattle.sn_switch.specs.Texts.{IsSwitch};
 
@@ -143,7 +143,7 @@ fn holders(t: &Typed, s: &Switch, plan: &Plan, room: u32) -> Result<Vec<Holder>,
 }
 
 impl Net {
-    /// The net of a plan that fits, with room for so many frames in each lane, 1 to 65536. Nothing was given to it.
+    /// The net of a plan that fits, with room for this many frames in each lane, 1 to 65536. Nothing was given to it.
     pub fn make(t: &Typed, s: &Switch, plan: &Plan, room: u32) -> Result<Net, Memory>
         requires switch { IsSwitch s.now }
         requires fits { Fits t.now.queries s.now plan.now.entries }

@@ -156,7 +156,7 @@ impl Net {
         }
     }
 
-    /// Whether every need of an event holds, which names one of the lanes if it names one. Takes no memory. It is asked of each event
+    /// Whether every need of an event holds. A lane that it names must be one of the net's. Takes no memory. It is asked of each event
     /// whenever one is picked, so it looks at the needs without saying which one fails.
     pub fn enabled(&self, event: Event) -> bool
         requires { IsOneOf (length self.now.lanes.items) event }

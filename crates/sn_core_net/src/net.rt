@@ -26,7 +26,7 @@ pub struct Net {
     /// The lanes in the switch: the pieces of the plan in their order.
     pub lanes: Vec<Holder>,
     pub engine: Engine,
-    /// By lane: whose prefixes it lets in.
+    /// By lane: whose prefixes it admits.
     pub sources: Seq<Source>,
     /// By lane: the prefixes to install, from the answers of the window that was closed last.
     pub installs: Vec<Members>,

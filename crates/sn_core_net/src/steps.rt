@@ -129,7 +129,7 @@ impl Net {
         self.lanes[lane as usize].append_next();
     }
 
-    /// The engine takes the first frame of a lane. It stays where memory is wanting.
+    /// The engine takes the first frame of a lane. The frame stays where memory runs out.
     fn deliver(&mut self, lane: u32) -> Result<(), Memory>
         requires lane { lane < length self.old.lanes.items }
         requires may { first_need_that_fails (state self.old) (Event.Deliver lane) ≡ None }
@@ -210,7 +210,7 @@ impl Net {
         }
     }
 
-    /// Does an event where its needs hold, which names one of the lanes if it names one. After an `Err` the net is as it was.
+    /// Does an event where its needs hold. A lane that it names must be one of the net's. After an `Err` the net is as it was.
     /// Only `Deliver` and `CloseWindow` take memory.
     pub fn step(&mut self, event: Event) -> Result<(), StepFault>
         requires { IsOneOf (length self.old.lanes.items) event }

@@ -11,7 +11,7 @@ use Rattle.sn_engine_lockstep.specs.declared.source.Source.{Source}
 use Rattle.sn_engine_lockstep.specs.Sources.{source_of}
 use Rattle.sn_engine_lockstep.specs.Work.{intake_of}
 use Rattle.sn_core_net.specs.States.{State, Works}
-use Rattle.sn_core_plans.specs.PlanWorkings.{AreLanesFor, workings, workings_of}
+use Rattle.sn_core_net.specs.PlanWorkings.{AreLanesFor, workings, workings_of}
 use Rattle.sn_pipe.specs.Pipes.{PipeState, at_start}
 use Rattle.sn_pipe.specs.Stages.{cleared, top_of}
 use Rattle.sn_pipe.specs.Windows.{HasRegisters, HaveSizes}

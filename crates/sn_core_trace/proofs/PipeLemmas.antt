@@ -7,7 +7,7 @@ use Rattle.std.specs.Ordering.{nat_cmp}
 use Rattle.std.proofs.lemmas.List.{length-map}
 use Rattle.sn_base.specs.Groups.{Row}
 use Rattle.sn_pipe_items.specs.Items.{tagged}
-use Rattle.sn_core_plans.specs.ReadOut.{after_read_out, held_from, place_behind, unwalked, walked}
+use Rattle.sn_core_net.specs.ReadOut.{after_read_out, held_from, place_behind, unwalked, walked}
 use Rattle.sn_pipe.specs.Pipes.{PipeState, after_packet, at_start, item_of, lets_in, row_in}
 use Rattle.sn_pipe.specs.Prefixes.{left_in}
 use Rattle.sn_pipe.specs.Stages.{after_row, cleared, flows, item_at, item_from, overflows, stages_after}

@@ -1,3 +1,4 @@
+-- serves proofs
 -- The lanes of a plan as they are made, as values.
 use Rattle.std.specs.Prelude.{ℕ, suc, List, [], ◌∷◌, map, take, false}
 use Rattle.std.specs.FinSet as set
@@ -22,7 +23,7 @@ use Rattle.sn_types_faults.specs.Widths.{lawful, lawful_range}
 abbrev pub any_or : Or
 any_or = record { v = lawful 1; in_range = lawful_range 1 }
 
--- the stage of an operator, with empty registers: this many of them with so many slots each
+-- the stage of an operator, with empty registers: this many of them with this many slots each
 abbrev pub new_stage : ℕ → ℕ → TOp → Stage
 new_stage depth slots (ops.Filter conds) = Filter conds
 new_stage depth slots (ops.Map exprs) = Map exprs
@@ -50,6 +51,6 @@ new_pipe queries depth x =
 abbrev pub new_lane : List TypedQuery → ℕ → Placed → Lane PipeState Item
 new_lane queries depth x = record { pipe = new_pipe queries depth x; ended = false; ring = []; taken = []; closed = false }
 
--- A machine of a plan to which nothing was given: it has a lane for each piece in order, with room for so many frames.
+-- A machine of a plan to which nothing was given: it has a lane for each piece in order, with room for this many frames.
 abbrev pub new_state : ℕ → List TypedQuery → ℕ → List Entry → State
 new_state room queries depth entries = new_net room (map (new_lane queries depth) (pieces_from 0 entries))

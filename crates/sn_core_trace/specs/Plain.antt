@@ -1,3 +1,4 @@
+-- serves proofs
 -- What a state is but for the folds of a distinct's registers, of which the keys alone count.
 use Rattle.std.specs.Prelude.{List, map}
 use Rattle.sn_core.specs.Nets.{Lane}

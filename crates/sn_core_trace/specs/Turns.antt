@@ -1,3 +1,4 @@
+-- to be believed
 -- What happens in a machine that is given one supply after another, as a function of the number from which draws follow.
 use Rattle.std.specs.Prelude.{ℕ, zero, suc, List, [], ◌∷◌, ◌++◌, Bool, true, false, if◌then◌else◌}
 use Rattle.std.specs.Option.{option_map_or}
@@ -26,7 +27,7 @@ no_turn x s = record { events = []; number = x; state = s }
 abbrev pub behind : Event → Turns → Turns
 behind event later = record later { events = event ∷ later.events }
 
--- From this state, where x was drawn last, events happen until a supply is wanted or all is done, so many at most: a number is drawn, the
+-- From this state, where x was drawn last, events happen until a supply is wanted or all is done, at most this many: a number is drawn, the
 -- event that it picks happens, and the answers that wait are taken.
 abbrev pub turns : Works → ℕ → ℕ → State → Turns
 turns w zero x s = no_turn x s
@@ -58,8 +59,8 @@ abbrev pub note_closes : Note → Bool
 note_closes (Happened event) = is_close event
 note_closes (Told answers) = false
 
--- Behind what happened since a window closed come these events. Where the next window closes among them, all up to its close is parted from
--- what comes behind it, and else nothing is.
+-- After what happened since a window closed come these events. Where the next window closes among them, all up to its close is parted from
+-- what comes after it, and else nothing is.
 abbrev pub parted : List Event → List Event → List Event × List Event
 parted since [] = ([], since)
 parted since (event ∷ later) = if is_close event then (since ++ event ∷ [], later) else parted (since ++ event ∷ []) later
@@ -78,11 +79,11 @@ watched_on w watch next = turns_on w watch.number watch.state next
 abbrev pub up_to_close : Works → Watch → Supply (List ℕ) → List Event
 up_to_close w watch next = (parted watch.since (watched_on w watch next).events).0
 
--- and what is kept behind the supply
+-- and what is kept after the supply
 abbrev pub watch_on : Works → Watch → Supply (List ℕ) → Watch
 watch_on w watch next = let now = watched_on w watch next in record { since = (parted watch.since now.events).1; number = now.number; state = now.state }
 
--- behind one supply after another
+-- after one supply after another
 abbrev pub watch_over : Works → Watch → List (Supply (List ℕ)) → Watch
 watch_over w watch [] = watch
 watch_over w watch (next ∷ later) = watch_over w (watch_on w watch next) later

@@ -15,7 +15,7 @@ ghost use Rattle.sn_engine_lockstep.specs.declared.source.Source.{Source};
 ghost use Rattle.sn_emit.specs.Plans.{pieces_from};
 ghost use Rattle.sn_engine.specs.declared.intake.Intake.{Intake};
 ghost use Rattle.sn_core_net.specs.States.{State, Works};
-ghost use Rattle.sn_core_plans.specs.PlanWorkings.{AreLanesFor, workings, workings_of};
+ghost use Rattle.sn_core_net.specs.PlanWorkings.{AreLanesFor, workings, workings_of};
 ghost use Rattle.sn_plan_grammar.specs.declared.plan.Entry.{Entry};
 ghost use Rattle.sn_core_trace.specs.Lanes.{new_state};
 ghost use Rattle.sn_core_trace.specs.Plain.{plain_state, plain_turns};
@@ -23,7 +23,7 @@ ghost use Rattle.sn_core_trace.specs.Turns.{events_in, parted, turns_on};
 ghost use Rattle.sn_types.specs.declared.answers.Answers.{Answers};
 ghost use Rattle.sn_types.specs.declared.typed_query.TypedQuery.{TypedQuery};
 
-/// There is one run from a supply to the next, by the number that was drawn last: whatever is told of answers, its events, the number
+/// There is one run from a supply to the next, by the number that was drawn last: whatever is reported of answers, its events, the number
 /// that was drawn at last and the state that it leaves are those of the turns.
 #[tactic(auto, using(crate::proofs::TurnLemmas::run_turns_on))]
 pub fn runs_are_turns()

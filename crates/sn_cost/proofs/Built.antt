@@ -89,7 +89,7 @@ counted_sent s query given prefix b n lt =
 -- ---- query by query
 
 module _ (s : Switch) (queries : List TypedQuery) (given : List Given) where
-  -- the entries of a table where so many queries are counted
+  -- the entries of a table where this many queries are counted
   pub record BuiltTo (n : ℕ) (table : CostTable) : Type 0 where
     pub places : HasPlaces table (length queries)
     pub entries : (q prefix b option : ℕ) → q < length queries → prefix < 16 → b < 2 → option < 256 → entry_in table q prefix b option ≡ of_queries s queries n given q prefix b option

@@ -86,7 +86,7 @@ map_above : {X : Type 0} (w : ℕ) (f g : ℕ → X) → ((v : ℕ) → w < v �
 map_above w f g e [] h = refl
 map_above w f g e (v ∷ vs) h = ap (λ x. x ∷ map f vs) (e v h.0) ∙ ap (λ xs. g v ∷ xs) (map_above w f g e vs h.1)
 
--- the first window is that of the first run, and the others are those behind it
+-- the first window is that of the first run, and the others are those after it
 pub windows_step : (n : ℕ) (ns : List ℕ) (t : List ℕ) (ts : List (List ℕ)) (k : ℕ) → length ns ≡ length ts → NeverFall (n ∷ ns) → k ≡ equal_ahead (n ∷ ns)
     → windows_in (records (n ∷ ns) (t ∷ ts)) ≡ (n, take k (t ∷ ts)) ∷ windows_in (records (drop k (n ∷ ns)) (drop k (t ∷ ts)))
 windows_step n ns t ts k e never is =
@@ -113,7 +113,7 @@ get_ahead ts i lt = let next : suc i ≡ i + 1 = omega arith in drop-cons ts i [
 left_of : {X : Type 0} (i : ℕ) (xs : List X) → length (drop i xs) ≡ length xs - i
 left_of i xs = length-drop i xs
 
--- the windows from a place on: that of its run, and those behind it
+-- the windows from a place on: that of its run, and those after it
 pub step_at : (ns : List ℕ) (ts : List (List ℕ)) (done count : ℕ) → done < length ns → length ts ≡ length ns → NeverFall ns → count ≡ equal_ahead (drop done ns)
     → windows_in (records (drop done ns) (drop done ts)) ≡ (get_or ns done 0, take count (drop done ts)) ∷ windows_in (records (drop (done + count) ns) (drop (done + count) ts))
 step_at ns ts done count lt same never is =

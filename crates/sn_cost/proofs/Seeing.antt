@@ -16,7 +16,7 @@ use Rattle.sn_cost.specs.Entries.{seen_at}
 use Rattle.sn_cost.specs.Training.{IsKept, counts_in}
 
 module _ (s : Switch) (q : ℕ) (query : TypedQuery) (windows : Windows) (front : List ℕ) where
-  -- these windows are still to come, behind the last one, of which these prefixes were kept
+  -- these windows are still to come, after the last one, of which these prefixes were kept
   pub record Going (last : Option ℕ) (kept : List Set) (rest : List Given) : Type 0 where
     pub rises : Rises last rest
     pub agrees : (v : ℕ) → IsAbove last v → windows v ≡ windows_of rest v

@@ -19,7 +19,7 @@ module _ (s : Switch) (q : ℕ) (query : TypedQuery) (windows : Windows) (prefix
   abbrev pub more : List Given → ℕ → ℕ → ℕ → ℕ → ℕ
   more given q' prefix' b option = where_so (nat_eq q q') (where_so (nat_eq prefix prefix') (where_so (nat_lt b (length query.branches)) (added s query windows front b option given)))
 
-  -- behind so many tuples: with what these windows add, the entries are those of all windows, and they are small
+  -- after this many tuples: with what these windows add, the entries are those of all windows, and they are small
   pub record Counted (first : CostTable) (all rest : List Given) (done : ℕ) (table : CostTable) : Type 0 where
     pub left : (q' prefix' b option : ℕ) → IsPlace first q' prefix' b option → entry_in table q' prefix' b option + more rest q' prefix' b option ≡ entry_in first q' prefix' b option + more all q' prefix' b option
     pub places : (queries : ℕ) → HasPlaces first queries → HasPlaces table queries

@@ -1,3 +1,4 @@
+-- serves proofs
 -- Tables that grow entry by entry.
 use Rattle.std.specs.Prelude.{◌≡◌, ℕ, ◌+◌, ◌*◌, ◌≤◌, ◌<◌, ◌^◌, List, Bool, nat_eq, nat_lt, slice_index, Option, if◌then◌else◌}
 use Rattle.std.specs.List.{AllByRecursion}
@@ -38,6 +39,6 @@ of_counts q prefix b counts q' prefix' b' option = where_so (nat_eq q q') (where
 abbrev pub kept_counts : Switch → TypedQuery → ℕ → Option Kept → List (List ℕ) → ℕ → List ℕ
 kept_counts s query level kept tuples b = counts_of (branch_of query b) level s.chain s.slots (packet_rows query b level kept tuples)
 
--- the counts of the first so many branches
+-- the counts of the first n branches
 abbrev pub of_branches : ℕ → ℕ → ℕ → (ℕ → List ℕ) → Entries
 of_branches q prefix n counts q' prefix' b option = where_so (nat_eq q q') (where_so (nat_eq prefix prefix') (where_so (nat_lt b n) (slice_index (counts b) option)))

@@ -1,3 +1,4 @@
+-- to be believed
 -- The entries of a cost table that is made of training windows.
 use Rattle.std.specs.Prelude.{ℕ, zero, suc, ◌-◌, ◌<◌, ◌^◌, ◌/◌, ◌%◌, ◌==◌, List, [], ◌∷◌, map, length, slice_index, Option, None, Some, if◌then◌else◌}
 use Rattle.std.specs.List.{sum_by}
@@ -51,7 +52,7 @@ sent_in query windows front b depth o w = sent_of query b (slice_index front (le
 -- ---- entries
 
 -- The entry of a query, a front of a path, a branch and an option: the sum over the training windows of the number of items that
--- the piece sends, on the tuples that the level before on the front lets in.
+-- the piece sends, on the tuples that the level before on the front admits.
 abbrev pub entry_count : ℕ → TypedQuery → List Given → ℕ → ℕ → Setting → ℕ
 entry_count depth query given prefix b o = sum_by (λ g. sent_in query (windows_of given) (front_of prefix query.levels) b depth o g.0) given
 

@@ -1,3 +1,4 @@
+-- serves proofs
 -- Equal numbers at the front of a list.
 use Rattle.std.specs.Prelude.{ℕ, suc, List, [], ◌∷◌, ◌==◌, slice_index, if◌then◌else◌}
 

@@ -1,3 +1,4 @@
+-- serves proofs
 -- What training windows add to a table, front by front.
 use Rattle.std.specs.Prelude.{◌≡◌, ℕ, zero, suc, ◌-◌, ◌<◌, ◌≤◌, ◌^◌, List, [], ◌∷◌, length, nat_eq, nat_lt, slice_index, Option, None, Some}
 use Rattle.std.specs.List.{AllByRecursion, sum_by}
@@ -15,7 +16,7 @@ use Rattle.sn_plan_choices.specs.Costs.{IsPlace, entry_in}
 use Rattle.sn_cost.specs.Adding.{Adds, AreSmall, Entries, kept_counts, of_branches, where_so}
 use Rattle.sn_cost.specs.Entries.{front_of, seen_at}
 
--- the prefixes that the level before a place answered in the window before; the first level lets all in
+-- the prefixes that the level before a place answered in the window before; the first level admits all
 abbrev pub IsKept : List ℕ → Option ℕ → List Set → ℕ → ℕ → Option Kept → Type 0
 IsKept front last answered w zero o = o ≡ None
 IsKept front last answered w (suc j) None = ⊥
@@ -56,7 +57,7 @@ abbrev pub of_queries : Switch → List TypedQuery → ℕ → List Given → En
 of_queries s queries n given q prefix b option =
     where_so (nat_lt q n) (where_so (nat_lt prefix (2 ^ length (query_at queries q).levels)) (at_prefix s (query_at queries q) given prefix b option))
 
--- each number is at most those behind it
+-- each number is at most those after it
 abbrev pub NeverFall : List ℕ → Type 0
 NeverFall [] = Unit {0}
 NeverFall (n ∷ ns) = AllByRecursion (λ m. n ≤ m) ns × NeverFall ns

@@ -7,7 +7,7 @@ ghost use Rattle.sn_cost_counts.specs.Fitting.{most_rows};
 
 use sn_plan_choices::costs::CostTable;
 
-/// Adds the counts of all options of a branch, so many, to their entries at a front. It takes no memory.
+/// Adds the counts of all options of a branch, this many, to their entries at a front. It takes no memory.
 pub(crate) fn add_counts(
     table: &mut CostTable,
     q: u32,

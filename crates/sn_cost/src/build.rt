@@ -45,12 +45,12 @@ fn add_query(
 }
 
 /// The cost table of training windows. Each entry, of a query, a front of a path, a branch and an option, is the number of
-/// items that the piece sends over all windows, on the tuples that the level before on the front lets in. `numbers` has
+/// items that the piece sends over all windows, on the tuples that the level before on the front admits. `numbers` has
 /// the number of each tuple's window: as many as there are tuples, at most 4194304, and never falling. A window without a
-/// tuple answers nothing, so a level behind the first sees nothing in the window behind it.
+/// tuple answers nothing, so a level after the first sees nothing in the window after it.
 ///
 /// # Errors
-/// Want of memory.
+/// Out of memory.
 pub fn build(t: &Typed, s: &Switch, tuples: &[Tuple], numbers: &[u64]) -> Result<CostTable, Memory>
     requires switch { IsSwitch s.now }
     requires same { length tuples.now ≡ length numbers.now }

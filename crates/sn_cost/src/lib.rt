@@ -6,6 +6,4 @@ mod branches;
 pub mod build;
 mod front;
 mod run;
-#[cfg(test)]
-mod tests;
 mod train;

@@ -22,7 +22,7 @@ use sn_refine::refined::Refined;
 use sn_switch::switch::Switch;
 use sn_types::typed::Typed;
 
-/// The prefixes that the level before a place answered in the window before; the first level lets all tuples in.
+/// The prefixes that the level before a place answered in the window before; the first level admits all tuples.
 fn kept_behind<'a>(
     refined: &'a Refined,
     w: u64,

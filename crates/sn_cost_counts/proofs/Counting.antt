@@ -108,7 +108,7 @@ module _ (depth : ℕ) (size : ℕ → ℕ) (level : ℕ) where
       ])
       ∙ ap (λ m. counted (run depth level (take c os) (drop 1 sizes) (stepped depth m (Reduce g) (flow_of n rows spilled false)))) (first_size i (ops.Reduce r ∷ os) sizes h)
 
--- the items of a cut are counted by the rows behind it
+-- the items of a cut are counted by the rows after it
 pub items_counted : (depth level cut : ℕ) (sizes : List ℕ) (os : List TOp) (rows : List Row) → IsCut (take cut (map (op_at level) os))
     → length (items depth (size_at os sizes) cut (map (op_at level) os) rows) ≡ counted (run depth level (take cut os) sizes (starting rows))
 items_counted depth level cut sizes os rows is =

@@ -179,7 +179,7 @@ flat_go level passed depth slots op os (f ∷ fs) h =
     all_append (CanGo level (suc passed) os) (map (λ size. stepped depth size (op_at level op) f) slots) (flat_map (λ f. map (λ size. stepped depth size (op_at level op) f) slots) fs)
     (sizes_go level passed depth slots op os f h.0) (flat_go level passed depth slots op os fs h.1)
 
--- what fits no row fits none behind an operator
+-- what fits no row fits none after an operator
 none_fit : (level : ℕ) (op : TOp) (os : List TOp) → AllFit level (op ∷ os) [] → AllFit level os []
 none_fit level (ops.Filter conds) os h = h.1
 none_fit level (ops.Map exprs) os h = h.1
@@ -250,7 +250,7 @@ pub all_along : (depth level : ℕ) (slots : List ℕ) (os : List TOp) (first : 
 all_along depth level slots os first i fs counts more le so_far grown =
     grown ∙ sym (ap (λ (xs : List TOp). counts ++ counts_from depth level slots xs fs) (drop_all i os le)) ∙ so_far.told
 
--- ---- what is behind an operator
+-- ---- what is after an operator
 
 pub wide_sizes : (depth level : ℕ) (slots : List ℕ) (op : TOp) (fs : List Flow) → is_stateful op ≡ true → flat_map (λ f. map (λ size. stepped depth size (op_at 0 op) f) slots) fs ≡ wider depth level slots op fs
 wide_sizes depth level slots (ops.Filter conds) fs is = absurd cc

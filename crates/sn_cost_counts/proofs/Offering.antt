@@ -38,7 +38,7 @@ ahead_is rows i row lt at =
     drop-cons rows i row lt ∙ ap (λ x. x ∷ drop (suc i) rows) (sym at) ∙ ap (λ n. row ∷ drop n rows) next
 
 module _ {F : Type 0} (key : Row → Row) (value : Row → ℕ) (join : F → ℕ → ℕ → ℕ) (first : ChainState F) where
-  -- so many of the first rows overflowed, and the registers are as after these rows
+  -- this many of the first rows overflowed, and the registers are as after these rows
   pub record Offered (rows : List Row) (i : ℕ) (chain : ChainState F) (sent : ℕ) : Type 0 where
     pub over : sent + length (overs key value join chain (drop i rows)) ≡ length (overs key value join first rows)
     pub most : sent ≤ i
@@ -80,7 +80,7 @@ module _ {F : Type 0} (key : Row → Row) (value : Row → ℕ) (join : F → �
 
 -- ---- a distinct
 
--- of the first rows so many overflowed, and these were new
+-- of the first rows this many overflowed, and these were new
 pub record Sifted (first : ChainState Or) (rows : List Row) (i : ℕ) (chain : ChainState Or) (sent : ℕ) (out : List Row) : Type 0 where
   pub offered : Offered itself no_value or_join first rows i chain sent
   pub new : out ++ distinct_news chain (drop i rows) ≡ distinct_news first rows

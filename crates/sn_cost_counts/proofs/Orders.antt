@@ -53,7 +53,7 @@ module _ (depth level : ℕ) (slots : List ℕ) where
   abbrev of_all : List TOp → List Flow → ℕ → List ℕ
   of_all os fs cut = flat_map (λ f. of_cut os f cut) fs
 
-  -- behind a stateful operator, each first size in turn
+  -- after a stateful operator, each first size in turn
   sized : (step : ℕ → Flow → Flow) (os : List TOp) (n : ℕ) (f : Flow) →
       flat_map (λ size. map (λ rest. counted (run depth level os rest (step size f))) (size_lists slots n)) slots
       ≡ map (λ sizes. counted (run depth level os (drop 1 sizes) (step (slice_index sizes 0) f))) (size_lists slots (suc n))

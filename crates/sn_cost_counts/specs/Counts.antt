@@ -1,3 +1,4 @@
+-- serves proofs
 -- How many items a branch sends, for all settings of its prefix.
 use Rattle.std.specs.Prelude.{ℕ, List, map, length}
 use Rattle.sn_base.specs.Groups.{Row}

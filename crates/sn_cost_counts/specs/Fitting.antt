@@ -1,3 +1,4 @@
+-- serves proofs
 -- Where operators can be evaluated at rows.
 use Rattle.std.specs.Prelude.{ℕ, ◌*◌, ◌≤◌, List, [], ◌∷◌, ◌++◌, map, length}
 use Rattle.std.specs.List.{AllByRecursion}
@@ -21,7 +22,7 @@ Takes level (ops.Reduce r ∷ os) row = Fits (ops.Reduce r) (row ∷ []) × ((a 
 abbrev pub most_rows : ℕ
 most_rows = 4194304
 
--- Rows behind so many operators that those ahead can be evaluated at: as few as a window has, and at each operator no more
+-- Rows after this many operators that those ahead can be evaluated at: as few as a window has, and at each operator no more
 -- were sent.
 pub record CanGo (level passed : ℕ) (ahead : List TOp) (f : Flow) : Type 0 where
   pub sent : f.sent ≤ passed * most_rows

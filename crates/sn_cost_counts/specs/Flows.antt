@@ -1,3 +1,4 @@
+-- serves proofs
 -- The rows of a window on their way through the operators of a prefix, and how many items they make.
 use Rattle.std.specs.Prelude.{ℕ, ◌+◌, List, [], ◌∷◌, ◌++◌, map, filter, length, drop, false, not, ◌||◌, nat_lt, slice_index, if◌then◌else◌}
 use Rattle.std.specs.List.{flat_map}
@@ -11,13 +12,13 @@ use Rattle.sn_types.specs.Cuts.{is_stateful}
 use Rattle.sn_types.specs.Values.{op_at}
 use Rattle.sn_cost_counts.specs.declared.flow.Flow.{Flow}
 
--- ---- a stateful operator, with a chain of so many registers of so many slots each
+-- ---- a stateful operator, with a chain of n registers of m slots each
 
 -- the rows that overflow at a distinct
 abbrev pub over_distinct : ℕ → ℕ → List Row → List Row
 over_distinct depth slots rows = filter (λ row. not (has_home depth slots rows row)) rows
 
--- behind it flows each resident row once, at its first appearance
+-- after it flows each resident row once, at its first appearance
 abbrev pub first_rows : ℕ → ℕ → List Row → List Row
 first_rows depth slots rows = once same_row (filter (λ row. has_home depth slots rows row) rows)
 
@@ -31,8 +32,8 @@ held_rows depth slots g rows = map (row_for g (map (pair_of g) rows)) (homes_by_
 
 -- ---- operators one after another
 
--- Rows behind an operator. What overflows is sent. What a reduce holds stays whole where a distinct overflowed: no filter
--- behind the reduce drops a row of it.
+-- Rows after an operator. What overflows is sent. What a reduce holds stays whole where a distinct overflowed: no filter
+-- after the reduce drops a row of it.
 abbrev pub stepped : ℕ → ℕ → Op → Flow → Flow
 stepped depth slots (Filter t) f = if f.whole then f else record f { rows = filter t f.rows }
 stepped depth slots (Map g) f = record f { rows = map g f.rows }
@@ -49,7 +50,7 @@ stepped depth slots (Reduce g) f = record {
   whole = f.spilled;
 }
 
--- rows behind operators at a level, of which the stateful ones take these sizes in their order
+-- rows after operators at a level, of which the stateful ones take these sizes in their order
 abbrev pub run : ℕ → ℕ → List TOp → List ℕ → Flow → Flow
 run depth level [] sizes f = f
 run depth level (op ∷ ops) sizes f =
@@ -65,12 +66,12 @@ counted f = f.sent + length f.rows
 
 -- ---- all sizes side by side
 
--- rows behind an operator: behind a stateful one those for each size, in order
+-- rows after an operator: after a stateful one those for each size, in order
 abbrev pub wider : ℕ → ℕ → List ℕ → TOp → List Flow → List Flow
 wider depth level slots op flows =
     if is_stateful op then flat_map (λ f. map (λ size. stepped depth size (op_at level op) f) slots) flows else map (stepped depth 0 (op_at level op)) flows
 
--- the counts of prefixes that end before each of these operators, and behind the last
+-- the counts of prefixes that end before each of these operators, and after the last
 abbrev pub counts_from : ℕ → ℕ → List ℕ → List TOp → List Flow → List ℕ
 counts_from depth level slots [] flows = map counted flows
 counts_from depth level slots (op ∷ ops) flows = map counted flows ++ counts_from depth level slots ops (wider depth level slots op flows)

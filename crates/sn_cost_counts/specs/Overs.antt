@@ -1,3 +1,4 @@
+-- serves proofs
 -- The rows that overflow while they are offered one after another.
 use Rattle.std.specs.Prelude.{ℕ, List, slice_index}
 use Rattle.sn_base.specs.AnyFold.{any_step}

@@ -1,3 +1,4 @@
+-- serves proofs
 -- The settings of a prefix of a branch: its cut, and the sizes of its registers.
 use Rattle.std.specs.Prelude.{ℕ, ◌+◌, List, map, take}
 use Rattle.std.specs.List.{flat_map, range_with_len}

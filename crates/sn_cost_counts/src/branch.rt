@@ -20,7 +20,7 @@ use std::alloc::Global;
 /// has `chain` registers.
 ///
 /// # Errors
-/// Want of memory.
+/// Out of memory.
 pub fn counts_of(
     alloc: Global,
     t: &Typed,

@@ -28,7 +28,7 @@ fn add_counts(flows: &[Flow], counts: &mut Seq<u64>) -> Result<(), Memory>
     Ok(())
 }
 
-/// All rows behind an operator.
+/// All rows after an operator.
 fn behind(
     alloc: Global,
     op: &TOp,

@@ -6,7 +6,7 @@ ghost use Rattle.sn_cost_counts.specs.Fitting.{most_rows};
 use sn_base::row::Row;
 use sn_base::seq::Seq;
 
-/// The rows of a window behind some operators, and how many were sent before them.
+/// The rows of a window after some operators, and how many were sent before them.
 #[derive(Drop)]
 pub struct Flow {
     /// How many rows overflowed on the way.

@@ -8,5 +8,3 @@ mod held;
 mod offers;
 mod sizes;
 mod stateless;
-#[cfg(test)]
-mod tests;

@@ -25,7 +25,7 @@ use std::alloc::Global;
 pub(crate) struct Passed {
     /// How many rows overflow.
     pub over: u64,
-    /// The rows behind it.
+    /// The rows after it.
     pub rows: Seq<Row>,
 }
 
@@ -80,7 +80,7 @@ pub(crate) fn distinct(
     })
 }
 
-/// Puts the values of rows to the folds of their keys in the registers of a reduce. The answer is how many rows
+/// Adds the values of rows to the folds of their keys in the registers of a reduce. The answer is how many rows
 /// overflow.
 pub(crate) fn offer_all(chain: &mut Chain<AnyFold>, rows: &[Row], r: &TReduce) -> u64
     requires fold { chain.old.fold ≡ r.now.fold }

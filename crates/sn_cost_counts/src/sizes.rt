@@ -14,7 +14,7 @@ use sn_base::memory::Memory;
 use sn_types::typed_op::TOp;
 use std::alloc::Global;
 
-/// Rows behind a distinct or a reduce with `depth` registers of so many slots each.
+/// Rows after a distinct or a reduce with `depth` registers of this many slots each.
 fn behind(alloc: Global, op: &TOp, depth: u32, slots: u32, flow: &Flow) -> Result<Flow, Memory>
     requires stateful { is_stateful op.now ≡ true }
     requires some_depth { 1 ≤ depth }
@@ -49,7 +49,7 @@ fn behind(alloc: Global, op: &TOp, depth: u32, slots: u32, flow: &Flow) -> Resul
     }
 }
 
-/// Adds the rows behind a distinct or a reduce for each size, in order.
+/// Adds the rows after a distinct or a reduce for each size, in order.
 fn add_sizes(
     alloc: Global,
     op: &TOp,
@@ -76,7 +76,7 @@ fn add_sizes(
     Ok(())
 }
 
-/// The rows behind a distinct or a reduce: of each of these for each size, in order.
+/// The rows after a distinct or a reduce: of each of these for each size, in order.
 pub(crate) fn by_size(
     alloc: Global,
     op: &TOp,

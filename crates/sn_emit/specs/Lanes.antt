@@ -1,3 +1,4 @@
+-- serves proofs
 -- All lanes of a plan.
 use Rattle.std.specs.Prelude.{ℕ, ◌≤◌, List, map, length, sum}
 use Rattle.std.specs.List.{AllByRecursion}

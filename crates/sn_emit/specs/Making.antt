@@ -1,3 +1,4 @@
+-- serves proofs
 -- Where the lane of a piece can be made.
 use Rattle.std.specs.Prelude.{◌≡◌, ◌≤◌, ◌<◌, List, length, take, true, All, nat_eq}
 use Rattle.std.specs.List.{list_any}

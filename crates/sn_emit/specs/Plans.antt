@@ -1,3 +1,4 @@
+-- to be believed
 -- The lanes of a plan, one for each piece in order.
 use Rattle.std.specs.Prelude.{◌≡◌, ℕ, suc, ◌-◌, List, [], ◌∷◌, ◌++◌, map, take, false, ◌==◌, Option, None, Some, slice_index, if◌then◌else◌}
 use Rattle.std.specs.FinSet as set

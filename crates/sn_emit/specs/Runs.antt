@@ -1,3 +1,4 @@
+-- serves proofs
 -- A lane over a whole window.
 use Rattle.std.specs.Prelude.{◌≡◌, ℕ, List, [], ◌∷◌, drop, slice_get, Option, None, Some}
 use Rattle.sn_report.specs.declared.frame.Frame.{Frame}

@@ -1,3 +1,4 @@
+-- serves proofs
 -- The frames of one lane.
 use Rattle.std.specs.Prelude.{ℕ, ◌+◌, ◌-◌, ◌^◌, List, [], ◌∷◌, ◌++◌, map, fold, min, false, Option, Some, None, if◌then◌else◌}
 use Rattle.std.specs.FinSet as set

@@ -5,5 +5,3 @@ pub mod lanes;
 pub mod law;
 pub mod making;
 pub mod sender;
-#[cfg(test)]
-mod tests;

@@ -5,3 +5,6 @@ pub mod Firsts
 pub mod Frames
 pub mod Lanes
 pub mod Orders
+pub mod FitLemmas
+pub mod Steps
+pub mod Turns

@@ -1,3 +1,4 @@
+-- to be believed
 -- The answers of a window.
 use Rattle.std.specs.Prelude.{◌≡◌, ℕ, List, [], ◌∷◌, map, filter, ◌==◌, unwrap_or, None, Some, Result, Ok, Err}
 use Rattle.sn_base.specs.Sorted.{sorted_rows}
@@ -30,7 +31,7 @@ window_of (x ∷ xs) = unwrap_or x.end 0
 abbrev pub answers_of : List TypedQuery → List Intake → Answers
 answers_of queries lanes = record { window = window_of lanes; emitted = total lanes; parts = parts_of queries lanes }
 
--- The answers come where all lanes have ended the window; else, and only then, the first that hasn't is named. Want of memory may
+-- The answers come where all lanes have ended the window; else, and only then, the first that hasn't is named. Running out of memory may
 -- come in the place of the answers.
 abbrev pub Closes : List TypedQuery → List Intake → Result Answers CloseFault → Type 0
 Closes queries lanes (Ok answers) = (first_open lanes ≡ None) × (answers ≡ answers_of queries lanes)

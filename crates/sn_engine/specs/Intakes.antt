@@ -1,3 +1,4 @@
+-- to be believed
 -- What came of the lanes of a plan.
 use Rattle.std.specs.Prelude.{◌≡◌, ℕ, ◌+◌, ◌<◌, List, [], ◌∷◌, ◌++◌, map, length, sum_by, Bool, true, false, not, ◌&&◌, ◌||◌, ◌==◌, position, Option, None, Some, is_none, is_some, if◌then◌else◌}
 use Rattle.std.specs.List.{AllByRecursion, AllByRecursion-prop, find, list_all, list_any}

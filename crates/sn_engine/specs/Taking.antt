@@ -1,3 +1,4 @@
+-- to be believed
 -- Which frames an engine takes.
 use Rattle.std.specs.Prelude.{◌≡◌, ℕ, ◌^◌, List, [], ◌∷◌, Bool, true, false, not, ◌&&◌, ◌⊎◌, nat_lt, is_some, Option, None, Some, Result, Ok, Err, if◌then◌else◌}
 use Rattle.std.specs.List.{find, list_all}
@@ -58,7 +59,7 @@ abbrev pub AreTaken : List TypedQuery → Option ℕ → List Intake → List Fr
 AreTaken queries closed lanes [] = Unit {0}
 AreTaken queries closed lanes (frame ∷ frames) = (take_fault queries lanes closed frame ≡ None) × AreTaken queries closed (after_frame lanes frame) frames
 
--- a frame is answered by the first refusal, if any; want of memory is answered only where there is none
+-- a frame is answered by the first refusal, if any; out of memory is answered only where there is none
 abbrev pub Refuses : {A : Type 0} → Result A TakeFault → Option TakeFault → Type 0
 Refuses (Ok a) fault = fault ≡ None
 Refuses (Err f) fault = ((f ≡ Memory) × (fault ≡ None)) ⊎ (fault ≡ Some f)

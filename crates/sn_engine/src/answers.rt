@@ -8,9 +8,9 @@ ghost use Rattle.sn_engine_split.specs.Branches.{IsItemOf};
 ghost use Rattle.sn_types.specs.Typed.{query_at, branch_at};
 
 use crate::intake::Intake;
+use crate::query::sorted_value;
 use sn_base::memory::Memory;
 use sn_base::seq::Seq;
-use sn_finish::query::sorted_value;
 use sn_report::frame::Item;
 use sn_types::answers::Part;
 use sn_types::typed::Typed;

@@ -114,7 +114,7 @@ impl Engine {
         Ok(())
     }
 
-    /// Takes a frame. A refusal changes nothing. Refusals are looked for in the order of the variants, want of memory last.
+    /// Takes a frame. A refusal changes nothing. Refusals are looked for in the order of the variants, out of memory last.
     pub fn take(&mut self, frame: &Frame) -> Result<(), TakeFault>
         ensures fault { Refuses result (take_fault self.old.t.queries self.old.lanes.items self.old.closed frame.now) }
         ensures taken { OnOk result (self.new.lanes.items ≡ after_frame self.old.lanes.items frame.now) }

@@ -16,7 +16,7 @@ ghost use Rattle.sn_types.specs.Typed.{IsTyped, HasWidths, query_at};
 ghost use Rattle.sn_types.specs.declared.typed_query.TypedQuery.{TypedQuery};
 
 /// After any list of frames, in any order between the lanes, each lane has the items that it had and those of its own
-/// frames behind them, in their order.
+/// frames after them, in their order.
 pub fn frames_are_gathered()
     ensures { (frames : List Frame) (lanes : List Intake) (lane : Lane) (x : Intake) → find (is_lane lane) lanes ≡ Some x →
         items_at (fold after_frame lanes frames) lane ≡ items_at lanes lane ++ items_for lane frames }

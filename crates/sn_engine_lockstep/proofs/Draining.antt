@@ -86,7 +86,7 @@ module _ (window lane : ℕ) (before now after : List Sender) (lanes_before lane
       no_more [] = refl
       no_more (f ∷ frames) = ap (λ fs. f ∷ fs) (no_more frames)
 
-  -- less is left behind a frame
+  -- less is left after a frame
   pub less_left : (frame : Frame) → length after ≡ length now → lane < length now → IfSome (slice_get now lane) (λ s. IfSome (slice_get after lane) (λ t. IsReadOut window s (Some frame) t))
       → option_map_or (λ s. length (frames_left s window)) (slice_get after lane) 0 < option_map_or (λ s. length (frames_left s window)) (slice_get now lane) 0
   less_left frame many lt read =

@@ -1,4 +1,4 @@
--- All lanes of a window, one of them behind a tuple or at its end.
+-- All lanes of a window, one of them after a tuple or at its end.
 use Rattle.std.proofs.Common.{◌≡◌, ◌≢◌, ℕ, zero, suc, ◌+◌, ◌<◌, ◌≤◌, List, [], ◌∷◌, ◌++◌, ◌==◌, map, fold, length, Option, Some, IfSome, slice_get, slice_set, nat_lt, refl, ap, sym, ◌∙◌, subst, arith, eq-eqb}
 use Rattle.std.specs.List.{AllByRecursion}
 use Rattle.std.specs.Option.{option_map}

@@ -1,4 +1,4 @@
--- What the lane of a piece lets in is what the level of the piece sees.
+-- What the lane of a piece admits is what the level of the piece sees.
 use Rattle.std.proofs.Common.{◌≡◌, ℕ, zero, suc, ◌-◌, List, [], ◌∷◌, ◌==◌, map, filter, Bool, true, false, cond, Option, Some, None, slice_index, refl, ap, sym, ◌∙◌, arith}
 use Rattle.sn_base.proofs.Lists.{nat_same, not_true}
 use Rattle.sn_emit.specs.Plans.{items_of, level_before, placed}

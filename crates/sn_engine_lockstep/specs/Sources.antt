@@ -1,4 +1,5 @@
--- Where the prefixes come from that the lanes of a plan let in.
+-- serves proofs
+-- Where the prefixes come from that the lanes of a plan admit.
 use Rattle.std.specs.Prelude.{ℕ, ◌+◌, List, [], ◌∷◌, ◌++◌, map, Bool, ◌&&◌, ◌==◌, Option, None, Some, if◌then◌else◌}
 use Rattle.std.specs.List.{find}
 use Rattle.std.specs.Option.{option_map_or}
@@ -17,7 +18,7 @@ use Rattle.sn_engine_lockstep.specs.declared.source.Source.{Source}
 abbrev pub source_at : ℕ → Option ℕ → Source
 source_at q level = record { query = q; before = level }
 
--- the lane of a piece lets in the prefixes of the level before its own on the path, if there is one
+-- the lane of a piece admits the prefixes of the level before its own on the path, if there is one
 abbrev pub source_for : ℕ → List ℕ → Piece → Source
 source_for q path piece = source_at q (level_before path piece.level)
 
@@ -44,7 +45,7 @@ level_prefixes queries parts q (Some level) = prefixes_of (query_at queries q) (
 abbrev pub prefixes_in : List TypedQuery → List Part → Source → Set
 prefixes_in queries parts source = level_prefixes queries parts source.query source.before
 
--- The prefixes that a lane lets in: those of the answers of the window before this one, if that was the last one. Nothing
+-- The prefixes that a lane admits: those of the answers of the window before this one, if that was the last one. Nothing
 -- was answered in a window before that was left out.
 abbrev pub kept_in : List TypedQuery → Option Answers → ℕ → Source → Set
 kept_in queries None window source = set.empty

@@ -1,3 +1,4 @@
+-- to be believed
 -- What a plan answers in a window, and how many items it sends.
 use Rattle.std.specs.Prelude.{◌≡◌, ◌<◌, ℕ, zero, suc, List, [], ◌∷◌, ◌++◌, map, length, sum, slice_index, Option, None, Some}
 use Rattle.std.specs.Option.{option_map}
@@ -14,7 +15,7 @@ use Rattle.sn_types.specs.Typed.{query_at}
 use Rattle.sn_engine_lockstep.specs.declared.source.Source.{Source}
 use Rattle.sn_engine_lockstep.specs.Sources.{kept_in, source_at, source_of}
 
--- ---- with the prefixes that each lane lets in
+-- ---- with the prefixes that each lane admits
 
 -- the answers of the queries from this number on, level by level
 abbrev pub parts_from : List TypedQuery → (Source → Set) → List (List ℕ) → ℕ → List Entry → List Part
@@ -69,7 +70,7 @@ abbrev pub window_of : Option Answers → Option ℕ
 window_of None = None
 window_of (Some answers) = Some answers.window
 
--- a window comes behind the last one that was answered, and none between them holds a record
+-- a window comes after the last one that was answered, and none between them holds a record
 pub record Follows (windows : Windows) (last : Option Answers) (w : ℕ) : Type 0 where
   pub above : IsAbove (window_of last) w
   pub none : (v : ℕ) → IsAbove (window_of last) v → v < w → windows v ≡ None

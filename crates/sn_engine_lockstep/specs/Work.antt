@@ -1,3 +1,4 @@
+-- serves proofs
 -- The lanes of a plan at work, in the switch and in the engine.
 use Rattle.std.specs.Prelude.{◌≡◌, ℕ, ◌<◌, ◌≤◌, List, [], ◌∷◌, map, fold, length, false, Some, slice_get}
 use Rattle.std.specs.List.{AllByRecursion}
@@ -23,7 +24,7 @@ intake_of x = intake_for x.query x.path x.piece
 abbrev pub name_of : Placed → Lane
 name_of x = lane_of x.query x.path x.piece
 
--- a lane behind a frame of its own
+-- a lane after a frame of its own
 abbrev pub taken : Intake → Frame → Intake
 taken x (Row lane item) = with_item item x
 taken x (End lane window) = with_end window x
@@ -47,7 +48,7 @@ pub record Each (P : ℕ → Placed → Sender → Intake → Type 0) (pieces : 
   pub taken : length intakes ≡ length pieces
   pub each : (j : ℕ) (x : Placed) (s : Sender) (l : Intake) → slice_get pieces j ≡ Some x → slice_get senders j ≡ Some s → slice_get intakes j ≡ Some l → P j x s l
 
--- all lanes, once these tuples of a window came, where the lanes let in these prefixes
+-- all lanes, once these tuples of a window came, where the lanes admit these prefixes
 abbrev pub AreAtWork : List TypedQuery → ℕ → List Placed → (Source → Set) → List (List ℕ) → List Sender → List Intake → Type 0
 AreAtWork queries depth pieces kept tuples senders intakes = Each (λ j x s l. IsAtWork queries depth x (kept (source_of x)) tuples s l) pieces senders intakes
 

@@ -33,7 +33,7 @@ use std::alloc::Global;
 #[derive(Drop)]
 pub struct Driver {
     pub alloc: Global,
-    /// By lane: whose prefixes it lets in.
+    /// By lane: whose prefixes it admits.
     pub sources: Seq<Source>,
     pub emitter: Emitter,
     pub engine: Engine,
@@ -62,7 +62,7 @@ impl Driver {
         })
     }
 
-    /// Begins a window, `last` being the answers of the last one before it. Each lane lets in the prefixes that its source
+    /// Begins a window, `last` being the answers of the last one before it. Each lane admits the prefixes that its source
     /// answered, where that was the window before this one.
     pub fn begin(&mut self, last: &Option<Answers>, window: u64) -> Result<(), Memory>
         requires many { length self.old.sources ≡ length self.old.emitter }

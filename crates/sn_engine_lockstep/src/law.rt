@@ -27,8 +27,8 @@ pub fn new_drivers_are_idle()
     ensures sources { (q : ℕ) (entries : List Entry) → sources_of q entries ≡ map source_of (pieces_from q entries) }
 {}
 
-/// What `close` answers is, query by query and level by level, the answer to the tuples with the prefixes that the lanes let
-/// in, and the number of the items of all pieces: whatever the cuts, chains and sizes.
+/// What `close` answers is, query by query and level by level, the answer to the tuples with the prefixes that the lanes
+/// admit, and the number of the items of all pieces: whatever the cuts, chains and sizes.
 pub fn answers_are_those_of_the_window()
     ensures parts { (typed_for depth window : ℕ) (queries : List TypedQuery) (entries : List Entry) (kept : Source → Set) (tuples : List (List ℕ)) →
         ∥ IsTyped typed_for queries ∥₁ → AreEntriesOf queries entries → AllByRecursion (CanMake queries) (pieces_from 0 entries) → AllByRecursion HasWidths tuples →

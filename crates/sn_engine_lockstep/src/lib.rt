@@ -5,7 +5,5 @@ pub mod driver;
 mod lanes;
 pub mod law;
 pub mod source;
-#[cfg(test)]
-mod tests;
 pub mod window;
 mod work;

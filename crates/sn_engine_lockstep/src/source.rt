@@ -1,4 +1,4 @@
-//! Where the prefixes come from that the lanes of a plan let in.
+//! Where the prefixes come from that the lanes of a plan admit.
 ghost use Rattle.std.specs.Prelude.{◌≡◌, ◌≤◌, ◌<◌, ◌++◌, length, map, IfOk, OnOk, Some, None};
 ghost use Rattle.std.specs.List.{list_any};
 ghost use Rattle.std.specs.Option.{option_map};
@@ -17,7 +17,7 @@ use sn_types::answers::{Answers, Part};
 use sn_types::typed::Typed;
 use std::alloc::Global;
 
-/// Whose prefixes the lane of a piece lets in.
+/// Whose prefixes the lane of a piece admits.
 #[derive(Clone, Copy, Debug, PartialEq, Eq)]
 pub struct Source {
     /// The number of the piece's query.
@@ -91,7 +91,7 @@ pub fn prefixes_in(
     }
 }
 
-/// The prefixes that a lane lets in: those of the answers of the window before this one, if that was the last one.
+/// The prefixes that a lane admits: those of the answers of the window before this one, if that was the last one.
 pub(crate) fn kept_in(
     alloc: Global,
     t: &Typed,

@@ -34,7 +34,7 @@ use Rattle.sn_report.specs.declared.frame.Item.{Item}
 use Rattle.sn_engine_split.specs.Branches.{branch_value, query_value, AreSplit, IsItemOf}
 use Rattle.sn_engine_split.proofs.Typed.{bags, had_prop, split}
 
--- ---- behind a join stand filters and maps alone
+-- ---- after a join stand filters and maps alone
 
 post_had : (level : ℕ) (columns : List Column) (w : What) (rest : List Acting) → PostOp w → ((next : Row) → Had rest next) → (row : Row) → Had (op_at level (typed_op columns w) ∷ rest) row
 post_had level columns (what.Filter conds) rest h onward row = λ passes. onward row

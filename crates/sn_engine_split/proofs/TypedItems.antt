@@ -1,4 +1,4 @@
--- Rows of the columns of a typed branch bring each fold behind them what it has.
+-- Rows of the columns of a typed branch bring each fold after them what it has.
 use Rattle.std.proofs.Common.{◌≡◌, ℕ, suc, ◌+◌, ◌^◌, ◌<◌, List, [], ◌∷◌, ◌++◌, map, take, length, slice_index, refl, sym, ◌∙◌, subst, arith}
 use Rattle.std.proofs.lemmas.List.{length-append, length-map}
 use Rattle.std.specs.List.{AllByRecursion}
@@ -67,7 +67,7 @@ fold_below columns r a h s had =
     let w : ℕ = (folded_column columns r).width in
     subst (λ (v : ℕ). a < 2 ^ v) (lawful_same w (value_width columns r h.widths s)) (of_had r.fold w a had)
 
--- key columns with a number of the fold are a row behind the reduce
+-- key columns with a number of the fold are a row after the reduce
 pub with_fold : (columns : List Column) (r : Reduce) (key : Row) (a : ℕ) → IsSchema columns → IsSound columns (what.Reduce r) → IsOf (map (column_named columns) r.keys) key
     → any_has (fold_of r.fold (folded_column columns r).width) a → IsOf (columns_after columns (what.Reduce r)) (key ++ a ∷ [])
 with_fold columns r key a h s of had =
@@ -133,7 +133,7 @@ pub first_schema : (columns : List Column) (ops : List Op) → schema_at (schema
 first_schema columns [] = refl
 first_schema columns (op ∷ ops) = refl
 
--- the rows that go behind the next operator, and the Partial rows at it
+-- the rows that go after the next operator, and the Partial rows at it
 pub rows_next : (i : ℕ) (columns : List Column) (op : Op) (ops : List Op) (found : List Item) → RowsFrom i columns (op ∷ ops) found → AllByRecursion (IsOf (columns_after columns op.what)) (rows_with (is_at (suc i)) found)
 rows_next i columns op ops found of =
     let next : List Column = columns_after columns op.what in

@@ -1,3 +1,4 @@
+-- to be believed
 -- The items of the branches of typed queries.
 use Rattle.std.specs.Prelude.{ℕ, suc, ◌≤◌, List, map, take, length, Bool, true, false, ◌&&◌, ◌||◌, ◌==◌, nat_lt, slice_get, Option, if◌then◌else◌}
 use Rattle.std.specs.List.{list_any}
@@ -30,7 +31,7 @@ branch_items query b level kept cut depth sizes tuples =
 
 -- ---- items of a branch
 
--- the columns of the rows with a tag: those of the rows that come to its operator, and for a Partial row those behind its
+-- the columns of the rows with a tag: those of the rows that come to its operator, and for a Partial row those after its
 -- reduce
 abbrev pub tag_columns : List (List Column) → Tag → List Column
 tag_columns schemas (At i) = schema_at schemas i
@@ -67,7 +68,7 @@ is_tag_of os cut (Partial i) = nat_lt i cut && is_at_place is_reduce os i && lis
 abbrev pub branch_value : TypedQuery → ℕ → ℕ → List Item → List Row
 branch_value query b level found = value (map (op_at level) (branch_of query b).ops) found
 
--- of a query at a level: of its branch, or of its two branches, joined and taken through the operators behind the join
+-- of a query at a level: of its branch, or of its two branches, joined and taken through the operators after the join
 abbrev pub query_value : TypedQuery → ℕ → List Item → List Item → List Row
 query_value query level left right =
     if length query.branches == 2 then through (map (op_at level) query.posts) (joined query.keys (branch_value query 0 level left) (branch_value query 1 level right)) else branch_value query 0 level left

@@ -39,7 +39,7 @@ rest_bytes zero bytes are = are
 rest_bytes (suc n) [] are = tt
 rest_bytes (suc n) (b ∷ bs) are = rest_bytes n bs are.1
 
--- numbers of so many bytes
+-- numbers of this many bytes
 pub big_below : (n place : ℕ) (bytes : List ℕ) → AreBytes bytes → big_number n (drop place bytes) < 256 ^ n
 big_below n place bytes are = big_from-lt 0 n (drop place bytes) (byte_at (drop place bytes) (rest_bytes place bytes are))
 

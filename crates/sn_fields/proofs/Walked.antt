@@ -69,7 +69,7 @@ icmp_is present present' bytes a b header same at h =
     let code = moved (λ n. slice_index bytes (n + 1)) present present' a b same at in
     record { valid_is = cc; kind_is = cc; code_is = cc }
 
--- the header of IPv4 is that behind the packet's link header
+-- the header of IPv4 is that after the packet's link header
 ip_is : (link : Link) (bytes : List ℕ) (l : LinkPart) (ip : IpPart) → IsLinkPart link bytes l → IsIpPart l.header.kind bytes l.end ip → IsIpPart (ether_type link bytes) bytes (ip_place link bytes) ip
 ip_is link bytes l ip is_link is_ip =
     let at_end = subst (λ (place : ℕ). IsIpPart l.header.kind bytes place ip) is_link.end_is is_ip in

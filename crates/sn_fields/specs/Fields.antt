@@ -1,3 +1,4 @@
+-- to be believed
 -- The table of the fields: their numbers, their names in query texts, their widths in bits, and which are addresses.
 use Rattle.std.specs.Prelude.{ℕ, Bool, true, false, List, [], ◌∷◌, Option, find, nat_eq, codes}
 use Rattle.std.specs.Cmp.Lexicographic.{pointwise}

@@ -1,3 +1,4 @@
+-- to be believed
 -- Which headers a packet has, and where they stand. Numbers have their highest byte first (RFC 791, appendix B). A
 -- header is present exactly where its bytes were captured and the headers before it are present.
 use Rattle.std.specs.Prelude.{ℕ, ◌+◌, ◌*◌, ◌/◌, ◌%◌, Bool, false, ◌&&◌, ◌||◌, ◌==◌, nat_le, if◌then◌else◌, List, length, drop, slice_index}
@@ -5,7 +6,7 @@ use Rattle.byteorder.specs.Endian.{big_number}
 use Rattle.sn_base.specs.declared.link.Link.{Link}
 use Rattle.sn_base.specs.declared.link.Link.TheVariants.{Ethernet, RawIp, Cooked, Cooked2}
 
--- the number in so many bytes from a place on
+-- the number in this many bytes from a place on
 unfoldable pub number_at : ℕ → List ℕ → ℕ → ℕ
 number_at count bytes place = big_number count (drop place bytes)
 
@@ -18,7 +19,7 @@ unfoldable pub has_tag : List ℕ → ℕ → Bool
 has_tag bytes place =
     has_bytes bytes (place + 6) && ((number_at 2 bytes place == 0x8100) || (number_at 2 bytes place == 0x88a8))
 
--- how many tags there are: at most two, right behind the addresses of Ethernet
+-- how many tags there are: at most two, right after the addresses of Ethernet
 unfoldable pub tags : Link → List ℕ → ℕ
 tags Ethernet bytes = if has_tag bytes 12 then (if has_tag bytes 16 then 2 else 1) else 0
 tags RawIp bytes = 0
@@ -43,8 +44,8 @@ has_ethernet Cooked2 bytes = false
 abbrev pub type_of_version : ℕ → ℕ
 type_of_version version = if version == 4 then 0x0800 else (if version == 6 then 0x86dd else 0)
 
--- the type of what the link header carries: the last type read, behind the tags; without a link header, as the first
--- half byte tells; 0 where it wasn't captured
+-- the type of what the link header carries: the last type read, after the tags; without a link header, as the first
+-- half byte says; 0 where it wasn't captured
 unfoldable pub ether_type : Link → List ℕ → ℕ
 ether_type Ethernet bytes = if has_bytes bytes 14 then number_at 2 bytes (12 + 4 * tags Ethernet bytes) else 0
 ether_type RawIp bytes = if has_bytes bytes 1 then type_of_version (slice_index bytes 0 / 16) else 0
@@ -59,7 +60,7 @@ ip_place link bytes = link_length link + 4 * tags link bytes
 abbrev pub ip_words : List ℕ → ℕ → ℕ
 ip_words bytes place = slice_index bytes place % 16
 
--- behind a type, a header of IPv4 stands at a place: 20 bytes, version 4, at least 5 words, and all its words
+-- after a type, a header of IPv4 stands at a place: 20 bytes, version 4, at least 5 words, and all its words
 unfoldable pub is_ip : ℕ → List ℕ → ℕ → Bool
 is_ip type bytes place =
     (type == 0x0800) && has_bytes bytes (place + 20) && (slice_index bytes place / 16 == 4) && nat_le 5 (ip_words bytes place)
@@ -68,7 +69,7 @@ is_ip type bytes place =
 abbrev pub has_ip : Link → List ℕ → Bool
 has_ip link bytes = is_ip (ether_type link bytes) bytes (ip_place link bytes)
 
--- where the header of the transport stands, right behind a header of IPv4 at a place
+-- where the header of the transport stands, right after a header of IPv4 at a place
 unfoldable pub behind_ip : List ℕ → ℕ → ℕ
 behind_ip bytes place = place + 4 * ip_words bytes place
 
@@ -76,7 +77,7 @@ behind_ip bytes place = place + 4 * ip_words bytes place
 unfoldable pub is_first : List ℕ → ℕ → Bool
 is_first bytes place = number_at 2 bytes (place + 6) % 8192 == 0
 
--- so many bytes of a protocol stand right behind a header of IPv4 at a place
+-- this many bytes of a protocol stand right after a header of IPv4 at a place
 unfoldable pub carries : List ℕ → ℕ → ℕ → ℕ → Bool
 carries bytes place protocol count =
     is_first bytes place && (slice_index bytes (place + 9) == protocol) && has_bytes bytes (behind_ip bytes place + count)

@@ -1,4 +1,5 @@
--- What the walk over the headers tells, header by header.
+-- serves proofs
+-- What the walk over the headers finds, header by header.
 use Rattle.std.specs.Prelude.{◌≡◌, ℕ, ◌≤◌, ◌<◌, ◌+◌, ◌%◌, ◌^◌, ◌&&◌, ◌==◌, Bool, nat_le, nat_lt, List, length, slice_index}
 use Rattle.sn_base.specs.declared.link.Link.{Link}
 use Rattle.sn_fields.specs.declared.headers.LinkPart.{LinkPart}
@@ -21,7 +22,7 @@ pub record IsLinkPart (link : Link) (bytes : List ℕ) (part : LinkPart) : Type 
   pub vlan_fits : part.header.vlan < 2 ^ 12
   pub near : part.end ≤ 22
 
--- the header of IPv4 that stands at a place behind a type, if one does
+-- the header of IPv4 that stands at a place after a type, if one does
 pub record IsIpPart (type : ℕ) (bytes : List ℕ) (place : ℕ) (part : IpPart) : Type 0 where
   pub valid_is : part.header.valid ≡ is_ip type bytes place
   pub length_is : part.header.length ≡ where_present (is_ip type bytes place) (number_at 2 bytes (place + 2))
@@ -33,7 +34,7 @@ pub record IsIpPart (type : ℕ) (bytes : List ℕ) (place : ℕ) (part : IpPart
   pub end_is : part.end ≡ where_present (is_ip type bytes place) (behind_ip bytes place)
   pub within : part.end ≤ length bytes
 
--- so many bytes of a protocol stand right behind this header of IPv4
+-- this many bytes of a protocol stand right after this header of IPv4
 abbrev pub part_carries : IpPart → List ℕ → ℕ → ℕ → Bool
 part_carries ip bytes protocol count = ip.first && (ip.header.protocol == protocol) && nat_le (ip.end + count) (length bytes)
 

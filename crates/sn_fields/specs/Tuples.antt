@@ -1,3 +1,4 @@
+-- to be believed
 -- The tuple of a packet: each field by itself is the number of its bytes, or 0 where its header isn't present.
 use Rattle.std.specs.Prelude.{◌≡◌, ℕ, ◌+◌, ◌%◌, Bool, true, false, ◌==◌, nat_lt, refl, if◌then◌else◌, List, map, slice_index}
 use Rattle.sn_base.specs.declared.link.Link.{Link}

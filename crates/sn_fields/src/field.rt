@@ -12,7 +12,7 @@ pub enum Field {
     EthernetDestination,
     /// `eth.src`, 48 bits: the source address of Ethernet.
     EthernetSource,
-    /// `eth.type`, 16 bits: the type of what the link header carries, behind tags if there are any.
+    /// `eth.type`, 16 bits: the type of what the link header carries, after tags if there are any.
     EthernetType,
     /// `vlan.id`, 12 bits: the VLAN id of the first tag (IEEE 802.1Q).
     VlanId,

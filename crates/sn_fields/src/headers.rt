@@ -25,7 +25,7 @@ const TCP: u8 = 6;
 
 const UDP: u8 = 17;
 
-/// What the link header tells.
+/// What the link header says.
 #[derive(Clone, Copy)]
 pub struct LinkHeader {
     pub destination: u64,
@@ -161,7 +161,7 @@ fn ethernet(bytes: &[u8]) -> LinkPart
     }
 }
 
-/// The type at a place of a link header of so many bytes, 0 where it wasn't captured.
+/// The type at a place of a link header of this many bytes, 0 where it wasn't captured.
 fn type_at(bytes: &[u8], count: usize, place: usize) -> u16
     requires { place + 2 ≤ count }
     ensures { result ≡ where_present (nat_le count (length bytes.now)) (number_at 2 bytes.now place) }
@@ -199,7 +199,7 @@ pub fn link_part(link: Link, bytes: &[u8]) -> LinkPart
     }
 }
 
-/// Whether a header of IPv4 stands at a place behind a type (RFC 791, section 3.1).
+/// Whether a header of IPv4 stands at a place after a type (RFC 791, section 3.1).
 #[tactic(auto, unfolding(crate::specs::Headers::is_ip, crate::specs::Headers::behind_ip))]
 fn is_ip(kind: u16, bytes: &[u8], place: usize) -> bool
     requires { place ≤ 22 }
@@ -214,7 +214,7 @@ fn is_ip(kind: u16, bytes: &[u8], place: usize) -> bool
     bytes[place] / 16 == 4 && words >= 5 && bytes.len() >= place + 4 * words
 }
 
-/// The header of IPv4 that stands at a place behind a type, if one does.
+/// The header of IPv4 that stands at a place after a type, if one does.
 #[tactic(auto, unfolding(crate::specs::Headers::behind_ip, crate::specs::Headers::is_first))]
 pub fn ip_part(kind: u16, bytes: &[u8], place: usize) -> IpPart
     requires { place ≤ 22 }
@@ -259,7 +259,7 @@ fn no_ip() -> IpPart
     }
 }
 
-/// Whether so many bytes of a protocol stand right behind a header of IPv4.
+/// Whether this many bytes of a protocol stand right after a header of IPv4.
 fn carries(ip: &IpPart, bytes: &[u8], protocol: u8, count: usize) -> bool
     requires { ip.now.end ≤ length bytes.now }
     ensures { result ≡ part_carries ip.now bytes.now protocol count }

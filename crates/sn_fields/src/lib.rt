@@ -4,6 +4,4 @@
 pub mod field;
 mod headers;
 mod numbers;
-#[cfg(test)]
-mod tests;
 pub mod tuple;

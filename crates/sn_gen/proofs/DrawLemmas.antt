@@ -23,7 +23,7 @@ draws_before_more x i = after_more x (draws_before i) (draws_of i) ∙ ap (λ k.
 pub one_more : (number i : ℕ) → flat_map record_bytes (first_packets number (i + 1)) ≡ flat_map record_bytes (first_packets number i) ++ record_bytes (packet_of number i)
 one_more number i = ap (flat_map record_bytes) (map-range_with_len_more (packet_of number) 0 i i (omega arith)) ∙ flat_map-append record_bytes (first_packets number i) (packet_of number i ∷ [])
 
--- the records of one packet more, behind those of the packets before it
+-- the records of one packet more, after those of the packets before it
 pub records_more : (number i x : ℕ) (packet : Packet) (start before after : List ℕ) →
     before ≡ start ++ flat_map record_bytes (first_packets number i) →
     x ≡ number_after number (draws_before i) →

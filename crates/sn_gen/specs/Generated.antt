@@ -1,3 +1,4 @@
+-- to be believed
 -- The generated capture of a number: its packets, and the bytes of its file.
 use Rattle.std.specs.Prelude.{ℕ, zero, suc, ◌+◌, ◌*◌, ◌/◌, ◌%◌, ◌^◌, List, [], ◌∷◌, ◌++◌, map, ◌==◌, if◌then◌else◌}
 use Rattle.std.specs.List.{flat_map, range_with_len}
@@ -11,7 +12,7 @@ use Rattle.sn_gen.specs.declared.segment.Segment.{Segment}
 abbrev pub next_number : ℕ → ℕ
 next_number x = (x * 6364136223846793005 + 1442695040888963407) % 2 ^ 64
 
--- x after so many draws
+-- x after this many draws
 abbrev pub number_after : ℕ → ℕ → ℕ
 number_after x zero = x
 number_after x (suc draws) = next_number (number_after x draws)
@@ -35,11 +36,11 @@ draws_before (suc i) = draws_before i + draws_of i
 abbrev pub address : ℕ → ℕ → ℕ → ℕ → ℕ
 address a b c d = from_be_bytes w32 (a ∷ b ∷ c ∷ d ∷ [])
 
--- connection c of many sources to 10.1.2.3: its SYN, with 20 bytes behind the headers
+-- connection c of many sources to 10.1.2.3: its SYN, with 20 bytes after the headers
 abbrev pub opening : ℕ → Segment
 opening c = record { source = address 172 16 (c / 256) (c % 256); destination = address 10 1 2 3; source_port = 1024 + c; destination_port = 80; flags = 2; length = 60 }
 
--- connection c of four sources to 10.9.8.7: an ACK, with nothing behind the headers
+-- connection c of four sources to 10.9.8.7: an ACK, with nothing after the headers
 abbrev pub idling : ℕ → Segment
 idling c = record { source = address 192 168 0 (c % 4 + 1); destination = address 10 9 8 7; source_port = 2048 + c; destination_port = 80; flags = 16; length = 40 }
 
@@ -64,7 +65,7 @@ packet_at x i = record { second = 1 + i / 5000; microsecond = i % 5000 * 200; se
 abbrev pub packet_of : ℕ → ℕ → Packet
 packet_of number i = packet_at (number_after number (draws_before i)) i
 
--- the first packets of the capture of a number, so many
+-- the first n packets of the capture of a number
 abbrev pub first_packets : ℕ → ℕ → List Packet
 first_packets number count = map (packet_of number) (range_with_len 0 count)
 

@@ -1,3 +1,4 @@
+-- to be believed
 -- The texts of a whole job over generated captures.
 use Rattle.std.specs.Prelude.{ℕ, List, ◌++◌, codes}
 

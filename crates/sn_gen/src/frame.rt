@@ -78,35 +78,3 @@ pub fn push_record(file: &mut Vec<u8>, packet: &Packet) -> Result<(), Memory>
     push_head(file, packet)?;
     push_frame(file, &packet.segment)
 }
-
-#[cfg(test)]
-mod tests {
-    use super::*;
-    use std::test::Fail;
-
-    #[test]
-    fn writes_the_bytes_of_a_frame(rt: HostRuntime) -> Result<(), Fail> {
-        let segment = Segment {
-            source: 0x0a000001,
-            destination: 0x0a000009,
-            source_port: 1024,
-            destination_port: 80,
-            flags: 2,
-            length: 40,
-        };
-        let packet = Packet {
-            second: 1,
-            microsecond: 0,
-            segment,
-        };
-        let record: [u8; 70] = [
-            1, 0, 0, 0, 0, 0, 0, 0, 54, 0, 0, 0, 54, 0, 0, 0, 2, 0, 0, 0, 0, 2, 2, 0, 0, 0, 0, 1,
-            8, 0, 69, 0, 0, 40, 0, 0, 0, 0, 64, 6, 0, 0, 10, 0, 0, 1, 10, 0, 0, 9, 4, 0, 0, 80, 0,
-            0, 0, 0, 0, 0, 0, 0, 80, 2, 0, 0, 0, 0, 0, 0,
-        ];
-        let mut file = Vec::new(rt.alloc());
-        assert_eq!(rt; push_record(&mut file, &packet), Ok(()));
-        assert_eq!(rt; file.as_slice(), record.as_slice());
-        Ok(())
-    }
-}

@@ -3,7 +3,7 @@
 
 pub mod capture;
 pub mod draws;
-mod frame;
+pub mod frame;
 pub mod job;
-mod packet;
-mod segment;
+pub mod packet;
+pub mod segment;

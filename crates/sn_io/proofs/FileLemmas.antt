@@ -65,7 +65,7 @@ pub none_of : {X : Type 0} (o : Option X) → is_some o ≡ false → o ≡ None
 none_of None e = refl
 none_of (Some x) e = cc
 
--- what the answers tell, of a file that may be known
+-- what the answers say, of a file that may be known
 missing_of : (refused : Bool) (o : Option (List ℕ)) (at room : ℕ) → (answer_of refused o at room ≡ Err Missing) ↔ (is_some o ≡ false)
 missing_of refused None at room = (λ _. refl, λ _. refl)
 missing_of true (Some file) at room = (λ e. cc, λ e. cc)

@@ -50,7 +50,7 @@ absent name files e = none_of _ (sym (knows_find named_bytes name files) ∙ e)
 absent_count : (name : List ℕ) (files : List FileState) → list_any (has_name name) files ≡ false → find (slice_cmp nat_cmp) name (known_of files) ≡ None
 absent_count name files e = none_of _ (sym (knows_find counted_name name files) ∙ e)
 
--- a file that is put is what its name has
+-- a file that is added is what its name has
 pub put_held : (name bytes : List ℕ) (files : List FileState) → held_by (files_put name bytes files) ≡ insert (held_by files) name bytes
 put_held name bytes files =
     let total = nat_list_cmp_total in

@@ -10,12 +10,12 @@ use Rattle.sn_io.specs.Inputs.{told_file}
 pub rest_is : (piece : List ℕ) (done : ℕ) → take (length piece - done) (drop done piece) ≡ drop done piece
 rest_is piece done = take_all (length piece - done) (drop done piece) (omega (arith, length-drop done piece))
 
--- a front of the rest goes out behind the front that went out
+-- a front of the rest goes out after the front that went out
 pub told_more : (told : Option (List ℕ)) (piece : List ℕ) (done more : ℕ) → append_known (append_known told (take done piece)) (take more (take (length piece - done) (drop done piece))) ≡ append_known told (take (done + more) piece)
 told_more None piece done more = refl
 told_more (Some out) piece done more = ap (λ ys. Some ys) (append_assoc out (take done piece) (take more (take (length piece - done) (drop done piece))) ∙ ap (λ ys. out ++ ys) (ap (λ ys. take done piece ++ take more ys) (rest_is piece done) ∙ sym (take-add done more piece)))
 
--- a file that is told has a known name
+-- a file with known contents has a known name
 pub told_known : (told now : Option (ByName (List ℕ))) (counts : ByName ℕ) (name : List ℕ) (P : List ℕ → Type 0) → now ≡ told → ((files : ByName (List ℕ)) (other : List ℕ) → now ≡ Some files → is_some (get files other) ≡ is_some (get counts other)) → IsSomeAnd (told_file told name) P → get counts name ≡ None → ⊥
 told_known None now counts name P same law here unknown = here
 told_known (Some files) now counts name P same law here unknown =
@@ -26,12 +26,12 @@ told_known (Some files) now counts name P same law here unknown =
       | Some file ↦ λ is _. let held : is_some (get files name) ≡ is_some (Some file) = ap is_some is in cc
     ] refl here
 
--- what holds of a value holds of the told one that it equals
+-- what holds of a value holds of one that equals it
 pub told_is : {X : Type 0} (P : X → Type 0) (told : Option X) (x y : X) → y ≡ x → IfSome told (λ z. x ≡ z) → P y → IfSome told P
 told_is P None x y e same h = tt
 told_is P (Some z) x y e same h = subst P (e ∙ same) h
 
--- two pieces, one behind the other
+-- two pieces, one after the other
 pub append_known-append : (told : Option (List ℕ)) (first second : List ℕ) → append_known (append_known told first) second ≡ append_known told (first ++ second)
 append_known-append None first second = refl
 append_known-append (Some out) first second = ap (λ ys. Some ys) (append_assoc out first second)

@@ -1,3 +1,4 @@
+-- serves proofs
 use Rattle.std.specs.Prelude.{List, map}
 use Rattle.std.specs.String.{string_bytes}
 use Rattle.sn_io.specs.declared.known.Entry.{Entry}

@@ -1,12 +1,13 @@
+-- to be believed
 use Rattle.std.specs.Prelude.{◌≡◌, ℕ, ◌≤◌, ◌↔◌, ◌⊎◌, List, ◌++◌, Option, length, take, drop, option_and_then}
 use Rattle.std.specs.FinMap.{get}
 use Rattle.sn_io.specs.Counts.{ByName}
 
--- the bytes of a file, where contents are told and the file is known
+-- the bytes of a file, where contents are known and the file is known
 abbrev pub told_file : Option (ByName (List ℕ)) → List ℕ → Option (List ℕ)
 told_file told name = option_and_then (λ files. get files name) told
 
--- a read put so many bytes of the file, from a place on, into the front of a buffer and left the rest of it;
+-- a read put this many bytes of the file, from a place on, into the front of a buffer and left the rest of it;
 -- it put none exactly at the end of the file or where the buffer is empty
 pub record Reads (file : List ℕ) (at count : ℕ) (old new : List ℕ) : Type 0 where
   pub bytes : new ≡ take count (drop at file) ++ drop count old

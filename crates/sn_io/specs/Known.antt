@@ -1,3 +1,4 @@
+-- serves proofs
 use Rattle.std.specs.Prelude.{◌≡◌, ℕ, ◌+◌, ◌-◌, ◌^◌, List, [], ◌∷◌, Bool, nat_eq, nat_lt, if◌then◌else◌, None, Some}
 use Rattle.std.specs.Cmp.Lexicographic.{pointwise}
 use Rattle.std.specs.FinMap.{from_entries}
@@ -24,6 +25,6 @@ is_named name entry = pointwise nat_eq entry.0 name
 abbrev pub raised : List ℕ → Known → Known
 raised name = with_first (is_named name) (λ entry. (entry.0, counted entry.1))
 
--- where nothing is told, anything is so
+-- where nothing is known, anything is so
 pub none_told : {A B : Type 0} {x : A} → None ≡ Some x → B
 none_told e = absurd (cc)

@@ -1,3 +1,4 @@
+-- serves proofs
 use Rattle.std.specs.Prelude.{◌≡◌, ℕ, ◌-◌, List, [], ◌∷◌, ◌++◌, length, min, Bool, nat_eq, map, Option, None, Some, Result, Ok, Err, is_some, cond, if◌then◌else◌, true, false}
 use Rattle.std.proofs.Common.{refl, ap, sym, ◌∙◌}
 use Rattle.std.specs.Ordering.{nat_cmp, eq_by_cmp}
@@ -52,7 +53,7 @@ with_bytes name bytes = with_first (has_name name) (λ f. record f { bytes = byt
 abbrev pub with_fault : List ℕ → List FileState → List FileState
 with_fault name = with_first (has_name name) (λ f. record f { count = counted f.count })
 
--- the files after one is put: a name that is known has the new bytes and keeps its count, and a new one comes last
+-- the files after one is added: a name that is known gets the new bytes and keeps its count, and a new one comes last
 abbrev pub files_put : List ℕ → List ℕ → List FileState → List FileState
 files_put name bytes files =
     if list_any (has_name name) files then with_bytes name bytes files else files ++ record { name = name; count = 0; bytes = bytes } ∷ []

@@ -1,3 +1,4 @@
+-- serves proofs
 use Rattle.std.specs.Prelude.{ℕ, ◌-◌, List, ◌++◌, length, take, Bool, ◌||◌, ◌&&◌, nat_eq, nat_lt, nat_le, min, if◌then◌else◌, Result, Ok, Err}
 use Rattle.std.specs.List.{list_any}
 use Rattle.sn_io.specs.declared.sink.Failed.{Failed}

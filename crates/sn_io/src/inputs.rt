@@ -4,8 +4,8 @@ ghost use Rattle.std.specs.FinMap.{get};
 ghost use Rattle.sn_io.specs.Counts.{ByName, OnlyRises, RoseAt};
 ghost use Rattle.sn_io.specs.Inputs.{Reads, told_file};
 
+use sn_base::seed::Seed;
 use sn_base::seq::Seq;
-use sn_seed::Seed;
 use std::alloc::Global;
 
 /// Why a read gave no bytes.
@@ -17,9 +17,9 @@ pub enum InputFault {
     Missing,
 }
 
-/// Files that are read by name. Reading changes nothing that is told or known, and no count falls.
+/// Files that are read by name. Reading changes no contents and no known name, and no count falls.
 pub trait Inputs {
-    /// What each file holds, where that is told.
+    /// What each file holds, where that is known.
     ghost told: { Self → Option (ByName (List ℕ)) };
 
     /// The known names, each with the number of its faults.
@@ -41,7 +41,7 @@ pub trait Inputs {
         Seed::new(0)
     }
 
-    /// Where contents are told, the names held are the names known.
+    /// Where contents are known, the names held are the names known.
     ghost same_names: { (s : Self) (files : ByName (List ℕ)) (name : List ℕ) → told s ≡ Some files → is_some (get files name) ≡ is_some (get (faults s) name) };
 }
 
@@ -57,12 +57,12 @@ pub enum ReadError {
     ReadFault,
     /// The file has more bytes than the limit.
     TooLarge,
-    /// Want of memory.
+    /// Out of memory.
     Memory,
 }
 
 /// Reads a whole file of at most `limit` bytes, piece by piece. `Missing` comes exactly where the name isn't known,
-/// `ReadFault` only where its count rose, and `TooLarge` exactly where the file has a byte behind the limit.
+/// `ReadFault` only where its count rose, and `TooLarge` exactly where the file has a byte after the limit.
 pub fn read_whole<I: Inputs>(
     alloc: Global,
     files: &mut I,

@@ -8,5 +8,3 @@ pub mod mem_sink;
 mod opened;
 pub mod real;
 pub mod sink;
-#[cfg(test)]
-mod tests;

@@ -136,7 +136,7 @@ fn add_file(files: &mut Vec<MemFile>, name: &str, bytes: Seq<u8>) -> Result<(), 
     }
 }
 
-/// Puts a file among them. An `Err` changes nothing.
+/// Adds a file to them. An `Err` changes nothing.
 #[tactic(auto, using(crate::proofs::PutLemmas::put_known, crate::proofs::PutLemmas::put_new))]
 fn put_file(files: &mut Vec<MemFile>, name: &str, bytes: Seq<u8>) -> Result<(), Memory>
     ensures ok { OnOk result (files.new.items ≡ files_put name.now bytes files.old.items) }
@@ -172,7 +172,7 @@ impl MemInputs {
         }
     }
 
-    /// Puts a file. A name that is known has the new bytes and keeps its count. An `Err` changes nothing.
+    /// Adds a file. A name that is known gets the new bytes and keeps its count. An `Err` changes nothing.
     #[tactic(auto, using(crate::proofs::PutLemmas::put_held, crate::proofs::PutLemmas::put_counts))]
     pub fn put(&mut self, name: &str, bytes: Seq<u8>) -> Result<(), Memory>
         ensures ok { OnOk result (self.new ≡ record self.old { files = files_put name.now bytes self.old.files }) }

@@ -30,7 +30,7 @@ impl Model for MemSink {
 }
 
 impl MemSink {
-    /// A sink with room for so many bytes. Their memory is taken here, and a write takes none.
+    /// A sink with room for this many bytes. Their memory is taken here, and a write takes none.
     pub fn new(alloc: Global, room: u64) -> Result<MemSink, Memory>
         ensures { IfOk result (λ sink. sink ≡ record { bytes = []; room = room; refused = []; writes = 0; faults = 0 }) }
     {

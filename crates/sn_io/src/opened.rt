@@ -20,7 +20,7 @@ impl Opened {
         Ok(Opened { file, place: 0 })
     }
 
-    /// Reads bytes from the place `at` on. The file seeks only where that isn't the place behind the last read, so
+    /// Reads bytes from the place `at` on. The file seeks only where that isn't the place after the last read, so
     /// what can't seek, as a pipe, is read from front to back. The bytes come through a buffer of its own, since
     /// nobody says what a failed read leaves in the bytes that it was given.
     pub fn read_at(&mut self, at: u64, into: &mut [u8]) -> io::Result<usize>

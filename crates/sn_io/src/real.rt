@@ -10,7 +10,7 @@ use crate::inputs::{InputFault, Inputs};
 use crate::known::{Entry, one_more, place_of, raise, read_place};
 use crate::sink::{Failed, Sink};
 use sn_base::memory::Memory;
-use sn_seed::Seed;
+use sn_base::seed::Seed;
 use std::alloc::Global;
 use std::io;
 use std::io::{Stderr, Stdout, Write};

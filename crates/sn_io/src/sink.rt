@@ -13,7 +13,7 @@ pub struct WriteFault;
 
 /// Where bytes go out. Neither count ever falls.
 pub trait Sink {
-    /// The bytes that went out, where they are told.
+    /// The bytes that went out, where they are known.
     ghost written: { Self → Option (List ℕ) };
 
     /// The number of faults.

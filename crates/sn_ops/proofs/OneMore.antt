@@ -76,7 +76,7 @@ has_one_more op s s' rows row e g h =
     subst (λ (ks : List Row). HasSeen op ks s'.groups.entries (rows ++ row ∷ [])) (sym e)
     (subst (λ (es : List (Row × ℕ)). HasSeen op (rows_after op s.rows.keys row) es (rows ++ row ∷ [])) (sym g) (seen_push op s.rows.keys s.groups.entries rows row h))
 
--- a row that the first operator lets on
+-- a row that the first operator passes on
 pub stands_on : (level : ℕ) (op : TOp) (ops : List TOp) (s s' : Seen) (seen seen' : List Seen) (rows : List Row) (row next : Row) (out out' : List Row)
     → s'.rows.keys ≡ rows_after op s.rows.keys row → s'.groups.entries ≡ groups_after op s.groups.entries row → flows level op s.rows.keys row ≡ Some next
     → ((rs : List Row) → Stands level ops seen rs out → Stands level ops seen' (rs ++ next ∷ []) out')

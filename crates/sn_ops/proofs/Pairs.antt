@@ -7,7 +7,7 @@ use Rattle.sn_base.specs.Groups.{Row}
 use Rattle.sn_base.specs.Operators.{join}
 use Rattle.sn_ops.proofs.Steps.{flat_step}
 
--- so many pairs, one more, and the others are all pairs of a left row
+-- these pairs, one more, and the others are all pairs of a left row
 pub one_pair : (f : Row → Row) (found : List Row) (i : ℕ) (right : Row) → i < length found → right ≡ get_or found i right → (map f (take i found) ++ f right ∷ []) ++ map f (drop (i + 1) found) ≡ map f found
 one_pair f found i right within at =
     let D : List Row = map f (drop (i + 1) found) in
@@ -16,7 +16,7 @@ one_pair f found i right within at =
     ∙ sym (map-append f (take (i + 1) found) (drop (i + 1) found))
     ∙ ap (map f) (take-append-drop (i + 1) found)
 
--- the pairs of a left row stand behind those of the rows before it, and before those of the others
+-- the pairs of a left row stand after those of the rows before it, and before those of the others
 pub pairs_whole : (meets : Row → Row → Bool) (both : Row → Row → Row) (left right : List Row) (i : ℕ) (row : Row) (front behind : List Row) → i < length left → row ≡ get_or left i row
     → front ++ behind ≡ map (both row) (filter (meets row) right) → (join meets both (take i left) right ++ front) ++ (behind ++ join meets both (drop (i + 1) left) right) ≡ join meets both left right
 pairs_whole meets both left right i row front behind within at is =

@@ -5,7 +5,7 @@ use Rattle.sn_types.specs.declared.typed_op.TOp.{TOp}
 use Rattle.sn_ops.specs.declared.seen.Seen.{Seen}
 use Rattle.sn_ops.specs.Standing.{Stands}
 
--- a step of the first operator and of those behind it is one of all
+-- a step of the first operator and of those after it is one of all
 pub from_first : (level : ℕ) (ops behind : List TOp) (op : TOp) (seen later later' : List Seen) (s s' : Seen) (rows : List Row) (row : Row) (out out' : List Row) → ops ≡ op ∷ behind → seen ≡ s ∷ later
     → (Stands level (op ∷ behind) (s ∷ later) rows out → Stands level (op ∷ behind) (s' ∷ later') (rows ++ row ∷ []) out')
     → Stands level ops seen rows out → Stands level ops (s' ∷ later') (rows ++ row ∷ []) out'

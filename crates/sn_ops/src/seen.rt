@@ -9,7 +9,7 @@ ghost use Rattle.sn_ops.specs.Standing.{Stands, groups_after, rows_after};
 
 use sn_base::memory::Memory;
 use sn_base::row::Row;
-use sn_seed::Seed;
+use sn_base::seed::Seed;
 use sn_table::rows::Rows;
 use sn_table::table::Table;
 use sn_types::evaluate::{map_into, passes};
@@ -41,7 +41,7 @@ fn same_if(goes: bool) -> Passage
     if goes { Passage::Same } else { Passage::Stays }
 }
 
-/// Puts a row's value to its key's fold.
+/// Adds a row's value to its key's fold.
 fn add_row(r: &TReduce, groups: &mut Table, row: &Row) -> Result<(), Memory>
     requires { CanMeet (TOp.Reduce r.now) groups.old.entries row.now }
     ensures { OnOk result (groups.new.entries ≡ groups_after (TOp.Reduce r.now) groups.old.entries row.now) }

@@ -13,7 +13,7 @@ use sn_types::packet::PacketRow;
 use sn_types::typed_op::TOp;
 
 /// Takes a packet row through operators as `take` takes a row; `row` changes on the way. None is made of it for the filters
-/// at their front, nor for a map behind these.
+/// at their front, nor for a map after these.
 pub(crate) fn start(
     ops: &[TOp],
     seen: &mut [Seen],

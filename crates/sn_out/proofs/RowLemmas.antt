@@ -19,7 +19,7 @@ as_many_fields [] (x ∷ xs) h = absurd h
 as_many_fields (c ∷ cs) [] h = absurd h
 as_many_fields (c ∷ cs) (x ∷ xs) h = ap suc (as_many_fields cs xs h.1)
 
--- behind the fields of a row's numbers the rest of eight is empty
+-- after the fields of a row's numbers the rest of eight is empty
 eight_of : (fields longer all : List (List ℕ)) (columns : List Column) (row numbers : List ℕ) →
     IsOf columns row → numbers ≡ row → longer ≡ fields ++ number_fields columns numbers →
     all ≡ longer ++ replicate (8 - length numbers) [] → all ≡ fields ++ eight_fields (number_fields columns row)

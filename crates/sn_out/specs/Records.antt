@@ -1,3 +1,4 @@
+-- to be believed
 -- Rows as comma-separated values: a record for each row, all of as many fields.
 use Rattle.std.specs.Prelude.{ℕ, ◌-◌, List, [], ◌∷◌, ◌++◌, length, replicate, codes}
 use Rattle.std.specs.List.{flat_map}
@@ -16,7 +17,7 @@ abbrev pub number_fields : List Column → Row → List (List ℕ)
 number_fields (column ∷ columns) (number ∷ numbers) = number_text column number ∷ number_fields columns numbers
 number_fields _ _ = []
 
--- eight fields: these, and empty ones behind them
+-- eight fields: these, and empty ones after them
 abbrev pub eight_fields : List (List ℕ) → List (List ℕ)
 eight_fields fields = fields ++ replicate (8 - length fields) []
 
@@ -24,7 +25,7 @@ eight_fields fields = fields ++ replicate (8 - length fields) []
 abbrev pub record_fields : ℕ → TypedQuery → ℕ → Row → List (List ℕ)
 record_fields window query level row = decimal window ∷ query.name ∷ decimal level ∷ [] ++ eight_fields (number_fields (final_columns query) row)
 
--- the record of a row: its fields with commas between them, and LF behind them
+-- the record of a row: its fields with commas between them, and LF after them
 abbrev pub record_text : ℕ → TypedQuery → ℕ → Row → List ℕ
 record_text window query level row = row_text default_writer (record_fields window query level row)
 

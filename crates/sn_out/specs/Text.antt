@@ -1,3 +1,4 @@
+-- to be believed
 -- The text of printed answers.
 use Rattle.std.specs.Prelude.{ℕ, ◌/◌, ◌%◌, ◌^◌, ◌<◌, List, [], ◌∷◌, ◌++◌, length, Bool, Option, None, Some, codes, if◌then◌else◌}
 use Rattle.std.specs.List.{flat_map, AllByRecursion}
@@ -52,7 +53,7 @@ number_text column number = if column.address then dotted number else decimal nu
 abbrev pub spaced_text : Column → ℕ → List ℕ
 spaced_text column number = 32 ∷ number_text column number
 
--- each number of a row behind one space
+-- each number of a row after one space
 abbrev pub spaced_texts : List Column → Row → List ℕ
 spaced_texts (column ∷ columns) (number ∷ numbers) = spaced_text column number ++ spaced_texts columns numbers
 spaced_texts _ _ = []
@@ -96,7 +97,7 @@ answer_text query level rows = query_line query.name level (length rows) ++ flat
 abbrev pub part_text : List TypedQuery → Part → List ℕ
 part_text queries part = answer_text (query_at queries part.query) part.level part.rows
 
--- the emitted number is told where it is counted
+-- the emitted number is printed where it is counted
 abbrev pub counted : Bool → ℕ → Option ℕ
 counted counts emitted = if counts then Some emitted else None
 
@@ -104,7 +105,7 @@ counted counts emitted = if counts then Some emitted else None
 abbrev pub block_text : List TypedQuery → Answers → Bool → List ℕ
 block_text queries answers counts = window_line answers.window (counted counts answers.emitted) ++ flat_map (part_text queries) answers.parts
 
--- ---- the lines behind the blocks
+-- ---- the lines after the blocks
 
 -- `total windows K`, or `total windows K emitted T`
 abbrev pub total_line : ℕ → Option ℕ → List ℕ

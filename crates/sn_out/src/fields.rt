@@ -110,7 +110,7 @@ pub fn with_values(
     Ok(longer)
 }
 
-/// These fields and so many empty ones.
+/// These fields and this many empty ones.
 pub fn with_empty_fields(fields: Fields, count: usize) -> Result<Fields, Memory>
     ensures { IfOk result (λ longer. longer ≡ fields ++ replicate count []) }
 {

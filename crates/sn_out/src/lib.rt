@@ -7,5 +7,3 @@ mod fields;
 pub mod lines;
 pub mod pieces;
 pub mod rows;
-#[cfg(test)]
-mod tests;

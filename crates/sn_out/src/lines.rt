@@ -1,4 +1,4 @@
-//! The lines behind the blocks.
+//! The lines after the blocks.
 ghost use Rattle.std.specs.Prelude.{◌≡◌, ◌++◌, OnOk, IfOk};
 ghost use Rattle.sn_out.specs.Text.{total_words, cut_words, bad_words, total_line, damage_line};
 
@@ -42,7 +42,7 @@ pub fn total(alloc: Global, windows: u64, emitted: Option<u64>) -> Result<Seq<u8
     Ok(Seq::from_vec(text))
 }
 
-/// The line that tells at which byte a damaged capture's records end. Nothing for a capture without damage.
+/// The line that says at which byte a damaged capture's records end. Nothing for a capture without damage.
 pub fn damage(alloc: Global, ending: Ending) -> Result<Seq<u8>, Memory>
     ensures { IfOk result (λ text. text ≡ damage_line ending) }
 {
@@ -61,36 +61,4 @@ pub fn damage(alloc: Global, ending: Ending) -> Result<Seq<u8>, Memory>
     push_number(&mut text, at)?;
     push_bytes(&mut text, b"\n")?;
     Ok(Seq::from_vec(text))
-}
-
-#[cfg(test)]
-mod tests {
-    use super::*;
-    use std::test::Fail;
-
-    #[test]
-    fn prints_the_last_lines(rt: HostRuntime) -> Result<(), Fail> {
-        let plain = total(rt.alloc(), 0, None);
-        assert!(rt; plain.is_ok_and(|text| text.as_slice() == b"total windows 0\n".as_slice()));
-        let counted = total(rt.alloc(), 2, Some(6));
-        assert!(rt;
-            counted.is_ok_and(|text| text.as_slice() == b"total windows 2 emitted 6\n".as_slice())
-        );
-        Ok(())
-    }
-
-    #[test]
-    fn prints_damage(rt: HostRuntime) -> Result<(), Fail> {
-        let cut = damage(rt.alloc(), Ending::Cut(164));
-        assert!(rt;
-            cut.is_ok_and(|text| text.as_slice() == b"capture cut at byte 164\n".as_slice())
-        );
-        let bad = damage(rt.alloc(), Ending::Bad(164));
-        assert!(rt;
-            bad.is_ok_and(|text| text.as_slice() == b"capture bad at byte 164\n".as_slice())
-        );
-        let clean = damage(rt.alloc(), Ending::Clean);
-        assert!(rt; clean.is_ok_and(|text| text.as_slice().is_empty()));
-        Ok(())
-    }
 }

@@ -51,7 +51,7 @@ first_whole has (too_large n a b) = absurd (omega arith)
 first_whole has (short_packet n a b c) = absurd (omega arith)
 first_whole has (whole n ps e a r) = record { others = ps; is = refl; are = r }
 
--- the others are left behind a packet
+-- the others are left after a packet
 left_behind : (file : List ℕ) (before now : ReaderState) (answer : Result Next ReadError) (seen : Seen) (others : List Packet) (ending : Ending) (l : Last) → TellsPacket file before answer seen now
     → Records before.header (within file) (before.offset + 16 + captured before.header (within file) before.offset) others ending → l ≡ last_of file ending → Left file now others l
 left_behind file before now answer seen others ending l t are is =

@@ -23,7 +23,7 @@ moved_more old now start i room stands moved rest =
     ∙ ap (λ (x : ℕ). take i (drop start old) ++ x ∷ []) same
     ∙ sym (take_more (drop start old) i 0 stands)
 
--- and the bytes behind it stay
+-- and the bytes after it stay
 pub rest_more : (old now : List ℕ) (i y : ℕ) → drop i now ≡ drop i old → drop (i + 1) (set now i y) ≡ drop (i + 1) old
 rest_more old now i y rest =
     drop-set-lt (i + 1) now i y (omega arith) ∙ sym (drop-drop 1 i now) ∙ ap (drop 1) rest ∙ drop-drop 1 i old

@@ -37,7 +37,7 @@ large_is file front n large =
       | false ↦ sym (ap (λ (b : Bool). cond b last.TooLarge (last.Ended (Cut n))) (below (2 ^ 40) (length file) large))
     ]
 
--- bytes stand behind the most that are read
+-- bytes stand after the most that are read
 pub short_large : (file : List ℕ) (n need count : ℕ) → count ≤ need → count ≤ length file - n → n ≤ 2 ^ 40 → 2 ^ 40 < n + count → IsShort file n need last.TooLarge
 short_large file n need count asked stands most past = record {
   few = omega (arith, length_within file);

@@ -1,4 +1,4 @@
--- What a call does to a file whose contents are told.
+-- What a call does to a file whose contents are known.
 use Rattle.std.proofs.Common.{◌≡◌, ◌≢◌, ℕ, ◌+◌, ◌-◌, ◌<◌, ◌≤◌, ◌^◌, List, ◌++◌, Option, None, Some, Result, Ok, Err, IfSome, is_some, true, length, take, drop, min, inl, inr, refl, ap, sym, subst, ◌∙◌, arith, length-take}
 use Rattle.std.proofs.lemmas.List.{take-take}
 use Rattle.std.specs.FinMap.{get}
@@ -129,7 +129,7 @@ told_packet (Some file) now header buffer held more n cap need seen same is lawf
     let stands : n + need ≤ length (within file) = at_told (λ f. HoldsAt f n held → n + need ≤ length (within f)) now file same whole held_is in
     packet_read header file more n seen (at_told (λ f. HoldsAt f n held → HoldsAt f n more) now file same goes held_is) (omega arith) (omega arith) (omega arith) packet
 
--- what holds of each file holds of a told one
+-- what holds of each file holds of one with known contents
 if_all : (told : Option (List ℕ)) (P : List ℕ → Type 0) → ((file : List ℕ) → P file) → IfSome told P
 if_all None P all = tt
 if_all (Some file) P all = all file
@@ -158,7 +158,7 @@ told_end_step (Some file) seen_as before now l answer seen view is goes header o
     inr (inl (record { goes_on = goes; ending = found.ending; none = found.none; answered = is ∙ ap answer_of found.ends; same_header = header; same_offset = offset; noted = noted ∙ ap (λ (x : Last). Some x) found.ends })) in
     subst (λ (r : ReaderState). IsStep file r answer seen now) view step
 
--- a name that isn't known has no told file
+-- a name that isn't known has no file
 told_missing : (files : Option (ByName (List ℕ))) (counts : ByName ℕ) (name : List ℕ) (P : List ℕ → Type 0) → ((held : ByName (List ℕ)) (other : List ℕ) → files ≡ Some held → is_some (get held other) ≡ is_some (get counts other))
     → get counts name ≡ None → IfSome (told_file files name) P
 told_missing None counts name P law unknown = tt
@@ -192,7 +192,7 @@ told_follows (Some file) seen_as before now held n view offset rest follows hold
 pub short_ends : (short : Option Last) (e : Last) (told : Option (List ℕ)) (buffer : List ℕ) (n need : ℕ) → short ≡ Some e → IfSome short (λ l. IfSome told (λ file. HoldsAt file n buffer → IsShort file n need l)) → IfSome told (λ file. HoldsAt file n buffer → IsShort file n need e)
 short_ends short e told buffer n need is ends = subst (λ (o : Option Last). IfSome o (λ l. IfSome told (λ file. HoldsAt file n buffer → IsShort file n need l))) is ends
 
--- told contents stay as they were
+-- known contents stay as they were
 pub told_still : (old new : Option (ByName (List ℕ))) (name : List ℕ) (P : List ℕ → Type 0) → new ≡ old → IfSome (told_file old name) P → IfSome (told_file new name) P
 told_still old new name P same given = subst (λ (t : Option (ByName (List ℕ))). IfSome (told_file t name) P) (sym same) given
 

@@ -1,3 +1,4 @@
+-- to be believed
 -- The file format of classic pcap, version 2.4: a header of 24 bytes, and after it records, each of a header of
 -- 16 bytes and the captured bytes of a packet.
 use Rattle.std.specs.Prelude.{◌≡◌, ℕ, ◌≤◌, ◌<◌, ◌+◌, ◌*◌, ◌%◌, Bool, true, false, ◌&&◌, ◌==◌, nat_lt, find, if◌then◌else◌, List, [], ◌∷◌, length, take, drop, Option, None, Some, Result, Ok, Err}
@@ -11,7 +12,7 @@ use Rattle.sn_pcap.specs.declared.packet.Packet.{Packet}
 use Rattle.sn_pcap.specs.declared.packet.Ending.{Ending}
 use Rattle.sn_pcap.specs.declared.packet.Ending.TheVariants.{Clean, Cut, Bad}
 
--- the number in so many bytes of a file from a place on, its highest byte first where big
+-- the number in this many bytes of a file from a place on, its highest byte first where big
 abbrev pub number_at : Bool → ℕ → List ℕ → ℕ → ℕ
 number_at big count file place = if big then big_number count (drop place file) else little_number count (drop place file)
 

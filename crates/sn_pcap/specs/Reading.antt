@@ -1,3 +1,4 @@
+-- serves proofs
 -- A capture that is read from front to back, one record after another.
 use Rattle.std.specs.Prelude.{◌≡◌, ℕ, ◌<◌, ◌≤◌, ◌+◌, ◌^◌, ◌⊎◌, true, nat_lt, min, if◌then◌else◌, List, [], ◌∷◌, length, take, drop, Option, None, Some, is_some, Result, Ok, Err}
 use Rattle.sn_io.specs.declared.inputs.InputFault.{InputFault}
@@ -26,7 +27,7 @@ last_of file (Bad n) = last.Ended (Bad n)
 last_of file Clean = if nat_lt (2 ^ 40) (length file) then last.TooLarge else last.Ended Clean
 last_of file (Cut n) = if nat_lt (2 ^ 40) (length file) then last.TooLarge else last.Ended (Cut n)
 
--- a packet as a reader tells it: time, length on the wire, captured length, and the first 128 captured bytes
+-- a packet as a reader gives it: time, length on the wire, captured length, and the first 128 captured bytes
 pub record IsSeen (file : List ℕ) (packet : Packet) (seen : Seen) : Type 0 where
   pub time : seen.time ≡ packet.time
   pub wire : seen.wire ≡ packet.wire
@@ -34,7 +35,7 @@ pub record IsSeen (file : List ℕ) (packet : Packet) (seen : Seen) : Type 0 whe
   pub len : seen.len ≡ min packet.cap 128
   pub front : take seen.len seen.front ≡ take seen.len (bytes_of file packet)
 
--- a reader: the capture's header, the offset behind the records that it gave, the bytes from there on that it holds,
+-- a reader: the capture's header, the offset after the records that it gave, the bytes from there on that it holds,
 -- and what it answered once no further record came
 pub record ReaderState : Type 0 where
   pub header : Header
@@ -46,7 +47,7 @@ pub record ReaderState : Type 0 where
 abbrev pub made : Header → ReaderState
 made header = record { header = header; offset = 24; held = []; last = None }
 
--- so many bytes of the file from an offset on
+-- this many bytes of the file from an offset on
 abbrev pub HoldsAt : List ℕ → ℕ → List ℕ → Type 0
 HoldsAt file offset held = held ≡ take (length held) (drop offset file)
 
@@ -68,7 +69,7 @@ abbrev pub answer_of : Last → Result Next ReadError
 answer_of (last.Ended ending) = Ok (next.End ending)
 answer_of last.TooLarge = Err errors.TooLarge
 
--- One call, where no read fails: the record at the reader's offset is told, and the offset is then behind it;
+-- One call, where no read fails: the record at the reader's offset is given, and the offset is then after it;
 pub record TellsPacket (file : List ℕ) (before : ReaderState) (answer : Result Next ReadError) (seen : Seen) (now : ReaderState) : Type 0 where
   pub goes_on : before.last ≡ None
   pub whole : HasRecord before.header (within file) before.offset
@@ -78,7 +79,7 @@ pub record TellsPacket (file : List ℕ) (before : ReaderState) (answer : Result
   pub moved : now.offset ≡ before.offset + 16 + captured before.header (within file) before.offset
   pub still : now.last ≡ None
 
--- or no record is whole there, and it is told how they end;
+-- or no record is whole there, and it is said how they end;
 pub record TellsEnd (file : List ℕ) (before : ReaderState) (answer : Result Next ReadError) (now : ReaderState) : Type 0 where
   pub goes_on : before.last ≡ None
   pub ending : Ending
@@ -88,7 +89,7 @@ pub record TellsEnd (file : List ℕ) (before : ReaderState) (answer : Result Ne
   pub same_offset : now.offset ≡ before.offset
   pub noted : now.last ≡ Some (last_of file ending)
 
--- or that was told before, and is told again.
+-- or that was said before, and is said again.
 pub record TellsAgain (before : ReaderState) (answer : Result Next ReadError) (now : ReaderState) : Type 0 where
   pub last : Last
   pub told : before.last ≡ Some last
@@ -98,7 +99,7 @@ pub record TellsAgain (before : ReaderState) (answer : Result Next ReadError) (n
 abbrev pub IsStep : List ℕ → ReaderState → Result Next ReadError → Seen → ReaderState → Type 0
 IsStep file before answer seen now = TellsPacket file before answer seen now ⊎ (TellsEnd file before answer now ⊎ TellsAgain before answer now)
 
--- The records that are left for a reader of a file: their packets, and what it answers behind them.
+-- The records that are left for a reader of a file: their packets, and what it answers after them.
 pub data Left (file : List ℕ) (reader : ReaderState) : List Packet → Last → Type 0 where
   -- those from its offset on in the first 2^40 bytes
   records : (packets : List Packet) (ending : Ending) (last : Last) → reader.last ≡ None → Records reader.header (within file) reader.offset packets ending → last ≡ last_of file ending → Left file reader packets last
@@ -111,7 +112,7 @@ pub record HasLeft (file : List ℕ) (reader : ReaderState) : Type 0 where
   pub last : Last
   pub are : Left file reader packets last
 
--- one call takes the first of what is left: its packet is told and the others are left; or none is left, and the end is told
+-- one call takes the first of what is left: its packet is given and the others are left; or none is left, and the end is said
 pub record TakesPacket (file : List ℕ) (packet : Packet) (packets : List Packet) (last : Last) (answer : Result Next ReadError) (seen : Seen) (now : ReaderState) : Type 0 where
   pub is_seen : IsSeen (within file) packet seen
   pub answered : answer ≡ Ok next.Packet
@@ -121,7 +122,7 @@ abbrev pub Takes : List ℕ → List Packet → Last → Result Next ReadError �
 Takes file [] last answer seen now = (answer ≡ answer_of last) × Left file now [] last
 Takes file (packet ∷ packets) last answer seen now = TakesPacket file packet packets last answer seen now
 
--- over any file: a lawful packet is told, and the offset is behind its record, within the first 2^40 bytes
+-- over any file: a lawful packet is given, and the offset is after its record, within the first 2^40 bytes
 pub record MovesOn (before : ReaderState) (seen : Seen) (now : ReaderState) : Type 0 where
   pub lawful : seen.cap ≤ 262144
   pub len : seen.len ≡ min seen.cap 128
@@ -129,7 +130,7 @@ pub record MovesOn (before : ReaderState) (seen : Seen) (now : ReaderState) : Ty
   pub most : now.offset ≤ 2 ^ 40
   pub goes_on : now.last ≡ None
 
--- the answers of a run of calls up to the first that tells how the records end
+-- the answers of a run of calls up to the first that says how the records end
 pub data Run (file : List ℕ) : ReaderState → List Seen → Last → Type 0 where
   more : {reader after : ReaderState} {seens : List Seen} {last : Last} (seen : Seen) → IsStep file reader (Ok next.Packet) seen after → Run file after seens last → Run file reader (seen ∷ seens) last
   ends : {reader after : ReaderState} {seen : Seen} (last : Last) → IsStep file reader (answer_of last) seen after → Run file reader [] last

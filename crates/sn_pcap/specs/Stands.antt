@@ -1,3 +1,4 @@
+-- serves proofs
 -- How many bytes of a file stand from an offset on.
 use Rattle.std.specs.Prelude.{◌≡◌, ℕ, ◌<◌, ◌≤◌, ◌+◌, ◌^◌, nat_le, min, if◌then◌else◌, List, [], length}
 use Rattle.sn_pcap.specs.declared.header.Header.{Header}

@@ -12,7 +12,7 @@ use std::marker::Model;
 /// How many bytes a buffer has room for.
 pub const BUFFER_BYTES: usize = 65536;
 
-/// A row of bytes, of which the front is taken off and more are read behind.
+/// A row of bytes, of which the front is taken off and more are read at the end.
 #[derive(Drop)]
 pub struct Buffer {
     bytes: Vec<u8>,
@@ -44,7 +44,7 @@ fn move_front(bytes: &mut [u8], start: usize, end: usize)
     }
 }
 
-/// Reads bytes of a file from the place `at` on, behind the first ones that are held.
+/// Reads bytes of a file from the place `at` on, after the first ones that are held.
 pub fn read_behind<I: Inputs>(
     bytes: &mut [u8],
     held: usize,
@@ -115,7 +115,7 @@ impl Buffer {
         self.end = self.start + count;
     }
 
-    /// Reads bytes of a file from the place `at` on, behind those that are held. An `Err` changes nothing.
+    /// Reads bytes of a file from the place `at` on, after those that are held. An `Err` changes nothing.
     pub fn read<I: Inputs>(
         &mut self,
         files: &mut I,

@@ -16,7 +16,7 @@ const MICROS_MAGIC: u32 = 0xa1b2_c3d4;
 /// The magic number of captures with fractions in nanoseconds.
 const NANOS_MAGIC: u32 = 0xa1b2_3c4d;
 
-/// What the header of a capture tells of its records.
+/// What the header of a capture says of its records.
 #[derive(Clone, Copy, Debug, PartialEq, Eq)]
 pub struct Header {
     /// Whether numbers have their highest byte first.

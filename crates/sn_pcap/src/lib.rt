@@ -8,5 +8,3 @@ mod numbers;
 pub mod packet;
 pub mod reader;
 pub mod seen;
-#[cfg(test)]
-mod tests;

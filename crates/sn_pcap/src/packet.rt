@@ -17,7 +17,7 @@ pub const RECORD_BYTES: usize = 16;
 /// The most bytes that a record may have captured.
 pub const MOST_CAPTURED: u32 = 262144;
 
-/// A packet of a capture: where its captured bytes stand in the file, and what its record tells of it.
+/// A packet of a capture: where its captured bytes stand in the file, and what its record says of it.
 #[derive(Clone, Copy, Debug, PartialEq, Eq)]
 pub struct Packet {
     /// When it was captured, in nanoseconds since the start of 1970.
@@ -37,7 +37,7 @@ pub enum Ending {
     Clean,
     /// At this offset stand some bytes, but fewer than the record there needs.
     Cut(u64),
-    /// At this offset stands a record's header that tells of more than 262144 captured bytes.
+    /// At this offset stands a record's header that states more than 262144 captured bytes.
     Bad(u64),
 }
 

@@ -49,7 +49,7 @@ impl Model for Reader {
     ghost invariant = { λ a. a.offset ≤ 2 ^ 40 };
 }
 
-/// Reads until so many bytes from the offset on are held, or the file ends.
+/// Reads until this many bytes from the offset on are held, or the file ends.
 fn fill<I: Inputs>(
     buffer: &mut Buffer,
     files: &mut I,
@@ -233,7 +233,7 @@ fn short_when_read<I: Inputs>(
     Ok(Some(Last::Ended(Ending::Cut(offset))))
 }
 
-/// Writes the packet of the record at the front of some bytes, of which so many were captured, into `seen`.
+/// Writes the packet of the record at the front of some bytes, of which this many were captured, into `seen`.
 fn see(header: &Header, bytes: &[u8], cap: u32, seen: &mut Seen)
     requires cap { cap ≡ captured header.now bytes.now 0 }
     requires stands { 16 + min cap 128 ≤ length bytes.now }
@@ -317,7 +317,7 @@ fn error_of(fault: InputFault) -> ReadError
 }
 
 impl Reader {
-    /// A reader of a capture with this header, which stands behind it.
+    /// A reader of a capture with this header, which stands after it.
     pub fn make(alloc: Global, head: Header) -> Result<Reader, Memory>
         ensures { IfOk result (λ reader. reader ≡ made head) }
     {
@@ -330,10 +330,10 @@ impl Reader {
     }
 
     /// Writes the next packet of the capture into `seen`, or says how its records end. Only its first 2^40 bytes are
-    /// read. Where it has more, `TooLarge` comes in place of an end, unless a record tells there of too many captured
+    /// read. Where it has more, `TooLarge` comes in place of an end, unless a record there states too many captured
     /// bytes. The file is read from front to back, each byte once, so it may be a pipe. Once an end or `TooLarge`
     /// came, each later call answers the same. `Missing` comes exactly where the name isn't known, `ReadFault` only
-    /// where its count rose, and `Memory` never. Where no packet is told, `seen` stays as it was.
+    /// where its count rose, and `Memory` never. Where no packet is given, `seen` stays as it was.
     pub fn next<I: Inputs>(
         &mut self,
         files: &mut I,
@@ -343,7 +343,7 @@ impl Reader {
         requires follows { IfSome (told_file (I.told files.old) name.now) (λ file. Follows file self.old) }
         requires known { HasRead self.old → is_some (get (I.faults files.old) name.now) ≡ true }
 
-        // Where contents are told: the exact answer, that it takes the first of the records that are left, and that
+        // Where contents are known: the exact answer, that it takes the first of the records that are left, and that
         // the reader goes on following the file.
         ensures step { IfSome (told_file (I.told files.old) name.now) (λ file. result ≢ Err ReadError.ReadFault → IsStep file self.old result seen.new self.new) }
         ensures takes { IfSome (told_file (I.told files.old) name.now) (λ file. (packets : List Packet) (last : Last) →
@@ -393,7 +393,7 @@ impl Reader {
         }
     }
 
-    /// Goes on behind a record.
+    /// Goes on after a record.
     fn pass(&mut self, count: u64)
         requires { self.old.offset + count ≤ 2 ^ 40 }
         ensures { self.new ≡ record self.old { offset = self.old.offset + count; held = drop count self.old.held } }

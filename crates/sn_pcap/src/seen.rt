@@ -1,4 +1,4 @@
-//! What a reader tells of a capture, one record after another.
+//! What a reader gives of a capture, one record after another.
 ghost use Rattle.std.specs.Prelude.{◌≡◌, ◌≤◌, take};
 
 use crate::packet::Ending;
@@ -6,7 +6,7 @@ use crate::packet::Ending;
 /// The most bytes of a packet that are kept.
 pub const FRONT_BYTES: usize = 128;
 
-/// A packet of a capture: what its record tells of it, and its first captured bytes.
+/// A packet of a capture: what its record says of it, and its first captured bytes.
 #[derive(Clone, Copy, Debug, PartialEq, Eq)]
 pub struct Seen {
     /// When it was captured, in nanoseconds since the start of 1970.
@@ -15,9 +15,9 @@ pub struct Seen {
     pub wire: u32,
     /// How many of its bytes were captured.
     pub cap: u32,
-    /// How many of the captured bytes stand at the begin of `front`: all of them, or the first 128.
+    /// How many of the captured bytes stand at the beginning of `front`: all of them, or the first 128.
     pub len: u32,
-    /// The first captured bytes, and behind them bytes that mean nothing.
+    /// The first captured bytes, and after them bytes that mean nothing.
     pub front: [u8; 128],
 }
 

@@ -55,7 +55,7 @@ cut_within window queries q b t lt within =
     let s = branch_source_of window queries q b t lt within in
     subst (λ (x : TypedBranch). x.max_cut ≤ length x.ops) (sym s.is) (cut_short (typed_ops (packet_columns s.ops) s.ops)))
 
--- ---- what a reduce gives can be tested behind it
+-- ---- what a reduce gives can be tested after it
 
 test_one : (columns : List Column) (w : What) (rest : List TOp) → StaysWithin (length columns) (typed_op columns w) → TestWithin (length (columns_after columns w)) rest → TestWithin (length columns) (typed_op columns w ∷ rest)
 test_one columns (what.Filter conds) rest within h = (All-from_recursion (λ (c : TCond). c.col < length columns) _ within, h)

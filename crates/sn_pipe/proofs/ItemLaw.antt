@@ -87,7 +87,7 @@ module _ (depth : ℕ) (size : ℕ → ℕ) (level : ℕ) (schemas : List (List 
   partial_tag : (i : ℕ) (op : TOp) → i < cut → slice_get all i ≡ Some op → is_reduce op ≡ true → list_any is_distinct (take i all) ≡ true → is_tag_of all cut (Partial i) ≡ true
   partial_tag i op lt e is before = and_from _ _ (and_from (nat_lt i cut) _ (lt-ltb i cut lt) (ap (λ o. option_map_or is_reduce o false) e ∙ is)) before
 
-  -- a distinct among the first so many, and one more
+  -- a distinct among the first n, and one more
   one_more : (i : ℕ) (op : TOp) → slice_get all i ≡ Some op → list_any is_distinct (take (suc i) all) ≡ (list_any is_distinct (take i all) || is_distinct op)
   one_more i op e =
       let next : suc i ≡ i + 1 = omega arith in
@@ -132,7 +132,7 @@ module _ (depth : ℕ) (size : ℕ → ℕ) (level : ℕ) (schemas : List (List 
 
   -- ---- all operators of a prefix
 
-  -- these operators stand from number i on, and so many of them before the cut
+  -- these operators stand from number i on, and this many of them before the cut
   record Here (i n : ℕ) (columns : List Column) (os : List Op) : Type 0 where
     schemas_here : (j : ℕ) → schema_at schemas (i + j) ≡ schema_at (schemas_along columns os) j
     operators_here : (j : ℕ) → slice_get all (i + j) ≡ slice_get (typed_ops columns os) j

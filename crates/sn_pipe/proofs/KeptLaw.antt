@@ -1,4 +1,4 @@
--- The rows that a pipe lets in are the packet rows of the kept tuples.
+-- The rows that a pipe admits are the packet rows of the kept tuples.
 use Rattle.std.proofs.Common.{◌≡◌, ℕ, List, [], ◌∷◌, ◌∙◌, map, filter, Bool, cond, Option, None, Some, refl, ap}
 use Rattle.std.specs.FinSet as set
 use Rattle.std.specs.Ordering.{nat_cmp}

@@ -43,7 +43,7 @@ sized_push : (depth : ℕ) (size : ℕ → ℕ) (i : ℕ) (ss : List Stage) (s :
 sized_push depth size i [] s h k = let here : i + 0 ≡ i = omega arith in (subst (λ n. HasRegisters depth (size n) s) here k, tt)
 sized_push depth size i (x ∷ ss) s h k = let there : i + suc (length ss) ≡ suc i + length ss = omega arith in (h.0, sized_push depth size (suc i) ss s h.1 (subst (λ n. HasRegisters depth (size n) s) there k))
 
--- the stages of the first so many operators, and how many sizes they used
+-- the stages of the first n operators, and how many sizes they used
 pub record SoFar (ops : List TOp) (depth : ℕ) (sizes : List ℕ) (i : ℕ) (stages : List Stage) (used : ℕ) : Type 0 where
   pub same : map top_of stages ≡ take i ops
   pub fresh : map cleared stages ≡ stages

@@ -37,7 +37,7 @@ use Rattle.sn_pipe.specs.Windows.{AreFilters, HasRegisters, HaveSizes, IsPrefix}
 use Rattle.sn_pipe.proofs.Takes.{fit_front}
 use Rattle.sn_pipe.proofs.TupleLaw.{tuple_items}
 
--- ---- only filters stand behind the reduce of a cut
+-- ---- only filters stand after the reduce of a cut
 
 abbrev OnlyFilters : List TOp → Type 0
 OnlyFilters [] = Unit {0}
@@ -120,7 +120,7 @@ map_front f zero xs = refl
 map_front f (suc n) [] = refl
 map_front f (suc n) (x ∷ xs) = ap (λ ys. f x ∷ ys) (map_front f n xs)
 
--- items are told by the operators before the cut
+-- items are determined by the operators before the cut
 items_by : (depth : ℕ) (size : ℕ → ℕ) (m n : ℕ) (xs ys : List Op) (rows : List Row) → take m xs ≡ take n ys → items depth size m xs rows ≡ items depth size n ys rows
 items_by depth size m n xs ys rows e = ap (λ os. by_packet (length rows) (sent_from depth size 0 os (numbered 0 rows)) ++ read_from depth size 0 false os (numbered 0 rows)) e
 

@@ -1,3 +1,4 @@
+-- serves proofs
 -- How the stages of a pipe are made of operators.
 use Rattle.std.specs.Prelude.{◌≡◌, ℕ, List, map}
 use Rattle.sn_types.specs.declared.typed_op.TOp.{TOp}

@@ -1,4 +1,5 @@
--- A pipe: the prefix of a branch at a level, for the tuples that a coarser level lets in.
+-- serves proofs
+-- A pipe: the prefix of a branch at a level, for the tuples that a coarser level admits.
 use Rattle.std.specs.Prelude.{◌≡◌, ℕ, ◌<◌, List, [], ◌∷◌, ◌++◌, map, filter, fold, take, length, Bool, true, false, nat_eq, Option, None, Some, IsSome, if◌then◌else◌}
 use Rattle.std.specs.List.{list_any}
 use Rattle.std.specs.Ordering.{nat_cmp}
@@ -26,7 +27,7 @@ pub record PipeState : Type 0 where
   pub members : set.FinSet nat_cmp
   pub prefix : PrefixState
 
--- a tuple is let in: where a level before is given, its refinement field masked to that level is in the set
+-- a tuple is admitted: where a level before is given, its refinement field masked to that level is in the set
 abbrev pub is_let_in : Option Field → Option ℕ → set.FinSet nat_cmp → List ℕ → Bool
 is_let_in field None members tuple = true
 is_let_in None (Some bits) members tuple = false
@@ -81,7 +82,7 @@ pub record IsNewPipe (query : TypedQuery) (branch level : ℕ) (coarser : Option
 
 -- ---- a window
 
--- the rows of the tuples that are let in
+-- the rows of the tuples that are admitted
 abbrev pub rows_in : PipeState → List (List ℕ) → List Row
 rows_in p tuples = map (row_in p) (filter (lets_in p) tuples)
 
@@ -100,6 +101,6 @@ packets_give p (tuple ∷ tuples) = option_list (item_of p tuple) ++ packets_giv
 abbrev pub at_start : PipeState → set.FinSet nat_cmp → PipeState
 at_start p kept = record p { members = kept; prefix = record p.prefix { stages = map cleared p.prefix.stages; place = 0 } }
 
--- the tuples are let in that a pipe with these prefixes lets in
+-- the tuples are admitted that a pipe with these prefixes admits
 abbrev pub rows_let_in : TypedQuery → ℕ → ℕ → Option ℕ → set.FinSet nat_cmp → List (List ℕ) → List Row
 rows_let_in query b level coarser members tuples = map (packet_row query.field level (branch_of query b).fields) (filter (is_let_in query.field coarser members) tuples)

@@ -34,7 +34,7 @@ pub fn pipes_give_the_items()
 {}
 
 /// From the start of a window on, with any prefix set: what `packet` gives for the tuples of the window, one after another,
-/// and then what `read_out_next` gives, are the items of the prefix over the rows of the tuples that are let in, in their
+/// and then what `read_out_next` gives, are the items of the prefix over the rows of the tuples that are admitted, in their
 /// order.
 pub fn windows_give_the_items()
     ensures { (pipe : PipeState) (kept : set.FinSet nat_cmp) (depth : ℕ) (size : ℕ → ℕ) (tuples : List (List ℕ)) →
@@ -65,7 +65,7 @@ pub fn windows_start_afresh()
     ensures window { (pipe : PipeState) (kept later : set.FinSet nat_cmp) → at_start (at_start pipe kept) later ≡ at_start pipe later }
 {}
 
-/// The rows that a pipe lets in are the packet rows of the kept tuples: of all, where no level stands before it, and else
+/// The rows that a pipe admits are the packet rows of the kept tuples: of all, where no level stands before it, and else
 /// of those whose refinement field is a prefix of the set.
 pub fn pipes_let_in_the_kept()
     ensures all { (query : TypedQuery) (b level : ℕ) (members : set.FinSet nat_cmp) (tuples : List (List ℕ)) →

@@ -20,7 +20,7 @@ use sn_types::typed_op::TOp;
 use std::alloc::Global;
 use std::marker::Model;
 
-/// The prefix of a branch at a level, for the tuples that a coarser level lets in.
+/// The prefix of a branch at a level, for the tuples that a coarser level admits.
 #[derive(Drop)]
 pub struct Pipe {
     t: Typed,
@@ -59,7 +59,7 @@ fn lets_in(t: &Typed, q: u32, coarser: Option<u32>, members: &Members, tuple: &T
     }
 }
 
-/// The first so many operators of a branch.
+/// The first n operators of a branch.
 fn front(t: &Typed, q: u32, b: u32, cut: u32) -> &[TOp]
     requires query { q < length t.now.queries }
     requires branch { b < length (query_at t.now.queries q).branches }
@@ -74,7 +74,7 @@ fn front(t: &Typed, q: u32, b: u32, cut: u32) -> &[TOp]
 
 impl Pipe {
     /// The first `cut` operators of a branch at a level. Each stateful one of them has `chain` registers, with as many
-    /// slots each as `slots` has for it. With a level before it on the path, `coarser`, the pipe lets in only the tuples
+    /// slots each as `slots` has for it. With a level before it on the path, `coarser`, the pipe admits only the tuples
     /// whose refinement field masked to that level is in its prefix set, which is empty at first. All memory that the pipe
     /// ever needs is taken here.
     pub fn make(
@@ -111,7 +111,7 @@ impl Pipe {
     }
 
     /// Takes a tuple, before any read-out. `Some` exactly where the tuple gives an item: its row at the operator where
-    /// its key overflows, or behind a prefix without a reduce. Takes no memory.
+    /// its key overflows, or after a prefix without a reduce. Takes no memory.
     #[inline(always)]
     pub fn packet(&mut self, tuple: &Tuple) -> Option<Item>
         requires { self.old.prefix.place ≡ 0 }

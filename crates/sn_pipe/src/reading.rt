@@ -97,7 +97,7 @@ fn up_at(
     }
 }
 
-/// The first row from a place on that goes up, and the place behind it.
+/// The first row from a place on that goes up, and the place after it.
 fn first_up(
     chain: &Chain<AnyFold>,
     behind: &[Stage],
@@ -122,7 +122,7 @@ fn first_up(
 }
 
 /// The next item that is read out of stages, the first of which has number `first`, from a place of the reduce on;
-/// and the place behind it.
+/// and the place after it.
 pub(crate) fn next_item(
     stages: &[Stage],
     level: u32,
@@ -150,7 +150,7 @@ pub(crate) fn next_item(
     }
 }
 
-/// The next item that is read out of a reduce of number `first`, from a place on, and the place behind it.
+/// The next item that is read out of a reduce of number `first`, from a place on, and the place after it.
 fn next_held(
     r: &TReduce,
     chain: &Chain<AnyFold>,

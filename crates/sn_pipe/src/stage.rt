@@ -18,11 +18,11 @@ use sn_types::typed_op::{TCond, TExpr, TReduce};
 /// An operator, with the registers that it has.
 #[derive(Drop)]
 pub enum Stage {
-    /// Lets the rows on for which all conditions hold.
+    /// Passes on the rows for which all conditions hold.
     Filter(Seq<TCond>),
-    /// Makes of each row the row of these values.
+    /// Makes each row the row of these values.
     Map(Seq<TExpr>),
-    /// Lets a row on that its registers don't hold yet. The flag tells whether a row overflowed in this window.
+    /// Passes on a row that its registers don't hold yet. The flag says whether a row overflowed in this window.
     Distinct(Chain<Or>, bool),
     /// Folds the values of each key in its registers.
     Reduce(TReduce, Chain<AnyFold>),

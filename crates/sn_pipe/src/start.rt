@@ -10,7 +10,7 @@ use sn_base::row::Row;
 use sn_types::packet::PacketRow;
 
 /// Takes a packet row through stages as `pass` takes a row; `row` changes on the way. None is made of it for the filters
-/// at their front, nor for a map or a reduce behind these.
+/// at their front, nor for a map or a reduce after these.
 pub(crate) fn start(
     stages: &mut [Stage],
     level: u32,

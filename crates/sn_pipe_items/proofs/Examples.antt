@@ -17,7 +17,7 @@ use Rattle.sn_pipe_items.proofs.OrderLemmas.{items_bag}
 abbrev item : Tag → Row → Item
 item tag row = record { tag = tag; row = row }
 
--- a sum of so many bits
+-- a sum of this many bits
 abbrev sum_of : (v : ℕ) → 1 ≤ v → v ≤ 64 → AnyFold
 sum_of v some most = SatSum (record { v = v; in_range = (some, most) })
 

@@ -33,7 +33,7 @@ rows_none t tag isnt (row ∷ rows) =
     ap (λ b. map (λ (x : Item). x.row) (cond b (tag_row tag row ∷ filter (λ (x : Item). t x.tag) (tagged tag rows)) (filter (λ (x : Item). t x.tag) (tagged tag rows)))) isnt
     ∙ rows_none t tag isnt rows
 
--- behind rows of another tag
+-- after rows of another tag
 pub rows_behind : (t : Tag → Bool) (tag : Tag) → t tag ≡ false → (rows : List Row) (xs : List Item) → rows_with t (tagged tag rows ++ xs) ≡ rows_with t xs
 rows_behind t tag isnt rows xs = rows_append t (tagged tag rows) xs ∙ ap (λ ys. ys ++ rows_with t xs) (rows_none t tag isnt rows)
 

@@ -95,7 +95,7 @@ module _ (depth : ℕ) (size : ℕ → ℕ) where
       subst (AllByRecursion (Had (Reduce g ∷ (front ++ back)))) (sym (rows_front (is_at i) (At i) (at_self i) over (cond sp (tagged (Partial i) kept) (items_from depth size (suc i) sp front kept)) (none_in_rest i sp front kept)))
       (all_filter (Had (Reduce g ∷ (front ++ back))) (λ row. not (resides depth size i (map (key_of g) flow) (key_of g row))) flow had)
 
-  -- the items of a pipe are had by the engine's operators
+  -- the items of a pipe bring the engine's folds numbers that they have
   items_had : (i : ℕ) (sp : Bool) (front back : List Op) (flow : List Row) → AllOf (front ++ back) flow → ItemsHad i (front ++ back) (items_from depth size i sp front flow)
   items_had i sp [] back flow had =
       had_none i back (tagged (At i) flow) (λ j le. rows_none (is_partial j) (At i) refl flow) (λ j lt. rows_none (is_at j) (At i) (at_other j i (λ e. omega arith)) flow)

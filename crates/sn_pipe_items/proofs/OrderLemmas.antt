@@ -116,7 +116,7 @@ some_rows [] = refl
 some_rows (x ∷ xs) = refl
 
 module _ (depth : ℕ) (size : ℕ → ℕ) where
-  -- ---- behind a reduce
+  -- ---- after a reduce
 
   filters_flow : (i : ℕ) (ops : List Op) → OnlyFilters ops → (rows : List Row) → items_from depth size i false ops rows ≡ tagged (At (i + length ops)) (through ops rows)
   filters_flow i [] only rows = ap (λ (n : ℕ). tagged (At n) rows) same

@@ -94,7 +94,7 @@ module _ (depth : ℕ) (size : ℕ → ℕ) where
       (bag_then (bag_same (ap (λ ps. grouped g ps ++ kept) (over_pairs i g flow)))
       (grouped_parted g hs (map (pair_of g) flow) (homes_apart_any depth (size i) (map (key_of g) flow)) (known_keys i g flow))))))
 
-  -- ---- behind a distinct that has overflowed: rows come to the engine's operators beside the pipe's
+  -- ---- after a distinct that has overflowed: rows come to the engine's operators beside the pipe's
 
   spilled : (i : ℕ) (front back : List Op) → IsCutBehindDistinct front → (flow extra : List Row) → AllOf (front ++ back) flow → AllOf (front ++ back) extra →
       SameBag (finish i (front ++ back) (items_from depth size i true front flow) (extra ++ rows_with (is_at i) (items_from depth size i true front flow))) (through (front ++ back) (extra ++ flow))

@@ -18,7 +18,7 @@ use Rattle.sn_base.proofs.GroupLemmas.{keys, keys_of, AllHad, grouped_bag}
 use Rattle.sn_base.proofs.OperatorLemmas.{AllOf, pairs_had, keys_had, had_rows_for, had_after}
 use Rattle.sn_pipe_items.specs.Value.{is_at, is_partial, rows_with, taken, finish, value}
 
--- a reduce's row as an item: its key columns and a number of the fold, which the operators behind it may take
+-- a reduce's row as an item: its key columns and a number of the fold, which the operators after it may take
 pub record IsHeld (g : Grouping) (ops : List Op) (row : Row) : Type 0 where
   pub long : suc (length g.places) ≤ length row
   pub number : any_has g.by (parted g row).1

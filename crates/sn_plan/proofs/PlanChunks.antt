@@ -1,4 +1,4 @@
--- The text of a plan as lexemes with the blanks behind them.
+-- The text of a plan as lexemes with the blanks after them.
 use Rattle.std.proofs.Common.{◌≡◌, ℕ, List, [], ◌∷◌, ◌++◌, map, refl, sym, ap, ◌∙◌, append_assoc, inl, inr, ◌⊎◌}
 use Rattle.std.specs.Prelude.{codes}
 use Rattle.std.specs.Fmt.{decimal}
@@ -20,7 +20,7 @@ line_end = 10 ∷ []
 
 -- ---- lists
 
--- a number and further ones, with these blanks behind the last
+-- a number and further ones, with these blanks after the last
 abbrev pub further_chunks : ℕ → List ℕ → List ℕ → List Chunk → List Chunk
 further_chunks n [] g later = chunk (number n) g ∷ later
 further_chunks n (m ∷ ms) g later = chunk (number n) [] ∷ chunk (symbol 3) space ∷ further_chunks m ms g later
@@ -43,7 +43,7 @@ list_is (n ∷ ns) later = further_text n ns [] later
 
 -- ---- pieces
 
--- the cut, and the sizes and stages behind it
+-- the cut, and the sizes and stages after it
 abbrev pub sizes_chunks : ℕ → List ℕ → List ℕ → List Chunk → List Chunk
 sizes_chunks cut [] stages later = chunk (number cut) [] ∷ later
 sizes_chunks cut (s ∷ ss) stages later = chunk (number cut) space ∷ chunk (word (codes "slots")) space ∷ further_chunks s ss space (chunk (word (codes "stages")) space ∷ list_chunks stages [] later)

@@ -12,10 +12,10 @@ use Rattle.sn_text_rules.proofs.Bounded.{told_ok}
 use Rattle.sn_text.specs.Cutting.{is_last, tokens_of}
 use Rattle.sn_text.proofs.Ends.{tokens_ended}
 use Rattle.sn_text.specs.Lexing.{left}
-use Rattle.sn_text_read.specs.declared.stop.Stop.{Stop}
-use Rattle.sn_text_read.specs.declared.stop.Stop.TheVariants as stops
-use Rattle.sn_text_read.specs.Reading.{Halts}
-use Rattle.sn_text_read.proofs.Tokens.{Next, halts}
+use Rattle.sn_text.specs.declared.stop.Stop.{Stop}
+use Rattle.sn_text.specs.declared.stop.Stop.TheVariants as stops
+use Rattle.sn_text.specs.Reading.{Halts}
+use Rattle.sn_text.proofs.Tokens.{Next, halts}
 use Rattle.sn_plan_grammar.specs.declared.plan.Plan.{Plan}
 use Rattle.sn_plan_grammar.specs.Grammar.{end_in, any_end, end_rule, plan_rule, file_rule}
 use Rattle.sn_plan_grammar.proofs.Goods.{plan_good, end_good, file_good, ends}

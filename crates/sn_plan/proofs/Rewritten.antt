@@ -1,4 +1,4 @@
--- What is printed stands for the same plan, whose end is behind the last byte.
+-- What is printed stands for the same plan, whose end is after the last byte.
 use Rattle.std.proofs.Common.{◌≡◌, ℕ, Bool, true, false, List, [], ◌∷◌, ◌++◌, length, map, refl, sym, ap, ◌∙◌, subst, append_assoc}
 use Rattle.std.proofs.lemmas.List.{map-append, append-nil}
 use Rattle.sn_text_rules.specs.Tokens.{Lexeme, finish, Tok, Mark, plain, Spelled, mark_face, faces, mark_faces}
@@ -44,7 +44,7 @@ fine_plan p text byte s =
     let closed = cut_fine (tokens_of text) (record { rest = text; start = 0; line = 1; column = 1 }) refl in
     subst AllFine (plan_faces p (plan_fits p s.cost s.accepted.fits)) (front_fine front (end_face s.cost) (faces s.rest) (subst Closed whole closed))
 
--- the tokens of a plan and the end of the text behind them
+-- the tokens of a plan and the end of the text after them
 record Parted (ts : List Tok) : Type 0 where
   front : List Tok
   at : Tok

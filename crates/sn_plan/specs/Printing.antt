@@ -1,3 +1,4 @@
+-- to be believed
 -- The canonical text of a plan.
 use Rattle.std.specs.Prelude.{ℕ, List, [], ◌∷◌, ◌++◌, codes}
 use Rattle.std.specs.Fmt.{decimal}
@@ -5,7 +6,7 @@ use Rattle.sn_plan_grammar.specs.declared.plan.Plan.{Plan}
 use Rattle.sn_plan_grammar.specs.declared.plan.Entry.{Entry}
 use Rattle.sn_plan_grammar.specs.declared.plan.Piece.{Piece}
 
--- the texts of the items, one behind the other
+-- the texts of the items, one after the other
 abbrev pub texts : {A : Type 0} → (A → List ℕ) → List A → List ℕ
 texts text [] = []
 texts text (a ∷ rest) = text a ++ texts text rest

@@ -1,9 +1,10 @@
+-- serves proofs
 -- Words as lexemes.
 use Rattle.std.specs.Prelude.{◌≡◌, ℕ, Bool, List, [], ◌∷◌, Result, Ok, Err}
 use Rattle.sn_text_rules.specs.Tokens.{Lexeme, word, Tok, got}
 use Rattle.sn_text_rules.specs.Rules.{kept}
-use Rattle.sn_text_read.specs.declared.stop.Stop.{Stop}
-use Rattle.sn_text_read.specs.Reading.{Halts}
+use Rattle.sn_text.specs.declared.stop.Stop.{Stop}
+use Rattle.sn_text.specs.Reading.{Halts}
 use Rattle.sn_plan_grammar.specs.declared.plan.Plan.{Plan}
 use Rattle.sn_plan_grammar.specs.Grammar.{end_rule, plan_rule, file_rule}
 

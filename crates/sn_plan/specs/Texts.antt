@@ -1,3 +1,4 @@
+-- to be believed
 -- Which texts stand for which plans, and what the fault of another is.
 use Rattle.std.specs.Prelude.{◌≡◌, ◌≢◌, ℕ, Bool, List, [], ◌∷◌, ◌++◌, length, Result, Ok, Err}
 use Rattle.sn_text_rules.specs.declared.Flaw.{Flaw}
@@ -6,8 +7,8 @@ use Rattle.sn_text_rules.specs.Tokens.{Tok}
 use Rattle.sn_text_rules.specs.Rules.{Accepts, FirstFault}
 use Rattle.sn_text.specs.Cutting.{tokens_of}
 use Rattle.sn_text.specs.Lexing.{left}
-use Rattle.sn_text_read.specs.declared.stop.Stop.{Stop}
-use Rattle.sn_text_read.specs.declared.stop.Stop.TheVariants as stops
+use Rattle.sn_text.specs.declared.stop.Stop.{Stop}
+use Rattle.sn_text.specs.declared.stop.Stop.TheVariants as stops
 use Rattle.sn_plan_grammar.specs.declared.plan.Plan.{Plan}
 use Rattle.sn_plan_grammar.specs.Grammar.{file_rule}
 use Rattle.sn_plan.specs.declared.fault.PlanFault.{PlanFault}

@@ -4,7 +4,7 @@ ghost use Rattle.sn_text_rules.specs.declared.Flaw.TheVariants.{Expected};
 ghost use Rattle.sn_text_rules.specs.Rules.{kept};
 ghost use Rattle.sn_text_rules.specs.Words.{is_word, full, judged_by, word_in};
 ghost use Rattle.sn_text.specs.Lexing.{left, seen};
-ghost use Rattle.sn_text_read.specs.Reading.{Reads};
+ghost use Rattle.sn_text.specs.Reading.{Reads};
 ghost use Rattle.sn_plan_grammar.specs.Grammar.{name_test, name, entry_rule, entries_rule, plan_rule};
 ghost use Rattle.sn_plan_grammar.proofs.Goods.{entries_alike};
 ghost use Rattle.sn_plan.specs.Reading.{word_lexeme};
@@ -14,11 +14,11 @@ use crate::pieces::{SEMICOLON, pieces};
 use crate::plan::{Entry, Plan};
 use sn_base::name::Name;
 use sn_base::seq::Seq;
+use sn_text::list::{Items, further};
 use sn_text::place::{Lexer, Piece};
 use sn_text::scan::scan;
-use sn_text_read::list::{Items, further};
-use sn_text_read::stop::Stop;
-use sn_text_read::words::{next_is_word, symbol, word, wrong_of};
+use sn_text::stop::Stop;
+use sn_text::words::{next_is_word, symbol, word, wrong_of};
 use sn_text_rules::Flaw;
 use std::alloc::Global;
 
@@ -122,7 +122,7 @@ fn entries<'a>(alloc: Global, at: Lexer<'a>) -> Result<(Seq<Entry>, Lexer<'a>), 
     further(alloc, &EntryItems, entries, rest)
 }
 
-/// A plan, and the place behind it.
+/// A plan, and the place after it.
 #[tactic(auto, unfolding(sn_plan_grammar::specs::Grammar::plan_rule))]
 pub(crate) fn plan<'a>(alloc: Global, at: Lexer<'a>) -> Result<(Plan, Lexer<'a>), Stop<'a>>
     ensures { Reads result (plan_rule.read kept (left at.entry)) }

@@ -1,14 +1,14 @@
 //! Why a plan text is refused.
 
-/// Want of memory, or the first fault of the text, with its line from 1.
+/// Out of memory, or the first fault of the text, with its line from 1.
 ///
 /// At one token the order is that of the variants.
 #[derive(Clone, Copy, Debug, PartialEq, Eq)]
 pub enum PlanFault {
     /// No token begins here, or a number is past 64 bits.
     Lex { line: u32 },
-    /// The token goes on no plan text, a number out of its range and an item past a limit among them.
+    /// No plan text goes on with this token. It may be a number out of its range, or an item past a limit.
     Expected { line: u32 },
-    /// Want of memory.
+    /// Out of memory.
     Memory,
 }

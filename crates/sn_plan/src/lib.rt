@@ -7,13 +7,9 @@ pub use sn_plan_grammar::{plan, short};
 mod canonical;
 mod entries;
 pub mod fault;
-#[cfg(test)]
-mod fit_tests;
 pub mod law;
 mod lists;
 mod pieces;
-#[cfg(test)]
-mod tests;
 mod text;
 
 pub use canonical::print;

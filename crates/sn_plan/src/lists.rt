@@ -4,16 +4,16 @@ ghost use Rattle.sn_text_rules.specs.declared.Flaw.TheVariants.{Expected};
 ghost use Rattle.sn_text_rules.specs.Rules.{kept};
 ghost use Rattle.sn_text_rules.specs.Words.{is_symbol, sign, number_in, full, ◌▸◌};
 ghost use Rattle.sn_text.specs.Lexing.{left};
-ghost use Rattle.sn_text_read.specs.Reading.{Reads};
+ghost use Rattle.sn_text.specs.Reading.{Reads};
 ghost use Rattle.sn_plan_grammar.specs.Grammar.{numbers};
 ghost use Rattle.sn_plan_grammar.proofs.Goods.{numbers_alike};
 
 use crate::short::Short;
 use sn_base::seq::Seq;
+use sn_text::list::{Items, further};
 use sn_text::place::Lexer;
-use sn_text_read::list::{Items, further};
-use sn_text_read::stop::Stop;
-use sn_text_read::words::{next_is_symbol, number, symbol};
+use sn_text::stop::Stop;
+use sn_text::words::{next_is_symbol, number, symbol};
 use sn_text_rules::Flaw;
 use std::alloc::Global;
 
@@ -40,7 +40,7 @@ fn next_number<'a>(at: Lexer<'a>, low: u32, high: u32) -> Result<(u32, Lexer<'a>
     Ok((number, rest))
 }
 
-/// Why no further item may follow so many.
+/// Why no further item may follow this many.
 pub(crate) fn full_at(count: usize, limit: usize) -> Option<Flaw>
     ensures { result ≡ if nat_le limit count then Some Expected else None }
 {
@@ -51,7 +51,7 @@ pub(crate) fn full_at(count: usize, limit: usize) -> Option<Flaw>
     }
 }
 
-/// The numbers of a list behind its first one: at most so many in all, each in a range.
+/// The numbers of a list after its first one: at most this many in all, each in a range.
 #[derive(Clone, Copy)]
 struct NumberItems {
     limit: usize,
@@ -103,7 +103,7 @@ fn all<'a>(
     further(alloc, list, numbers, rest)
 }
 
-/// At most so many numbers with commas between them, each from `low` to `high`, and the place behind them.
+/// At most this many numbers with commas between them, each from `low` to `high`, and the place after them.
 #[tactic(auto, using(sn_plan_grammar::proofs::Counts::few_read))]
 pub(crate) fn numbers<'a>(
     alloc: Global,

@@ -4,7 +4,7 @@ ghost use Rattle.sn_text_rules.specs.declared.Flaw.TheVariants.{Expected};
 ghost use Rattle.sn_text_rules.specs.Rules.{kept};
 ghost use Rattle.sn_text_rules.specs.Words.{is_word, full};
 ghost use Rattle.sn_text.specs.Lexing.{left};
-ghost use Rattle.sn_text_read.specs.Reading.{Reads};
+ghost use Rattle.sn_text.specs.Reading.{Reads};
 ghost use Rattle.sn_plan_grammar.specs.Grammar.{both_rule, sizes_rule, piece_rule, pieces_rule};
 ghost use Rattle.sn_plan_grammar.proofs.Goods.{pieces_alike};
 
@@ -12,10 +12,10 @@ use crate::lists::{full_at, numbers, small_number};
 use crate::plan::Piece;
 use crate::short::Short;
 use sn_base::seq::Seq;
+use sn_text::list::{Items, further};
 use sn_text::place::Lexer;
-use sn_text_read::list::{Items, further};
-use sn_text_read::stop::Stop;
-use sn_text_read::words::{next_is_word, symbol, word};
+use sn_text::stop::Stop;
+use sn_text::words::{next_is_word, symbol, word};
 use sn_text_rules::Flaw;
 use std::alloc::Global;
 
@@ -42,7 +42,7 @@ fn none(alloc: Global) -> Short
     }
 }
 
-#[tactic(auto, unfolding(sn_plan_grammar::specs::Grammar::sizes_rule), using(sn_text_read::proofs::Tokens::there, sn_text_read::proofs::Tokens::not_there))]
+#[tactic(auto, unfolding(sn_plan_grammar::specs::Grammar::sizes_rule), using(sn_text::proofs::Tokens::there, sn_text::proofs::Tokens::not_there))]
 fn sizes<'a>(alloc: Global, at: Lexer<'a>) -> Result<((Short, Short), Lexer<'a>), Stop<'a>>
     ensures { Reads result (sizes_rule.read kept (left at.entry)) }
 {
@@ -107,7 +107,7 @@ impl Items for PieceItems {
     }
 }
 
-/// The pieces of an entry, and the place behind them.
+/// The pieces of an entry, and the place after them.
 #[tactic(auto, unfolding(sn_plan_grammar::specs::Grammar::pieces_rule))]
 pub(crate) fn pieces<'a>(alloc: Global, at: Lexer<'a>) -> Result<(Seq<Piece>, Lexer<'a>), Stop<'a>>
     ensures { Reads result (pieces_rule.read kept (left at.entry)) }

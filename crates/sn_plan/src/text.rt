@@ -14,8 +14,8 @@ use crate::fault::PlanFault;
 use crate::plan::Plan;
 use sn_text::place::{Lexer, Piece};
 use sn_text::scan::scan;
-use sn_text_read::stop::Stop;
-use sn_text_read::words::{is_the_word, wrong_of};
+use sn_text::stop::Stop;
+use sn_text::words::{is_the_word, wrong_of};
 use sn_text_rules::Flaw;
 use std::alloc::Global;
 
@@ -64,7 +64,7 @@ fn fault(flaw: Flaw, line: u32) -> PlanFault
 {
     match flaw {
         Flaw::Lex => PlanFault::Lex { line },
-        // No other fault is told by a plan text: a name, number or list past its limit is one that can't stand there.
+        // No other fault is reported of a plan text: a name, number or list past its limit is one that can't stand there.
         _ => PlanFault::Expected { line },
     }
 }
@@ -92,7 +92,7 @@ fn answer(stop: Stop<'_>) -> PlanFault
 /// at. The text has at most 2^30 bytes.
 ///
 /// # Errors
-/// `Memory` where memory runs out, and else what is wrong with the first token that goes on no plan text.
+/// `Memory` where memory runs out, and else what is wrong with the first token with which no plan text goes on.
 pub fn parse(alloc: Global, text: &[u8]) -> Result<(Plan, u64), PlanFault>
     requires { length text.now ≤ 2 ^ 30 }
     // What is read is what the text stands for.

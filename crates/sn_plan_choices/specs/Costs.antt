@@ -1,3 +1,4 @@
+-- serves proofs
 -- The entries of a cost table.
 use Rattle.std.specs.Prelude.{◌≡◌, ℕ, ◌+◌, ◌*◌, ◌<◌, ◌≤◌, length, slice_index, ◌≢◌}
 use Rattle.sn_plan_choices.specs.declared.costs.CostTable.{CostTable}
@@ -7,7 +8,7 @@ use Rattle.sn_plan_choices.specs.Places.{place_of}
 abbrev pub entry_in : CostTable → ℕ → ℕ → ℕ → ℕ → ℕ
 entry_in c q prefix b option = slice_index c.counts.items (place_of q prefix b option)
 
--- a table has the places of so many queries
+-- a table has the places of this many queries
 abbrev pub HasPlaces : CostTable → ℕ → Type 0
 HasPlaces c queries = queries * 8192 ≤ length c.counts.items
 

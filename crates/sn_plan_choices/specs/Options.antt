@@ -1,3 +1,4 @@
+-- to be believed
 -- The paths of a query, and the options of a piece.
 use Rattle.std.specs.Prelude.{ℕ, zero, suc, ◌+◌, ◌-◌, ◌^◌, ◌/◌, ◌%◌, List, [], ◌∷◌, ◌++◌, map, take, drop, length, replicate, Bool, ◌==◌, slice_index, slice_get, unwrap_or, if◌then◌else◌}
 use Rattle.std.specs.List.{flat_map, range_with_len}
@@ -26,7 +27,7 @@ paths levels = 2 ^ (length levels - 1)
 abbrev pub Setting : Type 0
 Setting = ℕ × List ℕ
 
--- all lists of so many sizes, in lexicographic order
+-- all lists of this many sizes, in lexicographic order
 abbrev pub size_lists : List ℕ → ℕ → List (List ℕ)
 size_lists sizes zero = [] ∷ []
 size_lists sizes (suc n) = flat_map (λ size. map (λ rest. size ∷ rest) (size_lists sizes n)) sizes
@@ -40,7 +41,7 @@ option_at s b x = unwrap_or (slice_get (options s b) x) (0, [])
 
 -- ---- the tables of a piece before its registers have stages
 
--- a table without state, or a register of so many bits
+-- a table without state, or a register of this many bits
 pub data Slot : Type 0 where
   plain : Slot
   keyed : ℕ → Slot

@@ -1,3 +1,4 @@
+-- serves proofs
 -- Where the entries of a cost table stand.
 use Rattle.std.specs.Prelude.{ℕ, ◌+◌, ◌*◌}
 

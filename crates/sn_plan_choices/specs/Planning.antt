@@ -1,3 +1,4 @@
+-- serves proofs
 -- Planning as tasks: the path of each query, the option of each piece, and the stage of each register.
 use Rattle.std.specs.Prelude.{ℕ, ◌+◌, ◌-◌, ◌^◌, ◌/◌, ◌%◌, ◌==◌, List, [], ◌∷◌, ◌++◌, map, take, length, Bool, true, false, ◌||◌, nat_lt, if◌then◌else◌}
 use Rattle.std.specs.List.{flat_map, range_with_len, sum_by, list_any}
@@ -47,7 +48,7 @@ is_too_much s taken = list_any is_past taken || (list_any (is_full s taken) (ran
 
 -- ---- the tasks
 
--- the stage of a register of so many bits, which is at least this one, and the tables of its piece behind it
+-- the stage of a register of this many bits, which is at least this one, and the tables of its piece after it
 pub record StageTask : Type 0 where
   pub least : ℕ
   pub bits : ℕ
@@ -76,7 +77,7 @@ next_stage least [] = []
 next_stage least (plain ∷ slots) = next_stage (least + 1) slots
 next_stage least (keyed bits ∷ slots) = record { least = least; bits = bits; behind = slots } ∷ []
 
--- behind the last register no table may be past the last stage
+-- after the last register no table may be past the last stage
 abbrev pub past_by : ℕ → ℕ → List Slot → List Taken
 past_by stages least [] = if nat_lt stages least then past_stages ∷ [] else []
 past_by stages least (plain ∷ slots) = past_by stages (least + 1) slots

@@ -1,3 +1,4 @@
+-- serves proofs
 -- Options as the code has them.
 use Rattle.std.specs.Prelude.{ℕ, ◌≤◌, [], ◌∷◌, ◌++◌, length, take}
 use Rattle.sn_types.specs.declared.typed_query.TypedBranch.{TypedBranch}

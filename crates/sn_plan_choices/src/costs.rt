@@ -37,7 +37,7 @@ impl CostTable {
     /// more than 208 options.
     ///
     /// # Errors
-    /// Want of memory.
+    /// Out of memory.
     pub fn make(t: &Typed, _s: &Switch) -> Result<CostTable, Memory>
         ensures places { IfOk result (λ table. HasPlaces table (length t.now.queries)) }
         ensures zero { IfOk result (λ table. (q prefix b option : ℕ) → entry_in table q prefix b option ≡ 0) }

@@ -22,7 +22,7 @@ pub struct Setting {
     pub sizes: [u32; 2],
 }
 
-/// How many lists of so many sizes there are.
+/// The number of lists of this many sizes.
 fn ways(sizes: &[u32], count: usize) -> u32
     requires sizes { length sizes.now ≤ 4 }
     requires count { count ≤ 2 }
@@ -50,7 +50,7 @@ fn unused(cut: u32) -> Setting
     }
 }
 
-/// The option of a cut with list n of so many sizes.
+/// The option of a cut with list n of this many sizes.
 fn setting_at(sizes: &[u32], cut: u32, count: usize, n: u32) -> Setting
     requires count { count ≤ 2 }
     requires n { n < length (size_lists sizes.now count) }

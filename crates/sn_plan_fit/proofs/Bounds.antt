@@ -267,7 +267,7 @@ of_branch [] i h = tt
 of_branch (b ∷ bs) zero h = h.0
 of_branch (b ∷ bs) (suc i) h = of_branch bs i h.1
 
--- sums over so many pieces
+-- sums over this many pieces
 record AreLittle (pieces : ℕ) (registers : List Register) (metadata : ℕ) : Type 0 where
   few : length registers ≤ 48 * pieces
   light : AllByRecursion IsLight registers

@@ -1,4 +1,4 @@
--- The last stage that the tables of a piece need, by the least stage behind them.
+-- The last stage that the tables of a piece need, by the least stage after them.
 use Rattle.std.proofs.Common.{◌≡◌, ℕ, zero, suc, ◌+◌, ◌*◌, ◌-◌, ◌≤◌, ◌<◌, List, [], ◌∷◌, ◌++◌, map, take, drop, length, Bool, true, false, not, Option, Some, None, is_some, refl, ap, sym, ◌∙◌, arith, unwrap_or, nat_lt, cond}
 use Rattle.std.specs.Prelude.{◌==◌}
 use Rattle.std.proofs.Math.Seq.{take-nil, drop-nil}
@@ -12,7 +12,7 @@ use Rattle.sn_plan_fit.specs.Tables.{op_tables, is_first, membership, end_of, pa
 use Rattle.sn_plan_fit.specs.Pieces.{tables_misfit}
 use Rattle.sn_plan_fit.specs.Gaps.{least_behind, end_misfit}
 
--- what the end says of the least stage behind the tables
+-- what the end says of the least stage after the tables
 abbrev Behind : ℕ → List Table → Option ℕ → ℕ → Type 0
 Behind least ts None n = n ≡ least + length ts
 Behind least ts (Some e) n = n ≡ e + 1

@@ -62,7 +62,7 @@ shape_none qs es =
     (both (entries_are 0 qs es) (pieces_none (λ path b p. cut_misfit b p) (λ path b p. p.cut ≤ b.max_cut) cuts_none qs es)) in
     (λ e. let k = parts.0 e in record { paths = k.0; cuts = k.1 }, λ h. parts.1 (h.paths, h.cuts))
 
--- an answer is Ok exactly where no misfit is told
+-- an answer is Ok exactly where no misfit is reported
 ok_is : (r : Result (Unit {0}) Misfit) → IsOk r ↔ (told r ≡ None)
 ok_is (Ok u) = (λ h. refl, λ e. refl)
 ok_is (Err m) = (λ h. cc, λ e. cc)

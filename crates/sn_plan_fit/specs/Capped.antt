@@ -1,3 +1,4 @@
+-- serves proofs
 -- Sums that are cut off at 2^64 - 1, as the code has them before they are known to be small.
 use Rattle.std.specs.Prelude.{ℕ, ◌^◌, ◌-◌, ◌<◌, ◌≤◌, List, min}
 use Rattle.sn_switch.specs.declared.switch.Switch.{Switch}

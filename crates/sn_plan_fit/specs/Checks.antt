@@ -1,3 +1,4 @@
+-- to be believed
 -- Checks one after another.
 use Rattle.std.specs.Prelude.{ℕ, Bool, Option, Some, None, Result, Ok, Err, if◌then◌else◌}
 use Rattle.sn_plan_fit.specs.declared.misfit.Misfit.{Misfit}
@@ -7,7 +8,7 @@ use Rattle.sn_plan_fit.specs.declared.misfit.MisfitKind.{MisfitKind}
 abbrev pub failing : Bool → MisfitKind → ℕ → ℕ → Option Misfit
 failing fails kind want got = if fails then Some (record { kind = kind; want = want; got = got }) else None
 
--- the first check that fails, of one and those behind it
+-- the first check that fails, of one and those after it
 abbrev pub or_else : Option Misfit → Option Misfit → Option Misfit
 or_else None behind = behind
 or_else (Some misfit) behind = Some misfit

@@ -1,3 +1,4 @@
+-- to be believed
 -- Which plans fit a switch.
 use Rattle.std.specs.Prelude.{◌≡◌, ℕ, ◌*◌, ◌<◌, ◌≤◌, List, [], ◌∷◌, map, length, true, Option, Some, None}
 use Rattle.std.specs.List.{AllByRecursion}

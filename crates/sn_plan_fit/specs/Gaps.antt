@@ -1,3 +1,4 @@
+-- serves proofs
 -- The least stage that the next table may have, as the tables of a piece are gone through.
 use Rattle.std.specs.Prelude.{ℕ, ◌+◌, ◌-◌, List, [], ◌∷◌, Bool, nat_lt, Option, Some, Result, Ok, Err, if◌then◌else◌}
 use Rattle.sn_plan_fit.specs.declared.misfit.Misfit.{Misfit}
@@ -6,18 +7,18 @@ use Rattle.sn_plan_fit.specs.Checks.{failing}
 use Rattle.sn_plan_fit.specs.Placing.{Table, stateless, register}
 use Rattle.sn_plan_fit.specs.Tables.{order_misfit}
 
--- behind these tables, of which the first may stand in stage `least`
+-- after these tables, of which the first may stand in stage `least`
 abbrev pub least_behind : ℕ → List Table → ℕ
 least_behind least [] = least
 least_behind least (stateless ∷ ts) = least_behind (least + 1) ts
 least_behind least (register s ∷ ts) = least_behind (s + 1) ts
 
--- the order of the tables behind some, whose answer this is
+-- the order of the tables after some, whose answer this is
 abbrev pub goes_on : Result ℕ Misfit → List Table → Option Misfit
 goes_on (Ok least) behind = order_misfit least behind
 goes_on (Err misfit) behind = Some misfit
 
--- the last stage is passed, by the least stage behind all tables
+-- the last stage is passed, by the least stage after all tables
 abbrev pub end_misfit : ℕ → Bool → ℕ → Option Misfit
 end_misfit stages registers least =
     if registers then failing (nat_lt stages least) Stage (stages - 1) (least - 1) else failing (nat_lt stages least) Stage stages least

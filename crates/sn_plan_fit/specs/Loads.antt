@@ -1,3 +1,4 @@
+-- serves proofs
 -- What stands in each stage of a switch.
 use Rattle.std.specs.Prelude.{◌≡◌, ℕ, ◌<◌, List, ◌++◌, Some, length, slice_get}
 use Rattle.sn_plan_fit.specs.declared.loads.Load.{Load}

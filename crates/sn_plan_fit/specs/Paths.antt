@@ -1,3 +1,4 @@
+-- to be believed
 -- Paths of queries and the pieces along them.
 use Rattle.std.specs.Prelude.{ℕ, ◌+◌, List, [], ◌∷◌, Bool, true, false, ◌&&◌, ◌==◌, nat_lt, nat_eq, Option, Some, None, position, unwrap_or, if◌then◌else◌}
 use Rattle.std.specs.List.{list_all, list_any, flat_map}
@@ -24,7 +25,7 @@ rises (n ∷ ns) = rises_from n ns
 abbrev pub is_among : List ℕ → ℕ → Bool
 is_among levels level = list_any (nat_eq level) levels
 
--- the last number, of one that stands before and of those behind it
+-- the last number, of one that stands before and of those after it
 abbrev pub last_from : Option ℕ → List ℕ → Option ℕ
 last_from before [] = before
 last_from before (n ∷ ns) = last_from (Some n) ns

@@ -1,3 +1,4 @@
+-- to be believed
 -- The checks of a plan, in order.
 use Rattle.std.specs.Prelude.{ℕ, zero, suc, ◌+◌, ◌*◌, List, [], ◌∷◌, ◌++◌, take, length, false, not, ◌==◌, nat_lt, slice_get, Option, Some, None}
 use Rattle.sn_plan_grammar.specs.declared.plan.Entry.{Entry}
@@ -40,7 +41,7 @@ abbrev pub strange_size : List ℕ → List ℕ → Option Misfit
 strange_size sizes [] = None
 strange_size sizes (n ∷ ns) = or_else (failing (not (is_among sizes n)) Slots 0 n) (strange_size sizes ns)
 
--- another number of numbers is wanted
+-- another count of numbers is wanted
 abbrev pub count_misfit : MisfitKind → ℕ → ℕ → Option Misfit
 count_misfit kind want got = failing (not (got == want)) kind want got
 
@@ -108,7 +109,7 @@ load_misfit s registers stage =
     or_else (failing (nat_lt s.actions (count_in stage registers)) Actions s.actions (count_in stage registers))
     (failing (nat_lt s.bits (bits_in stage registers)) Bits s.bits (bits_in stage registers))
 
--- stage by stage, so many from this one on
+-- stage by stage, this many from this one on
 abbrev pub loads_misfit : Switch → List Register → ℕ → ℕ → Option Misfit
 loads_misfit s registers stage zero = None
 loads_misfit s registers stage (suc n) = or_else (load_misfit s registers stage) (loads_misfit s registers (stage + 1) n)

@@ -1,3 +1,4 @@
+-- to be believed
 -- Placing the tables of a piece in the stages of a switch.
 use Rattle.std.specs.Prelude.{◌≡◌, ℕ, suc, ◌≤◌, ◌<◌, List, [], ◌∷◌}
 use Rattle.std.specs.List.{AllByRecursion}
@@ -30,7 +31,7 @@ abbrev pub HasPlacing : ℕ → List Table → Type 0
 HasPlacing stages tables = (places : List ℕ) × IsPlacing stages tables places
 
 -- The same by gaps: the tables taken in order, with the least stage that the next one may have. A register's stage isn't below it,
--- and behind the last table it isn't above the number of stages.
+-- and after the last table it isn't above the number of stages.
 abbrev pub HasGaps : ℕ → ℕ → List Table → Type 0
 HasGaps stages least [] = least ≤ stages
 HasGaps stages least (stateless ∷ ts) = HasGaps stages (suc least) ts

@@ -1,3 +1,4 @@
+-- to be believed
 -- The registers of a piece, and the widths of rows.
 use Rattle.std.specs.List.{sum_by}
 use Rattle.std.specs.Prelude.{ℕ, ◌+◌, ◌*◌, List, [], ◌∷◌, ◌++◌, map, filter, take, drop, length, max, Bool, true, false, ◌||◌, ◌==◌, slice_index, slice_get, Option, Some, None, if◌then◌else◌}
@@ -53,11 +54,11 @@ pub record Register : Type 0 where
 abbrev pub in_stage : ℕ → ℕ → Register
 in_stage bits stage = record { stage = stage; bits = bits }
 
--- a register of so many slots, each of a key, a value and one bit
+-- a register of this many slots, each of a key, a value and one bit
 abbrev pub register_bits : ℕ → List Column → TOp → ℕ
 register_bits size columns op = size * (key_bits columns op + value_bits op + 1)
 
--- what an operator takes of so many: all where it is stateful, and else none
+-- what an operator takes of a number of sizes: all where it is stateful, and else none
 abbrev pub taken : TOp → ℕ → ℕ
 taken op n = if is_stateful op then n else 0
 

@@ -1,3 +1,4 @@
+-- to be believed
 -- The tables of a piece, and the first that can't be placed.
 use Rattle.std.specs.Prelude.{ℕ, ◌+◌, ◌-◌, List, [], ◌∷◌, ◌++◌, map, take, drop, length, Bool, true, false, ◌==◌, nat_lt, Option, Some, None, unwrap_or, if◌then◌else◌}
 use Rattle.sn_types.specs.declared.typed_op.TOp.{TOp}
@@ -33,7 +34,7 @@ order_misfit least (register s ∷ ts) = or_else (failing (nat_lt s least) Order
 
 -- ---- the last stage
 
--- the last register's stage plus the number of tables behind it
+-- the last register's stage plus the number of tables after it
 abbrev pub end_of : List Table → Option ℕ
 end_of [] = None
 end_of (stateless ∷ ts) = end_of ts

@@ -56,7 +56,7 @@ impl Loads {
         }
     }
 
-    /// Adds a register of so many bits to a stage; bits past 2^64 - 1 are given as that number.
+    /// Adds a register of this many bits to a stage; bits past 2^64 - 1 are given as that number.
     pub fn add(&mut self, stage: u32, bits: u64)
         ensures { (all : ℕ) → bits ≡ capped all → Adds self.old self.new (in_stage all stage ∷ []) }
     {
@@ -89,7 +89,7 @@ pub(crate) fn schema_at(schemas: &[Schema], n: usize) -> Schema
     }
 }
 
-/// Adds a chain of registers, each of so many bits.
+/// Adds a chain of registers, each of this many bits.
 fn add_chain(loads: &mut Loads, bits: u64, stages: &[u32])
     ensures { (all : ℕ) → bits ≡ capped all → Adds loads.old loads.new (map (in_stage all) stages.now) }
 {
@@ -98,7 +98,7 @@ fn add_chain(loads: &mut Loads, bits: u64, stages: &[u32])
     }
 }
 
-/// The first so many numbers, or all of them, and those behind.
+/// The first n numbers, or all of them, and the rest.
 fn split<'a>(numbers: &'a [u32], count: usize) -> (&'a [u32], &'a [u32])
     ensures front { result.0.now ≡ take count numbers.now }
     ensures behind { result.1.now ≡ drop count numbers.now }
@@ -115,7 +115,7 @@ fn first(numbers: &[u32]) -> u32
     }
 }
 
-/// What an operator takes of so many: all where it is stateful, and else none.
+/// What an operator takes of a number of sizes: all where it is stateful, and else none.
 fn taken(op: &TOp, count: usize) -> usize
     ensures { result ≡ taken op.now count }
 {

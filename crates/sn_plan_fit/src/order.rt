@@ -10,7 +10,7 @@ use crate::misfit::{Misfit, MisfitKind};
 use sn_types::cuts::is_stateful;
 use sn_types::typed_op::TOp;
 
-/// The least stage behind a chain of registers, of which the first may stand in stage `least`.
+/// The least stage after a chain of registers, of which the first may stand in stage `least`.
 fn behind_chain(least: u64, stages: &[u32]) -> Result<u64, Misfit>
     ensures goes_on { (behind : List Table) → order_misfit least (map register stages.now ++ behind) ≡ goes_on result behind }
     ensures least { (behind : List Table) → IfOk result (λ n. least_behind least (map register stages.now ++ behind) ≡ least_behind n behind) }
@@ -31,7 +31,7 @@ fn behind_chain(least: u64, stages: &[u32]) -> Result<u64, Misfit>
     Ok(least)
 }
 
-/// The least stage behind the tables of operators, of which the first may stand in stage `least`.
+/// The least stage after the tables of operators, of which the first may stand in stage `least`.
 pub(crate) fn order(least: u64, depth: usize, ops: &[TOp], stages: &[u32]) -> Result<u64, Misfit>
     requires few { length ops.now ≤ 2 ^ 32 }
     requires low { least ≤ 1 }
@@ -52,7 +52,7 @@ pub(crate) fn order(least: u64, depth: usize, ops: &[TOp], stages: &[u32]) -> Re
     Ok(least)
 }
 
-/// Whether the last stage is passed, by the least stage behind all tables.
+/// Whether the last stage is passed, by the least stage after all tables.
 pub(crate) fn end(stages: u32, registers: bool, least: u64) -> Result<(), Misfit>
     ensures { told result ≡ end_misfit stages registers least }
 {

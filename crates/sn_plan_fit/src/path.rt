@@ -86,7 +86,7 @@ fn is_path(levels: &[u32], path: &[u32]) -> bool
     rises(path) && are_among(levels, path) && same_level(last(path), last(levels))
 }
 
-/// The pieces behind those of a level, if each branch has its piece.
+/// The pieces after those of a level, if each branch has its piece.
 fn behind_level<'a>(
     level: u32,
     branches: &[TypedBranch],

@@ -99,7 +99,7 @@ fn is_first(level: u32, path: &[u32]) -> bool
     }
 }
 
-/// The least stage behind the membership table, if there is one.
+/// The least stage after the membership table, if there is one.
 fn least_first(level: u32, path: &[u32]) -> u64
     ensures order { (behind : List Table) → order_misfit 0 (membership level path.now ++ behind) ≡ order_misfit result behind }
     ensures least { (behind : List Table) → least_behind 0 (membership level path.now ++ behind) ≡ least_behind result behind }

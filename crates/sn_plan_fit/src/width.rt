@@ -70,7 +70,7 @@ fn value_bits(op: &TOp) -> u64
     }
 }
 
-/// The bits of a register of a stateful operator with so many slots, to which rows of these columns come: each slot holds a key,
+/// The bits of a register of a stateful operator with this many slots, to which rows of these columns come: each slot holds a key,
 /// a value and one bit. 2^64 - 1 where there are more.
 #[tactic(auto, using(crate::proofs::Caps::register_capped))]
 pub fn register_bits(size: u32, columns: &Schema, op: &TOp) -> u64

@@ -33,7 +33,7 @@ pub numbers_good : (limit low high : ℕ) → low ≤ high → Good (numbers lim
 unfolding numbers
 numbers_good limit low high le = series_good (numbers_alike limit low high le) (record { good = number_in_good low high le; marked = λ t us e. refl; bares = λ a. refl })
 
--- what may stand behind numbers: no comma
+-- what may stand after numbers: no comma
 pub numbers_end : (limit low high : ℕ) (t : Tok) (us : List Tok) → is_symbol 3 t.face ≡ false → (numbers limit low high).follow (t ∷ us) ≡ true
 unfolding numbers
 numbers_end limit low high t us e = rw e refl

@@ -1,3 +1,4 @@
+-- to be believed
 -- The grammar of the plan text, production by production. The production stands above each rule.
 use Rattle.std.specs.Prelude.{ℕ, Bool, true, false, List, [], ◌∷◌, length, Option, Some, None, nat_lt, ◌==◌, ◌||◌, codes, if◌then◌else◌}
 use Rattle.sn_text_rules.specs.declared.Flaw.{Flaw}
@@ -18,7 +19,7 @@ name_test w = if (length w == 0) || nat_lt 32 (length w) then Some Expected else
 abbrev pub name : Rule (List ℕ)
 name = word_by name_test
 
--- NUM { "," NUM }, so many at most
+-- NUM { "," NUM }, this many at most
 unfoldable pub numbers : ℕ → ℕ → ℕ → Rule (List ℕ)
 numbers limit low high = series (number_in low high) (is_symbol 3) (full limit Expected) (λ seen. sign 3 ▸ number_in low high)
 

@@ -1,4 +1,4 @@
-//! What a plan text holds, and its grammar with its laws.
+//! What a plan text holds, its grammar with its laws, and the grammar of the tree text after it.
 #![tactic(auto)]
 
 pub mod plan;

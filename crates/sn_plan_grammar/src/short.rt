@@ -44,18 +44,3 @@ impl Short {
         self.held.as_slice()
     }
 }
-
-#[cfg(test)]
-mod tests {
-    use super::*;
-
-    #[test]
-    fn holds_eight_numbers(rt: HostRuntime) {
-        let numbers = [1, 2, 3, 4, 5, 6, 7, 8, 9];
-        assert!(rt; Short::new(rt.alloc(), &numbers).is_none());
-        match Short::new(rt.alloc(), &numbers[..8]) {
-            None => assert!(rt; false),
-            Some(short) => assert_eq!(rt; short.as_slice(), &numbers[..8]),
-        }
-    }
-}

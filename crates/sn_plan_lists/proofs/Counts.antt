@@ -74,7 +74,7 @@ have_pieces s (q ∷ qs) (e ∷ es) h is fits =
       have_pieces s qs es h.1 is.1 fits.1,
     )
 
--- the pieces of the entry at hand
+-- the pieces of the current entry
 pub here_pieces : (items qs : List TypedQuery) (es after : List Entry) (i : ℕ) (q : TypedQuery) (e : Entry) → items ≡ qs → i < length items → q ≡ get_or items i q → es ≡ e ∷ after
     → HavePieces (drop i qs) es → HasPieces q e
 here_pieces items qs es after i q e same lt here split h =

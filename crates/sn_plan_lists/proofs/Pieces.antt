@@ -126,7 +126,7 @@ module _ (s : Switch) (entry : ℕ → ℕ → ℕ → ℕ → ℕ) (by_gaps : B
 
   -- ---- choices name pieces
 
-  -- choices split behind those of a piece, which fits
+  -- choices split after those of a piece, which fits
   record PieceSplit (q : TypedQuery) (path : List ℕ) (seat : Seat) (ts : List Task) (cs : List ℕ) : Type 0 where
     piece : Piece
     rest : List ℕ
@@ -166,7 +166,7 @@ module _ (s : Switch) (entry : ℕ → ℕ → ℕ → ℕ → ℕ) (by_gaps : B
         past = more.past;
       }
 
-  -- choices split behind those of pieces at these seats, which fit
+  -- choices split after those of pieces at these seats, which fit
   pub record PiecesSplit (q : TypedQuery) (path : List ℕ) (seats : List Seat) (ts : List Task) (cs : List ℕ) : Type 0 where
     pub pieces : List Piece
     pub rest : List ℕ

@@ -67,7 +67,7 @@ distinct_two (x ∷ xs) ys h k apart = (
   distinct_two xs ys h.1 k (λ y a b. apart y (inr a) b),
 )
 
--- lists that tell what they were made of
+-- lists that show what they were made of
 pub distinct_flat : {A B : Type 0} (f : A → List B) (key : B → A) → ((x : A) (y : B) → IsOneOf y (f x) → key y ≡ x) → ((x : A) → Distinct (f x)) → (xs : List A) → Distinct xs → Distinct (flat_map f xs)
 distinct_flat f key keyed each [] h = tt
 distinct_flat f key keyed each (x ∷ xs) h =
@@ -101,7 +101,7 @@ distinct_above x (y ∷ xs) h = ((λ e. let k = h.0 in omega arith), distinct_ab
 
 -- ---- places
 
--- a test tells whether two are the same
+-- a test says whether two are the same
 pub record Tells {A : Type 0} (test : A → A → Bool) : Type 0 where
   pub finds : (x : A) → test x x ≡ true
   pub only : (x y : A) → test x y ≡ true → x ≡ y

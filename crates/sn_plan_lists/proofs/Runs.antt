@@ -51,7 +51,7 @@ module _ {T U : Type 0} (tasks : Tasks T U) where
   taken_by (t ∷ ts) (x ∷ xs) = tasks.takes t x ++ taken_by (tasks.leaves t x ++ ts) xs
 
 module _ {T U : Type 0} (tasks : Tasks T U) (chooses : (t : T) → tasks.choices t ≡ Complete → ⊥) (first : List T) where
-  -- behind choices that do all tasks nothing is left
+  -- after choices that do all tasks nothing is left
   ran : (left : List T) (spent : ℕ) (taken : List U) (cs : List ℕ) → Does tasks left cs
       → fold (agenda_reader tasks first).step (record { left = left; spent = spent; taken = taken }) cs
       ≡ record { left = []; spent = spent + spent_by tasks left cs; taken = taken ++ taken_by tasks left cs }

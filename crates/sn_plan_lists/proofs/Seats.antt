@@ -128,7 +128,7 @@ module _ (n : ℕ) (bs : List TypedBranch) where
   other_level : (a : Bool) (level l : ℕ) → l < level → (a && (level == l)) ≡ false
   other_level a level l h = ap (λ b. a && b) (let e : (level == l) ≡ false = grind (arith, nat_tests) in e) ∙ and_false a
 
-  -- a piece behind the first level of a path
+  -- a piece after the first level of a path
   behind_task : (i before l : ℕ) (path rest : List ℕ) → AllByRecursion (λ k. l < k) rest → (seat : Seat) → l < seat.level
       → task_from (i + 1) (before + 2 ^ i) rest path seat ≡ task_from i before (l ∷ rest) (l ∷ path) seat
   behind_task i before l path rest h seat k =

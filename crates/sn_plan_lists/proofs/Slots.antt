@@ -142,7 +142,7 @@ module _ (s : Switch) (entry : ℕ → ℕ → ℕ → ℕ → ℕ) where
             ∙ next.metadata;
       }
 
-  -- choices split behind the stages of a piece
+  -- choices split after the stages of a piece
   pub record StageSplit (least : ℕ) (slots : List Slot) (ts : List Task) (cs : List ℕ) : Type 0 where
     pub stages : List ℕ
     pub rest : List ℕ

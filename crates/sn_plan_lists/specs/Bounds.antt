@@ -1,3 +1,4 @@
+-- serves proofs
 -- What the queries of a typed file keep.
 use Rattle.std.specs.Prelude.{◌≤◌, length}
 use Rattle.std.specs.List.{AllByRecursion}

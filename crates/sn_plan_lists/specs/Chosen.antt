@@ -1,3 +1,4 @@
+-- to be believed
 -- The plan that a complete list of choices names, and the choices of a plan.
 use Rattle.std.specs.Prelude.{ℕ, ◌+◌, ◌*◌, ◌≤◌, List, [], ◌∷◌, ◌++◌, take, drop, length, slice_index}
 use Rattle.std.specs.List.{flat_map}
@@ -47,7 +48,7 @@ first_option s seat choices = option_at s seat.branch (slice_index choices 0)
 abbrev pub piece_at : Switch → Seat → List ℕ → Piece
 piece_at s seat choices = piece_with seat (first_option s seat choices) (take (registers_with s seat.branch (first_option s seat choices)) (drop 1 choices))
 
--- the choices behind those of a piece
+-- the choices after those of a piece
 abbrev pub behind_piece : Switch → Seat → List ℕ → List ℕ
 behind_piece s seat choices = drop (registers_with s seat.branch (first_option s seat choices)) (drop 1 choices)
 

@@ -1,3 +1,4 @@
+-- to be believed
 -- The cost of a plan: the sum of the entries of its pieces.
 use Rattle.std.specs.Prelude.{ℕ, ◌+◌, ◌*◌, List, [], ◌∷◌, Bool, ◌&&◌, nat_le, if◌then◌else◌}
 use Rattle.std.specs.List.{sum_by}

@@ -1,3 +1,4 @@
+-- to be believed
 -- The number of a path and of an option, as they are chosen.
 use Rattle.std.specs.Prelude.{ℕ, ◌+◌, ◌*◌, List, [], ◌∷◌, Bool, ◌&&◌, ◌==◌, nat_eq, if◌then◌else◌}
 use Rattle.std.specs.Cmp.Lexicographic.{pointwise}

@@ -1,3 +1,4 @@
+-- serves proofs
 -- The plans that fit are those that complete lists of choices name.
 use Rattle.std.specs.Prelude.{◌≡◌, ℕ, List}
 use Rattle.std.specs.List.{AllByRecursion}

@@ -89,7 +89,7 @@ fn choices_along(t: &Typed, s: &Switch, plan: &Plan) -> Result<Seq<u32>, Memory>
 /// The choices of a plan that fits: the one complete list that names it. The switch is one that a text can stand for.
 ///
 /// # Errors
-/// Want of memory.
+/// Out of memory.
 pub fn choices_of(t: &Typed, s: &Switch, plan: &Plan) -> Result<Seq<u32>, Memory>
     requires switch { IsSwitch s.now }
     requires fits { Fits t.now.queries s.now plan.now.entries }

@@ -7,5 +7,3 @@ mod front;
 pub mod law;
 pub mod naming;
 mod numbers;
-#[cfg(test)]
-mod tests;

@@ -47,7 +47,7 @@ fn sizes_of(alloc: Global, option: Setting) -> Short
     short(alloc, &option.sizes[..option.used as usize])
 }
 
-/// The piece of a branch at a level that choices name, and the choices behind it.
+/// The piece of a branch at a level that choices name, and the choices after it.
 fn piece_at<'a>(
     alloc: Global,
     s: &Switch,
@@ -75,7 +75,7 @@ fn piece_at<'a>(
     (piece, rest)
 }
 
-/// Adds the pieces of a level that choices name, and gives the choices behind them.
+/// Adds the pieces of a level that choices name, and gives the choices after them.
 fn add_level<'a>(
     alloc: Global,
     s: &Switch,
@@ -101,7 +101,7 @@ fn add_level<'a>(
     Ok(rest)
 }
 
-/// The pieces along a path that choices name, and the choices behind them.
+/// The pieces along a path that choices name, and the choices after them.
 fn path_pieces<'a>(
     alloc: Global,
     s: &Switch,
@@ -123,7 +123,7 @@ fn path_pieces<'a>(
     Ok((pieces, rest))
 }
 
-/// The entry of a query that choices name, and the choices behind it.
+/// The entry of a query that choices name, and the choices after it.
 fn entry_at<'a>(
     alloc: Global,
     s: &Switch,
@@ -166,7 +166,7 @@ fn entries_at(t: &Typed, s: &Switch, choices: &[u32]) -> Result<Plan, Memory>
 /// switch is one that a text can stand for. Of a list that isn't complete, choices that are missing count as 0 or as no stages.
 ///
 /// # Errors
-/// Want of memory.
+/// Out of memory.
 pub fn plan_of(t: &Typed, s: &Switch, choices: &[u32]) -> Result<Plan, Memory>
     requires { IsSwitch s.now }
     ensures plan { IfOk result (λ plan. plan.entries ≡ plan_at s.now t.now.queries choices.now) }

@@ -36,7 +36,7 @@ module _ {S : Type 0} (r : Reader S) (depth : ℕ) where
   pub partial_follows : (t : List ℕ) → IsPartial (space_of r depth) t → Follows r r.start t
   partial_follows t part = let k = follows_from [] t part in subst (Follows r r.start) (sym k.1) k.2
 
-  -- what each choice keeps holds behind all of them
+  -- what each choice keeps holds after all of them
   pub kept_along : (Holds : S → Type 0) → ((a : S) (x : ℕ) → Holds a → MayFollow (r.next a) x → Holds (r.step a x)) → (a : S) (xs : List ℕ) → Holds a → Follows r a xs
       → Holds (fold r.step a xs)
   kept_along Holds keeps a [] h f = h

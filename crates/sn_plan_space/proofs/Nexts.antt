@@ -11,7 +11,7 @@ use Rattle.sn_plan_space.specs.declared.waiting.Waiting.{Waiting}
 use Rattle.sn_plan_space.specs.Known.{known_slot}
 use Rattle.sn_plan_space.specs.Positions.{IsNext, WaitsFor}
 
--- the tables that are left, behind some without state
+-- the tables that are left, after some without state
 pub record Left (stages least at : ℕ) (rest : List known.Slot) (tables : List Slot) : Type 0 where
   pub some : List Slot
   pub same : rest ≡ map known_slot some

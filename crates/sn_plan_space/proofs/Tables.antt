@@ -30,7 +30,7 @@ chain_more slots x d k h =
 pub chain_done : {A : Type 0} (slots : List A) (x : A) (d k : ℕ) → d ≤ k → slots ≡ slots ++ replicate (d - k) x
 chain_done slots x d k h = let e : 0 ≡ d - k = omega arith in sym (append-nil slots) ∙ ap (λ n. slots ++ replicate n x) e
 
--- the tables of the first operator, and of those behind it
+-- the tables of the first operator, and of those after it
 op_first : (d : ℕ) (schemas : List (List Column)) (n : ℕ) (op : TOp) (ops : List TOp) (sizes : List ℕ)
     → op_slots d schemas n (op ∷ ops) sizes ≡ op_table d (schema_at schemas n) op (slice_index sizes 0) ++ op_slots d schemas (n + 1) ops (sizes_behind op sizes)
 op_first d schemas n op ops sizes =

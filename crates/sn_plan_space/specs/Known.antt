@@ -1,3 +1,4 @@
+-- serves proofs
 -- What is known of the tasks of planning before any choice is made.
 use Rattle.std.specs.Prelude.{ℕ, ◌+◌, List, [], ◌∷◌, map, take, false}
 use Rattle.std.specs.List.{range_with_len, sum_by}

@@ -1,3 +1,4 @@
+-- serves proofs
 -- The tables of an operator, as they are made one after another.
 use Rattle.std.specs.Prelude.{ℕ, List, [], ◌∷◌, drop, replicate, Bool, true, false, if◌then◌else◌}
 use Rattle.sn_base.specs.declared.column.Column.{Column}
@@ -13,7 +14,7 @@ use Rattle.sn_plan_space.specs.declared.known.PieceAt.{PieceAt}
 abbrev pub op_table : ℕ → List Column → TOp → ℕ → List Slot
 op_table d columns op size = if is_stateful op then replicate d (keyed (register_bits size columns op)) else plain ∷ []
 
--- the sizes behind the one that a stateful operator takes
+-- the sizes after the one that a stateful operator takes
 abbrev pub sizes_behind : TOp → List ℕ → List ℕ
 sizes_behind op sizes = if is_stateful op then drop 1 sizes else sizes
 

@@ -1,3 +1,4 @@
+-- serves proofs
 -- Where a reader of choices stands, and what a choice takes up.
 use Rattle.std.specs.Prelude.{◌≡◌, ℕ, List, [], ◌∷◌, ◌++◌, map, Bool, Option, Some, None}
 use Rattle.std.specs.List.{sum_by, list_any}

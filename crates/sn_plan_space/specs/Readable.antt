@@ -1,3 +1,4 @@
+-- serves proofs
 -- Queries as typing leaves them: few levels, few branches and narrow cuts.
 use Rattle.std.specs.Prelude.{ℕ, ◌<◌, ◌≤◌, List, length, slice_get, unwrap_or}
 use Rattle.sn_types.specs.declared.typed_query.TypedQuery.{TypedQuery}

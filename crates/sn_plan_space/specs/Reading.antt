@@ -1,3 +1,4 @@
+-- serves proofs
 -- Partial plans, read from their front.
 use Rattle.std.specs.Prelude.{ℕ, List, [], ◌∷◌}
 use Rattle.sn_switch.specs.declared.switch.Switch.{Switch}
@@ -13,7 +14,7 @@ use Rattle.sn_plan_choices.specs.Planning.{Task, Taken, planning, first_tasks}
 abbrev pub plan_space : List TypedQuery → Switch → CostTable → Space
 plan_space queries s c = agenda_space (planning s (entry_in c)) (first_tasks 0 queries)
 
--- what is left, spent and taken behind a list of choices
+-- what is left, spent and taken after a list of choices
 abbrev pub behind_choices : Switch → (ℕ → ℕ → ℕ → ℕ → ℕ) → List TypedQuery → List ℕ → Agenda Task Taken
 behind_choices s entry queries choices = read (agenda_reader (planning s entry) (first_tasks 0 queries)) choices
 

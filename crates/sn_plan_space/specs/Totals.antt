@@ -1,3 +1,4 @@
+-- serves proofs
 -- What choices take up together.
 use Rattle.std.specs.Prelude.{◌≡◌, ◌≤◌, List, Bool}
 use Rattle.std.specs.List.{sum_by, list_any, range_with_len}

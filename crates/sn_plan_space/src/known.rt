@@ -9,7 +9,7 @@ use std::marker::Model;
 pub enum Slot {
     /// A table without state.
     Plain,
-    /// A register of so many bits, given as 2^64 - 1 where there are more.
+    /// A register of this many bits, given as 2^64 - 1 where there are more.
     Keyed(u64),
 }
 

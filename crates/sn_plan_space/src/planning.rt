@@ -34,7 +34,7 @@ impl<'a> Planning<'a> {
     /// The plans of these queries on this switch, where the table was made for them.
     ///
     /// # Errors
-    /// Want of memory.
+    /// Out of memory.
     pub fn make(t: &'a Typed, s: &'a Switch, c: &'a CostTable) -> Result<Planning<'a>, Memory>
         requires switch { IsSwitch s.now }
         requires places { HasPlaces c.now (length t.now.queries) }

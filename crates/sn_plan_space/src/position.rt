@@ -13,9 +13,9 @@ use crate::waiting::Waiting;
 /// What is still to be chosen, and what was spent.
 #[derive(Clone, Copy)]
 pub struct Position<'a> {
-    /// The register at hand, if there is one.
+    /// The current register, if there is one.
     pub waiting: Option<Waiting<'a>>,
-    /// The pieces of the path at hand whose options are still to be chosen.
+    /// The pieces of the current path whose options are still to be chosen.
     pub pieces: &'a [KnownPiece],
     /// The queries whose paths are still to be chosen.
     pub queries: &'a [KnownQuery],
@@ -48,7 +48,7 @@ const NOTHING: Took = Took {
     is_past: false,
 };
 
-/// Gives the register at hand a stage.
+/// Gives the current register a stage.
 fn place<'a>(
     position: Position<'a>,
     waiting: Waiting<'a>,
@@ -82,7 +82,7 @@ fn place<'a>(
     )
 }
 
-/// Chooses an option of the piece at hand, with these pieces behind it.
+/// Chooses an option of the current piece, with these pieces after it.
 fn choose_option<'a>(
     position: Position<'a>,
     piece: &'a KnownPiece,
@@ -113,7 +113,7 @@ fn choose_option<'a>(
     )
 }
 
-/// Chooses a path of the query at hand, with these queries behind it.
+/// Chooses a path of the current query, with these queries after it.
 fn choose_path<'a>(
     position: Position<'a>,
     query: &'a KnownQuery,
@@ -139,7 +139,7 @@ fn choose_path<'a>(
     )
 }
 
-/// Where a choice leads on a switch of so many stages, and what it takes up.
+/// Where a choice leads on a switch of this many stages, and what it takes up.
 pub fn after<'a>(position: Position<'a>, stages: u32, choice: u32) -> (Position<'a>, Took)
     requires { stages ≤ 32 }
     ensures { GoesTo stages position.entry choice result.0 result.1 }

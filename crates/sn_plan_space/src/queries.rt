@@ -71,7 +71,7 @@ fn add_chosen(
     }
 }
 
-/// Whether a level, with these behind it, is one of the path: the lowest bit says so, and the finest always is.
+/// Whether a level, with these after it, is one of the path: the lowest bit says so, and the finest always is.
 fn is_chosen(behind: &[u32], left: u32) -> bool
     ensures { result ≡ (is_none behind.now || (left % 2 == 1)) }
 {
@@ -81,7 +81,7 @@ fn is_chosen(behind: &[u32], left: u32) -> bool
     }
 }
 
-/// The levels of a path behind one that is chosen or not.
+/// The levels of a path after one that is chosen or not.
 fn behind_level(chosen: bool, front: u32, before: u32) -> u32
     ensures { result ≡ (if chosen then front else before) }
 {

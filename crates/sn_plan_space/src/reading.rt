@@ -32,7 +32,7 @@ fn start<'a>(known: &'a [KnownQuery]) -> Position<'a>
     }
 }
 
-/// Where a reader stands behind a partial plan.
+/// Where a reader stands after a partial plan.
 pub fn position_behind<'a>(stages: u32, known: &'a [KnownQuery], partial: &[u32]) -> Position<'a>
     requires { stages ≤ 32 }
     ensures { (s : Switch) (entry : ℕ → ℕ → ℕ → ℕ → ℕ) (queries : List TypedQuery) → s.stages ≡ stages → known.now ≡ map (known_query s entry) (numbered 0 queries)

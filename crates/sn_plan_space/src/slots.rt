@@ -68,7 +68,7 @@ fn first(sizes: &[u32]) -> u32
     }
 }
 
-/// The sizes behind the one that an operator takes, if it takes one.
+/// The sizes after the one that an operator takes, if it takes one.
 fn behind<'a>(sizes: &'a [u32], op: &TOp) -> &'a [u32]
     ensures { result.now ≡ sizes_behind op.now sizes.now }
 {

@@ -9,7 +9,7 @@ pub struct Waiting<'a> {
     /// The least stage that it may have.
     pub least: u32,
     pub bits: u64,
-    /// The tables of its piece behind it.
+    /// The tables of its piece after it.
     pub behind: &'a [Slot],
     ghost few: { length behind.now ≤ 64 },
 }

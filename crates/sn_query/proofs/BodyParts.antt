@@ -4,10 +4,10 @@ use Rattle.std.specs.Prelude.{codes}
 use Rattle.sn_text_rules.specs.Tokens.{Tok, got}
 use Rattle.sn_text_rules.specs.Rules.{kept}
 use Rattle.sn_text_rules.specs.Words.{is_word}
-use Rattle.sn_text_read.specs.declared.stop.Stop.{Stop}
-use Rattle.sn_text_read.specs.declared.stop.Stop.TheVariants as stops
-use Rattle.sn_text_read.specs.Reading.{Halts, Peeked}
-use Rattle.sn_text_read.proofs.Tokens.{there, not_there}
+use Rattle.sn_text.specs.declared.stop.Stop.{Stop}
+use Rattle.sn_text.specs.declared.stop.Stop.TheVariants as stops
+use Rattle.sn_text.specs.Reading.{Halts, Peeked}
+use Rattle.sn_text.proofs.Tokens.{there, not_there}
 use Rattle.sn_query_grammar.specs.declared.ast.Refine.{Refine}
 use Rattle.sn_query_grammar.specs.declared.ast.Branch.{Branch}
 use Rattle.sn_query_grammar.specs.declared.ast.Join.{Join}

@@ -5,9 +5,9 @@ use Rattle.sn_text_rules.specs.Tokens.{Tok, Read, got, fails, short, bind}
 use Rattle.sn_text_rules.specs.Rules.{kept, Rule}
 use Rattle.sn_text_rules.specs.Words.{is_word, keyword, sign, number_in}
 use Rattle.sn_text.specs.declared.place.Lexer.{Lexer}
-use Rattle.sn_text_read.specs.declared.stop.Stop.{Stop}
-use Rattle.sn_text_read.specs.declared.stop.Stop.TheVariants as stops
-use Rattle.sn_text_read.specs.Reading.{Halts, Reads, Peeked}
+use Rattle.sn_text.specs.declared.stop.Stop.{Stop}
+use Rattle.sn_text.specs.declared.stop.Stop.TheVariants as stops
+use Rattle.sn_text.specs.Reading.{Halts, Reads, Peeked}
 use Rattle.sn_query_grammar.specs.declared.ast.Reduce.{Reduce}
 use Rattle.sn_query_grammar.specs.declared.ast.FoldWord.{FoldWord}
 use Rattle.sn_query_grammar.specs.declared.ast.FoldWord.TheVariants as folds

@@ -5,9 +5,9 @@ use Rattle.std.specs.List.{list_any}
 use Rattle.sn_text_rules.specs.declared.Flaw.TheVariants.{Expected, TooMany, Twice}
 use Rattle.sn_text_rules.proofs.Common.{same_value, same_rest}
 use Rattle.sn_text.specs.Lexing.{left}
-use Rattle.sn_text_read.specs.declared.stop.Stop.{Stop}
-use Rattle.sn_text_read.specs.declared.stop.Stop.TheVariants as stops
-use Rattle.sn_text_read.specs.Reading.{Halts}
+use Rattle.sn_text.specs.declared.stop.Stop.{Stop}
+use Rattle.sn_text.specs.declared.stop.Stop.TheVariants as stops
+use Rattle.sn_text.specs.Reading.{Halts}
 use Rattle.sn_query_grammar.specs.declared.ast.MapCol.{MapCol}
 use Rattle.sn_query_grammar.specs.declared.ast.Query.{Query}
 use Rattle.sn_query_grammar.specs.Grammar.{col_names, query_names}
@@ -15,7 +15,7 @@ use Rattle.sn_text_rules.specs.declared.Flaw.{Flaw}
 use Rattle.sn_text_rules.specs.Tokens.{Lexeme, word, number, symbol, finish, bad, Tok, Read, got, fails}
 use Rattle.sn_text_rules.specs.Rules.{kept, judged, token_at}
 use Rattle.sn_text_rules.specs.Words.{same, judged_as, judged_by, word_in}
-use Rattle.sn_text_read.proofs.Tokens.{Next, leaf_gives, leaf_halts}
+use Rattle.sn_text.proofs.Tokens.{Next, leaf_gives, leaf_halts}
 use Rattle.sn_query_grammar.specs.declared.ast.Cmp.{Cmp}
 use Rattle.sn_query_grammar.specs.declared.ast.FoldWord.{FoldWord}
 use Rattle.sn_query_grammar.specs.Names.{is_keyword, name_not, name_test, cmp_in, any_cmp, fold_in, no_sum}

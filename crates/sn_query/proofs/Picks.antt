@@ -4,9 +4,9 @@ use Rattle.std.specs.Prelude.{codes}
 use Rattle.sn_text_rules.specs.Tokens.{Lexeme, Tok, Read, got, fails, short, bind}
 use Rattle.sn_text_rules.specs.Rules.{kept, Rule, either, either_at, maybe, maybe_at, pair}
 use Rattle.sn_text_rules.specs.Words.{is_word, is_symbol, is_number, keyword, number_in, ◌▸◌}
-use Rattle.sn_text_read.specs.declared.stop.Stop.{Stop}
-use Rattle.sn_text_read.specs.declared.stop.Stop.TheVariants as stops
-use Rattle.sn_text_read.specs.Reading.{Halts, Peeked}
+use Rattle.sn_text.specs.declared.stop.Stop.{Stop}
+use Rattle.sn_text.specs.declared.stop.Stop.TheVariants as stops
+use Rattle.sn_text.specs.Reading.{Halts, Peeked}
 use Rattle.sn_query_grammar.specs.declared.ast.Cond.{Cond}
 use Rattle.sn_query_grammar.specs.declared.ast.MapCol.{MapCol}
 use Rattle.sn_query_grammar.specs.declared.ast.Expr.{Expr}

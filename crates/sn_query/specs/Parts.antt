@@ -1,3 +1,4 @@
+-- serves proofs
 -- Parts of productions that the code reads by themselves.
 use Rattle.std.specs.Prelude.{ℕ, List, [], Option, codes}
 use Rattle.sn_text_rules.specs.declared.Flaw.TheVariants.{TooMany}

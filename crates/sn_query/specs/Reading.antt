@@ -1,3 +1,4 @@
+-- serves proofs
 -- Words as lexemes.
 use Rattle.std.specs.Prelude.{ℕ, List}
 use Rattle.sn_text_rules.specs.Tokens.{Lexeme, word}

@@ -1,3 +1,4 @@
+-- to be believed
 -- What parse answers for a text.
 use Rattle.std.specs.Prelude.{◌≡◌, ℕ, List, Result, Ok, Err}
 use Rattle.sn_text_rules.specs.declared.Flaw.{Flaw}

@@ -4,7 +4,7 @@ ghost use Rattle.sn_text_rules.specs.declared.Flaw.{Flaw};
 ghost use Rattle.sn_text_rules.specs.Rules.{kept, maybe_at};
 ghost use Rattle.sn_text_rules.specs.Words.{is_symbol, sign, ◌▸◌};
 ghost use Rattle.sn_text.specs.Lexing.{left, seen};
-ghost use Rattle.sn_text_read.specs.Reading.{Reads};
+ghost use Rattle.sn_text.specs.Reading.{Reads};
 ghost use Rattle.sn_query_grammar.specs.Names.{any_number, past_name, past_number};
 ghost use Rattle.sn_query_grammar.specs.Grammar.{relax_rule, relaxes_rule, cond_rule, filter_rule};
 ghost use Rattle.sn_query_grammar.proofs.Goods.{relax_listed, cond_listed};
@@ -13,10 +13,10 @@ ghost use Rattle.sn_query.specs.Parts.{and_rule};
 use crate::words::{cmp, is_full_at, name, past_name_of, past_number_of};
 use sn_base::seq::Seq;
 use sn_query_grammar::ast::{Cond, Relax};
+use sn_text::commas::{Commas, list};
 use sn_text::place::{Lexer, Piece};
-use sn_text_read::commas::{Commas, list};
-use sn_text_read::stop::Stop;
-use sn_text_read::words::{next_is_symbol, next_is_word, number, symbol, word};
+use sn_text::stop::Stop;
+use sn_text::words::{next_is_symbol, next_is_word, number, symbol, word};
 use sn_text_rules::Flaw;
 use std::alloc::Global;
 
@@ -67,7 +67,7 @@ impl Commas for RelaxItems {
     }
 }
 
-#[tactic(auto, unfolding(sn_query_grammar::specs::Grammar::relaxes_rule), using(sn_text_read::proofs::Tokens::there, sn_text_read::proofs::Tokens::not_there))]
+#[tactic(auto, unfolding(sn_query_grammar::specs::Grammar::relaxes_rule), using(sn_text::proofs::Tokens::there, sn_text::proofs::Tokens::not_there))]
 fn relaxes<'a>(alloc: Global, at: Lexer<'a>) -> Result<(Seq<Relax>, Lexer<'a>), Stop<'a>>
     ensures { Reads result (relaxes_rule.read kept (left at.entry)) }
 {
@@ -81,7 +81,7 @@ fn relaxes<'a>(alloc: Global, at: Lexer<'a>) -> Result<(Seq<Relax>, Lexer<'a>), 
     Ok((relaxed, rest))
 }
 
-#[tactic(auto, using(sn_text_read::proofs::Tokens::there, sn_text_read::proofs::Tokens::not_there))]
+#[tactic(auto, using(sn_text::proofs::Tokens::there, sn_text::proofs::Tokens::not_there))]
 fn and_number<'a>(at: Lexer<'a>) -> Result<(Option<u64>, Lexer<'a>), Stop<'a>>
     ensures { Reads result (and_rule.read kept (left at.entry)) }
 {
@@ -148,7 +148,7 @@ impl Commas for CondItems {
     }
 }
 
-/// A filter, and the place behind it.
+/// A filter, and the place after it.
 #[tactic(auto, unfolding(sn_query_grammar::specs::Grammar::filter_rule))]
 pub(crate) fn filter<'a>(alloc: Global, at: Lexer<'a>) -> Result<(Seq<Cond>, Lexer<'a>), Stop<'a>>
     ensures { Reads result (filter_rule.read kept (left at.entry)) }

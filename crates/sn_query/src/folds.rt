@@ -3,7 +3,7 @@ ghost use Rattle.std.specs.Prelude.{◌≡◌, List};
 ghost use Rattle.sn_text_rules.specs.declared.Flaw.{Flaw};
 ghost use Rattle.sn_text_rules.specs.Rules.{kept};
 ghost use Rattle.sn_text.specs.Lexing.{left, seen};
-ghost use Rattle.sn_text_read.specs.Reading.{Reads};
+ghost use Rattle.sn_text.specs.Reading.{Reads};
 ghost use Rattle.sn_query_grammar.specs.Names.{name_not, past_name};
 ghost use Rattle.sn_query_grammar.specs.Grammar.{keys_rule, reduce_rule};
 ghost use Rattle.sn_query_grammar.proofs.Queries.{keys_listed};
@@ -13,10 +13,10 @@ use crate::words::{fold_word, is_full_at, new_name, past_name_of};
 use sn_base::name::Name;
 use sn_base::seq::Seq;
 use sn_query_grammar::ast::{FoldWord, Reduce};
+use sn_text::commas::{Commas, list};
 use sn_text::place::{Lexer, Piece};
-use sn_text_read::commas::{Commas, list};
-use sn_text_read::stop::Stop;
-use sn_text_read::words::{next_is_word, number, symbol, word};
+use sn_text::stop::Stop;
+use sn_text::words::{next_is_word, number, symbol, word};
 use sn_text_rules::Flaw;
 use std::alloc::Global;
 
@@ -51,7 +51,7 @@ impl Commas for KeyItems {
     }
 }
 
-/// Keys, and the place behind them.
+/// Keys, and the place after them.
 #[tactic(auto, unfolding(sn_query_grammar::specs::Grammar::keys_rule))]
 pub(crate) fn keys<'a>(alloc: Global, at: Lexer<'a>) -> Result<(Seq<Name>, Lexer<'a>), Stop<'a>>
     ensures { Reads result (keys_rule.read kept (left at.entry)) }
@@ -112,7 +112,7 @@ fn fold<'a>(keys: Seq<Name>, at: Lexer<'a>) -> Result<(Reduce, Lexer<'a>), Stop<
     ))
 }
 
-/// A fold over the rows with equal keys, and the place behind it.
+/// A fold over the rows with equal keys, and the place after it.
 #[tactic(auto, using(crate::proofs::FoldParts::reduce_no_word, crate::proofs::FoldParts::reduce_no_keys, crate::proofs::FoldParts::reduce_no_colon, crate::proofs::FoldParts::reduce_reads))]
 pub(crate) fn reduce<'a>(alloc: Global, at: Lexer<'a>) -> Result<(Reduce, Lexer<'a>), Stop<'a>>
     ensures { Reads result (reduce_rule.read kept (left at.entry)) }

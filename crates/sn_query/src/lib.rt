@@ -11,6 +11,4 @@ mod maps;
 mod ops;
 pub mod parse;
 mod queries;
-#[cfg(test)]
-mod tests;
 mod words;

@@ -3,7 +3,7 @@ ghost use Rattle.std.specs.Prelude.{◌≡◌, List};
 ghost use Rattle.sn_text_rules.specs.declared.Flaw.{Flaw};
 ghost use Rattle.sn_text_rules.specs.Rules.{kept};
 ghost use Rattle.sn_text.specs.Lexing.{left, seen};
-ghost use Rattle.sn_text_read.specs.Reading.{Reads};
+ghost use Rattle.sn_text.specs.Reading.{Reads};
 ghost use Rattle.sn_query_grammar.specs.Grammar.{expr_rule, post_expr_rule, past_col, col_names, col_rule, post_col_rule, map_rule, post_map_rule};
 ghost use Rattle.sn_query_grammar.proofs.Goods.{col_listed, post_col_listed};
 ghost use Rattle.sn_query.specs.Parts.{mask_rule, shift_rule, plus_rule, ratio_rule};
@@ -12,10 +12,10 @@ use crate::words::{is_full_at, name, new_col_name, past_col_of};
 use sn_base::name::Name;
 use sn_base::seq::Seq;
 use sn_query_grammar::ast::{Expr, MapCol};
+use sn_text::commas::{Commas, list};
 use sn_text::place::{Lexer, Piece};
-use sn_text_read::commas::{Commas, list};
-use sn_text_read::stop::Stop;
-use sn_text_read::words::{next_is_number, next_is_symbol, number, symbol, word};
+use sn_text::stop::Stop;
+use sn_text::words::{next_is_number, next_is_symbol, number, symbol, word};
 use sn_text_rules::Flaw;
 use std::alloc::Global;
 
@@ -83,7 +83,7 @@ fn expr<'a>(at: Lexer<'a>) -> Result<(Expr, Lexer<'a>), Stop<'a>>
     Ok((Expr::Copy(name), rest))
 }
 
-/// What a column holds behind a join.
+/// What a column holds after a join.
 #[tactic(auto, using(crate::proofs::Picks::post_expr_number_value, crate::proofs::Picks::post_expr_number_halt, crate::proofs::Picks::post_expr_no_name, crate::proofs::Picks::post_expr_mask_value, crate::proofs::Picks::post_expr_mask_halt, crate::proofs::Picks::post_expr_shift_value, crate::proofs::Picks::post_expr_shift_halt, crate::proofs::Picks::post_expr_sum_value, crate::proofs::Picks::post_expr_sum_halt, crate::proofs::Picks::post_expr_ratio_value, crate::proofs::Picks::post_expr_ratio_halt, crate::proofs::Picks::post_expr_copy))]
 fn post_expr<'a>(at: Lexer<'a>) -> Result<(Expr, Lexer<'a>), Stop<'a>>
     ensures { Reads result (post_expr_rule.read kept (left at.entry)) }
@@ -184,7 +184,7 @@ impl Commas for ColItems {
     }
 }
 
-/// The columns of a map behind a join.
+/// The columns of a map after a join.
 struct PostColItems;
 
 impl Commas for PostColItems {
@@ -215,7 +215,7 @@ impl Commas for PostColItems {
     }
 }
 
-/// A map before a join, and the place behind it.
+/// A map before a join, and the place after it.
 #[tactic(auto, unfolding(sn_query_grammar::specs::Grammar::map_rule))]
 pub(crate) fn map<'a>(alloc: Global, at: Lexer<'a>) -> Result<(Seq<MapCol>, Lexer<'a>), Stop<'a>>
     ensures { Reads result (map_rule.read kept (left at.entry)) }
@@ -225,7 +225,7 @@ pub(crate) fn map<'a>(alloc: Global, at: Lexer<'a>) -> Result<(Seq<MapCol>, Lexe
     Ok((cols, rest))
 }
 
-/// A map behind a join, and the place behind it.
+/// A map after a join, and the place after it.
 #[tactic(auto, unfolding(sn_query_grammar::specs::Grammar::post_map_rule))]
 pub(crate) fn post_map<'a>(
     alloc: Global,

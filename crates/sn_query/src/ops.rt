@@ -5,7 +5,7 @@ ghost use Rattle.sn_text_rules.specs.declared.Flaw.TheVariants.{TooMany};
 ghost use Rattle.sn_text_rules.specs.Rules.{kept};
 ghost use Rattle.sn_text_rules.specs.Words.{is_symbol, full};
 ghost use Rattle.sn_text.specs.Lexing.{left};
-ghost use Rattle.sn_text_read.specs.Reading.{Reads, Peeked};
+ghost use Rattle.sn_text.specs.Reading.{Reads, Peeked};
 ghost use Rattle.sn_query_grammar.specs.Grammar.{what_rule, op_rule, post_what_rule, post_op_rule};
 ghost use Rattle.sn_query_grammar.proofs.Queries.{ops_alike, post_ops_alike};
 ghost use Rattle.sn_query.specs.Parts.{ops_rule, post_rule};
@@ -16,10 +16,10 @@ use crate::maps::{map, post_map};
 use crate::words::is_full_at;
 use sn_base::seq::Seq;
 use sn_query_grammar::ast::{Op, What};
+use sn_text::list::{Items, further};
 use sn_text::place::Lexer;
-use sn_text_read::list::{Items, further};
-use sn_text_read::stop::Stop;
-use sn_text_read::words::{next_is_symbol, next_is_word, symbol_line, word};
+use sn_text::stop::Stop;
+use sn_text::words::{next_is_symbol, next_is_word, symbol_line, word};
 use sn_text_rules::Flaw;
 use std::alloc::Global;
 
@@ -52,7 +52,7 @@ fn op<'a>(alloc: Global, at: Lexer<'a>) -> Result<(Op, Lexer<'a>), Stop<'a>>
     Ok((Op { line, what }, rest))
 }
 
-/// The operators of a branch behind its first one.
+/// The operators of a branch after its first one.
 struct OpItems;
 
 impl Items for OpItems {
@@ -88,7 +88,7 @@ impl Items for OpItems {
     }
 }
 
-/// The operators of a branch, and the place behind them.
+/// The operators of a branch, and the place after them.
 pub(crate) fn ops<'a>(alloc: Global, at: Lexer<'a>) -> Result<(Seq<Op>, Lexer<'a>), Stop<'a>>
     ensures { Reads result (ops_rule.read kept (left at.entry)) }
 {
@@ -119,7 +119,7 @@ fn post_op<'a>(alloc: Global, at: Lexer<'a>) -> Result<(Op, Lexer<'a>), Stop<'a>
     Ok((Op { line, what }, rest))
 }
 
-/// The operators behind a join.
+/// The operators after a join.
 struct PostItems;
 
 impl Items for PostItems {
@@ -155,7 +155,7 @@ impl Items for PostItems {
     }
 }
 
-/// The operators behind a join, and the place behind them.
+/// The operators after a join, and the place after them.
 pub(crate) fn post<'a>(alloc: Global, at: Lexer<'a>) -> Result<(Seq<Op>, Lexer<'a>), Stop<'a>>
     ensures { Reads result (post_rule.read kept (left at.entry)) }
 {

@@ -3,7 +3,7 @@ ghost use Rattle.std.specs.Prelude.{◌≡◌, ◌≤◌, ◌^◌, length, IfOk,
 ghost use Rattle.sn_text_rules.specs.Rules.{kept, Accepts};
 ghost use Rattle.sn_text.specs.Cutting.{tokens_of};
 ghost use Rattle.sn_text.specs.Lexing.{left};
-ghost use Rattle.sn_text_read.specs.Reading.{ReadsAll};
+ghost use Rattle.sn_text.specs.Reading.{ReadsAll};
 ghost use Rattle.sn_query_grammar.specs.declared.ast.QueryFile.{QueryFile};
 ghost use Rattle.sn_query_grammar.specs.Grammar.{file_rule};
 ghost use Rattle.sn_query_grammar.specs.Limits.{KeepsLimits};
@@ -14,8 +14,8 @@ use crate::queries::queries;
 use sn_query_grammar::ast::QueryFile;
 use sn_text::place::Lexer;
 use sn_text::scan::scan;
-use sn_text_read::stop::Stop;
-use sn_text_read::words::{end, number, word};
+use sn_text::stop::Stop;
+use sn_text::words::{end, number, word};
 use sn_text_rules::Flaw;
 use std::alloc::Global;
 
@@ -43,7 +43,7 @@ fn fault_of(flaw: Flaw, line: u32, column: u32) -> ParseFault
 
 /// The file that a query text stands for, or the first fault of the text.
 ///
-/// Each refusal but want of memory carries the line and the column, in bytes, of the token at fault.
+/// Each refusal but for being out of memory carries the line and the column, in bytes, of the token at fault.
 pub fn parse(alloc: Global, text: &[u8]) -> Result<QueryFile, ParseFault>
     requires { length text.now ≤ 2 ^ 30 }
     // What is read is accepted: the text stands for it.

@@ -6,7 +6,7 @@ ghost use Rattle.std.specs.Prelude.{codes};
 ghost use Rattle.sn_text_rules.specs.Rules.{kept};
 ghost use Rattle.sn_text_rules.specs.Words.{is_word, full};
 ghost use Rattle.sn_text.specs.Lexing.{left};
-ghost use Rattle.sn_text_read.specs.Reading.{Reads, Peeked};
+ghost use Rattle.sn_text.specs.Reading.{Reads, Peeked};
 ghost use Rattle.sn_query_grammar.specs.Names.{past_number};
 ghost use Rattle.sn_query_grammar.specs.Grammar.{levels_rule, refine_rule, branch_rule, join_rule, body_rule, with_body, query_rule, query_names};
 ghost use Rattle.sn_query_grammar.proofs.Queries.{levels_listed, queries_alike};
@@ -19,11 +19,11 @@ use sn_base::memory::Memory;
 use sn_base::name::Name;
 use sn_base::seq::Seq;
 use sn_query_grammar::ast::{Branch, Join, Query, Refine};
+use sn_text::commas::{Commas, list};
+use sn_text::list::{Items, further};
 use sn_text::place::{Lexer, Piece};
-use sn_text_read::commas::{Commas, list};
-use sn_text_read::list::{Items, further};
-use sn_text_read::stop::Stop;
-use sn_text_read::words::{next_is_word, number, symbol, word, word_line};
+use sn_text::stop::Stop;
+use sn_text::words::{next_is_word, number, symbol, word, word_line};
 use sn_text_rules::Flaw;
 use std::alloc::Global;
 
@@ -209,7 +209,7 @@ fn query<'a>(alloc: Global, taken: &[Query], at: Lexer<'a>) -> Result<(Query, Le
     }
 }
 
-/// The queries of a file behind its first one.
+/// The queries of a file after its first one.
 struct QueryItems;
 
 impl Items for QueryItems {
@@ -245,7 +245,7 @@ impl Items for QueryItems {
     }
 }
 
-/// The queries of a file, and the place behind them.
+/// The queries of a file, and the place after them.
 pub(crate) fn queries<'a>(alloc: Global, at: Lexer<'a>) -> Result<(Seq<Query>, Lexer<'a>), Stop<'a>>
     ensures { Reads result (queries_rule.read kept (left at.entry)) }
 {

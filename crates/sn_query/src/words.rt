@@ -5,7 +5,7 @@ ghost use Rattle.sn_text_rules.specs.Rules.{kept};
 ghost use Rattle.sn_query.specs.Reading.{word_lexeme};
 ghost use Rattle.sn_text_rules.specs.Words.{same, wrong, word_in, judged_by};
 ghost use Rattle.sn_text.specs.Lexing.{left, seen};
-ghost use Rattle.sn_text_read.specs.Reading.{Reads};
+ghost use Rattle.sn_text.specs.Reading.{Reads};
 ghost use Rattle.sn_query_grammar.specs.Names.{is_keyword, name_test, name_not, past_name, past_number, cmp_in, any_cmp, comparison, fold_in, no_sum, plain_fold};
 ghost use Rattle.sn_query_grammar.specs.Grammar.{past_col, col_names, query_names};
 
@@ -13,8 +13,8 @@ use sn_base::name::Name;
 use sn_query_grammar::ast::{Cmp, FoldWord, MapCol, Query};
 use sn_text::place::{Lexer, Piece};
 use sn_text::scan::scan;
-use sn_text_read::stop::Stop;
-use sn_text_read::words::wrong_of;
+use sn_text::stop::Stop;
+use sn_text::words::wrong_of;
 use sn_text_rules::Flaw;
 
 pub(crate) fn is_full_at(count: usize, limit: usize) -> bool
@@ -71,7 +71,7 @@ fn name_of(piece: Piece<'_>) -> Result<Name, Flaw>
     }
 }
 
-/// A name, and the place behind it.
+/// A name, and the place after it.
 #[tactic(auto, using(crate::proofs::Leaves::word_gives, crate::proofs::Leaves::word_halts))]
 pub fn name<'a>(at: Lexer<'a>) -> Result<(Name, Lexer<'a>), Stop<'a>>
     ensures { Reads result ((name_not []).read kept (left at.entry)) }
@@ -91,7 +91,7 @@ fn is_among(name: &Name, taken: &[Name]) -> bool
         .any(|other| is_same(name.as_bytes(), other.as_bytes()))
 }
 
-/// A name that is none of those taken, and the place behind it.
+/// A name that is none of those taken, and the place after it.
 #[tactic(auto, using(crate::proofs::Leaves::fresh_gives, crate::proofs::Leaves::fresh_halts, crate::proofs::Leaves::twice_halts))]
 pub fn new_name<'a>(at: Lexer<'a>, taken: &[Name]) -> Result<(Name, Lexer<'a>), Stop<'a>>
     ensures { Reads result ((name_not taken.now).read kept (left at.entry)) }
@@ -114,7 +114,7 @@ fn is_column(name: &Name, taken: &[MapCol]) -> bool
         .any(|col| is_same(name.as_bytes(), col.name.as_bytes()))
 }
 
-/// The name of a column that is none of those taken, and the place behind it.
+/// The name of a column that is none of those taken, and the place after it.
 #[tactic(auto, using(crate::proofs::Leaves::col_gives, crate::proofs::Leaves::fresh_halts, crate::proofs::Leaves::col_twice))]
 pub fn new_col_name<'a>(at: Lexer<'a>, taken: &[MapCol]) -> Result<(Name, Lexer<'a>), Stop<'a>>
     ensures { Reads result ((name_not (col_names taken.now)).read kept (left at.entry)) }
@@ -137,7 +137,7 @@ fn is_query(name: &Name, taken: &[Query]) -> bool
         .any(|query| is_same(name.as_bytes(), query.name.as_bytes()))
 }
 
-/// The name of a query that is none of those taken, and the place behind it.
+/// The name of a query that is none of those taken, and the place after it.
 #[tactic(auto, using(crate::proofs::Leaves::query_gives, crate::proofs::Leaves::fresh_halts, crate::proofs::Leaves::query_twice))]
 pub fn new_query_name<'a>(at: Lexer<'a>, taken: &[Query]) -> Result<(Name, Lexer<'a>), Stop<'a>>
     ensures { Reads result ((name_not (query_names taken.now)).read kept (left at.entry)) }
@@ -208,7 +208,7 @@ fn cmp_of(piece: Piece<'_>) -> Result<Cmp, Flaw>
     }
 }
 
-/// A comparison, and the place behind it.
+/// A comparison, and the place after it.
 #[tactic(auto, using(crate::proofs::Leaves::cmp_gives, crate::proofs::Leaves::cmp_halts))]
 pub fn cmp<'a>(at: Lexer<'a>) -> Result<(Cmp, Lexer<'a>), Stop<'a>>
     ensures { Reads result (comparison.read kept (left at.entry)) }
@@ -245,7 +245,7 @@ fn fold_of(piece: Piece<'_>) -> Result<FoldWord, Flaw>
     }
 }
 
-/// The word of a fold other than a sum, and the place behind it.
+/// The word of a fold other than a sum, and the place after it.
 #[tactic(auto, using(crate::proofs::Leaves::fold_gives, crate::proofs::Leaves::fold_halts))]
 pub fn fold_word<'a>(at: Lexer<'a>) -> Result<(FoldWord, Lexer<'a>), Stop<'a>>
     ensures { Reads result (plain_fold.read kept (left at.entry)) }

@@ -44,7 +44,7 @@ plain_fold_bounded = leaf_bounded flaws fold_face fold_in no_sum folds_stand (λ
     no_sum_allows folds.Min = tt
     no_sum_allows folds.Or = tt
 
--- a sign, and a number or a name behind it
+-- a sign, and a number or a name after it
 signed_any : (k : ℕ) → Bounded flaws (sign k ▸ any_number)
 signed_any k = behind_bounded (sign_bounded flaws k) any_bounded
 

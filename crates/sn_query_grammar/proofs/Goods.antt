@@ -247,7 +247,7 @@ expr_end : (t : Tok) (us : List Tok) → goes_tail t.face ≡ false → expr_rul
 unfolding expr_rule
 expr_end t us e = rw e refl
 
--- "as" behind what a column holds
+-- "as" after what a column holds
 abbrev pub as_rule : List Name → Rule Name
 as_rule seen = keyword (codes "as") ▸ name_not seen
 
@@ -293,7 +293,7 @@ pub map_end : (k : ℕ) → (k == 3) ≡ false → (t : Tok) (us : List Tok) →
 unfolding map_rule
 map_end k n t us e = commas_sign 8 past_col (λ seen. col_rule (col_names seen)) t us (ap (is_symbol 3) e ∙ n) (col_free t us)
 
--- ---- maps behind a join
+-- ---- maps after a join
 
 abbrev sum_tail : Rule Name
 sum_tail = sign 9 ▸ name

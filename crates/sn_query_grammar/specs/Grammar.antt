@@ -1,3 +1,4 @@
+-- to be believed
 -- The grammar of the query text, production by production. The production stands above each rule.
 use Rattle.std.specs.Prelude.{ℕ, zero, suc, Bool, List, [], ◌∷◌, map, Option, Some, None, ◌||◌, codes}
 use Rattle.std.proofs.Common.{inl, inr, ◌⊎◌}
@@ -282,7 +283,7 @@ join_rule = renamed to_join from_join (pair (line_of_word (codes "join")) (pair 
 abbrev pub Body : Type 0
 Body = Branch × Option (Branch × Join)
 
--- [ branch join ] behind the first branch
+-- [ branch join ] after the first branch
 unfoldable pub body_rule : Rule Body
 body_rule = pair branch_rule (maybe (is_word (codes "packets")) (pair branch_rule join_rule))
 

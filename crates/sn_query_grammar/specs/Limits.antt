@@ -1,3 +1,4 @@
+-- to be believed
 -- The limits that the grammar of query texts keeps, over the value of a text.
 use Rattle.std.specs.Prelude.{◌≡◌, ℕ, ◌≤◌, ◌<◌, ◌^◌, List, length, map, false, Option, Some, None, IfSome}
 use Rattle.std.specs.List.{AllByRecursion, list_any}
@@ -25,7 +26,7 @@ pub record CondLimits (c : Cond) : Type 0 where
   pub count : length c.relaxed ≤ 4
   pub levels : AllByRecursion (λ r. r.level ≤ 64) c.relaxed
 
--- a constant has 64 bits, and a shift is by less than 64; a sum of columns and a ratio stand behind a join alone
+-- a constant has 64 bits, and a shift is by less than 64; a sum of columns and a ratio stand after a join alone
 abbrev pub IsBranchExpr : Expr → Type 0
 IsBranchExpr (Const n) = n < 2 ^ 64
 IsBranchExpr (Copy a) = Unit {0}
@@ -62,7 +63,7 @@ BranchOp (what.Map cols) = Within 1 8 (length cols) × Apart same_row (map (λ c
 BranchOp what.Distinct = Unit {0}
 BranchOp (what.Reduce r) = ReduceLimits r
 
--- an operator behind a join
+-- an operator after a join
 abbrev pub PostOp : What → Type 0
 PostOp (what.Filter conds) = Within 1 8 (length conds) × AllByRecursion CondLimits conds
 PostOp (what.Map cols) = Within 1 8 (length cols) × Apart same_row (map (λ c. c.name) cols) × AllByRecursion (λ c. IsPostExpr c.expr) cols

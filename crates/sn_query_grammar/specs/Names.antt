@@ -1,3 +1,4 @@
+-- to be believed
 -- Single tokens of the query text.
 use Rattle.std.specs.Prelude.{ℕ, Bool, List, [], ◌∷◌, length, Option, Some, None, nat_lt, nat_le, ◌==◌, ◌||◌, ◌&&◌, codes, if◌then◌else◌}
 use Rattle.std.specs.List.{list_any}

@@ -42,7 +42,7 @@ pub struct Branch {
     pub ops: Seq<Op>,
 }
 
-/// The join of the two branches, and the operators behind it.
+/// The join of the two branches, and the operators after it.
 #[derive(Drop)]
 pub struct Join {
     /// The line of the word `join`.
@@ -149,8 +149,8 @@ pub enum Expr {
     Mask(Name, u64),
     /// A column shifted right by 0 to 63 bits.
     Shift(Name, u32),
-    /// The sum of two columns, behind a join alone.
+    /// The sum of two columns, after a join alone.
     Sum(Name, Name),
-    /// A column times a number, divided by a column, behind a join alone.
+    /// A column times a number, divided by a column, after a join alone.
     Ratio(Name, u64, Name),
 }

@@ -128,7 +128,7 @@ parted (symbol k) t f h = elim (either_way (k == 5)) [
 parted finish t f h = absurd f
 parted bad t f h = absurd f
 
--- ---- the tokens, each with the blanks behind it
+-- ---- the tokens, each with the blanks after it
 
 abbrev pub chunks : List Mark → List Chunk
 chunks [] = []

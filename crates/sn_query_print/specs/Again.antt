@@ -1,3 +1,4 @@
+-- to be believed
 -- A text that stands for a file, up to lines.
 use Rattle.std.specs.Prelude.{◌≡◌, ℕ, List}
 use Rattle.sn_text_rules.specs.Rules.{Accepts}

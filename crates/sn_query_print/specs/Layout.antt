@@ -1,3 +1,4 @@
+-- to be believed
 -- The canonical text of a list of lexemes: each token with the blanks before it.
 use Rattle.std.specs.Prelude.{ℕ, List, [], ◌∷◌, ◌++◌, fold, ◌==◌, ◌||◌, codes, if◌then◌else◌}
 use Rattle.sn_text_rules.specs.Tokens.{Lexeme, word, number, symbol, finish, bad, Mark}
@@ -20,14 +21,14 @@ word_gap w =
     else if same w (codes "refine") || same w (codes "packets") || same w (codes "join") then new_line ++ codes "  "
     else space
 
--- An operator begins a line indented by four spaces; `}` begins a line; no space stands before `;`, `,`, `)` and `:`, nor before `(` but behind `at`.
+-- An operator begins a line indented by four spaces; `}` begins a line; no space stands before `;`, `,`, `)` and `:`, nor before `(` but after `at`.
 abbrev pub symbol_gap : Last → ℕ → List ℕ
 symbol_gap lasts.At k = space
 symbol_gap _ k =
     if k == 1 then new_line else if k == 4 then new_line ++ codes "    "
     else if (k == 2) || (k == 3) || (k == 5) || (k == 6) || (k == 7) then [] else space
 
--- no space stands behind `(`, and none at the beginning
+-- no space stands after `(`, and none at the beginning
 abbrev pub gap : Last → Lexeme → List ℕ
 gap lasts.Begin x = []
 gap lasts.Opening x = []

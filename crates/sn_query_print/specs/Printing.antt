@@ -1,3 +1,4 @@
+-- serves proofs
 -- The printer of the code, as a state.
 use Rattle.std.specs.Prelude.{ℕ, zero, suc, List, [], ◌∷◌, ◌++◌, fold, Option, Some, None, codes}
 use Rattle.sn_text_rules.specs.Tokens.{Mark, plain, word, number, symbol}
@@ -15,7 +16,7 @@ use Rattle.sn_query_print.specs.Layout.{State, put}
 abbrev pub state : Printer → State
 state p = record { text = p.text.items; last = p.last }
 
--- behind these tokens
+-- after these tokens
 abbrev pub puts : State → List Mark → State
 puts s ms = fold put s ms
 

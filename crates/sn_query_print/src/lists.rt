@@ -19,7 +19,7 @@ pub(crate) trait Shown {
         ensures { OnOk result (state out.new ≡ puts (state out.old) (spell item.now)) };
 }
 
-/// Writes items one behind the other.
+/// Writes items one after the other.
 pub(crate) fn put_each<S: Shown>(
     alloc: Global,
     items: &[S::Item],

@@ -34,7 +34,7 @@ fn put_expr(alloc: Global, expr: &Expr, out: &mut Printer) -> Result<(), Memory>
     }
 }
 
-/// Writes what a column holds behind a join.
+/// Writes what a column holds after a join.
 #[tactic(auto, unfolding(sn_query_grammar::specs::Grammar::post_expr_rule))]
 fn put_post_expr(alloc: Global, expr: &Expr, out: &mut Printer) -> Result<(), Memory>
     ensures { OnOk result (state out.new ≡ puts (state out.old) (post_expr_rule.spell expr.now)) }
@@ -84,7 +84,7 @@ impl Shown for ColText {
     }
 }
 
-/// A column behind a join.
+/// A column after a join.
 struct PostColText;
 
 impl Shown for PostColText {
@@ -111,7 +111,7 @@ pub(crate) fn put_map(alloc: Global, cols: &[MapCol], out: &mut Printer) -> Resu
     Ok(())
 }
 
-/// Writes a map behind a join.
+/// Writes a map after a join.
 #[tactic(auto, unfolding(sn_query_grammar::specs::Grammar::post_map_rule))]
 pub(crate) fn put_post_map(alloc: Global, cols: &[MapCol], out: &mut Printer) -> Result<(), Memory>
     ensures { OnOk result (state out.new ≡ puts (state out.old) (post_map_rule.spell cols.now)) }

@@ -65,7 +65,7 @@ fn put_post_what(alloc: Global, what: &What, out: &mut Printer) -> Result<(), Me
     }
 }
 
-/// An operator behind a join.
+/// An operator after a join.
 pub(crate) struct PostOpText;
 
 impl Shown for PostOpText {

@@ -11,7 +11,7 @@ use sn_base::bytes::push_bytes;
 use sn_base::memory::Memory;
 use std::alloc::Global;
 
-/// What stands last in a text, as far as the blanks behind it depend on it.
+/// What stands last in a text, as far as the blanks after it depend on it.
 #[derive(Clone, Copy, Debug, PartialEq, Eq)]
 pub enum Last {
     /// Nothing.

@@ -9,7 +9,7 @@ use Rattle.sn_refine.specs.Refined.{Windows, answered, before, level_rows, refin
 use Rattle.sn_refine.specs.Steps.{Sees, Set, is_held, rows_at}
 use Rattle.sn_refine.proofs.Held.{held_answered, query_held}
 
--- a level behind the first, in a window that holds a record
+-- a level after the first, in a window that holds a record
 pub next_sees : (query : TypedQuery) (windows : Windows) (path : List ℕ) (j w : ℕ) (tuples : List (List ℕ)) → windows w ≡ Some tuples
     → refined_rows query windows path (suc j) w ≡ level_rows query (slice_index path (suc j)) (Some (answered query (slice_index path j) (before (refined_rows query windows path j) w) tuples))
 next_sees query windows path j w tuples is =
@@ -35,7 +35,7 @@ sees_refined query windows path (suc j) w (Some kept) tuples is sees =
     ∙ ap (λ ts. level_rows query level (Some ts)) (held_answered query (slice_index path j) rows kept.members.now tuples sees.1)
     ∙ sym (next_sees query windows path j w tuples is)
 
--- the answers behind the first place
+-- the answers after the first place
 pub next_place : (query : TypedQuery) (path : List ℕ) (kept : ℕ → Set) (tuples : List (List ℕ)) (place : ℕ) → (place ≡ 0 → ⊥)
     → level_rows query (slice_index path place) (Some (filter (is_held query.field (slice_index path (place - 1)) (kept (place - 1))) tuples)) ≡ rows_at query path kept tuples place
 next_place query path kept tuples zero some = absurd (some refl)

@@ -34,7 +34,7 @@ map_below f g a (suc n) h =
     ap (λ x. x ∷ map f (range_with_len (a + 1) n)) (h a (omega arith))
     ∙ ap (λ xs. g a ∷ xs) (map_below f g (a + 1) n (λ j below. h j (omega (arith, below))))
 
--- the item at a place, where no more than the first so many are changed
+-- the item at a place, where no more than the first n are changed
 pub at_place : {X Y : Type 0} (g : X → Y) (f : ℕ → X) (many n j : ℕ) (d : Y) → j < n → n ≤ many → unwrap_or (slice_get (map g (take n (map f (range_with_len 0 many)))) j) d ≡ g (f j)
 at_place g f many n j d lt le =
     let first = map f (range_with_len 0 n) in

@@ -1,3 +1,4 @@
+-- to be believed
 -- The refined answers of a query: those at the levels of a path, over windows.
 use Rattle.std.specs.Prelude.{ℕ, zero, suc, List, [], map, filter, length, Bool, false, nat_eq, slice_index, unwrap_or, Option, None, Some}
 use Rattle.std.specs.List.{list_any, range_with_len}

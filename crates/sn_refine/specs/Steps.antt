@@ -1,3 +1,4 @@
+-- serves proofs
 -- Windows one after another, each from what the one before it left.
 use Rattle.std.specs.Prelude.{◌≡◌, ℕ, zero, suc, ◌+◌, ◌-◌, ◌<◌, List, [], ◌∷◌, map, filter, take, length, Bool, true, false, nat_eq, ◌==◌, slice_get, slice_index, unwrap_or, Option, None, Some, IsSome, if◌then◌else◌}
 use Rattle.std.specs.List.{AllByRecursion, list_any}
@@ -32,7 +33,7 @@ IsAbove (Some last) w = last < w
 abbrev pub prefixes_of : TypedQuery → List Row → Set
 prefixes_of query rows = set.from_list (column_of query rows)
 
--- a window is the next one behind the last
+-- a window is the next one after the last
 abbrev pub follows : Option ℕ → ℕ → Bool
 follows None w = false
 follows (Some last) w = last + 1 == w

@@ -32,7 +32,7 @@ pub struct Refined {
     pub kept: Seq<Members>,
 }
 
-/// Whether a window is the next one behind the last.
+/// Whether a window is the next one after the last.
 fn follows(last: Option<u64>, w: u64) -> bool
     requires { IsAbove last w }
     ensures { result ≡ follows last w }
@@ -163,7 +163,7 @@ impl Refined {
         next_rows(self.alloc, t, self.query, path[place], kept, tuples)
     }
 
-    /// The answers at the first levels of the path, so many.
+    /// The answers at the first n levels of the path.
     fn parts(&self, t: &Typed, w: u64, tuples: &[Tuple], count: usize) -> Result<Seq<Part>, Memory>
         requires path { IsPathOf t.now.queries self.now.query self.now.path }
         requires above { IsAbove self.now.last w }
@@ -183,7 +183,7 @@ impl Refined {
         Ok(parts)
     }
 
-    /// The answers at each level of the path in a window. A level behind the first sees those tuples alone whose prefix
+    /// The answers at each level of the path in a window. A level after the first sees those tuples alone whose prefix
     /// the level before it answered in window `w - 1`; that is none where window `w - 1` wasn't given. An `Err` changes
     /// nothing.
     pub fn window(&mut self, t: &Typed, w: u64, tuples: &[Tuple]) -> Result<Seq<Part>, Memory>

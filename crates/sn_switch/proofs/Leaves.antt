@@ -5,7 +5,7 @@ use Rattle.sn_text_rules.specs.Tokens.{Lexeme, word, number, symbol, finish, bad
 use Rattle.sn_text_rules.specs.Rules.{kept, token_at}
 use Rattle.sn_text_rules.specs.Words.{judged_by, number_at}
 use Rattle.sn_text.specs.Cutting.{is_last}
-use Rattle.sn_text_read.proofs.Tokens.{Next, halts, leaf_gives, leaf_halts}
+use Rattle.sn_text.proofs.Tokens.{Next, halts, leaf_gives, leaf_halts}
 use Rattle.sn_switch_grammar.specs.declared.item.Setting.{Setting}
 use Rattle.sn_switch_grammar.specs.declared.item.Item.{Item}
 use Rattle.sn_switch_grammar.specs.Settings.{setting_in}

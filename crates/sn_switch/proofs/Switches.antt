@@ -11,9 +11,9 @@ use Rattle.sn_text_rules.proofs.Bounded.{whole_ok}
 use Rattle.sn_text.specs.Cutting.{tokens_of}
 use Rattle.sn_text.proofs.Ends.{tokens_ended}
 use Rattle.sn_text.specs.Lexing.{left}
-use Rattle.sn_text_read.specs.declared.stop.Stop.{Stop}
-use Rattle.sn_text_read.specs.declared.stop.Stop.TheVariants as stops
-use Rattle.sn_text_read.specs.Reading.{Halts}
+use Rattle.sn_text.specs.declared.stop.Stop.{Stop}
+use Rattle.sn_text.specs.declared.stop.Stop.TheVariants as stops
+use Rattle.sn_text.specs.Reading.{Halts}
 use Rattle.sn_switch_grammar.specs.declared.item.Setting.{Setting}
 use Rattle.sn_switch_grammar.specs.declared.item.Setting.TheVariants as settings
 use Rattle.sn_switch_grammar.specs.declared.item.Item.{Item}

@@ -7,8 +7,6 @@ mod numbers;
 mod read;
 mod settings;
 pub mod switch;
-#[cfg(test)]
-mod tests;
 mod text;
 
 pub use text::parse;

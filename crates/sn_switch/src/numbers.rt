@@ -4,17 +4,17 @@ ghost use Rattle.std.specs.List.{list_all};
 ghost use Rattle.sn_text_rules.specs.Rules.{kept};
 ghost use Rattle.sn_text_rules.specs.Words.{judged_by, number_at, number_by};
 ghost use Rattle.sn_text.specs.Lexing.{left, seen};
-ghost use Rattle.sn_text_read.specs.Reading.{Reads};
+ghost use Rattle.sn_text.specs.Reading.{Reads};
 ghost use Rattle.sn_switch_grammar.specs.Grammar.{within, one_number, below, size_test, past_size, size_rule, sizes, numbers};
 ghost use Rattle.sn_switch_grammar.proofs.Goods.{size_listed};
 
 use sn_base::seq::Seq;
 use sn_switch_grammar::item::Setting;
+use sn_text::commas::{Commas, list};
 use sn_text::place::{Lexer, Piece};
 use sn_text::scan::scan;
-use sn_text_read::commas::{Commas, list};
-use sn_text_read::stop::Stop;
-use sn_text_read::words::wrong_of;
+use sn_text::stop::Stop;
+use sn_text::words::wrong_of;
 use sn_text_rules::Flaw;
 use std::alloc::Global;
 
@@ -131,7 +131,7 @@ fn sizes<'a>(alloc: Global, at: Lexer<'a>) -> Result<(Seq<u64>, Lexer<'a>), Stop
     Ok((numbers, rest))
 }
 
-/// The numbers of a setting, and the place behind them.
+/// The numbers of a setting, and the place after them.
 pub(crate) fn numbers<'a>(
     alloc: Global,
     setting: Setting,

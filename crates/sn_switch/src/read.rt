@@ -3,7 +3,7 @@ ghost use Rattle.std.specs.Prelude.{◌≡◌};
 ghost use Rattle.sn_text_rules.specs.Rules.{kept};
 ghost use Rattle.sn_text_rules.specs.Words.{never, judged_by};
 ghost use Rattle.sn_text.specs.Lexing.{left, seen};
-ghost use Rattle.sn_text_read.specs.Reading.{Reads, ReadsAll, EndsAll};
+ghost use Rattle.sn_text.specs.Reading.{Reads, ReadsAll, EndsAll};
 ghost use Rattle.sn_switch_grammar.specs.Settings.{begins, has};
 ghost use Rattle.sn_switch_grammar.specs.Grammar.{is_whole, complete, end_in, end_rule, item_rule, items_rule, switch_rule};
 ghost use Rattle.sn_switch_grammar.proofs.Goods.{items_alike};
@@ -12,11 +12,11 @@ use crate::numbers::numbers;
 use crate::settings::{begins, has, setting};
 use sn_base::seq::Seq;
 use sn_switch_grammar::item::{Item, Setting};
+use sn_text::list::{Items, further};
 use sn_text::place::{Lexer, Piece};
 use sn_text::scan::scan;
-use sn_text_read::list::{Items, further};
-use sn_text_read::stop::Stop;
-use sn_text_read::words::{symbol, wrong_of};
+use sn_text::stop::Stop;
+use sn_text::words::{symbol, wrong_of};
 use sn_text_rules::Flaw;
 use std::alloc::Global;
 
@@ -99,7 +99,7 @@ fn end_of(piece: Piece<'_>, items: &[Item]) -> Result<(), Flaw>
     }
 }
 
-/// The end of the text behind these items.
+/// The end of the text after these items.
 #[tactic(auto, using(crate::proofs::Leaves::end_gives, crate::proofs::Leaves::end_halts))]
 fn end<'a>(at: Lexer<'a>, items: &[Item]) -> Result<(), Stop<'a>>
     ensures { EndsAll result ((end_rule items.now).read kept (left at.entry)) }

@@ -3,15 +3,15 @@ ghost use Rattle.std.specs.Prelude.{◌≡◌};
 ghost use Rattle.sn_text_rules.specs.Rules.{kept};
 ghost use Rattle.sn_text_rules.specs.Words.{same, judged_by};
 ghost use Rattle.sn_text.specs.Lexing.{left, seen};
-ghost use Rattle.sn_text_read.specs.Reading.{Reads, Peeked};
+ghost use Rattle.sn_text.specs.Reading.{Reads, Peeked};
 ghost use Rattle.sn_switch_grammar.specs.Settings.{setting_of, setting_in, begins, place, is, has};
 ghost use Rattle.sn_switch_grammar.specs.Grammar.{once, setting_rule};
 
 use sn_switch_grammar::item::{Item, Setting};
 use sn_text::place::{Lexer, Piece};
 use sn_text::scan::scan;
-use sn_text_read::stop::Stop;
-use sn_text_read::words::wrong_of;
+use sn_text::stop::Stop;
+use sn_text::words::wrong_of;
 use sn_text_rules::Flaw;
 
 /// Its number in the list of settings, from 0.
@@ -91,7 +91,7 @@ fn new_setting(piece: Piece<'_>, items: &[Item]) -> Result<Setting, Flaw>
     }
 }
 
-/// What an item sets that none of those before it did, and the place behind its word.
+/// What an item sets that none of those before it did, and the place after its word.
 #[tactic(auto, using(crate::proofs::Leaves::setting_gives, crate::proofs::Leaves::setting_halts))]
 pub(crate) fn setting<'a>(at: Lexer<'a>, items: &[Item]) -> Result<(Setting, Lexer<'a>), Stop<'a>>
     ensures { Reads result ((setting_rule items.now).read kept (left at.entry)) }
@@ -104,7 +104,7 @@ pub(crate) fn setting<'a>(at: Lexer<'a>, items: &[Item]) -> Result<(Setting, Lex
 }
 
 /// Whether an item begins here.
-#[tactic(auto, using(sn_text_read::proofs::Tokens::peeked))]
+#[tactic(auto, using(sn_text::proofs::Tokens::peeked))]
 pub(crate) fn begins(at: Lexer<'_>) -> bool
     ensures { Peeked result begins (left at.entry) }
 {

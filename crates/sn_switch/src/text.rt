@@ -19,7 +19,7 @@ use sn_base::seq::Seq;
 use sn_switch_grammar::item::{Item, Setting};
 use sn_text::place::Lexer;
 use sn_text::scan::scan;
-use sn_text_read::stop::Stop;
+use sn_text::stop::Stop;
 use sn_text_rules::Flaw;
 use std::alloc::Global;
 
@@ -87,7 +87,7 @@ fn fault(flaw: Flaw, line: u32) -> SwitchFault
         Flaw::Range => SwitchFault::Range { line },
         Flaw::Twice => SwitchFault::Twice { line },
         Flaw::Missing => SwitchFault::Missing { line },
-        // No list of a switch text has a limit that is told by `TooMany`.
+        // No list of a switch text has a limit that `TooMany` reports.
         Flaw::Expected | Flaw::TooMany => SwitchFault::Expected { line },
     }
 }
@@ -115,7 +115,7 @@ fn answer(stop: Stop<'_>) -> SwitchFault
 /// once, in any order, within the ranges that [`Switch`] names. It has at most 2^30 bytes.
 ///
 /// # Errors
-/// `Memory` where memory runs out, and else what is wrong with the first token that goes on no such text.
+/// `Memory` where memory runs out, and else what is wrong with the first token with which no such text goes on.
 pub fn parse(alloc: Global, text: &[u8]) -> Result<Switch, SwitchFault>
     requires { length text.now ≤ 2 ^ 30 }
     // What is read is what the text stands for.

@@ -136,7 +136,7 @@ sizes_good = commas_good 4 size_listed
 sizes_end : (t : Tok) (us : List Tok) → t.face ≡ symbol 2 → sizes.follow (t ∷ us) ≡ true
 sizes_end t us e = commas_sign 4 past_size size_rule t us (ap (is_symbol 3) e) refl
 
--- an item's numbers and the sign behind them
+-- an item's numbers and the sign after them
 abbrev pub ended : Setting → Rule (List ℕ)
 ended k = numbers k ◂ sign 2
 

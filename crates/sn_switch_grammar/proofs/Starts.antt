@@ -69,7 +69,7 @@ no_size seen e n = elim (either_way (fits_size seen n)) [
   | inr h ↦ h
 ]
 
--- behind the largest size no other stands
+-- after the largest size no other stands
 size_dead : (seen : List ℕ) → fits_size seen 65536 ≡ false → Dead (size_rule seen)
 size_dead seen e = record { fault = λ t ts. go t ts (number_at t.face) refl }
   where
@@ -146,7 +146,7 @@ record Added (k : Setting) (x : List Item) : Type 0 where
   fits : Fit [] (x ++ more)
   holds : has k (x ++ more) ≡ true
 
--- an item of the setting behind the others, if there is none among them
+-- an item of the setting after the others, if there is none among them
 add : (k : Setting) (x : List Item) → Fit [] x → Added k x
 add k x f = elim (either_way (has k x)) [
   | inl h ↦ record { more = []; fits = fit_append [] x [] f tt; holds = still_has k x [] h }

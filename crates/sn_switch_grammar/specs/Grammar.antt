@@ -1,3 +1,4 @@
+-- to be believed
 -- The grammar of the switch text, production by production. The production stands above each rule.
 use Rattle.std.specs.Prelude.{ℕ, Bool, List, [], ◌∷◌, Option, Some, None, nat_le, nat_lt, ◌&&◌, if◌then◌else◌}
 use Rattle.std.specs.List.{list_all}

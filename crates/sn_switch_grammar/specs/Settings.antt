@@ -1,3 +1,4 @@
+-- to be believed
 -- The settings of a switch text and their words.
 use Rattle.std.specs.Prelude.{ℕ, Bool, true, false, List, Option, Some, None, ◌==◌, codes, if◌then◌else◌}
 use Rattle.std.specs.List.{list_any}

@@ -1,3 +1,4 @@
+-- to be believed
 -- What the items of a whole text set, and the limits.
 use Rattle.std.specs.Prelude.{ℕ, ◌≤◌, List, [], ◌∷◌, length, Option, Some, None}
 use Rattle.std.specs.List.{AllByRecursion, find}

@@ -30,7 +30,7 @@ row_back base (c ∷ cs) h =
     ap₂ (λ x xs. x ∷ xs) (low_digit base c (number_in base cs) below)
     (ap (digits_in base (length cs)) (high_digits base c (number_in base cs) below) ∙ row_back base cs p.1)
 
--- a number of so many digits is the number with its digits
+-- a number of n digits is the number with its digits
 pub number_back : (base count number : ℕ) → 0 < base → number < base ^ count → number_in base (digits_in base count number) ≡ number
 number_back base zero number some h = omega (arith, pow-zero base)
 number_back base (suc count) number some h =
@@ -57,7 +57,7 @@ pub length_digits_in : (base count number : ℕ) → length (digits_in base coun
 length_digits_in base zero number = refl
 length_digits_in base (suc count) number = ap suc (length_digits_in base count (number / base))
 
--- the digits behind a place are digits
+-- the digits after a place are digits
 pub are_digits_behind : (base place : ℕ) (row : Row) → are_digits base row ≡ true → are_digits base (drop place row) ≡ true
 are_digits_behind base zero row h = h
 are_digits_behind base (suc place) [] h = refl
@@ -98,7 +98,7 @@ power_power w zero = pow-zero (2 ^ w) ∙ sym (ap (λ k. 2 ^ k) (mul-zero w))
 power_power w (suc n) =
     pow-suc (2 ^ w) n ∙ ap (λ p. p * 2 ^ w) (power_power w n) ∙ sym (pow-add 2 (w * n) w) ∙ ap (λ k. 2 ^ k) (sym (mul-suc w n))
 
--- so a number of so many columns fits
+-- so a number of n columns fits
 pub numbers_fit : (columns place : ℕ) → columns ≤ 8 → place ≤ columns → base_of columns ^ place ≤ 2 ^ 128
 numbers_fit columns place few part =
     let inside : width_of columns * place ≤ 128 = omega (arith, shares_fit columns few, mul-le-mul_left (width_of columns) part) in
@@ -182,7 +182,7 @@ packs_all columns place number row long all h =
 
 -- ---- a number as its row, column by column from the first
 
--- the row so far has the first columns, and the rest of the number those behind it
+-- the row so far has the first columns, and the rest of the number those after it
 pub record Unpacks (columns place number rest : ℕ) (row : Row) : Type 0 where
   pub size : length row ≡ place
   pub whole : row ++ digits_in (base_of columns) (columns - place) rest ≡ columns_of columns number

@@ -3,4 +3,3 @@ pub mod Digits
 pub mod NarrowKeys
 pub mod NarrowRows
 pub mod ShortRows
-pub mod SmallSums

@@ -23,7 +23,7 @@ pub record IsHeldAs (columns : ℕ) (row : Row) (number : ℕ) : Type 0 where
   pub narrow : is_narrow columns row ≡ true
   pub number_is : number ≡ number_of columns row
 
--- the number that is told of a row
+-- the number that stands for a row
 pub told : (columns : ℕ) (row : Row) (number : ℕ) → cond (is_narrow columns row) (Some (number_of columns row)) None ≡ Some number → IsHeldAs columns row number
 told columns row number is =
     by_test (is_narrow columns row)
@@ -165,7 +165,7 @@ keys_as_rows columns es zero = refl
 keys_as_rows columns [] (suc place) = refl
 keys_as_rows columns (e ∷ es) (suc place) = ap (λ ks. columns_of columns e.0 ∷ ks) (keys_as_rows columns es place)
 
--- one more number is one more row behind the others
+-- one more number is one more row after the others
 pub one_widened : (columns : ℕ) (es : List (ℕ × ℕ)) (place : ℕ) (e : ℕ × ℕ) → AreShort columns (keys es) → IsDistinct nat_eq (keys es) → slice_get es place ≡ Some e
     → insert_entry same_row (map (row_entry columns) (take place es)) (columns_of columns e.0) e.1 ≡ map (row_entry columns) (take (place + 1) es)
 one_widened columns es place e short apart at =

@@ -44,7 +44,7 @@ module _ (columns number : ℕ) (row : Row) (h : IsHeldAs columns row number) (n
     below = all_inserted_key (λ n. n < base_of columns ^ columns) nat_eq number (held_below columns number row h) ns s.short.below;
   }
 
--- one more number is one more row behind the others
+-- one more number is one more row after the others
 pub one_row_widened : (columns : ℕ) (ns : List ℕ) (place n : ℕ) → AreShort columns ns → IsDistinct nat_eq ns → slice_get ns place ≡ Some n
     → insert_key same_row (map (columns_of columns) (take place ns)) (columns_of columns n) ≡ map (columns_of columns) (take (place + 1) ns)
 one_row_widened columns ns place n short apart at =

@@ -77,7 +77,7 @@ list_of_two (x ∷ []) two = absurd (omega arith)
 list_of_two (x ∷ y ∷ []) two = refl
 list_of_two (x ∷ y ∷ z ∷ xs) two = absurd (omega arith)
 
--- the number of these columns is told of the row
+-- the number of these columns stands for the row
 pub told_by_columns : (columns number : ℕ) (row parts : Row) → row ≡ parts → columns ≡ length parts → is_narrow (length parts) parts ≡ true → number ≡ number_of (length parts) parts
     → Some number ≡ cond (is_narrow columns row) (Some (number_of columns row)) None
 told_by_columns columns number row parts same size fits is =

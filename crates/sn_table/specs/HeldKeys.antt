@@ -1,3 +1,4 @@
+-- serves proofs
 use Rattle.std.specs.Prelude.{List, map}
 use Rattle.sn_base.specs.Groups.{Row}
 use Rattle.sn_table.specs.Narrow.{AreShort, columns_of}

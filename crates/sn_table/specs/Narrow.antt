@@ -1,3 +1,4 @@
+-- serves proofs
 use Rattle.std.specs.Prelude.{ℕ, zero, suc, ◌+◌, ◌*◌, ◌/◌, ◌%◌, ◌^◌, ◌<◌, ◌≤◌, List, [], ◌∷◌, length, Bool, true, ◌&&◌, nat_eq, nat_lt, min}
 use Rattle.std.specs.List.{AllByRecursion}
 use Rattle.sn_base.specs.Groups.{Row}
@@ -9,7 +10,7 @@ abbrev pub number_in : ℕ → Row → ℕ
 number_in base [] = 0
 number_in base (c ∷ cs) = c + base * number_in base cs
 
--- so many digits of a number
+-- n digits of a number
 abbrev pub digits_in : ℕ → ℕ → ℕ → Row
 digits_in base zero number = []
 digits_in base (suc count) number = number % base ∷ digits_in base count (number / base)
@@ -21,14 +22,14 @@ are_digits base (c ∷ cs) = nat_lt c base && are_digits base cs
 
 -- ---- rows as numbers of 128 bits
 
--- the bits that each of so many columns has. No column has more than 64 of its own
+-- the bits that each of n columns has. No column has more than 64 of its own
 unfoldable pub width_of : ℕ → ℕ
 width_of columns = min 64 (128 / columns)
 
 abbrev pub base_of : ℕ → ℕ
 base_of columns = 2 ^ width_of columns
 
--- whether a row has so many columns, each within its bits
+-- whether a row has n columns, each within its bits
 abbrev pub is_narrow : ℕ → Row → Bool
 is_narrow columns row = nat_eq (length row) columns && are_digits (base_of columns) row
 
@@ -36,11 +37,11 @@ is_narrow columns row = nat_eq (length row) columns && are_digits (base_of colum
 abbrev pub number_of : ℕ → Row → ℕ
 number_of columns row = number_in (base_of columns) row
 
--- the row of so many columns that a number stands for
+-- the row of n columns that a number stands for
 abbrev pub columns_of : ℕ → ℕ → Row
 columns_of columns number = digits_in (base_of columns) columns number
 
--- each number stands for a row of so many columns
+-- each number stands for a row of n columns
 pub record AreShort (columns : ℕ) (numbers : List ℕ) : Type 0 where
   pub few : columns ≤ 8
   pub below : AllByRecursion (λ n. n < base_of columns ^ columns) numbers

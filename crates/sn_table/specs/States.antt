@@ -1,3 +1,4 @@
+-- serves proofs
 use Rattle.std.specs.Prelude.{ℕ, List, refl}
 use Rattle.std.specs.Coded.{Coded, code_by, coded×, coded_ℕ, coded_list}
 use Rattle.sn_base.specs.Groups.{Row}

@@ -15,18 +15,18 @@ use sn_base::any_fold::AnyFold;
 use sn_base::fold::Fold;
 use sn_base::memory::Memory;
 use sn_base::row::Row;
-use sn_seed::Seed;
+use sn_base::seed::Seed;
 
 /// The entries of a table, in the order of first places.
 #[derive(Drop)]
 pub(crate) enum Entries {
-    /// Keys of so many columns, each as a number.
+    /// Keys of n columns, each as a number.
     Narrow(usize, IndexMap<Number, u64, Seed>),
     /// Keys as they are.
     Wide(IndexMap<Row, u64, Seed>),
 }
 
-/// Puts a value to the fold of a key that is a number. The key is looked up once.
+/// Adds a value to the fold of a key that is a number. The key is looked up once.
 fn add_number(
     fold: AnyFold,
     numbers: &mut IndexMap<Number, u64, Seed>,
@@ -46,7 +46,7 @@ fn add_number(
     Ok(())
 }
 
-/// Puts a value to the fold of a key that is a row. The key is looked up once.
+/// Adds a value to the fold of a key that is a row. The key is looked up once.
 fn add_row(
     fold: AnyFold,
     rows: &mut IndexMap<Row, u64, Seed>,
@@ -66,7 +66,7 @@ fn add_row(
     Ok(())
 }
 
-/// Puts a value to its key's fold, where the key can be held as the others are. Whether it can: else nothing changes.
+/// Adds a value to its key's fold, where the key can be held as the others are. Says whether it can: else nothing changes.
 pub(crate) fn put(held: &mut Entries, fold: AnyFold, key: &Row, value: u64) -> Result<bool, Memory>
     requires sound { IsSound held.old }
     requires so_far { any_has fold (unwrap_or (lookup (same_row key.now) (entries_of held.old)) (any_unit fold)) }
@@ -91,8 +91,8 @@ pub(crate) fn put(held: &mut Entries, fold: AnyFold, key: &Row, value: u64) -> R
     Ok(true)
 }
 
-/// Puts a value to the fold of the key that stands at these places of a row, where keys are numbers and that of this key is
-/// built straight from the row. Whether it is: else nothing changes.
+/// Adds a value to the fold of the key that stands at these places of a row, where keys are numbers and that of this key is
+/// built straight from the row. Says whether it is: else nothing changes.
 pub(crate) fn put_at(
     held: &mut Entries,
     fold: AnyFold,

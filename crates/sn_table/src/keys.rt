@@ -11,18 +11,18 @@ use crate::number::Number;
 use indexmap::IndexSet;
 use sn_base::memory::Memory;
 use sn_base::row::Row;
-use sn_seed::Seed;
+use sn_base::seed::Seed;
 
 /// The rows of a set, in the order of first places.
 #[derive(Drop)]
 pub(crate) enum Keys {
-    /// Rows of so many columns, each as a number.
+    /// Rows of n columns, each as a number.
     Narrow(usize, IndexSet<Number, Seed>),
     /// Rows as they are.
     Wide(IndexSet<Row, Seed>),
 }
 
-/// Adds a number. Whether it is new.
+/// Adds a number, and says whether it is new.
 fn insert_number(numbers: &mut IndexSet<Number, Seed>, number: u128) -> Result<bool, Memory>
     ensures new { IfOk result (λ new. new ≡ not (list_any (nat_eq number) numbers.old.keys)) }
     ensures keys { OnOk result (numbers.new.keys ≡ insert_key nat_eq numbers.old.keys number) }
@@ -34,7 +34,7 @@ fn insert_number(numbers: &mut IndexSet<Number, Seed>, number: u128) -> Result<b
     }
 }
 
-/// Adds a row. Whether it is new.
+/// Adds a row, and says whether it is new.
 fn insert_row(rows: &mut IndexSet<Row, Seed>, row: &Row) -> Result<bool, Memory>
     ensures new { IfOk result (λ new. new ≡ not (list_any (same_row row.now) rows.old.keys)) }
     ensures keys { OnOk result (rows.new.keys ≡ insert_key same_row rows.old.keys row.now) }

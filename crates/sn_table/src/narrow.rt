@@ -5,7 +5,7 @@ ghost use Rattle.sn_table.specs.Narrow.{base_of, columns_of, is_narrow, number_o
 
 use sn_base::row::Row;
 
-/// The bits that each of so many columns has in 128. No column has more than 64 of its own.
+/// The bits that each of n columns has in 128. No column has more than 64 of its own.
 fn width_of(columns: usize) -> u32
     requires { columns ≤ 8 }
     ensures value { result ≡ width_of columns }
@@ -60,7 +60,7 @@ fn number_of_all(held: &[u64]) -> Option<u128>
     Some(number)
 }
 
-/// A row of so many columns as one number, the first column lowest. `None` exactly where the row has another number of
+/// A row of n columns as one number, the first column lowest. `None` exactly where the row has another number of
 /// columns, or one of them takes more than its share of the 128 bits. One or two columns always fit.
 pub fn number_of(key: &Row, columns: usize) -> Option<u128>
     ensures { result ≡ (if is_narrow columns key.now then Some (number_of columns key.now) else None) }
@@ -94,7 +94,7 @@ pub(crate) fn number_at(row: &Row, places: &[u32], columns: usize) -> Option<u12
     }
 }
 
-/// Writes the row of so many columns that a number stands for, in place.
+/// Writes the row of n columns that a number stands for, in place.
 pub fn columns_into(number: u128, columns: usize, row: &mut Row)
     requires { columns ≤ 8 }
     ensures { row.new ≡ columns_of columns number }
@@ -109,56 +109,9 @@ pub fn columns_into(number: u128, columns: usize, row: &mut Row)
     }
 }
 
-/// What holds of all numbers and rows: a row that fits is the row that its number stands for, and a number of so many
+/// What holds of all numbers and rows: a row that fits is the row that its number stands for, and a number of this many
 /// columns is that of its row. So no two rows have one number. This says so, and does nothing.
 pub fn numbers_stand_for_rows()
     ensures rows { (columns : ℕ) (row : List ℕ) → is_narrow columns row ≡ true → columns_of columns (number_of columns row) ≡ row }
     ensures numbers { (columns number : ℕ) → number < base_of columns ^ columns → number_of columns (columns_of columns number) ≡ number }
 {}
-
-#[cfg(test)]
-mod tests {
-    use super::*;
-    use std::test::Fail;
-
-    /// The row of these columns, which are eight at most, or that of none.
-    fn row(columns: &[u64]) -> Row {
-        Row::new(columns).unwrap_or(Row::empty())
-    }
-
-    #[test]
-    fn packs_what_fits(rt: HostRuntime) -> Result<(), Fail> {
-        let last = (1 << 42) - 1;
-        let top = u64::MAX;
-        let packed = [
-            (row(&[]), 0),
-            (row(&[top]), 0xffff_ffff_ffff_ffff),
-            (row(&[7, 9]), 0x9_0000_0000_0000_0007),
-            (row(&[top, top]), u128::MAX),
-            (
-                row(&[last, 5, last]),
-                0x3fff_ffff_fff0_0000_0000_17ff_ffff_ffff,
-            ),
-            (
-                row(&[65535, 1, 2, 3, 4, 5, 6, 65535]),
-                0xffff_0006_0005_0004_0003_0002_0001_ffff,
-            ),
-        ];
-        for (row, number) in packed {
-            let mut back = Row::empty().with(77).unwrap_or(Row::empty());
-            assert_eq!(rt; number_of(&row, row.len()), Some(number));
-            columns_into(number, row.len(), &mut back);
-            assert_eq!(rt; back, row);
-        }
-        Ok(())
-    }
-
-    #[test]
-    fn refuses_what_does_not_fit(rt: HostRuntime) -> Result<(), Fail> {
-        assert_eq!(rt; number_of(&row(&[0, 1 << 42, 0]), 3), None);
-        assert_eq!(rt; number_of(&row(&[0, 0, 0, 0, 0, 0, 0, 65536]), 8), None);
-        assert_eq!(rt; number_of(&row(&[1, 2]), 3), None);
-        assert_eq!(rt; number_of(&row(&[1, 2]), 1), None);
-        Ok(())
-    }
-}

@@ -8,7 +8,7 @@ use crate::keys::{Keys, put, widen};
 use indexmap::IndexSet;
 use sn_base::memory::Memory;
 use sn_base::row::Row;
-use sn_seed::Seed;
+use sn_base::seed::Seed;
 use std::alloc::Global;
 use std::marker::Model;
 
@@ -43,7 +43,12 @@ impl Rows {
         }
     }
 
-    /// Adds a row. Whether it is new. The row is looked up once. An `Err` changes nothing.
+    /// Whether the rows are held as numbers. No answer depends on it.
+    pub fn is_narrow(&self) -> bool {
+        matches!(&self.held, Keys::Narrow(_, _))
+    }
+
+    /// Adds a row, and says whether it is new. The row is looked up once. An `Err` changes nothing.
     #[inline(always)]
     pub fn insert(&mut self, row: &Row) -> Result<bool, Memory>
         ensures new { IfOk result (λ new. new ≡ not (list_any (same_row row.now) self.old.keys)) }
@@ -58,35 +63,5 @@ impl Rows {
             Some(new) => Ok(new),
             None => unreachable!(),
         }
-    }
-}
-
-#[cfg(test)]
-mod tests {
-    use super::*;
-    use std::test::Fail;
-
-    fn row(columns: &[u64]) -> Row {
-        Row::new(columns).unwrap_or(Row::empty())
-    }
-
-    #[test]
-    fn knows_rows_before_and_after_it_widens(rt: HostRuntime) -> Result<(), Fail> {
-        let mut rows = Rows::new(rt.alloc(), Seed::new(11));
-        let high = row(&[0xffff_ffff_ffff, 0, 0]);
-        for (row, new) in [
-            (row(&[1, 2, 3]), true),
-            (row(&[1, 2, 4]), true),
-            (row(&[1, 2, 3]), false),
-            (high, true),
-            (row(&[1, 2, 4]), false),
-            (row(&[1, 2]), true),
-            (high, false),
-            (row(&[1, 2]), false),
-        ] {
-            assert_eq!(rt; rows.insert(&row)?, new);
-        }
-        assert!(rt; matches!(&rows.held, Keys::Wide(_)));
-        Ok(())
     }
 }

@@ -11,7 +11,7 @@ use indexmap::IndexMap;
 use sn_base::any_fold::AnyFold;
 use sn_base::memory::Memory;
 use sn_base::row::Row;
-use sn_seed::Seed;
+use sn_base::seed::Seed;
 use std::alloc::Global;
 use std::marker::Model;
 
@@ -61,7 +61,7 @@ impl Table {
         }
     }
 
-    /// Puts a value to its key's fold. The key is looked up once. An `Err` changes nothing.
+    /// Adds a value to its key's fold. The key is looked up once. An `Err` changes nothing.
     pub fn add(&mut self, fold: AnyFold, key: &Row, value: u64) -> Result<(), Memory>
         requires so_far { any_has fold (unwrap_or (lookup (same_row key.now) self.old.entries) (any_unit fold)) }
         requires value { any_has fold value }
@@ -75,7 +75,7 @@ impl Table {
         Ok(())
     }
 
-    /// Puts a value to the fold of the key that stands at these places of a row, as `add` does. No row is made of a key of
+    /// Adds a value to the fold of the key that stands at these places of a row, as `add` does. No row is made of a key of
     /// one or two columns that is held as a number.
     #[inline(always)]
     pub fn add_at(
@@ -98,6 +98,11 @@ impl Table {
         self.add(fold, &key_at(row, places), value)
     }
 
+    /// Whether the keys are held as numbers. No answer depends on it.
+    pub fn is_narrow(&self) -> bool {
+        matches!(&self.held, Entries::Narrow(_, _))
+    }
+
     /// How many keys there are.
     pub fn len(&self) -> usize
         ensures { result ≡ length self.now.entries }
@@ -113,6 +118,3 @@ impl Table {
         read(&self.held, place, row)
     }
 }
-
-#[cfg(test)]
-mod tests;

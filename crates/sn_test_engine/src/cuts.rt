@@ -1,50 +1,19 @@
 //! One query on each of its cuts, from the switch's lanes to the engine's answer.
-ghost use Rattle.std.specs.Prelude.{◌≡◌, ◌<◌, ℕ, IfSome, length, slice_get};
-ghost use Rattle.sn_plan_fit.specs.Fits.{Fits};
-ghost use Rattle.sn_switch.specs.Texts.{IsSwitch};
+ghost use Rattle.std.specs.Prelude.{◌≡◌, ◌<◌, IfSome, length, slice_get};
 
-use crate::texts::{NET, plan, queries, row, syn};
+use crate::lanes::lanes_of;
+use crate::texts::{FIVE, NET, fitting_of, row, syn};
 use sn_emit::lanes::Emitter;
 use sn_engine::engine::Engine;
 use sn_engine::fault::TakeFault;
 use sn_fields::tuple::Tuple;
-use sn_plan_fit::{fits, shape};
-use sn_plan_grammar::plan::Plan;
-use sn_switch::switch::Switch;
+use sn_plan_fit::shape;
 use sn_types::answers::Answers;
-use sn_types::typed::Typed;
-use std::alloc::Global;
 use std::test::Fail;
 
 /// Sums that are capped at four bits, over destinations with their sources.
 const CAPPED: &[u8] =
     b"window 1000000 query q { packets | map ip.dst as d, ip.src as s | distinct | map d as d, 9 as n | reduce d: sum(n) width 4; }";
-
-const SMALL: &[u8] = b"stages 5; actions 2; bits 1000; meta 1000; chain 1; slots 1;";
-
-fn switch(alloc: Global, text: &[u8]) -> Option<Switch>
-    ensures { IfSome result (λ s. IsSwitch s) }
-{
-    if text.len() > 1000 {
-        return None;
-    }
-    match sn_switch::parse(alloc, text) {
-        Ok(switch) => Some(switch),
-        Err(_) => None,
-    }
-}
-
-#[tactic(auto, using(sn_emit::proofs::Unread::new_unread))]
-fn lanes_of(t: &Typed, s: &Switch, plan: &Plan) -> Option<Emitter>
-    requires switch { IsSwitch s.now }
-    requires fits { Fits t.now.queries s.now plan.now.entries }
-    ensures { IfSome result (λ lanes. (lane : ℕ) → IfSome (slice_get lanes lane) (λ s. s.pipe.prefix.place ≡ 0)) }
-{
-    match Emitter::make(t, s, plan) {
-        Ok(emitter) => Some(emitter),
-        Err(_) => None,
-    }
-}
 
 /// Sends a window of the first lane to an engine.
 fn send(
@@ -71,17 +40,12 @@ fn send(
 
 /// The answers of two packets to 10.0.0.9 by this plan. `None` where it isn't read or doesn't fit.
 fn answers(rt: &HostRuntime, plan_text: &[u8]) -> Option<Answers> {
-    let t = queries(rt.alloc(), CAPPED)?;
-    let s = switch(rt.alloc(), SMALL)?;
-    let plan = plan(rt.alloc(), plan_text)?;
-    let mut engine = match shape(&t, &plan) {
-        Ok(()) => Engine::make(rt.alloc(), &t, &plan).ok()?,
+    let fitting = fitting_of(rt.alloc(), CAPPED, FIVE, plan_text)?;
+    let mut engine = match shape(&fitting.typed, &fitting.plan) {
+        Ok(()) => Engine::make(rt.alloc(), &fitting.typed, &fitting.plan).ok()?,
         Err(_) => return None,
     };
-    let mut emitter = match fits(&t, &s, &plan) {
-        Ok(()) => lanes_of(&t, &s, &plan)?,
-        Err(_) => return None,
-    };
+    let mut emitter = lanes_of(&fitting)?;
     if emitter.lanes() == 0 {
         return None;
     }

@@ -1,52 +1,22 @@
 //! What an engine takes, and what it answers.
-use crate::texts::{NET, plan, queries, row};
-use sn_base::lane::Lane;
-use sn_base::row::Row;
+use crate::texts::{NET, SPREAD, TWO_SLOTS, lane, plan, queries, row, rows, sent};
 use sn_engine::engine::Engine;
 use sn_engine::fault::{CloseFault, TakeFault};
 use sn_plan_fit::shape;
 use sn_report::frame::{Frame, Item, Tag};
-use sn_types::answers::Answers;
 use std::test::Fail;
-
-/// Destinations that more than one source reaches.
-const SPREAD: &[u8] =
-    b"window 1000000 query q { packets | map ip.dst as d, ip.src as s | distinct | map d as d, 1 as n | reduce d: sum(n) width 16 | filter n > 1; }";
-
-/// All of it in the switch, with one register of one slot for the distinct and one for the reduce.
-const PLAN: &[u8] = b"plan query q path 0; piece 0 0 cut 5 slots 1, 1 stages 1, 3;";
 
 fn engine(rt: &HostRuntime) -> Option<Engine> {
     let t = queries(rt.alloc(), SPREAD)?;
-    let plan = plan(rt.alloc(), PLAN)?;
+    let plan = plan(rt.alloc(), TWO_SLOTS)?;
     match shape(&t, &plan) {
         Ok(()) => Engine::make(rt.alloc(), &t, &plan).ok(),
         Err(_) => None,
     }
 }
 
-fn lane(query: u8) -> Lane {
-    Lane {
-        query,
-        level: 0,
-        branch: 0,
-    }
-}
-
-fn sent(tag: Tag, row: Row) -> Frame {
-    Frame::Row(lane(0), Item { tag, row })
-}
-
 fn end(window: u64) -> Frame {
-    Frame::End(lane(0), window)
-}
-
-/// The rows of the first part.
-fn rows(answers: &Answers) -> &[Row] {
-    match answers.parts.as_slice().first() {
-        Some(part) => part.rows.as_slice(),
-        None => &[],
-    }
+    Frame::End(lane(0, 0), window)
 }
 
 #[test]
@@ -56,9 +26,9 @@ fn strangers_are_refused_first(rt: HostRuntime) -> Result<(), Fail> {
         tag: Tag::At(1),
         row: row(&[NET + 9, NET + 2]),
     };
-    let other = Frame::Row(lane(1), item);
+    let other = Frame::Row(lane(1, 0), item);
     assert_eq!(rt; engine.take(&other), Err(TakeFault::Stranger));
-    let other = Frame::End(lane(1), 0);
+    let other = Frame::End(lane(1, 0), 0);
     assert_eq!(rt; engine.take(&other), Err(TakeFault::Stranger));
     let short = row(&[1]);
     for tag in [
@@ -113,18 +83,18 @@ fn answers_what_a_pipe_sends(rt: HostRuntime) -> Result<(), Fail> {
     assert_eq!(rt; engine.take(&end(4)), Ok(()));
     assert!(rt; engine.lane_ended(0));
     let value = engine.value()?;
-    assert_eq!(rt; rows(&value), [row(&[NET + 9, 2])].as_slice());
+    assert_eq!(rt; rows(&value, 0), [row(&[NET + 9, 2])].as_slice());
     let answers = engine.close_window()?;
     assert_eq!(rt; answers.window, 4);
     assert_eq!(rt; answers.emitted, 2);
-    assert_eq!(rt; rows(&answers), [row(&[NET + 9, 2])].as_slice());
+    assert_eq!(rt; rows(&answers, 0), [row(&[NET + 9, 2])].as_slice());
     assert!(rt; !engine.started());
     assert_eq!(rt; engine.take(&end(4)), Err(TakeFault::Window));
     assert_eq!(rt; engine.take(&end(3)), Err(TakeFault::Window));
     assert_eq!(rt; engine.take(&end(5)), Ok(()));
     let next = engine.close_window()?;
     assert_eq!(rt; next.emitted, 0);
-    assert_eq!(rt; rows(&next).len(), 0);
+    assert_eq!(rt; rows(&next, 0).len(), 0);
     Ok(())
 }
 
@@ -156,7 +126,7 @@ fn the_order_of_items_is_free(rt: HostRuntime) -> Result<(), Fail> {
     let other = shuffled.close_window()?;
     assert_eq!(rt; one.emitted, 41);
     assert_eq!(rt; other.emitted, 41);
-    assert_eq!(rt; rows(&one).len(), 5);
-    assert_eq!(rt; rows(&one), rows(&other));
+    assert_eq!(rt; rows(&one, 0).len(), 5);
+    assert_eq!(rt; rows(&one, 0), rows(&other, 0));
     Ok(())
 }

@@ -1,5 +1,6 @@
-//! Worked windows, from texts and packets to answers. It has tests alone, which cross the crates of the
-//! lanes, the engine and refinement.
+//! Worked windows, from texts and packets to answers: registers, report frames, the lanes of a switch, the engine,
+//! refinement, nets and what drives them. It has tests alone, which cross the crates of all these, and a machine
+//! that doesn't tell its answers as they are.
 #![tactic(auto)]
 
 #[cfg(test)]
@@ -7,6 +8,21 @@ mod cuts;
 #[cfg(test)]
 mod engine;
 #[cfg(test)]
+mod frames;
+#[cfg(test)]
+mod lanes;
+#[cfg(test)]
+mod lockstep;
+#[cfg(test)]
+mod nets;
+#[cfg(test)]
 mod refined;
 #[cfg(test)]
+mod registers;
+#[cfg(test)]
+mod schedules;
+#[cfg(test)]
 mod texts;
+#[cfg(test)]
+mod told;
+pub mod twist;

@@ -4,7 +4,7 @@ ghost use Rattle.std.specs.List.{list_any};
 ghost use Rattle.sn_refine.specs.Steps.{IsPathOf, IsAbove};
 ghost use Rattle.sn_types.specs.Typed.{query_at};
 
-use crate::texts::{NET, queries, row, syn};
+use crate::texts::{NET, REFINED, queries, row, syn};
 use sn_base::memory::Memory;
 use sn_base::row::Row;
 use sn_base::seq::Seq;
@@ -15,10 +15,6 @@ use sn_types::answers::Part;
 use sn_types::typed::Typed;
 use std::alloc::Global;
 use std::test::Fail;
-
-/// Destinations of more than one packet, by network and by host.
-const HEAVY: &[u8] =
-    b"window 1000000 query q { refine ip.dst: 8, 32; packets | map ip.dst as d, 1 as n | reduce d: sum(n) width 16 | filter n > 1; }";
 
 fn has_level(t: &Typed, level: u32) -> bool
     requires { 0 < length t.now.queries }
@@ -78,7 +74,7 @@ fn rows(parts: &Seq<Part>, place: usize) -> &[Row] {
 
 #[test]
 fn finer_levels_see_what_was_answered_before(rt: HostRuntime) -> Result<(), Fail> {
-    let t = queries(rt.alloc(), HEAVY).ok_or("no queries")?;
+    let t = queries(rt.alloc(), REFINED).ok_or("no queries")?;
     let mut refined = refined(rt.alloc(), &t)?;
     let tuples = [syn(1, 9), syn(1, 9)];
     let first = answers(&t, &mut refined, 0, &tuples)?;
@@ -93,7 +89,7 @@ fn finer_levels_see_what_was_answered_before(rt: HostRuntime) -> Result<(), Fail
 
 #[test]
 fn a_gap_empties_the_finer_levels(rt: HostRuntime) -> Result<(), Fail> {
-    let t = queries(rt.alloc(), HEAVY).ok_or("no queries")?;
+    let t = queries(rt.alloc(), REFINED).ok_or("no queries")?;
     let mut refined = refined(rt.alloc(), &t)?;
     let tuples = [syn(1, 9), syn(1, 9)];
     let first = answers(&t, &mut refined, 0, &tuples)?;
@@ -106,7 +102,7 @@ fn a_gap_empties_the_finer_levels(rt: HostRuntime) -> Result<(), Fail> {
 
 #[test]
 fn members_are_the_refinement_column(rt: HostRuntime) -> Result<(), Fail> {
-    let t = queries(rt.alloc(), HEAVY).ok_or("no queries")?;
+    let t = queries(rt.alloc(), REFINED).ok_or("no queries")?;
     assert_eq!(rt; t.queries(), 1);
     let found = members(rt.alloc(), &t, 0, &[row(&[NET, 2]), row(&[2 * NET, 2])])?;
     assert!(rt; found.has(NET));

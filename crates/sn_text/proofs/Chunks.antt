@@ -1,4 +1,4 @@
--- Lexemes that are written with blanks behind them are cut out again, and a text that is written so stands for the same value.
+-- Lexemes that are written with blanks after them are cut out again, and a text that is written so stands for the same value.
 use Rattle.std.proofs.Common.{◌≡◌, ℕ, false, cond, List, [], ◌∷◌, ◌++◌, map, length, drop, Some, None, refl, sym, ap, subst, ◌∙◌, inl, inr, ◌⊎◌}
 use Rattle.std.proofs.Math.Seq.{drop-append_seam}
 use Rattle.std.proofs.lemmas.List.{append-nil}
@@ -44,7 +44,7 @@ skip_all p g e h =
 
 -- ---- chunks
 
--- a lexeme and the blanks behind it
+-- a lexeme and the blanks after it
 pub record Chunk : Type 0 where
   pub face : Lexeme
   pub gap : List ℕ
@@ -63,7 +63,7 @@ face_of c = c.face
 abbrev pub Parts : Lexeme → List ℕ → Type 0
 Parts x t = HeadOk t ⊎ (x ≡ symbol 5)
 
--- behind each lexeme stand blanks
+-- after each lexeme stand blanks
 abbrev pub Spaced : List Chunk → Type 0
 Spaced [] = Unit {0}
 Spaced (c ∷ cs) = Blank c.gap × Parts c.face (c.gap ++ text_of cs) × Spaced cs

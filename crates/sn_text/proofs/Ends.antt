@@ -1,4 +1,4 @@
--- The tokens of a text end with its end, which is behind its last byte, or with no token.
+-- The tokens of a text end with its end, which is after its last byte, or with no token.
 use Rattle.std.proofs.Common.{◌≡◌, ℕ, ◌+◌, ◌≤◌, suc, Bool, true, false, cond, List, [], ◌∷◌, ◌++◌, length, take, Option, Some, None, refl, sym, ap, ◌∙◌, arith, inl, inr, length-drop}
 use Rattle.sn_text_rules.specs.Tokens.{Lexeme, word, finish, is_last, Tok}
 use Rattle.sn_text_rules.proofs.Common.{either_way}
@@ -108,6 +108,6 @@ end_starts (u ∷ front) t p e f = elim (either_way (is_last (tok_at (skip p)).f
   | inr l ↦ end_starts front t (after_at (skip p)) (rest (tok_at (skip p)) u (tokens (after_at (skip p))) (front ++ t ∷ []) (sym (tokens_next p ∙ rw l refl) ∙ e)) f ∙ after_whole (skip p) ∙ skip_whole_by p.rest false p refl
 ]
 
--- the end of a text stands behind its last byte
+-- the end of a text stands after its last byte
 pub end_at : (text : List ℕ) (front : List Tok) (t : Tok) → tokens_of text ≡ front ++ t ∷ [] → t.face ≡ finish → t.start ≡ length text
 end_at text front t e f = end_starts front t (record { rest = text; start = 0; line = 1; column = 1 }) e f ∙ omega arith

@@ -66,7 +66,7 @@ unfolding lexeme_at
 some_byte [] h = absurd cc
 some_byte (b ∷ bs) h = omega arith
 
--- what is left behind a token that isn't the last
+-- what is left after a token that isn't the last
 less : (p : Place) → is_last (tok_at (skip p)).face ≡ false → suc (length (after_at (skip p)).rest) ≤ length p.rest
 less p h =
     let one = one_byte (skip p).rest h in

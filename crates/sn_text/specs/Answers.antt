@@ -1,3 +1,4 @@
+-- serves proofs
 -- What the calls of a lexer answer.
 use Rattle.std.specs.Prelude.{◌≡◌, ℕ, false, List, [], ◌∷◌, if◌then◌else◌}
 use Rattle.sn_text_rules.specs.Tokens.{Tok, bad}
@@ -19,7 +20,7 @@ abbrev pub IsBadAt : ℕ → ℕ → List Tok → Type 0
 IsBadAt line column [] = ⊥
 IsBadAt line column (u ∷ us) = (u.face ≡ bad) × (u.line ≡ line) × (u.column ≡ column)
 
--- behind the first token; the last one comes again and again
+-- after the first token; the last one comes again and again
 abbrev pub behind_first : List Tok → List Tok
 behind_first [] = []
 behind_first (t ∷ ts) = if is_last t.face then t ∷ ts else ts

@@ -1,3 +1,4 @@
+-- to be believed
 -- The cutting of a text into tokens.
 use Rattle.std.specs.Prelude.{ℕ, zero, suc, ◌+◌, ◌-◌, ◌*◌, ◌^◌, Bool, true, false, List, [], ◌∷◌, length, take, drop, Option, Some, None, nat_lt, nat_le, ◌==◌, ◌&&◌, ◌||◌, if◌then◌else◌}
 use Rattle.sn_text_rules.specs.Tokens.{Lexeme, word, number, symbol, finish, bad, Tok}
@@ -37,7 +38,7 @@ abbrev pub or_none : {A B : Type 0} → Option A → (A → Option B) → Option
 or_none None f = None
 or_none (Some a) f = f a
 
--- the digits behind a number; none past 64 bits
+-- the digits after a number; none past 64 bits
 abbrev pub digits_behind : ℕ → ℕ → List ℕ → Option ℕ
 digits_behind base n [] = Some n
 digits_behind base n (b ∷ bs) = or_none (with_digit base n (digit base b)) (λ m. digits_behind base m bs)
@@ -123,7 +124,7 @@ pub record Place : Type 0 where
   pub line : ℕ
   pub column : ℕ
 
--- A byte between tokens: whether a comment goes on behind it. None where a token begins.
+-- A byte between tokens: whether a comment goes on after it. None where a token begins.
 abbrev pub gap : Bool → ℕ → Option Bool
 gap inside b =
     if b == 10 then Some false else if inside then Some true else if (b == 32) || (b == 9) || (b == 13) then Some false
@@ -150,7 +151,7 @@ tok_at p = record { face = (lexeme_at p.rest).0; line = p.line; column = p.colum
 abbrev pub after_at : Place → Place
 after_at p = record { rest = drop (lexeme_at p.rest).1 p.rest; start = p.start + (lexeme_at p.rest).1; line = p.line; column = p.column + (lexeme_at p.rest).1 }
 
--- no token comes behind it
+-- no token comes after it
 abbrev pub tokens_at : ℕ → Place → List Tok
 tokens_at zero p = tok_at (skip p) ∷ []
 tokens_at (suc n) p = tok_at (skip p) ∷ (if is_last (tok_at (skip p)).face then [] else tokens_at n (after_at (skip p)))

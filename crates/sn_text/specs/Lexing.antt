@@ -1,3 +1,4 @@
+-- serves proofs
 -- The lexer of the code, as a place in its text.
 use Rattle.std.specs.Prelude.{Bool, true, false, List}
 use Rattle.sn_text_rules.specs.Tokens.{Lexeme, Tok, word, number, symbol, finish, bad}

@@ -1,3 +1,4 @@
+-- to be believed
 -- How a lexeme is written.
 use Rattle.std.specs.Prelude.{ℕ, List, [], ◌==◌, codes, if◌then◌else◌}
 use Rattle.std.specs.Fmt.{decimal}

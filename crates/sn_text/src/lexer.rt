@@ -11,7 +11,7 @@ use crate::scan::scan;
 pub enum Kind {
     /// A word that begins with a letter or `_`. Its bytes are those of the text from `start` to `end`.
     Name,
-    /// A word that begins with a digit: decimal, hexadecimal behind `0x`, or an address of four parts.
+    /// A word that begins with a digit: decimal, hexadecimal after `0x`, or an address of four parts.
     Number(u64),
     /// A symbol by its place in the list `{ } ; , | ( ) : & + * / == != < <= > >= >>`, from 0.
     Symbol(u8),
@@ -25,7 +25,7 @@ pub struct Token {
     pub kind: Kind,
     /// The first byte, from 0.
     pub start: u32,
-    /// The byte behind the last one.
+    /// The byte after the last one.
     pub end: u32,
     /// The line, from 1.
     pub line: u32,

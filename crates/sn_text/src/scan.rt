@@ -154,7 +154,7 @@ fn skipped<'a>(from: Lexer<'a>) -> Lexer<'a>
     at
 }
 
-/// What stands at a place, and where: its first byte, the one behind it, its line and its column.
+/// What stands at a place, and where: its first byte, the one after it, its line and its column.
 #[derive(Clone, Copy)]
 pub struct Found<'a> {
     pub piece: Piece<'a>,
@@ -186,7 +186,7 @@ fn scan_at<'a>(from: Lexer<'a>) -> (Found<'a>, Lexer<'a>)
     (found, after)
 }
 
-/// What stands next, and the lexer behind it.
+/// What stands next, and the lexer after it.
 pub fn scan<'a>(from: Lexer<'a>) -> (Found<'a>, Lexer<'a>)
     ensures { left from.entry ≡ token_of result.0 ∷ (if is_last (seen result.0.piece) then [] else left result.1) }
 {

@@ -288,7 +288,7 @@ Tells o (got a us) = Unit {0}
 Tells o (fails x us) = o.ok x ≡ true
 Tells o short = ⊥
 
--- the rule gives a value, whatever is behind it, or a fault of the format
+-- the rule gives a value, whatever is after it, or a fault of the format
 pub record Telling {A : Type 0} (o : Flaws) (r : Rule A) : Type 0 where
   pub told : (ts : List Tok) → Ended ts → Tells o (r.read kept ts)
 

@@ -50,7 +50,7 @@ before_fault {A} r g front rest t x e = go (r.read kept front) refl
 pub fault_begins : {A : Type 0} (r : Rule A) → Good r → (front rest : List Tok) (t : Tok) (x : Flaw) → r.read kept (front ++ t ∷ rest) ≡ fails x (t ∷ rest) → Begins r front
 fault_begins r g front rest t x e = g.begins kept front (before_fault r g front rest t x e)
 
--- no accepted text goes on behind a comma where no token can stand
+-- no accepted text goes on after a comma where no token can stand
 started_of : {A : Type 0} (r : Rule A) → Good r → r.follow [] ≡ true → (ts : List Tok) → r.read kept ts ≡ short → Start r ts → Started r ts
 started_of r g ends ts e (inl b) = inl b
 started_of {A} r g ends ts e (inr h) = inr (record { fore = h.fore; comma = h.comma; parts = h.parts; is_comma = h.is_comma; begins = h.begins; stops = λ b. stops b.more b.value b.accepted })

@@ -9,12 +9,12 @@ use Rattle.sn_text_rules.specs.Tokens.{Lexeme}
 use Rattle.sn_text_rules.specs.Rules.{kept, Rule, past, either_rule, fit_from, series_fits}
 use Rattle.sn_text_rules.specs.Words.{full, never, behind_comma, commas}
 
--- each of these items, behind those before it, is so
+-- each of these items, after those before it, is so
 abbrev pub Behind : {A : Type 0} → (List A → A → Type 0) → List A → List A → Type 0
 Behind F seen [] = Unit {0}
 Behind F seen (a ∷ rest) = F seen a × Behind F (seen ++ a ∷ []) rest
 
--- there is room behind these items, and this one fits
+-- there is room after these items, and this one fits
 abbrev pub Item : {A : Type 0} → ℕ → (List A → Rule A) → List A → A → Type 0
 Item limit p seen a = (length seen < limit) × (p seen).fits kept a
 
@@ -57,7 +57,7 @@ each_behind F P holds seen (a ∷ rest) h = (holds seen a h.0, each_behind F P h
 
 -- ---- whole lists
 
--- a list of at least one item, and at most so many
+-- a list of at least one item, and at most this many
 pub record IsListOf {A : Type 0} (limit : ℕ) (p : List A → Rule A) (xs : List A) : Type 0 where
   pub count : (1 ≤ length xs) × (length xs ≤ limit)
   pub items : Behind (Item limit p) [] xs
@@ -75,7 +75,7 @@ pub series_list : {A : Type 0} (limit : ℕ) (x : Flaw) (p : List A → Rule A) 
 series_list limit x p [] some h = absurd h
 series_list limit x p (a ∷ rest) some h = listed limit p a rest some h.0 (from_full limit x p (a ∷ []) rest h.1)
 
--- no more than so many, whatever the first is
+-- no more than this many, whatever the first is
 pub series_count : {A : Type 0} (limit : ℕ) (x : Flaw) (first : Rule A) (p : List A → Rule A) (xs : List A) → 0 < limit → series_fits first (full limit x) p kept xs → length xs ≤ limit
 series_count limit x first p [] some h = absurd h
 series_count limit x first p (a ∷ rest) some h = let most : 1 + length rest ≤ limit = count_behind limit p (a ∷ []) rest some (from_full limit x p (a ∷ []) rest h.1) in omega (arith, most)

@@ -233,7 +233,7 @@ twin a b = (a, b)
 pairs : {A B : Type 0} (a c : A) (b d : B) → a ≡ c → b ≡ d → twin a b ≡ twin c d
 pairs a c b d e f = rw (e, f) refl
 
--- what q spells may stand behind p, and what may stand behind both; q doesn't depend on lines
+-- what q spells may stand after p, and what may stand after both; q doesn't depend on lines
 pub record Meets {A B : Type 0} (p : Rule A) (q : A → Rule B) (follow : List Tok → Bool) : Type 0 where
   pub meets : (a : A) (front us : List Tok) (b : B) → (q a).fits aside b → Spelled front ((q a).spell b) → follow us ≡ true → p.follow (front ++ us) ≡ true
   pub ends : (a : A) (us : List Tok) → follow us ≡ true → (q a).follow us ≡ true
@@ -397,7 +397,7 @@ pub record Follows {A B : Type 0} (p : Rule A) (q : Rule B) : Type 0 where
 pub pair_good : {A B : Type 0} {p : Rule A} {q : Rule B} → Good p → Good q → Follows p q → Good (pair p q)
 pair_good gp gq m = pair_on_good gp (λ a. gq) (record { meets = λ a front us b f s e. m.meets front us b f s e; ends = λ a us e. e; steady = λ a c b e. (refl, λ f. f, refl) })
 
--- anything may stand behind the first
+-- anything may stand after the first
 pub freely : {A B : Type 0} (p : Rule A) (q : Rule B) → ((us : List Tok) → p.follow us ≡ true) → Follows p q
 freely p q h = record { meets = λ front us b _ _ _. h (front ++ us) }
 

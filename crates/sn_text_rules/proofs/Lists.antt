@@ -1,4 +1,4 @@
--- Helps for lists: what is past a limit, items that are alike, and what may stand behind a list.
+-- Helps for lists: what is past a limit, items that are alike, and what may stand after a list.
 use Rattle.std.proofs.Common.{◌≡◌, ℕ, Bool, true, false, cond, List, [], ◌∷◌, ◌++◌, length, map, Option, Some, None, refl, sym, ap, subst, ◌∙◌}
 use Rattle.std.specs.Prelude.{nat_le}
 use Rattle.std.proofs.lemmas.List.{length-map}
@@ -79,7 +79,7 @@ always_alike goes limit x {p = p} g marked heads opens = record {
   steady = λ seen other e. (λ h. full_steady limit x p.bare seen other e h, λ a f. f);
 }
 
--- ---- what may stand behind a list with commas
+-- ---- what may stand after a list with commas
 
 open_follow : (c a b : Bool) → c ≡ true → a ≡ true → b ≡ true → cond c (cond a b false) false ≡ true
 open_follow c a b e f g = rw (e, f, g) refl

@@ -448,7 +448,7 @@ module _ {A : Type 0} {goes : Lexeme → Bool} {shut : List A → Option Flaw} {
 
 -- ---- a first item and further ones
 
--- the first item, and what may stand behind it
+-- the first item, and what may stand after it
 pub record Leads {A : Type 0} (first : Rule A) (goes : Lexeme → Bool) (p : List A → Rule A) : Type 0 where
   pub good : Good first
   pub marked : (t : Tok) (us : List Tok) → goes t.face ≡ true → first.follow (t ∷ us) ≡ true

@@ -20,7 +20,7 @@ use Rattle.sn_text_rules.proofs.Items.{below_limit}
 abbrev pub HasValue : {A : Type 0} → Rule A → Type 0
 HasValue {A} r = (a : A) × r.fits kept a
 
--- The last token is a comma behind which no token can stand, and an accepted text begins with those before it.
+-- The last token is a comma after which no token can stand, and an accepted text begins with those before it.
 pub record Halts {A : Type 0} (r : Rule A) (ts : List Tok) : Type 0 where
   pub fore : List Tok
   pub comma : Tok
@@ -62,7 +62,7 @@ starting {A} {r = r} a = record { starts = go }
     go [] e = inl (nothing_opens r a.some)
     go (t ∷ ts) e = a.keeps.begins t ts e
 
--- what starts a part starts the whole, behind what is in front of the part
+-- what starts a part starts the whole, after what is in front of the part
 pub carried : {A B : Type 0} (p : Rule A) (r : Rule B) (ts front us : List Tok) → ts ≡ front ++ us → ((vs : List Tok) → BeginsAccepted p vs → BeginsAccepted r (front ++ vs))
     → ((vs rest : List Tok) (x : Flaw) → p.read kept (us ++ vs) ≡ fails x rest → r.read kept (ts ++ vs) ≡ fails x rest) → Start p us → Start r ts
 carried p r ts front us e opens fault (inl b) = inl (subst (BeginsAccepted r) (sym e) (opens us b))
@@ -295,7 +295,7 @@ leaf_able face get test a e = record { keeps = leaf_kept face get test; some = (
 pub number_in_able : (low high : ℕ) → low ≤ high → Able (number_in low high)
 number_in_able low high le = leaf_able number number_at (in_range low high) low (let a : nat_le low low ≡ true = le-leb low low (omega arith) in let b : nat_le low high ≡ true = le-leb low high le in rw (a, b) refl)
 
--- a part behind a word or a sign, and before one
+-- a part after a word or a sign, and before one
 pub behind_able : {A : Type 0} {p : Rule (Unit {0})} {q : Rule A} → Good p → Able p → Able q → Able (p ▸ q)
 behind_able gp x y = renamed_able second as_second (λ a. refl) (pair_able gp x y)
 
@@ -310,7 +310,7 @@ after_sign_able k y = behind_able (sign_good k) (sign_able k) y
 
 -- ---- lists
 
--- the token is a comma behind which no token can stand, and there is no token behind it
+-- the token is a comma after which no token can stand, and there is no token after it
 pub record Alone {A : Type 0} (r : Rule A) (t : Tok) (ts : List Tok) : Type 0 where
   pub is_comma : t.face ≡ symbol 3
   pub alone : ts ≡ []
@@ -324,7 +324,7 @@ pub kept_steps : {A : Type 0} {r : Rule A} → Kept r → Steps r
 kept_steps k = record { begins = λ t ts e. inl (k.begins t ts e) }
 
 module _ {A : Type 0} {goes : Lexeme → Bool} {shut : List A → Option Flaw} {p : List A → Rule A} (alike : Alike goes shut p) (steps : (seen : List A) → shut seen ≡ None → Steps (p seen)) where
-  -- the items behind those seen
+  -- the items after those seen
   abbrev From : List A → Rule (List A)
   From seen = record {
     spell = items_spelled (p []).spell;
@@ -425,7 +425,7 @@ past_kept begun p = record { begins = λ t ts e. absurd cc }
 past_dead : {A : Type 0} (begun : Lexeme → Flaw) (p : Rule A) → Dead (past begun p)
 past_dead begun p = record { fault = λ t ts. (begun t.face, refl) }
 
--- behind a comma stands an item, or no token can stand there
+-- after a comma stands an item, or no token can stand there
 abbrev pub Next : {A : Type 0} → Rule A → Type 0
 Next r = Kept r × (HasValue r ⊎ Dead r)
 

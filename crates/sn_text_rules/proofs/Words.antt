@@ -179,7 +179,7 @@ number_by_good test some = leaf_good number number_at numbers_stand test some
 pub number_in_good : (low high : ℕ) → low ≤ high → Good (number_in low high)
 number_in_good low high le = number_by_good (in_range low high) (low, (let a : nat_le low low ≡ true = le-leb low low (omega arith) in let b : nat_le low high ≡ true = le-leb low high le in rw (a, b) refl))
 
--- ---- words and signs before and behind a part
+-- ---- words and signs before and after a part
 
 pub behind_good : {A : Type 0} {p : Rule (Unit {0})} {q : Rule A} → Good p → Good q → ((us : List Tok) → p.follow us ≡ true) → Good (p ▸ q)
 behind_good gp gq h = renamed_good second as_second (λ a. refl) (λ b. refl) (free_pair gp gq h)
@@ -193,7 +193,7 @@ after_word text gq = behind_good (keyword_good text) gq (λ us. refl)
 pub after_sign : {A : Type 0} (k : ℕ) {q : Rule A} → Good q → Good (sign k ▸ q)
 after_sign k gq = behind_good (sign_good k) gq (λ us. refl)
 
--- a sign behind a rule that it may stand behind
+-- a sign after a rule that it may follow
 pub sign_follows : {A : Type 0} (p : Rule A) (k : ℕ) → ((t : Tok) (us : List Tok) → t.face ≡ symbol k → p.follow (t ∷ us) ≡ true) → Follows p (sign k)
 sign_follows {A} p k h = record { meets = meets }
   where
@@ -204,7 +204,7 @@ sign_follows {A} p k h = record { meets = meets }
 pub before_sign : {A : Type 0} {p : Rule A} (k : ℕ) → Good p → ((t : Tok) (us : List Tok) → t.face ≡ symbol k → p.follow (t ∷ us) ≡ true) → Good (p ◂ sign k)
 before_sign {p = p} k gp h = before_good gp (sign_good k) (sign_follows p k h)
 
--- a part behind its word begins with the word
+-- a part after its word begins with the word
 pub word_starts : {A : Type 0} (text : List ℕ) (q : Rule A) → Starts (is_word text) (keyword text ▸ q)
 word_starts text q = record { heads = λ a f. same_self text }
 
@@ -213,7 +213,7 @@ sign_starts k q = record { heads = λ a f. eq-eqb k k refl }
 
 -- ---- lists with commas
 
--- the rules of the items are alike whatever stands before them, and a comma may stand behind each
+-- the rules of the items are alike whatever stands before them, and a comma may stand after each
 pub record Listed {A : Type 0} (begun : Lexeme → Flaw) (p : List A → Rule A) : Type 0 where
   pub good : (seen : List A) → Good (p seen)
   pub spells : (seen : List A) (a : A) → (p seen).spell a ≡ (p []).spell a

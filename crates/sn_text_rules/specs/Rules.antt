@@ -1,3 +1,4 @@
+-- to be believed
 -- Rules of a grammar, and how larger ones are made of smaller ones.
 use Rattle.std.specs.Prelude.{◌≡◌, ℕ, zero, suc, Bool, true, false, List, [], ◌∷◌, ◌++◌, length, map, Option, Some, None, option_map, Result, Ok, Err, not, ◌⊎◌, if◌then◌else◌}
 use Rattle.std.proofs.Common.{inl, inr}
@@ -21,7 +22,7 @@ is_limit Twice = true
 is_limit Missing = true
 
 -- One rule: how its values are spelled, which values are in it, and reading it from the left with the first fault.
--- follow: what may stand behind it, so that it ends there. bare: the value with 0 for each line in it.
+-- follow: what may stand after it, so that it ends there. bare: the value with 0 for each line in it.
 pub record Rule (A : Type 0) : Type 1 where
   pub spell : A → List Mark
   pub fits : Limits → A → Type 0
@@ -51,7 +52,7 @@ token face fits judge = one (λ a. plain (face a)) fits (λ l t. judge l t.face)
 
 -- ---- one after the other
 
--- the second may depend on the value of the first; follow: what may stand behind the second, whatever the first is
+-- the second may depend on the value of the first; follow: what may stand after the second, whatever the first is
 abbrev pub pair_on : {A B : Type 0} → Rule A → (A → Rule B) → (List Tok → Bool) → Rule (A × B)
 pair_on p q follow = record {
   spell = λ x. p.spell x.0 ++ (q x.0).spell x.1;
@@ -175,7 +176,7 @@ abbrev pub items_spelled : {A : Type 0} → (A → List Mark) → List A → Lis
 items_spelled item [] = []
 items_spelled item (a ∷ rest) = item a ++ items_spelled item rest
 
--- each of the further items fits behind those before it
+-- each of the further items fits after those before it
 abbrev pub fit_from : {A : Type 0} → (List A → Option Flaw) → (List A → Rule A) → Limits → List A → List A → Type 0
 fit_from shut p l seen [] = Unit {0}
 fit_from shut p l seen (a ∷ rest) = (closed l (shut seen) ≡ None) × (p seen).fits l a × fit_from shut p l (seen ++ a ∷ []) rest
@@ -249,7 +250,7 @@ pub record BeginsAccepted {A : Type 0} (r : Rule A) (ts : List Tok) : Type 0 whe
   pub more : List Tok
   pub accepted : Accepts r (ts ++ more) value
 
--- The last token is a comma behind a list that takes no further item: the comma passes, and the token after it is judged.
+-- The last token is a comma after a list that takes no further item: the comma passes, and the token after it is judged.
 -- So no accepted text begins with these tokens, and one begins with those before the comma.
 pub record BeginsToComma {A : Type 0} (r : Rule A) (ts : List Tok) : Type 0 where
   pub fore : List Tok
@@ -260,7 +261,7 @@ pub record BeginsToComma {A : Type 0} (r : Rule A) (ts : List Tok) : Type 0 wher
   pub begins : BeginsAccepted r fore
   pub stops : BeginsAccepted r ts → ⊥
 
--- an accepted text begins so, or with all but the comma behind a list that takes no further item
+-- an accepted text begins so, or with all but the comma after a list that takes no further item
 abbrev pub Started : {A : Type 0} → Rule A → List Tok → Type 0
 Started r ts = BeginsAccepted r ts ⊎ BeginsToComma r ts
 
@@ -277,7 +278,7 @@ pub record FirstFault {A : Type 0} (r : Rule A) (ts : List Tok) (flaw : Flaw) (l
   -- the tokens before it begin a text of the grammar, limits aside
   pub begins : Begins r front
   -- The tokens before it begin an accepted text: no fault against a limit is noticed late. Where the last of them is the
-  -- comma behind a list that takes no further item, those before that comma do.
+  -- comma after a list that takes no further item, those before that comma do.
   pub within : Started r front
   -- A fault against the form: no text of the grammar begins with the tokens up to it, even limits aside.
   pub form : is_limit flaw ≡ false → (more : List Tok) (value : A) → r.fits aside value → Spelled ((front ++ at ∷ []) ++ more) (r.spell value) → ⊥

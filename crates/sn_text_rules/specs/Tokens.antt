@@ -1,3 +1,4 @@
+-- to be believed
 -- Tokens as a grammar sees them, the marks that spell a value, and what reading gives.
 use Rattle.std.specs.Prelude.{◌≡◌, ℕ, Bool, true, false, List, [], ◌∷◌, map, Option, Some, None}
 use Rattle.sn_text_rules.specs.declared.Flaw.{Flaw}
@@ -10,13 +11,13 @@ pub data Lexeme : Type 0 where
   finish : Lexeme
   bad : Lexeme
 
--- no token stands behind these
+-- no token stands after these
 abbrev pub is_last : Lexeme → Bool
 is_last finish = true
 is_last bad = true
 is_last _ = false
 
--- a token, and where it stands: its line and column from 1, its first byte and the one behind it from 0
+-- a token, and where it stands: its line and column from 1, its first byte and the one after it from 0
 pub record Tok : Type 0 where
   pub face : Lexeme
   pub line : ℕ

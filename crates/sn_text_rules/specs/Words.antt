@@ -1,3 +1,4 @@
+-- to be believed
 -- Rules of single tokens that all formats have, and lists with commas.
 use Rattle.std.specs.Prelude.{◌≡◌, ℕ, Bool, true, false, List, [], length, Option, Some, None, Result, Ok, Err, nat_le, nat_eq, ◌==◌, ◌&&◌, if◌then◌else◌}
 use Rattle.std.specs.Cmp.Lexicographic.{pointwise}
@@ -92,7 +93,7 @@ in_range low high n = if nat_le low n && nat_le n high then None else Some Expec
 abbrev pub number_in : ℕ → ℕ → Rule ℕ
 number_in low high = number_by (in_range low high)
 
--- ---- words and signs before and behind a part
+-- ---- words and signs before and after a part
 
 abbrev pub second : {A : Type 0} → Unit {0} × A → A
 second x = x.1
@@ -119,11 +120,11 @@ p ◂ q = renamed first with_second (pair p q)
 abbrev pub never : {A : Type 0} → List A → Option Flaw
 never seen = None
 
--- no further item behind so many; wrong says why
+-- no further item after this many; wrong says why
 abbrev pub full : {A : Type 0} → ℕ → Flaw → List A → Option Flaw
 full limit x seen = if nat_le limit (length seen) then Some x else None
 
--- One or more items with commas between them. Behind as many as the limit the comma passes, and the token after it is
+-- One or more items with commas between them. After as many as the limit the comma passes, and the token after it is
 -- judged by begun.
 abbrev pub next_item : {A : Type 0} → ℕ → (Lexeme → Flaw) → (List A → Rule A) → List A → Rule A
 next_item limit begun p seen = either_rule (nat_le limit (length seen)) (past begun (p [])) (p seen)

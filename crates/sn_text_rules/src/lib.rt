@@ -3,7 +3,7 @@
 //! The crate has no code but one enum. `specs` says what tokens are, how a rule of a grammar spells, accepts and
 //! reads values, and how rules are made of smaller ones. `proofs` shows that each way of making rules keeps the laws
 //! from which a reader's contract follows: what is read is what is spelled, and the first fault stands at the first
-//! token that goes on no text.
+//! token with which no text goes on.
 #![tactic(auto)]
 
 /// Why a text is refused, the first of its faults. At one token the order is that of the variants.

@@ -47,7 +47,7 @@ pub record Begun (before : World) (answer : Result (Unit {0}) Refusal) (now : Wo
 begun : {names : List (List ℕ)} {stage : Stage (Unit {0})} {before now : World} {answer : Result (Unit {0}) Refusal} → WorksFrom 2 names stage before answer now → Begun before answer now
 begun w = record { words = w.runs.words; write_fault = w.runs.write_fault; follows = w.runs.follows }
 
--- the work of `live`, where answers are told as they are
+-- the work of `live`, where answers are reported as they are
 pub live_as_they_are : {told : Telling} (nodes schedule : ℕ) (words : List (List ℕ)) {before now : World} {answer : Result (Unit {0}) Refusal} → told ≡ as_they_are → IsWork told (commands.Live nodes schedule false) words before answer now
     → IsLiveWork as_they_are nodes schedule false words before answer now
 live_as_they_are nodes schedule words {before} {now} {answer} as_they w = subst (λ (t : Telling). IsLiveWork t nodes schedule false words before answer now) as_they w

@@ -1,3 +1,4 @@
+-- to be believed
 -- What the top call is called with and leaves, and the work of each command.
 use Rattle.std.specs.Prelude.{◌≡◌, ℕ, List, [], ◌∷◌, Bool, true, false, Result, Err}
 use Rattle.sn_io.specs.declared.inputs.Inputs.{Ghosts as InputsOf}
@@ -14,7 +15,7 @@ use Rattle.sn_command.specs.Worlds.{World}
 use Rattle.sn_command_check.specs.Check.{Check}
 use Rattle.sn_command_emit.specs.Emit.{Emit}
 use Rattle.sn_command_finish.specs.Finish.{Finish}
-use Rattle.sn_command_gen.specs.Gen.{Gen}
+use Rattle.sn_command_job.specs.Gen.{Gen}
 use Rattle.sn_command_job.specs.Job.{Job}
 use Rattle.sn_command_live.specs.Live.{Live, Plan, TracedLive}
 use Rattle.sn_command_run.specs.Planned.{Telling}
@@ -32,7 +33,7 @@ IsLiveWork told nodes schedule true words before answer now =
 IsLiveWork told nodes schedule false words before answer now =
     WorksFrom 2 (word_at words 2 ∷ word_at words 1 ∷ word_at words 3 ∷ word_at words 4 ∷ []) (Live told (word_at words 1) (word_at words 2) (word_at words 3) (word_at words 4) nodes) before answer now
 
--- the work of a command: its stages over the files that its words name; of answers this is told
+-- the work of a command: its stages over the files that its words name; of answers this is reported
 abbrev pub IsWork : Telling → Command → List (List ℕ) → World → Result (Unit {0}) Refusal → World → Type 0
 IsWork told commands.Plain words before answer now = WorksFrom 2 (word_at words 1 ∷ word_at words 2 ∷ []) (Plain (word_at words 1) (word_at words 2)) before answer now
 IsWork told (commands.Plan nodes) words before answer now = WorksFrom 2 (word_at words 2 ∷ word_at words 1 ∷ word_at words 3 ∷ []) (Plan (word_at words 1) (word_at words 2) (word_at words 3) nodes) before answer now

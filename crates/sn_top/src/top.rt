@@ -8,7 +8,7 @@ ghost use Rattle.sn_command_emit.specs.Emit.{Emit};
 ghost use Rattle.sn_command_finish.specs.Finish.{Finish};
 ghost use Rattle.sn_command_live.specs.Headline.{KeepsHeadline};
 ghost use Rattle.sn_command_live.specs.Live.{Live, Plan, TracedLive};
-ghost use Rattle.sn_command_gen.specs.Gen.{Gen};
+ghost use Rattle.sn_command_job.specs.Gen.{Gen};
 ghost use Rattle.sn_command_job.specs.Job.{Job};
 ghost use Rattle.sn_command.specs.Desks.{files_of, sunk, world};
 ghost use Rattle.sn_command.specs.Ends.{end_status, IsCommandRun, IsStatusTold};
@@ -27,7 +27,7 @@ use sn_command::refusal::Refusal;
 use sn_command_check::check::check;
 use sn_command_emit::emit::emit;
 use sn_command_finish::finish::finish;
-use sn_command_gen::generate::generate;
+use sn_command_job::generate::generate;
 use sn_command_job::job::job;
 use sn_command_live::law::runs_of_live_keep_the_headline;
 use sn_command_live::live::live;
@@ -48,7 +48,7 @@ fn status_of(answer: Result<(), Refusal>) -> u8
     }
 }
 
-/// The word at a place, and an empty one behind the last.
+/// The word at a place, and an empty one after the last.
 fn word(given: &[String], place: usize) -> &str
     ensures { result.now ≡ word_at (texts given.now) place }
 {
@@ -134,7 +134,7 @@ fn run<M: Machine, I: Inputs, O: Sink>(
 /// Runs a command: its text goes to `out`, a line on its status to `err`, and the status is the answer.
 ///
 /// The words are those after the program's name. The windows of `run`, `live` and
-/// `job` are answered by a machine, and printed as it tells them. A fault in writing the line to `err` is dropped, and the status stays.
+/// `job` are answered by a machine, and printed as it reports them. A fault in writing the line to `err` is dropped, and the status stays.
 pub fn top<M: Machine, I: Inputs, O: Sink, E: Sink>(
     alloc: Global,
     words: &[String],
@@ -148,10 +148,10 @@ pub fn top<M: Machine, I: Inputs, O: Sink, E: Sink>(
     ensures nothing_written { result ≡ 2 → sunk O.Sink out.new ≡ sunk O.Sink out.old }
     // 10 over any sink: only where a write failed in this call, or took nothing of a rest that has bytes.
     ensures write_fault { result ≡ 10 → OutRose (sunk O.Sink out.old) (sunk O.Sink out.new) }
-    // The line of the status is told.
+    // The line of the status is printed.
     ensures line { IsStatusTold result (sunk E.Sink err.old) (sunk E.Sink err.new) }
 
-    // Each command below, over any files: what is told of them stays, each name that is no file word of it keeps its count, and each file is
+    // Each command below, over any files: what is known of their contents stays, each name that is no file word of it keeps its count, and each file is
     // read when its turn comes: with 3 each name but that of the queries keeps its count, with 4 each but those of the queries and the switch.
 
     // `plain QUERIES CAPTURE`: the run is that of its stages.
@@ -200,7 +200,7 @@ pub fn top<M: Machine, I: Inputs, O: Sink, E: Sink>(
     // The headline. Of accepted queries, an accepted switch and two captures it prints a plan that fits every limit of the switch, a
     // tree of bounds that shows that no plan that fits costs less on the first capture, and for each window of the second one exactly
     // the answers of the unsplit queries refined along the plan, with the number of items that were sent. It is so with a machine that
-    // tells its answers as they are, as a net does.
+    // reports its answers as they are, as a net does.
     ensures headline { M.told ≡ as_they_are → (nodes schedule : ℕ) → Spells (texts words.now) (Command.Live nodes schedule false) →
         KeepsHeadline (word_at (texts words.now) 1) (word_at (texts words.now) 2) (word_at (texts words.now) 3) (word_at (texts words.now) 4) nodes (around I.Inputs O.Sink E.Sink files.old out.old err.old) result (around I.Inputs O.Sink E.Sink files.new out.new err.new) }
 

@@ -5,7 +5,7 @@ use sn_fields::tuple::Tuple;
 use sn_types::typed::Typed;
 use std::alloc::Global;
 
-/// Queries that are asked unsplit, and the tuples of the window at hand.
+/// Queries that are asked unsplit, and the tuples of the current window.
 #[derive(Drop)]
 pub struct Unsplit {
     pub alloc: Global,

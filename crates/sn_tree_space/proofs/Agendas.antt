@@ -11,7 +11,7 @@ use Rattle.sn_tree_space.specs.Agendas.{Tasks, Agenda, after_choice, first_choic
 use Rattle.sn_tree_space.proofs.Reading.{space_laws}
 
 module _ {T U : Type 0} (tasks : Tasks T U) (L : TaskLaws tasks) (first : List T) where
-  -- the choices made and those still to make are at most so many
+  -- the choices made and those still to make are at most this many
   abbrev Within : Agenda T U → ℕ → Type 0
   Within a n = n + sum_by tasks.most a.left ≤ sum_by tasks.most first
 

@@ -25,7 +25,7 @@ less_not_more Less h = refl
 less_not_more Equal h = cc
 less_not_more Greater h = cc
 
--- a isn't behind b, and b isn't behind r
+-- a isn't after b, and b isn't after r
 taken_along : (s : Space) (a b r : List ℕ) → taken_before s b a ≡ false → taken_before s r b ≡ false → taken_before s r a ≡ false
 taken_along s a b r h k =
     let one = taken_later s b a h in

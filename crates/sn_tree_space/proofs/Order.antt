@@ -18,13 +18,13 @@ list_itself q = (slice_eq-Decides Decides-eqb q q (pointwise nat_eq q q) refl).1
 same_number : (x : ℕ) → nat_cmp x x ≡ Equal
 same_number x = grind (arith, nat_tests)
 
--- a list isn't behind one that begins with it
+-- a list isn't after one that begins with it
 pub front_first : (q more : List ℕ) → is_gt (slice_cmp nat_cmp q (q ++ more)) ≡ false
 front_first [] [] = refl
 front_first [] (x ∷ more) = refl
 front_first (x ∷ q) more = ap (λ o. is_gt (ordering_then o (slice_cmp nat_cmp q (q ++ more)))) (same_number x) ∙ front_first q more
 
--- of two lists, one that isn't behind and isn't the same stands before
+-- of two lists, one that isn't after and isn't the same stands before
 before_other : (q r : List ℕ) (o : Ordering) → slice_cmp nat_cmp q r ≡ o → q ≢ r → is_gt o ≡ false → is_lt o ≡ true
 before_other q r Less e n h = refl
 before_other q r Equal e n h = absurd (n (exact_bytes q r e))

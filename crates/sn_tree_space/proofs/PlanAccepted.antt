@@ -53,7 +53,7 @@ module _ (s : Space) (p : List ℕ) (L : SpaceLaws s) where
         subst (λ n. Covers s p q (n ∷ flat_map (tree_below s p) (below s n q))) (sym e)
         (expand q first count (flat_map (tree_below s p) (children s q)) f (cover_each (children s q) h))
 
-    -- there are at most so many choices still to come
+    -- there are at most this many choices still to come
     covers_from : (n : ℕ) (q : List ℕ) → IsPartial s q → s.depth ≤ n + length q → Covers s p q (tree_below s p q)
     covers_from zero q part h =
         subst (Covers s p q) (sym (tree_step s p L q part))

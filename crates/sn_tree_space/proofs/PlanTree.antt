@@ -41,7 +41,7 @@ module _ (s : Space) (p : List ℕ) where
   step_at q zero e c = ap (λ l. node_at s p q ∷ flat_map (tree_below s p) l) (sym (below_none s (node_at s p q) q (children_complete s q (c refl))))
   step_at q (suc n) e c = ap (λ l. node_at s p q ∷ l) (trees_below q n e (node_at s p q))
 
-  -- the tree of the plan below a list is its node, and behind it the trees of the children of an E
+  -- the tree of the plan below a list is its node, and after it the trees of the children of an E
   pub tree_step : SpaceLaws s → (q : List ℕ) → IsPartial s q → tree_below s p q ≡ node_at s p q ∷ flat_map (tree_below s p) (below s (node_at s p q) q)
   tree_step L q part = step_at q (s.depth - length q) refl (λ e. L.ends q part (omega arith))
 

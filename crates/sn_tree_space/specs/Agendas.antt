@@ -1,3 +1,4 @@
+-- serves proofs
 -- Readers that keep a list of what is still to be chosen.
 use Rattle.std.specs.Prelude.{◌≡◌, ℕ, ◌+◌, ◌≤◌, List, [], ◌∷◌, ◌++◌, Bool, true, false}
 use Rattle.std.specs.List.{AllByRecursion, sum_by}
@@ -7,7 +8,7 @@ use Rattle.sn_tree_space.specs.Space.{Space}
 use Rattle.sn_tree_space.specs.Readers.{Reader, space_of, MayFollow}
 
 -- What there is to choose, task by task. A task has choices. One that is made costs something, takes up something, and leaves tasks of its own. A task
--- costs at least so much with all that it leaves, and takes at most so many choices. What is taken up can be too much.
+-- costs at least this much with all that it leaves, and takes at most this many choices. What is taken up can be too much.
 pub record Tasks (T U : Type 0) : Type 0 where
   pub choices : T → Follow
   pub leaves : T → ℕ → List T

@@ -1,10 +1,11 @@
+-- serves proofs
 -- Spaces whose lists are read choice by choice.
 use Rattle.std.specs.Prelude.{◌≡◌, ℕ, ◌+◌, ◌<◌, ◌≤◌, List, Bool, true, fold}
 use Rattle.sn_tree_space.specs.declared.follow.Follow.{Follow}
 use Rattle.sn_tree_space.specs.declared.follow.Follow.TheVariants.{Complete, Choices}
 use Rattle.sn_tree_space.specs.Space.{Space}
 
--- A reader of choices: what it knows before the first and behind one more, and what it says of the list that it has read.
+-- A reader of choices: what it knows before the first and after one more, and what it says of the list that it has read.
 pub record Reader (S : Type 0) : Type 0 where
   pub start : S
   pub step : S → ℕ → S
@@ -12,11 +13,11 @@ pub record Reader (S : Type 0) : Type 0 where
   pub bad : S → Bool
   pub low : S → ℕ
 
--- what a reader knows behind a list
+-- what a reader knows after a list
 abbrev pub read : {S : Type 0} → Reader S → List ℕ → S
 read r choices = fold r.step r.start choices
 
--- the space of a reader, whose lists have at most so many choices
+-- the space of a reader, whose lists have at most this many choices
 abbrev pub space_of : {S : Type 0} → Reader S → ℕ → Space
 space_of r depth = record { follow = λ q. r.next (read r q); broken = λ q. r.bad (read r q); lower = λ q. r.low (read r q); depth = depth }
 
@@ -25,7 +26,7 @@ abbrev pub MayFollow : Follow → ℕ → Type 0
 MayFollow Complete x = ⊥
 MayFollow (Choices first count) x = (first ≤ x) × (x < first + count)
 
--- What holds of a reader's steps, where `Holds` is what it keeps behind so many choices: it is complete behind so many, no step lowers the bound,
+-- What holds of a reader's steps, where `Holds` is what it keeps after this many choices: it is complete after that many, no step lowers the bound,
 -- and none mends a broken list.
 pub record ReaderLaws {S : Type 0} (r : Reader S) (depth : ℕ) (Holds : S → ℕ → Type 0) : Type 0 where
   pub begins : Holds r.start 0

@@ -1,3 +1,4 @@
+-- to be believed
 -- Spaces of plans. A plan is a list of choices, taken one after another.
 use Rattle.std.specs.Prelude.{◌≡◌, ℕ, ◌+◌, ◌^◌, ◌<◌, ◌≤◌, List, [], ◌∷◌, ◌++◌, map, length, Bool, true, false, ◌||◌, ◌&&◌, ◌==◌, ◌⊎◌, nat_lt}
 use Rattle.std.specs.List.{range_with_len}
@@ -53,7 +54,7 @@ pub record IsPlan (s : Space) (r : List ℕ) : Type 0 where
   pub complete : s.follow r ≡ Complete
   pub unbroken : s.broken r ≡ false
 
--- What holds of a space. A list of so many choices is complete, the lower bound of a list isn't above those of its children, the children of a
+-- What holds of a space. A list of this many choices is complete, the lower bound of a list isn't above those of its children, the children of a
 -- broken list are broken, and there is a plan.
 pub record SpaceLaws (s : Space) : Type 0 where
   pub ends : (q : List ℕ) → IsPartial s q → s.depth ≤ length q → s.follow q ≡ Complete

@@ -1,3 +1,4 @@
+-- to be believed
 -- Trees of bounds, as lists of nodes in preorder.
 use Rattle.std.specs.Prelude.{◌≡◌, ℕ, zero, suc, ◌-◌, ◌≤◌, List, [], ◌∷◌, ◌++◌, length, Bool, true, false, nat_eq, if◌then◌else◌}
 use Rattle.std.specs.Cmp.Lexicographic.{pointwise}
@@ -56,7 +57,7 @@ below s Broken q = []
 below s (Chosen b) q = []
 
 module _ (s : Space) (p : List ℕ) where
-  -- the tree of the plan below a list that has at most so many choices still to come
+  -- the tree of the plan below a list that has at most this many choices still to come
   abbrev pub tree_from : ℕ → List ℕ → List Node
   tree_from zero q = node_at s p q ∷ []
   tree_from (suc n) q = node_at s p q ∷ flat_map (tree_from n) (below s (node_at s p q) q)

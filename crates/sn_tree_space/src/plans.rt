@@ -15,12 +15,12 @@ pub trait Plans {
         ensures value { result ≡ (space self.now).follow partial.now }
         ensures small { IsSmall result };
 
-    /// Whether a partial plan is broken, and so each plan behind it.
+    /// Whether a partial plan is broken, and so each plan after it.
     fn is_broken(&self, partial: &[u32]) -> bool
         requires { IsPartial (space self.now) partial.now }
         ensures { result ≡ (space self.now).broken partial.now };
 
-    /// The lower bound of a partial plan: no plan behind it costs less. At a complete one it is the cost.
+    /// The lower bound of a partial plan: no plan after it costs less. At a complete one it is the cost.
     fn lower(&self, partial: &[u32]) -> u64
         requires { IsPartial (space self.now) partial.now }
         ensures { result ≡ (space self.now).lower partial.now };

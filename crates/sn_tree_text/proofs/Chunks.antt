@@ -1,4 +1,4 @@
--- The text of a tree as lexemes with the blanks behind them, which are those that the grammar gives it.
+-- The text of a tree as lexemes with the blanks after them, which are those that the grammar gives it.
 use Rattle.std.proofs.Common.{◌≡◌, ℕ, ◌<◌, ◌≤◌, ◌^◌, List, [], ◌∷◌, ◌++◌, map, true, None, refl, sym, ap, ◌∙◌, append_assoc, arith, inl, inr}
 use Rattle.std.specs.Prelude.{codes, nat_le}
 use Rattle.std.specs.List.{AllByRecursion}
@@ -12,7 +12,7 @@ use Rattle.sn_text.proofs.Lexemes.{AllFine}
 use Rattle.sn_text.proofs.Chunks.{Chunk, chunk, text_of, face_of, Spaced}
 use Rattle.sn_tree_space.specs.declared.node.Node.{Node}
 use Rattle.sn_tree_space.specs.declared.node.Node.TheVariants.{Expand, Bound, Broken, Chosen}
-use Rattle.sn_tree_grammar.specs.Grammar.{node_rule, nodes_rule, tree_rule}
+use Rattle.sn_plan_grammar.specs.TreeGrammar.{node_rule, nodes_rule, tree_rule}
 use Rattle.sn_tree_text.specs.Printing.{node_text, nodes_text, tree_text, IsSmall}
 
 abbrev space : List ℕ

@@ -49,7 +49,7 @@ ended_from byte [] e = e
 ended_from byte (t ∷ ts) (inl e) = ended_if (nat_lt t.start byte && not (is_last t.face)) byte t ts (inr (and_right (nat_lt t.start byte) (not (is_last t.face)) (ap not e.0))) (inl e)
 ended_from byte (t ∷ ts) (inr e) = ended_if (nat_lt t.start byte && not (is_last t.face)) byte t ts (inl (ended_from byte ts e.1)) (inr e)
 
--- ---- tokens begin one behind the other
+-- ---- tokens begin one after the other
 
 Rises : ℕ → List Tok → Type 0
 Rises low [] = Unit {0}

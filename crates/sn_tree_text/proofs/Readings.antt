@@ -10,10 +10,10 @@ use Rattle.sn_text_rules.proofs.Bounded.{what_it_is}
 use Rattle.sn_text.specs.Cutting.{tokens_of}
 use Rattle.sn_text.proofs.Ends.{tokens_ended}
 use Rattle.sn_tree_space.specs.declared.node.Node.{Node}
-use Rattle.sn_tree_grammar.specs.Grammar.{tree_rule}
-use Rattle.sn_tree_grammar.proofs.Goods.{tree_good, ends}
-use Rattle.sn_tree_grammar.proofs.Starts.{tree_starts}
-use Rattle.sn_tree_grammar.proofs.Bounded.{tree_whole}
+use Rattle.sn_plan_grammar.specs.TreeGrammar.{tree_rule}
+use Rattle.sn_plan_grammar.proofs.TreeGoods.{tree_good, ends}
+use Rattle.sn_plan_grammar.proofs.TreeStarts.{tree_starts}
+use Rattle.sn_plan_grammar.proofs.TreeBounded.{tree_whole}
 use Rattle.sn_tree_text.specs.declared.fault.TextFault.{TextFault}
 use Rattle.sn_tree_text.specs.declared.fault.TextFault.TheVariants as faults
 use Rattle.sn_tree_text.specs.Places.{from_byte}

@@ -5,8 +5,8 @@ use Rattle.sn_text_rules.specs.Rules.{Accepts}
 use Rattle.sn_text.specs.Cutting.{tokens_of}
 use Rattle.sn_text.proofs.Chunks.{text_of, read_again}
 use Rattle.sn_tree_space.specs.declared.node.Node.{Node}
-use Rattle.sn_tree_grammar.specs.Grammar.{tree_rule}
-use Rattle.sn_tree_grammar.proofs.Goods.{tree_good, tree_bare}
+use Rattle.sn_plan_grammar.specs.TreeGrammar.{tree_rule}
+use Rattle.sn_plan_grammar.proofs.TreeGoods.{tree_good, tree_bare}
 use Rattle.sn_tree_text.specs.Texts.{StandsFor}
 use Rattle.sn_tree_text.specs.Printing.{nodes_text, tree_text, IsSmall}
 use Rattle.sn_tree_text.proofs.Chunks.{tree_chunks, tree_is, tree_spaced, tree_fine, tree_faces, tree_fits}

@@ -7,14 +7,14 @@ use Rattle.sn_text_rules.specs.Rules.{kept, FirstFault}
 use Rattle.sn_text_rules.proofs.Faults.{found_of, only_of, none_of, fault_of as first_fault}
 use Rattle.sn_text_rules.proofs.Bounded.{Ended, whole_ok}
 use Rattle.sn_text.specs.Lexing.{left}
-use Rattle.sn_text_read.specs.declared.stop.Stop.{Stop}
-use Rattle.sn_text_read.specs.declared.stop.Stop.TheVariants as stops
-use Rattle.sn_text_read.specs.Reading.{Halts}
+use Rattle.sn_text.specs.declared.stop.Stop.{Stop}
+use Rattle.sn_text.specs.declared.stop.Stop.TheVariants as stops
+use Rattle.sn_text.specs.Reading.{Halts}
 use Rattle.sn_tree_space.specs.declared.node.Node.{Node}
-use Rattle.sn_tree_grammar.specs.Grammar.{tree_rule}
-use Rattle.sn_tree_grammar.proofs.Goods.{tree_good, ends}
-use Rattle.sn_tree_grammar.proofs.Starts.{tree_starts}
-use Rattle.sn_tree_grammar.proofs.Bounded.{flaws, tree_whole}
+use Rattle.sn_plan_grammar.specs.TreeGrammar.{tree_rule}
+use Rattle.sn_plan_grammar.proofs.TreeGoods.{tree_good, ends}
+use Rattle.sn_plan_grammar.proofs.TreeStarts.{tree_starts}
+use Rattle.sn_plan_grammar.proofs.TreeBounded.{flaws, tree_whole}
 use Rattle.sn_tree_text.specs.declared.fault.TextFault.{TextFault}
 use Rattle.sn_tree_text.specs.declared.fault.TextFault.TheVariants as faults
 use Rattle.sn_tree_text.specs.Texts.{StandsFor, IsFault, fault_of, line_of, Answers}

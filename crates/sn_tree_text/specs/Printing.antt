@@ -1,3 +1,4 @@
+-- to be believed
 -- The canonical text of a tree.
 use Rattle.std.specs.Prelude.{ℕ, List, [], ◌∷◌, ◌++◌, ◌<◌, ◌^◌, codes}
 use Rattle.std.specs.Fmt.{decimal}

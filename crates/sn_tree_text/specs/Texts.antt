@@ -1,3 +1,4 @@
+-- to be believed
 -- Which texts stand for which costs and trees, and what the fault of another is.
 use Rattle.std.specs.Prelude.{◌≡◌, ◌≢◌, ℕ, List, [], ◌∷◌, Result, Ok, Err}
 use Rattle.sn_text_rules.specs.declared.Flaw.{Flaw}
@@ -6,10 +7,10 @@ use Rattle.sn_text_rules.specs.Tokens.{Tok}
 use Rattle.sn_text_rules.specs.Rules.{Accepts, FirstFault}
 use Rattle.sn_text.specs.Cutting.{tokens_of}
 use Rattle.sn_text.specs.Lexing.{left}
-use Rattle.sn_text_read.specs.declared.stop.Stop.{Stop}
-use Rattle.sn_text_read.specs.declared.stop.Stop.TheVariants as stops
+use Rattle.sn_text.specs.declared.stop.Stop.{Stop}
+use Rattle.sn_text.specs.declared.stop.Stop.TheVariants as stops
 use Rattle.sn_tree_space.specs.declared.node.Node.{Node}
-use Rattle.sn_tree_grammar.specs.Grammar.{tree_rule}
+use Rattle.sn_plan_grammar.specs.TreeGrammar.{tree_rule}
 use Rattle.sn_tree_text.specs.declared.fault.TextFault.{TextFault}
 use Rattle.sn_tree_text.specs.declared.fault.TextFault.TheVariants as faults
 use Rattle.sn_tree_text.specs.Places.{from_byte}

@@ -53,7 +53,7 @@ fn put_nodes(alloc: Global, out: &mut Vec<u8>, nodes: &[Node]) -> Result<(), Mem
 /// `Memory` where memory runs out.
 pub fn print(alloc: Global, tree: &Tree) -> Result<Seq<u8>, Memory>
     ensures text { IfOk result (λ lines. lines ≡ nodes_text tree.now) }
-    // With any cost before them and `done` behind them the lines stand for that cost and this tree.
+    // With any cost before them and `done` after them the lines stand for that cost and this tree.
     ensures again { IfOk result (λ lines. (cost : ℕ) → cost < 2 ^ 64 → StandsFor (tokens_of (tree_text cost lines)) cost tree.now) }
 {
     let mut out = Vec::new(alloc);

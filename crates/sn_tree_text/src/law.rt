@@ -14,7 +14,7 @@ pub fn text_has_one_reading()
     ensures once { (text : List ℕ) (byte : ℕ) (first second : Result (ℕ × List Node) TextFault) → IsRead text byte first → IsRead text byte second → first ≡ second }
 {}
 
-/// A law, with nothing to run: the tokens from the byte where a token of the text begins are that one and those behind it.
+/// A law, with nothing to run: the tokens from the byte where a token of the text begins are that one and those after it.
 #[tactic(auto, using(crate::proofs::Places::from_start))]
 pub fn tokens_go_on()
     ensures { (text : List ℕ) (front : List Tok) (at : Tok) (rest : List Tok) → tokens_of text ≡ front ++ at ∷ rest → from_byte at.start (tokens_of text) ≡ at ∷ rest }

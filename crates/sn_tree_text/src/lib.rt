@@ -6,8 +6,6 @@ pub mod fault;
 pub mod law;
 mod nodes;
 mod place;
-#[cfg(test)]
-mod tests;
 mod text;
 pub mod tree;
 

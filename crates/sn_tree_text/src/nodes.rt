@@ -3,17 +3,17 @@ ghost use Rattle.std.specs.Prelude.{◌≡◌, ℕ, List, codes};
 ghost use Rattle.sn_text_rules.specs.Rules.{kept};
 ghost use Rattle.sn_text_rules.specs.Words.{keyword, never, ◌▸◌};
 ghost use Rattle.sn_text.specs.Lexing.{left};
-ghost use Rattle.sn_text_read.specs.Reading.{Reads, ReadsAll, Peeked};
-ghost use Rattle.sn_tree_grammar.specs.Grammar.{any_number, node_rule, begins, nodes_rule, tree_rule};
-ghost use Rattle.sn_tree_grammar.proofs.Goods.{nodes_alike};
+ghost use Rattle.sn_text.specs.Reading.{Reads, ReadsAll, Peeked};
+ghost use Rattle.sn_plan_grammar.specs.TreeGrammar.{any_number, node_rule, begins, nodes_rule, tree_rule};
+ghost use Rattle.sn_plan_grammar.proofs.TreeGoods.{nodes_alike};
 
 use crate::tree::Tree;
 use sn_base::seq::Seq;
+use sn_text::list::{Items, further};
 use sn_text::place::Lexer;
 use sn_text::scan::scan;
-use sn_text_read::list::{Items, further};
-use sn_text_read::stop::Stop;
-use sn_text_read::words::{end, is_the_word, next_is_word, number, symbol, word};
+use sn_text::stop::Stop;
+use sn_text::words::{end, is_the_word, next_is_word, number, symbol, word};
 use sn_text_rules::Flaw;
 use sn_tree_space::node::Node;
 use std::alloc::Global;
@@ -21,7 +21,7 @@ use std::alloc::Global;
 /// The semicolon among the symbols.
 const SEMICOLON: u8 = 2;
 
-/// A number behind a letter.
+/// A number after a letter.
 fn lettered<'a>(at: Lexer<'a>, letter: &[u8]) -> Result<(u64, Lexer<'a>), Stop<'a>>
     ensures { Reads result ((keyword letter.now ▸ any_number).read kept (left at.entry)) }
 {
@@ -51,7 +51,7 @@ fn node<'a>(at: Lexer<'a>) -> Result<(Node, Lexer<'a>), Stop<'a>>
 }
 
 /// Whether a node begins here.
-#[tactic(auto, using(sn_text_read::proofs::Tokens::peeked))]
+#[tactic(auto, using(sn_text::proofs::Tokens::peeked))]
 fn node_begins(at: Lexer<'_>) -> bool
     ensures { Peeked result begins (left at.entry) }
 {
@@ -94,15 +94,15 @@ impl Items for TreeNodes {
     }
 }
 
-#[tactic(auto, unfolding(sn_tree_grammar::specs::Grammar::nodes_rule))]
+#[tactic(auto, unfolding(sn_plan_grammar::specs::TreeGrammar::nodes_rule))]
 fn nodes<'a>(alloc: Global, at: Lexer<'a>) -> Result<(Tree, Lexer<'a>), Stop<'a>>
     ensures { Reads result (nodes_rule.read kept (left at.entry)) }
 {
     further(alloc, &TreeNodes, Seq::new(alloc), at)
 }
 
-/// The cost and the tree, and nothing behind them.
-#[tactic(auto, unfolding(sn_tree_grammar::specs::Grammar::tree_rule))]
+/// The cost and the tree, and nothing after them.
+#[tactic(auto, unfolding(sn_plan_grammar::specs::TreeGrammar::tree_rule))]
 pub(crate) fn read<'a>(alloc: Global, at: Lexer<'a>) -> Result<(u64, Tree), Stop<'a>>
     ensures { ReadsAll result (tree_rule.read kept (left at.entry)) }
 {

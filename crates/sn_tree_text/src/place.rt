@@ -8,14 +8,14 @@ ghost use Rattle.sn_tree_text.specs.Places.{from_byte};
 use sn_text::place::{Lexer, Piece};
 use sn_text::scan::scan;
 
-/// Whether no token stands behind this one.
+/// Whether no token stands after this one.
 fn is_last(piece: Piece<'_>) -> bool
     ensures { result ≡ is_last (seen piece.entry) }
 {
     matches!(piece, Piece::End | Piece::Bad)
 }
 
-/// The place before the first token that begins at this byte or behind it, or else before the last one.
+/// The place before the first token that begins at this byte or after it, or else before the last one.
 pub(crate) fn lexer_at<'a>(text: &'a [u8], byte: u64) -> Lexer<'a>
     requires { length text.now ≤ 2 ^ 30 }
     ensures { left result ≡ from_byte byte (tokens_of text.entry.now) }

@@ -12,7 +12,7 @@ use crate::place::lexer_at;
 use crate::tree::Tree;
 use sn_text::place::Lexer;
 use sn_text::scan::scan;
-use sn_text_read::stop::Stop;
+use sn_text::stop::Stop;
 use sn_text_rules::Flaw;
 use std::alloc::Global;
 
@@ -21,7 +21,7 @@ fn fault(flaw: Flaw, line: u32) -> TextFault
 {
     match flaw {
         Flaw::Lex => TextFault::Lex { line },
-        // No other fault is told by a tree text: it has no limit.
+        // No other fault is reported of a tree text: it has no limit.
         _ => TextFault::Expected { line },
     }
 }
@@ -45,11 +45,11 @@ fn answer(stop: Stop<'_>) -> TextFault
 
 /// The cost and the tree for which a text stands from a byte on, or the first fault there.
 ///
-/// `from` is the byte, from 0, where the word `cost` stands, as the reader of a plan tells it. What stands before it isn't
+/// `from` is the byte, from 0, where the word `cost` stands, as the reader of a plan gives it. What stands before it isn't
 /// read here, but lines are counted from the front of the text. The text has at most 2^30 bytes.
 ///
 /// # Errors
-/// `Memory` where memory runs out, and else what is wrong with the first token that goes on no text of a cost and a tree.
+/// `Memory` where memory runs out, and else what is wrong with the first token with which no text of a cost and a tree goes on.
 /// Where the text ends in place of the word `cost`, that is its end.
 pub fn parse(alloc: Global, text: &[u8], from: u64) -> Result<(u64, Tree), TextFault>
     requires { length text.now ≤ 2 ^ 30 }

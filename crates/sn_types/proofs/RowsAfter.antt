@@ -1,4 +1,4 @@
--- The rows behind an operator are of the columns behind it.
+-- The rows after an operator are of the columns after it.
 use Rattle.std.proofs.Common.{◌≡◌, ℕ, suc, take, get_or, ◌+◌, ◌-◌, ◌^◌, ◌<◌, List, [], ◌∷◌, ◌++◌, map, fold, length, true, false, not, ◌&&◌, ◌==◌, cond, Option, slice_index, refl, ap, sym, ◌∙◌, subst, arith}
 use Rattle.std.proofs.lemmas.List.{take_more, map-append}
 use Rattle.std.proofs.Math.Bridge.{le_prop}

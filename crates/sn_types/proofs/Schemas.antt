@@ -184,7 +184,7 @@ folded_more fold.Or own width e = omega arith
 pub value_width : (columns : List Column) (r : Reduce) → AllByRecursion HasWidth columns → IsSound columns (what.Reduce r) → Within 1 64 (folded_column columns r).width
 value_width columns r widths s = folded_in r.fold r.width (column_named columns r.value).width s.limits.width (column_width columns r.value widths)
 
--- ---- what stands behind an operator is whole
+-- ---- what stands after an operator is whole
 
 pub mapped_whole : (columns : List Column) (cols : List MapCol) → length cols ≤ 8 → as_schema (map (mapped_column columns) cols) ≡ map (mapped_column columns) cols
 mapped_whole columns cols few = whole_schema (map (mapped_column columns) cols) (subst (λ (n : ℕ). n ≤ 8) (sym (length-map cols (mapped_column columns))) few)
@@ -218,7 +218,7 @@ schema_after columns (what.Map cols) h s = mapped_schema columns cols h s.limits
 schema_after columns what.Distinct h s = h
 schema_after columns (what.Reduce r) h s = reduced_schema columns r h s
 
--- the columns behind operators
+-- the columns after operators
 abbrev pub columns_along : List Column → List Op → List Column
 columns_along columns [] = columns
 columns_along columns (op ∷ ops) = columns_along (columns_after columns op.what) ops

@@ -30,7 +30,7 @@ use Rattle.sn_types.proofs.Known.{IsKnown, packet_known, holds_for_each, fails_f
 
 -- ---- limits
 
--- those that an operator of a branch and one behind a join keep
+-- those that an operator of a branch and one after a join keep
 abbrev pub OpLimits : What → Type 0
 OpLimits (what.Filter conds) = Unit {0}
 OpLimits (what.Map cols) = (length cols ≤ 8) × Apart same_row (map (λ c. c.name) cols) × AllByRecursion (λ c. IsPostExpr c.expr) cols
@@ -102,7 +102,7 @@ when_unmapped true needs b m e f = cc
 when_unmapped false true b m e f = cc
 when_unmapped false false b m e f = e
 
--- ---- behind the first map
+-- ---- after the first map
 
 along_mapped : (levels : List ℕ) (scope : Scope) (ops : List Op) → scope.mapped ≡ true → AllByRecursion (λ op. OpLimits op.what) ops
     → first_fault (operator_places levels scope ops) ≡ None → AreSound scope.columns ops
@@ -137,7 +137,7 @@ fields_known levels scope (op ∷ ops) m none =
     (λ isnt. subst All (sym (ap (λ b. names_read op.what ++ cond b [] (names_to_map ops)) isnt))
     (all_append P (names_read op.what) (names_to_map ops) here (fields_known levels (scope_after scope op.what) ops (ap (λ b. b || is_map op.what) m ∙ isnt) parts.1)))
 
--- an operator that is no map and needs none lets the columns be
+-- an operator that is no map and needs none leaves the columns alone
 unchanged : (columns : List Column) (w : What) → is_map w ≡ false → needs_map w ≡ false → columns_after columns w ≡ columns
 unchanged columns (what.Filter conds) i n = refl
 unchanged columns (what.Map cols) i n = cc
@@ -169,7 +169,7 @@ along_unmapped levels scope (op ∷ ops) m s none known =
           (subst (λ (b : Bool). AllByRecursion (IsKnown scope.columns) (cond b [] (names_to_map ops))) isnt rest))),
     )
 
--- ---- branches, and behind a join
+-- ---- branches, and after a join
 
 pub sound_branch : (refine : Option Refine) (ops : List Op) → AllByRecursion (λ op. BranchOp op.what) ops → first_fault (branch_places refine ops) ≡ None → AreSound (packet_columns ops) ops
 sound_branch refine ops each none =

@@ -1,3 +1,4 @@
+-- to be believed
 -- Operators in a switch: which of them have registers, and how many of a branch can stand there.
 use Rattle.std.specs.Prelude.{ℕ, suc, ◌+◌, List, [], ◌∷◌, take, Bool, true, false, slice_index, if◌then◌else◌}
 use Rattle.sn_types.specs.declared.typed_op.TOp.{TOp}
@@ -27,7 +28,7 @@ filters_ahead (Map exprs ∷ ops) = 0
 filters_ahead (Distinct ∷ ops) = 0
 filters_ahead (Reduced r ∷ ops) = 0
 
--- the greatest cut of what stands behind a distinct
+-- the greatest cut of what stands after a distinct
 abbrev pub cut_behind_distinct : List TOp → ℕ
 cut_behind_distinct [] = 0
 cut_behind_distinct (Filter conds ∷ ops) = suc (cut_behind_distinct ops)

@@ -1,4 +1,5 @@
--- What a typed file tells of its queries.
+-- to be believed
+-- What a typed file says of its queries.
 use Rattle.std.specs.Prelude.{◌≡◌, ℕ, ◌<◌, ◌-◌, ◌^◌, List, [], map, length, Bool, false, not, ◌&&◌, ◌==◌, Option, None, Some, slice_get, slice_index, unwrap_or, if◌then◌else◌}
 use Rattle.sn_base.specs.declared.column.Column.{Column}
 use Rattle.sn_base.specs.Groups.{Row}
@@ -52,7 +53,7 @@ schema_at schemas i = unwrap_or (slice_get schemas i) []
 abbrev pub finest_level : TypedQuery → ℕ
 finest_level query = slice_index query.levels (length query.levels - 1)
 
--- the columns of a branch's packet rows, and those of its rows behind its operators
+-- the columns of a branch's packet rows, and those of its rows after its operators
 abbrev pub first_columns : TypedBranch → List Column
 first_columns branch = schema_at branch.schemas 0
 

@@ -1,3 +1,4 @@
+-- to be believed
 -- What a well typed file becomes: names are places, and every schema stands beside its operator.
 use Rattle.std.specs.Prelude.{ℕ, List, [], ◌∷◌, map, Option, Some, None, unwrap_or}
 use Rattle.std.specs.Option.{option_map}
@@ -78,7 +79,7 @@ typed_branch ops = record {
   max_cut = greatest_cut (typed_ops (packet_columns ops) ops);
 }
 
--- what is known behind the branches: at the end of the one, or after the join line
+-- what is known after the branches: at the end of the one, or after the join line
 abbrev pub behind_branches : Option Refine → List Branch → Option Join → Scope
 behind_branches refine branches None = branch_end refine (ops_at branches 0)
 behind_branches refine branches (Some join) = scope_joined (branch_end refine (ops_at branches 0)) (branch_end refine (ops_at branches 1)) join
@@ -109,7 +110,7 @@ levels_of (Some r) = r.levels
 abbrev pub carried_place : Scope → Option ℕ
 carried_place scope = option_map (place_of scope.columns) scope.carried
 
--- a query of which this is known behind its branches
+-- a query of which this is known after its branches
 abbrev pub typed_from : Query → Scope → TypedQuery
 typed_from q scope = record {
   name = q.name;

@@ -1,3 +1,4 @@
+-- to be believed
 -- The values of conditions and expressions at a row, and the operators that rows meet.
 use Rattle.std.specs.Prelude.{ℕ, ◌*◌, ◌/◌, ◌-◌, ◌+◌, ◌^◌, ◌<◌, List, map, Bool, not, ◌==◌, nat_lt, nat_le, min, bit_and, slice_index, if◌then◌else◌}
 use Rattle.std.specs.Option.{option_map_or}
@@ -48,7 +49,7 @@ value_of (Shift a k) row = slice_index row a / 2 ^ k
 value_of (Sum a b) row = min (slice_index row a + slice_index row b) greatest
 value_of (Ratio a k b) row = ratio (slice_index row a) k (slice_index row b)
 
--- an expression reads columns of the first so many
+-- an expression reads columns of the first n
 abbrev pub ReadsWithin : ℕ → TExpr → Type 0
 ReadsWithin count (Const n) = Unit {0}
 ReadsWithin count (Copy a) = a < count

@@ -1,3 +1,4 @@
+-- serves proofs
 -- Every column that an operator of a typed query names is a column of the rows that come to it.
 use Rattle.std.specs.Prelude.{◌≡◌, ℕ, ◌<◌, ◌≤◌, List, [], ◌∷◌, length}
 use Rattle.std.specs.List.{AllByRecursion}
@@ -8,14 +9,14 @@ use Rattle.sn_types.specs.declared.typed_query.TypedBranch.{TypedBranch}
 use Rattle.sn_types.specs.declared.typed_query.TypedQuery.{TypedQuery}
 use Rattle.sn_types.specs.Values.{ReadsWithin}
 
--- an operator reads the first so many columns alone
+-- an operator reads the first n columns alone
 abbrev pub StaysWithin : ℕ → TOp → Type 0
 StaysWithin count (Filter conds) = AllByRecursion (λ c. c.col < count) conds
 StaysWithin count (Map exprs) = AllByRecursion (ReadsWithin count) exprs
 StaysWithin count Distinct = Unit {0}
 StaysWithin count (Reduce r) = AllByRecursion (λ k. k < count) r.keys × (r.value < count)
 
--- each operator reads columns of the schema before it alone, and one schema stands behind the last one
+-- each operator reads columns of the schema before it alone, and one schema stands after the last one
 abbrev pub StayWithin : List (List Column) → List TOp → Type 0
 StayWithin [] ops = ⊥
 StayWithin (schema ∷ schemas) [] = schemas ≡ []

@@ -6,8 +6,8 @@ ghost use Rattle.sn_types.specs.Typed.{IsTypingOf};
 
 use crate::typed::Typed;
 use crate::typing::typed_queries;
+use sn_base::seed::Seed;
 use sn_query_grammar::ast::QueryFile;
-use sn_seed::Seed;
 use sn_types_faults::fault::TypeFault;
 use sn_types_faults::walk::file_fault;
 use std::alloc::Global;

@@ -94,7 +94,7 @@ pub fn passes<C: Columns>(conds: &[TCond], level: u32, row: &C) -> bool
     true
 }
 
-/// Makes of `out`, whatever it is, the row of these values at a row. It is made in its place: a copy of a row whose columns have
+/// Makes `out` the row of these values at a row, whatever it was before. It is made in its place: a copy of a row whose columns have
 /// just been written would wait until the memory has them, since it reads several of them at once.
 pub fn map_into<C: Columns>(row: &C, cols: &[TExpr], out: &mut Row)
     requires few { length cols.now ≤ 8 }
@@ -107,7 +107,7 @@ pub fn map_into<C: Columns>(row: &C, cols: &[TExpr], out: &mut Row)
     }
 }
 
-/// Makes of `key`, whatever it is, the columns of a row at these places. It is made in its place, as by `map_into`.
+/// Makes `key` the columns of a row at these places, whatever it was before. It is made in its place, as by `map_into`.
 pub fn columns_into<C: Columns>(row: &C, places: &[u32], key: &mut Row)
     requires places { All (λ place. place < length (C.columns row.now)) places.now }
     requires few { length places.now ≤ 8 }

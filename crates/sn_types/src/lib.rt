@@ -16,6 +16,3 @@ pub mod typed_query;
 mod typing;
 
 pub use sn_types_faults::fault::TypeFault;
-
-#[cfg(test)]
-mod tests;

@@ -36,7 +36,7 @@ fn read_at(refined: Option<Field>, level: u32, tuple: &Tuple, field: Field) -> u
     }
 }
 
-/// Makes of `row`, whatever it is, the packet row of a tuple at a level: the numbers of these fields, each of its field's width.
+/// Makes `row` the packet row of a tuple at a level, whatever it was before: the numbers of these fields, each of its field's width.
 fn row_into(refined: Option<Field>, level: u32, fields: &[Field], tuple: &Tuple, row: &mut Row)
     requires few { length fields.now ≤ 8 }
     requires level { IfSome refined (λ other. level ≤ width_of other) }
@@ -112,7 +112,7 @@ impl<'a> Model for PacketRow<'a> {
 }
 
 impl<'a> PacketRow<'a> {
-    /// Makes of `row`, whatever it is, the row.
+    /// Makes `row` the row, whatever it was before.
     pub fn put_into(&self, row: &mut Row)
         ensures { row.new ≡ self.now }
     {

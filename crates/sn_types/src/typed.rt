@@ -12,10 +12,10 @@ use sn_base::memory::Memory;
 use sn_base::name::Name;
 use sn_base::row::Row;
 use sn_base::schema::Schema;
+use sn_base::seed::Seed;
 use sn_base::seq::Seq;
 use sn_fields::field::Field;
 use sn_fields::tuple::Tuple;
-use sn_seed::Seed;
 use std::alloc::Global;
 
 /// The queries of a well typed file, with names and widths resolved.
@@ -24,11 +24,11 @@ use std::alloc::Global;
 /// refined has the one level 0, at which nothing is masked.
 #[derive(Drop)]
 pub struct Typed {
-    /// With which copies are made.
+    /// The allocator for copies.
     pub alloc: Global,
     /// The window in microseconds, 1 to 3600000000.
     pub window_us: u64,
-    /// From which tables of rows hash. No answer depends on it.
+    /// The seed from which tables of rows hash. No answer depends on it.
     pub seed: Seed,
     /// One to eight queries.
     pub queries: Seq<TypedQuery>,
@@ -198,7 +198,7 @@ impl Typed {
         self.branch(q, b).ops.as_slice()
     }
 
-    /// How many operators stand behind the join of a query, 0 to 12.
+    /// How many operators stand after the join of a query, 0 to 12.
     pub fn posts(&self, q: u32) -> u32
         requires { q < length self.now.queries }
         ensures { result ≡ length (query_at self.now.queries q).posts }
@@ -206,7 +206,7 @@ impl Typed {
         self.query(q).posts.as_slice().len() as u32
     }
 
-    /// An operator behind the join of a query.
+    /// An operator after the join of a query.
     pub fn post(&self, q: u32, i: u32) -> &TOp
         requires query { q < length self.now.queries }
         requires post { i < length (query_at self.now.queries q).posts }

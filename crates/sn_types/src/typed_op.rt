@@ -9,7 +9,7 @@ use sn_query_grammar::ast::{Cmp, Relax};
 pub enum TOp {
     /// Keeps the rows for which all conditions hold.
     Filter(Seq<TCond>),
-    /// Makes of each row the row of these values.
+    /// Makes each row the row of these values.
     Map(Seq<TExpr>),
     /// Keeps one of equal rows.
     Distinct,
@@ -40,7 +40,7 @@ pub enum TExpr {
     Copy(u32),
     /// A column and-ed with a number.
     Mask(u32, u64),
-    /// A column shifted right by so many bits, at most 63.
+    /// A column shifted right by this many bits, at most 63.
     Shift(u32, u32),
     /// The sum of two columns, at most 2^64 - 1.
     Sum(u32, u32),

@@ -155,7 +155,7 @@ fn carried_place(scope: &Scope) -> Option<u32>
     }
 }
 
-/// What stands behind the branches of a query.
+/// What stands after the branches of a query.
 #[derive(Drop)]
 struct Tail {
     ops: Seq<TOp>,

@@ -36,7 +36,7 @@ pub none_here : {X : Type 0} (f : X → List Place) (xs : List X) (i : ℕ) (x :
 none_here f xs i x h e is before =
     sym (passes (f x) (flat_map f (drop (i + 1) xs)) is) ∙ ap (λ ys. first_fault (flat_map f ys)) (sym (drop_at xs i x h e)) ∙ before
 
--- a fault of the refine line, and one of the branches behind a good refine line
+-- a fault of the refine line, and one of the branches after a good refine line
 pub refine_stops : (q : Query) (t : TypeFault) → first_fault (refine_places q.refine) ≡ Some t → Some t ≡ first_fault (query_places q)
 refine_stops q t is =
     let branches : List Place = flat_map (λ b. branch_places q.refine b.ops) q.branches in

@@ -1,3 +1,4 @@
+-- to be believed
 -- The columns of rows before and after each operator.
 use Rattle.std.specs.Prelude.{ℕ, ◌-◌, List, [], ◌∷◌, ◌++◌, map, filter, length, Bool, false, not, max, nat_le, Option, Some, None, unwrap_or, if◌then◌else◌}
 use Rattle.std.specs.List.{list_any, find, position}
@@ -91,7 +92,7 @@ abbrev pub copy_name : Name → List MapCol → Option Name
 copy_name name [] = None
 copy_name name (c ∷ cols) = if is_copy name c.expr then Some c.name else copy_name name cols
 
--- the name of the carried column after an operator: a map gives it the name of its copy, and each other operator lets it be
+-- the name of the carried column after an operator: a map gives it the name of its copy, and each other operator leaves it alone
 abbrev pub carried_after : Name → What → Option Name
 carried_after name (what.Filter conds) = Some name
 carried_after name (what.Map cols) = copy_name name cols

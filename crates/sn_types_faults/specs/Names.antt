@@ -1,3 +1,4 @@
+-- to be believed
 -- The names that operators read.
 use Rattle.std.specs.Prelude.{ℕ, List, [], ◌∷◌, ◌++◌, map, filter, Bool, true, false, nat_eq, if◌then◌else◌}
 use Rattle.std.specs.List.{list_any, flat_map}

@@ -1,3 +1,4 @@
+-- to be believed
 -- The walk through a file, place by place, and its first fault.
 use Rattle.std.specs.Prelude.{ℕ, List, [], ◌∷◌, ◌++◌, Bool, true, false, ◌||◌, Option, Some, None, slice_get}
 use Rattle.std.specs.List.{flat_map}
@@ -57,7 +58,7 @@ abbrev pub is_end : List Op → Bool
 is_end [] = true
 is_end (op ∷ ops) = false
 
--- the operators of a branch, or those behind a join, one after another
+-- the operators of a branch, or those after a join, one after another
 abbrev pub operator_places : List ℕ → Scope → List Op → List Place
 operator_places levels scope [] = []
 operator_places levels scope (op ∷ ops) = Operator levels scope op (is_end ops) ∷ operator_places levels (scope_after scope op.what) ops

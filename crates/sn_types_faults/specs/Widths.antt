@@ -1,3 +1,4 @@
+-- to be believed
 -- The widths and address marks of columns.
 use Rattle.std.specs.Prelude.{ℕ, ◌-◌, ◌≤◌, min, max}
 use Rattle.std.proofs.Common.{arith}
@@ -25,7 +26,7 @@ folded_width Max own column = column
 folded_width Min own column = column
 folded_width Or own column = column
 
--- the fold of a word over values of so many bits
+-- the fold of a word over values of this many bits
 abbrev pub fold_of : FoldWord → ℕ → AnyFold
 fold_of Sum width = folds.SatSum (record { v = lawful width; in_range = lawful_range width })
 fold_of Max width = folds.Max (record { v = lawful width; in_range = lawful_range width })

@@ -13,7 +13,7 @@ pub fn constant_width(number: u64) -> u32
     (64 - number.leading_zeros()).max(1)
 }
 
-/// The width of a column that a fold makes, from the width of its own and that of its column.
+/// The width of a column that a fold makes, from the width that it states and that of its column.
 pub fn folded_width(word: FoldWord, own: u32, column: u32) -> u32
     ensures { result ≡ folded_width word own column }
 {
@@ -23,7 +23,7 @@ pub fn folded_width(word: FoldWord, own: u32, column: u32) -> u32
     }
 }
 
-/// The fold of a word over values of so many bits.
+/// The fold of a word over values of this many bits.
 pub fn fold_of(word: FoldWord, width: u32) -> AnyFold
     ensures { result ≡ fold_of word width }
 {
@@ -33,20 +33,5 @@ pub fn fold_of(word: FoldWord, width: u32) -> AnyFold
         FoldWord::Max => AnyFold::Max(Max { v }),
         FoldWord::Min => AnyFold::Min(Min { v }),
         FoldWord::Or => AnyFold::Or(Or { v }),
-    }
-}
-
-#[cfg(test)]
-mod tests {
-    use super::*;
-    use std::test::Fail;
-
-    /// The width of a constant is that of its binary digits, of which 0 has one.
-    #[test]
-    fn counts_binary_digits(rt: HostRuntime) -> Result<(), Fail> {
-        for (number, width) in [(0, 1), (1, 1), (2, 2), (255, 8), (256, 9), (u64::MAX, 64)] {
-            assert_eq!(rt; constant_width(number), width);
-        }
-        Ok(())
     }
 }

@@ -1,4 +1,4 @@
--- The fault of a place is never want of memory.
+-- The fault of a place is never that memory ran out.
 use Rattle.std.proofs.Common.{◌≡◌, ℕ, Bool, true, false, cond, List, [], ◌∷◌, Option, Some, None}
 use Rattle.std.specs.List.{AllByRecursion}
 use Rattle.sn_types_faults.specs.declared.fault.TypeFault.{TypeFault}

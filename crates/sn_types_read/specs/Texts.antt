@@ -1,3 +1,4 @@
+-- to be believed
 -- What a query text stands for, and why one is refused.
 use Rattle.std.specs.Prelude.{◌≡◌, ◌⊎◌, ℕ, List, Result, Ok, Err, Some}
 use Rattle.sn_text_rules.specs.Rules.{Accepts}

@@ -5,7 +5,7 @@
 pub enum Kind {
     /// No token begins here, or a number is past 64 bits.
     Lex,
-    /// The token goes on no query text.
+    /// No query text goes on with this token.
     Expected,
     /// The item past a limit begins here, or a name has more than 32 bytes.
     TooMany,
@@ -40,6 +40,6 @@ pub struct QueryFault {
 #[derive(Clone, Copy, Debug, PartialEq, Eq)]
 pub enum Refused {
     Fault(QueryFault),
-    /// Want of memory.
+    /// Out of memory.
     Memory,
 }

@@ -4,5 +4,3 @@
 pub mod fault;
 pub mod law;
 pub mod read;
-#[cfg(test)]
-mod tests;

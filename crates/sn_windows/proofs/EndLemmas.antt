@@ -1,4 +1,4 @@
--- A record before the end of the window at hand is in that window.
+-- A record before the end of the current window is in that window.
 use Rattle.std.proofs.Common.{◌≡◌, ℕ, ◌+◌, ◌*◌, ◌-◌, ◌/◌, ◌<◌, ◌≤◌, Option, None, Some, max, cond, refl, ap, arith}
 use Rattle.std.specs.Option.{ForNone, ForSome}
 use Rattle.std.proofs.Math.Nat.{div-lt_iff_lt-mul}
@@ -6,7 +6,7 @@ use Rattle.std.proofs.lemmas.Bool.{eq-eqb}
 use Rattle.sn_windows.specs.Windows.{offset}
 use Rattle.sn_windows.specs.Numbering.{Numbering, next_number, next_count}
 
--- it has the number at hand, and is counted among those that have it
+-- it has the current number, and is counted among those that have it
 pub record IsAtHand (s : Numbering) (time : ℕ) : Type 0 where
   pub number : next_number s time ≡ s.number
   pub count : next_count s time ≡ s.count

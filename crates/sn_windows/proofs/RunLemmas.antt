@@ -7,7 +7,7 @@ use Rattle.sn_base.proofs.Lists.{by_test}
 use Rattle.sn_windows.specs.Windows.{record_at, in_window, windows_of, run_of, first_run}
 use Rattle.sn_windows.specs.Blocks.{most_records, is_few, all_few, answered, blocks, while_holds}
 
--- each is at most those behind it
+-- each is at most those after it
 abbrev pub Rises : {X : Type 0} → List (ℕ × X) → Type 0
 Rises [] = Unit {0}
 Rises (p ∷ ps) = AllByRecursion (λ q. p.0 ≤ q.0) ps × Rises ps
@@ -25,7 +25,7 @@ raised_above w v lt (p ∷ ps) h = (omega (arith, h.0), raised_above w v lt ps h
 other : (w n : ℕ) → w ≤ n → (n == w) ≡ false → w < n
 other w n le isnt = let ne : n ≡ w → ⊥ = eqb-false n w isnt in omega arith
 
--- behind the run of w all numbers are above it
+-- after the run of w all numbers are above it
 pub run_above : {X : Type 0} (w : ℕ) (ps : List (ℕ × X)) → AtLeast w ps → Rises ps → Above w (drop (run_of w ps) ps)
 run_above w [] h r = tt
 run_above w (p ∷ ps) h r =
@@ -53,7 +53,7 @@ run_is w (p ∷ ps) h r =
     (λ is. rw (is, run_is w ps h.1 r.1) refl)
     (λ isnt. let lt = other w p.0 h.0 isnt in rw isnt (none_of w ps (raised_above w p.0 lt ps r.0)))
 
--- those of a later window stand behind it
+-- those of a later window stand after it
 pub run_isnt : {X : Type 0} (w v : ℕ) → w < v → (ps : List (ℕ × X)) → filter (λ q. q.0 == v) ps ≡ filter (λ q. q.0 == v) (drop (run_of w ps) ps)
 run_isnt w v lt [] = refl
 run_isnt w v lt (p ∷ ps) =

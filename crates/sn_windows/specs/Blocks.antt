@@ -1,3 +1,4 @@
+-- to be believed
 -- The blocks of the windows of a capture.
 use Rattle.std.specs.Prelude.{ℕ, List, [], ◌∷◌, Bool, length, nat_le, if◌then◌else◌}
 use Rattle.std.specs.List.{flat_map, list_all}

@@ -1,3 +1,4 @@
+-- serves proofs
 -- One step of numbering.
 use Rattle.std.specs.Prelude.{ℕ, ◌+◌, List, [], ◌∷◌, Bool, true, not, Option, Some, None, max, ◌==◌, ◌&&◌, is_some, unwrap_or, if◌then◌else◌}
 use Rattle.sn_windows.specs.Windows.{offset}
@@ -27,7 +28,7 @@ next_count s time = if is_some s.first && (next_number s time == s.number) then 
 abbrev pub stepped : Numbering → ℕ → Numbering
 stepped s time = record { window = s.window; first = Some (next_first s time); number = next_number s time; count = next_count s time + 1 }
 
--- what is kept behind records at these times
+-- what is kept after records at these times
 abbrev pub after : Numbering → List ℕ → Numbering
 after s [] = s
 after s (t ∷ ts) = after (stepped s t) ts

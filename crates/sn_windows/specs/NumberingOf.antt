@@ -1,3 +1,4 @@
+-- serves proofs
 -- What `Windows` keeps.
 use Rattle.sn_windows.specs.Numbering.{Numbering}
 use Rattle.sn_windows.specs.declared.windows.Windows.{Windows}

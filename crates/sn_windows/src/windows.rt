@@ -16,7 +16,7 @@ pub struct Windows {
     pub(crate) first: Option<u64>,
     pub(crate) number: u64,
     pub(crate) count: u64,
-    /// A record before this time, in nanoseconds, is in the window at hand. 0 before any record.
+    /// A record before this time, in nanoseconds, is in the current window. 0 before any record.
     pub(crate) end: u64,
     ghost some: { 1 ≤ window_ns },
     ghost few: { count ≤ 4194304 },
@@ -35,7 +35,7 @@ impl Windows {
     ghost use Rattle.sn_windows.specs.Numbering.{next_number, next_count, stepped, begun};
     ghost use Rattle.sn_windows.specs.NumberingOf.{numbering};
 
-    /// Windows of so many nanoseconds. The first record's time begins window 0.
+    /// Windows of this many nanoseconds. The first record's time begins window 0.
     pub fn new(window_ns: u64) -> Windows
         requires { 1 ≤ window_ns }
         ensures { numbering result ≡ begun window_ns }
@@ -82,7 +82,7 @@ impl Windows {
         Ok(number)
     }
 
-    /// One more record of the window at hand, with its number. `TooMany` exactly where it has as many as it may.
+    /// One more record of the current window, with its number. `TooMany` exactly where it has as many as it may.
     fn count_one(&mut self) -> Result<u64, TooMany>
         ensures number { IfOk result (λ n. n ≡ self.old.number) }
         ensures after { OnOk result (numbering self.new ≡ record (numbering self.old) { count = self.old.count + 1 }) }

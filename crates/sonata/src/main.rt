@@ -1,9 +1,10 @@
 //! `sonata`: query-driven network telemetry over packet captures.
 #![tactic(auto)]
 
-use sn_core_net::net::Net;
+mod nets;
+
+use crate::nets::top_with_nets;
 use sn_io::real::{RealInputs, RealSink};
-use sn_top::top::top;
 use std::alloc::Global;
 use std::env;
 use std::process::ExitCode;
@@ -14,13 +15,12 @@ const FIRST_BLOCK: usize = (32 << 20) - (64 << 10);
 /// Takes a large block and gives it back.
 ///
 /// The C library asks the kernel for each large block by itself and returns it at once, until a block as large was
-/// given back (mallopt(3), `M_MMAP_THRESHOLD`). Behind this the memory of a window serves the next one.
+/// given back (mallopt(3), `M_MMAP_THRESHOLD`). After this the memory of a window serves the next one.
 fn keep_pages(alloc: Global) {
     let _: Result<Vec<u8>, _> = Vec::with_capacity(alloc, FIRST_BLOCK);
 }
 
-/// Passes the words, the files that they name and the standard streams to the top call, with nets to answer windows, and ends with
-/// its status.
+/// Passes the words, the files that they name and the standard streams to the top call with nets, and ends with its status.
 fn main(rt: HostRuntime) -> ExitCode {
     keep_pages(rt.alloc());
     let Ok(args) = env::args(&rt) else {
@@ -37,11 +37,5 @@ fn main(rt: HostRuntime) -> ExitCode {
     };
     let mut out = RealSink::out(&rt);
     let mut err = RealSink::err(&rt);
-    ExitCode::from(top::<Net, RealInputs, RealSink, RealSink>(
-        rt.alloc(),
-        &words,
-        &mut files,
-        &mut out,
-        &mut err,
-    ))
+    ExitCode::from(top_with_nets(rt.alloc(), &words, &mut files, &mut out, &mut err))
 }

@@ -1,4 +1,4 @@
-use Rattle.sn_priced.specs.Space.{trained_entry}
+use Rattle.sn_cost_laws.specs.Space.{trained_entry}
 use Rattle.sn_command_search.proofs.Showing.{shows}
 use Rattle.sn_command_search.proofs.law.certificates_show_least.Goals as goal
 

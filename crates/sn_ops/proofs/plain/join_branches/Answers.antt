@@ -26,7 +26,7 @@ can_join c =
     subst (λ (ks : List JoinKey). CanBeJoined ks (schema_at (query_at queries q).schemas 0) c.args.left.now c.args.right.now) (sym c.join_keys.ensures)
     (query_joined c.args.t.now.window_us queries q c.args.left.now c.args.right.now c.args.t.now.typed c.requires.query c.requires.branches c.requires.left c.requires.right)
 
--- and the operators behind the join can be evaluated at the first of the pairs, so many as may be
+-- and the operators after the join can be evaluated at the first of the pairs, as many as may be
 fronts_fit : (c : After-as_slice) → FrontsFit c.args.level c.as_slice.result.now (joined c.join_keys.result.now c.args.left.now c.args.right.now)
 fronts_fit c front behind e =
     let queries = c.args.t.now.queries in

@@ -4,7 +4,7 @@ use Rattle.std.proofs.lemmas.Result.{err_from_is_err_and}
 use Rattle.sn_text_rules.specs.Rules.{kept}
 use Rattle.sn_text_rules.specs.Words.{is_word}
 use Rattle.sn_text.specs.Lexing.{left}
-use Rattle.sn_text_read.specs.Reading.{Peeked, Halts}
+use Rattle.sn_text.specs.Reading.{Peeked, Halts}
 use Rattle.sn_query.specs.Parts.{column_rule}
 use Rattle.sn_query.proofs.FoldParts.{sum_no_number, sum_value, other_no_column}
 use Rattle.sn_query.proofs.folds.fold.Goals as goal

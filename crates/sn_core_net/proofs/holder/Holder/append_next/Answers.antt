@@ -1,7 +1,7 @@
 use Rattle.std.proofs.Common.{◌∙◌, ap, true}
 use Rattle.circular_buffer.specs.Buffer.{Buffer}
 use Rattle.sn_core.specs.declared.supply.Frame.{Frame}
-use Rattle.sn_core_plans.specs.Settled.{settled}
+use Rattle.sn_core_net.specs.Settled.{settled}
 use Rattle.sn_pipe.specs.Pipes.{PipeState}
 use Rattle.sn_report.specs.declared.frame.Item.{Item}
 use Rattle.sn_core_net.specs.declared.holder.Holder.{Holder}

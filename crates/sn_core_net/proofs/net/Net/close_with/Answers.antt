@@ -9,7 +9,7 @@ use Rattle.sn_engine_lockstep.specs.Sources.{prefixes_in}
 use Rattle.sn_engine.specs.Answers.{answers_of}
 use Rattle.sn_engine.specs.Intakes.{emptied}
 use Rattle.sn_engine.specs.declared.intake.Intake.{Intake}
-use Rattle.sn_core_plans.specs.PlanWorkings.{workings_of}
+use Rattle.sn_core_net.specs.PlanWorkings.{workings_of}
 use Rattle.sn_types.specs.declared.answers.Answers.{Answers}
 use Rattle.sn_types.specs.declared.typed_query.TypedQuery.{TypedQuery}
 use Rattle.sn_core_net.specs.declared.net.Net.{Net}

@@ -10,7 +10,7 @@ use Rattle.sn_core.specs.declared.supply.Frame.{Frame}
 use Rattle.sn_engine_lockstep.specs.Work.{taken}
 use Rattle.sn_engine.specs.Intakes.{after_frame, emptied}
 use Rattle.sn_engine.specs.declared.intake.Intake.{Intake}
-use Rattle.sn_core_plans.specs.PlanWorkings.{workings_of}
+use Rattle.sn_core_net.specs.PlanWorkings.{workings_of}
 use Rattle.sn_pipe.specs.Pipes.{PipeState}
 use Rattle.sn_report.specs.declared.frame.Frame.{Frame as Report}
 use Rattle.sn_report.specs.declared.frame.Item.{Item}

@@ -15,8 +15,8 @@ use Rattle.sn_emit.specs.Plans.{Placed, pieces_from}
 use Rattle.sn_engine.proofs.Lanes.{as_many_entries, few_lanes}
 use Rattle.sn_engine.specs.Intakes.{emptied}
 use Rattle.sn_engine.specs.declared.intake.Intake.{Intake}
-use Rattle.sn_core_plans.proofs.PlanSchedules.{plan_due}
-use Rattle.sn_core_plans.specs.PlanWorkings.{workings, workings_of}
+use Rattle.sn_core_net.proofs.PlanSchedules.{plan_due}
+use Rattle.sn_core_net.specs.PlanWorkings.{workings, workings_of}
 use Rattle.sn_pipe.specs.Pipes.{PipeState}
 use Rattle.sn_plan_grammar.specs.declared.plan.Entry.{Entry}
 use Rattle.sn_report.specs.declared.frame.Item.{Item}

@@ -8,7 +8,7 @@ use Rattle.sn_refine.specs.Refined.{part_at}
 use Rattle.sn_refine.specs.Steps.{kept_at, rows_at}
 use Rattle.sn_refine.proofs.refined.Refined.window.Goals as goal
 
--- the first parts, so many as there are, are all
+-- the first parts, as many as there are, are all
 all_parts : (path : List ℕ) (levels : ℕ) (f : ℕ → Part) (parts : List Part) → levels ≡ length path → parts ≡ take levels (map f (range_with_len 0 (length path))) → parts ≡ map f (range_with_len 0 (length path))
 all_parts path levels f parts many e =
     let count = length-map-range_with_len f 0 (length path) in

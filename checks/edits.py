@@ -1,0 +1,126 @@
+#!/usr/bin/env python3
+"""Tries the edits of checks/edits, each of which the prover must refuse, as it must those of crates/*/must-fail.
+
+    python3 checks/edits.py [--keep] [CRATE ..]
+
+The gate tries the few edits of must-fail/ that tell most. The others stand in checks/edits/CRATE, and are tried here, of the crates that
+are named or of all. The crates are copied as they stand in the work tree (what git lists there, committed or not) to a temporary
+folder. There the edits of checks/edits/CRATE take the place of the crate's own, and `rt lib` and `rt must-fail` run crate by crate, the
+lowest first. rt shows a crate's edits once all of them were tried. At the end stand the edits that aren't refused, those that can't be
+applied or read, and those that weren't tried. The status is 0 only where all are refused.
+
+Needs git and the Rattle toolchain's rt, and some GB of disk. Python 3 alone.
+"""
+
+import argparse
+import os
+import re
+import shutil
+import subprocess
+import sys
+import tempfile
+import time
+
+ROOT = os.path.dirname(os.path.dirname(os.path.abspath(__file__)))
+EDITS = os.path.join(ROOT, "checks", "edits")
+VERDICT = re.compile(r"rt: must-fail (\w+)/(\S+\.edit): (refused|NOT REFUSED|BAD EDIT|NOT TRIED)")
+
+
+def crates_in_order():
+    """Returns the names of crates.txt, each after those that it stands on."""
+    with open(os.path.join(ROOT, "crates.txt"), encoding="utf-8") as file:
+        return [line.partition(":")[0].strip() for line in file if ":" in line]
+
+
+def edits_by_crate():
+    """Returns the names of the edits of checks/edits, by crate."""
+    found = {}
+    for crate in sorted(os.listdir(EDITS)) if os.path.isdir(EDITS) else []:
+        names = [name for name in sorted(os.listdir(os.path.join(EDITS, crate))) if name.endswith(".edit")]
+        if names:
+            found[crate] = names
+    return found
+
+
+def chosen(names, edits, order):
+    """Returns the crates to try, lowest first, or ends with a line on a name that is none."""
+    strangers = [crate for crate in edits if crate not in order]
+    if strangers:
+        sys.exit(f"no crates of crates.txt stand in checks/edits: {', '.join(strangers)}")
+    lacking = [name for name in names if name not in edits]
+    if lacking:
+        sys.exit(f"checks/edits has no edits of {', '.join(lacking)}")
+    return [crate for crate in order if crate in edits and (not names or crate in names)]
+
+
+def copy_crates(folder):
+    """Copies the crates of the work tree, without their edits."""
+    words = ["git", "ls-files", "-z", "--cached", "--others", "--exclude-standard", "--", "crates", "crates.txt", "HANDLES"]
+    listed = subprocess.run(words, cwd=ROOT, stdout=subprocess.PIPE, check=True).stdout.decode()
+    for path in listed.split("\0"):
+        # What was removed and not yet committed is listed too.
+        if os.path.isfile(os.path.join(ROOT, path)) and "must-fail" not in path.split("/"):
+            os.makedirs(os.path.dirname(os.path.join(folder, path)), exist_ok=True)
+            shutil.copy(os.path.join(ROOT, path), os.path.join(folder, path))
+
+
+def run(words, folder, shown):
+    """Runs a command and shows the lines that are to be shown as they come. Returns all of them, and the status."""
+    ran = subprocess.Popen(words, cwd=folder, stdin=subprocess.DEVNULL, stdout=subprocess.PIPE, stderr=subprocess.STDOUT, text=True, errors="replace")
+    lines = []
+    for line in ran.stdout:
+        lines.append(line)
+        if shown(line):
+            print(line, end="", flush=True)
+    return lines, ran.wait()
+
+
+def try_crate(tree, crate, names):
+    """Tries the edits of a crate, and returns what each came to."""
+    began = time.time()
+    folder = os.path.join(tree, "crates", crate)
+    # rt lib takes what other checkouts on this machine have built of the same texts, and rt must-fail doesn't.
+    print(f"{crate}: builds the crate and what it stands on", flush=True)
+    lines, status = run(["rt", "lib"], folder, lambda line: line.startswith("rt: "))
+    if status != 0:
+        print("".join(lines[-20:]) + f"{crate}: isn't proved as it stands, so its edits aren't tried", flush=True)
+        return {name: "NOT TRIED" for name in names}
+    shutil.copytree(os.path.join(EDITS, crate), os.path.join(folder, "must-fail"))
+    lines, _ = run(["rt", "must-fail", crate], tree, lambda line: True)
+    said = [VERDICT.match(line) for line in lines]
+    found = {match[2]: match[3] for match in said if match and match[1] == crate}
+    print(f"{crate}: {len(names)} edits in {(time.time() - began) / 60:.1f} minutes", flush=True)
+    return {name: found.get(name, "NOT TRIED") for name in names}
+
+
+def tell(results):
+    """Says how many edits are refused, and names the others. Returns whether there is none."""
+    others = [(verdict, f"{crate}/{name}") for crate, found in results.items() for name, verdict in found.items() if verdict != "refused"]
+    count = sum(len(found) for found in results.values())
+    print(f"crates: {len(results)}, edits: {count}, refused: {count - len(others)}")
+    for verdict, name in sorted(others):
+        print(f"{verdict}: {name}")
+    return not others
+
+
+def main():
+    parser = argparse.ArgumentParser(description=__doc__, formatter_class=argparse.RawDescriptionHelpFormatter)
+    parser.add_argument("--keep", action="store_true", help="leave the temporary folder, and say where it is")
+    parser.add_argument("crates", metavar="CRATE", nargs="*", help="a crate that has edits in checks/edits (all that have)")
+    given = parser.parse_args()
+    edits = edits_by_crate()
+    crates = chosen(given.crates, edits, crates_in_order())
+    tree = tempfile.mkdtemp(prefix="sonata-edits-")
+    try:
+        copy_crates(tree)
+        results = {crate: try_crate(tree, crate, edits[crate]) for crate in crates}
+    finally:
+        if given.keep:
+            print(f"kept: {tree}", flush=True)
+        else:
+            shutil.rmtree(tree, ignore_errors=True)
+    sys.exit(0 if tell(results) else 1)
+
+
+if __name__ == "__main__":
+    main()

@@ -1,4 +1,0 @@
-pub mod Plans
-pub mod Trees
-pub mod Covering
-pub mod Faults

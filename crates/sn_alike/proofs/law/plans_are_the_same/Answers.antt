@@ -1,8 +1,0 @@
-use Rattle.sn_alike.proofs.Plans.{cost_alike, plan_alike}
-use Rattle.sn_alike.proofs.law.plans_are_the_same.Goals as goal
-
-pub returns-clause-plan : goal.returns-clause-plan
-returns-clause-plan c = λ a b alike r plan. plan_alike a b alike r plan
-
-pub returns-clause-cost : goal.returns-clause-cost
-returns-clause-cost c = λ a b alike r plan. cost_alike a b alike r plan

@@ -1,7 +1,0 @@
-//! The command `gen`.
-#![tactic(auto)]
-
-pub mod generate;
-pub mod law;
-#[cfg(test)]
-mod tests;

@@ -1,5 +1,0 @@
-use Rattle.sn_command_laws.proofs.CallLemmas.{calls_follow}
-use Rattle.sn_command_laws.proofs.law.finish_calls_print_what_run_calls_write.Goals as goal
-
-pub returns : goal.returns
-returns c = calls_follow

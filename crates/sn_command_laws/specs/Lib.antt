@@ -1,3 +1,0 @@
-pub mod Real
-pub mod Replayed
-pub mod Calls

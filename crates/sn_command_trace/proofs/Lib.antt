@@ -1,2 +1,0 @@
-pub mod WatchLemmas
-pub mod AtWork

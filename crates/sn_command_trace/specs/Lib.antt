@@ -1,3 +1,0 @@
-pub mod Wording
-pub mod Watching
-pub mod Causal

@@ -1,3 +1,0 @@
-pub mod ReadOut
-pub mod PlanWorkings
-pub mod Settled

@@ -1,0 +1,6 @@
+pub mod Entries
+pub mod Pieces
+pub mod Priced
+pub mod Fronts
+pub mod Seeing
+pub mod Plans

@@ -1,0 +1,146 @@
+-- The cost of a plan is the number of items that its pieces send.
+use Rattle.std.proofs.Common.{◌≡◌, ℕ, suc, ◌+◌, ◌<◌, List, [], ◌∷◌, ◌++◌, drop, length, map, sum, slice_get, unwrap_or, Option, Some, true, refl, ap, sym, subst, ◌∙◌, arith}
+use Rattle.std.specs.List.{AllByRecursion, sum_by}
+use Rattle.std.proofs.lemmas.List.{length-take-le, map-append}
+use Rattle.std.proofs.lemmas.List.Sums.{sum_by-append, sum_by-cons}
+use Rattle.sn_plan_lists.specs.Chosen.{HasLevels, option_of}
+use Rattle.sn_plan_lists.specs.Costs.{bits_of, entry_cost, is_upto, piece_cost, plan_cost}
+use Rattle.sn_plan_lists.specs.Theorems.{HaveRisingNumbers}
+use Rattle.sn_plan_lists.proofs.OptionNumbers.{number_of_option}
+use Rattle.sn_plan_lists.proofs.Pieces.{GoodPiece, is_option}
+use Rattle.sn_plan_lists.proofs.Readings.{good_entry}
+use Rattle.sn_plan_choices.specs.Options.{Setting}
+use Rattle.sn_cost.specs.Entries as cost
+use Rattle.sn_cost.specs.Entries.{IsPiece, entry_count}
+use Rattle.sn_engine_lockstep.specs.Windows.{piece_count}
+use Rattle.sn_engine_lockstep.proofs.Apart.{levels_known, place_is}
+use Rattle.sn_emit.specs.Plans.{Placed, pieces_from, placed}
+use Rattle.sn_plan_fit.specs.Fits.{AreEntriesOf, Fits, IsEntryOf, OnBranch, PieceFits, PiecesFit}
+use Rattle.sn_plan_fit.specs.Paths.{is_among, place_in}
+use Rattle.sn_plan_fit.specs.Pieces.{piece_branch}
+use Rattle.sn_base.specs.Rising.{IsRising}
+use Rattle.sn_plan_grammar.specs.declared.plan.Entry.{Entry}
+use Rattle.sn_plan_grammar.specs.declared.plan.Piece.{Piece}
+use Rattle.sn_cost_laws.specs.Sent.{sent_over}
+use Rattle.sn_cost_laws.specs.Priced.{AreCounted}
+use Rattle.sn_cost_laws.specs.Space.{trained_entry}
+use Rattle.sn_cost_laws.proofs.Pieces.{drop_more, get_ahead, index_within}
+use Rattle.sn_cost_laws.proofs.Fronts.{bits_below, front_is}
+use Rattle.sn_cost_laws.proofs.Seeing.{piece_sent}
+use Rattle.sn_refine.specs.Refined.{Windows}
+use Rattle.sn_refine.specs.Steps.{Given, windows_of}
+use Rattle.sn_switch.specs.declared.switch.Switch.{Switch}
+use Rattle.sn_types.specs.declared.typed_query.TypedBranch.{TypedBranch}
+use Rattle.sn_types.specs.declared.typed_query.TypedQuery.{TypedQuery}
+use Rattle.sn_types.specs.Typed.{blank_query, branch_of, query_at}
+
+-- ---- sums
+
+abbrev same : ℕ → ℕ
+same n = n
+
+sum_more : (n : ℕ) (ns : List ℕ) → sum (n ∷ ns) ≡ n + sum ns
+sum_more n ns = sum_by-cons same n ns
+
+sum_both : (ms ns : List ℕ) → sum (ms ++ ns) ≡ sum ms + sum ns
+sum_both ms ns = sum_by-append same ms ns
+
+sums_same : {X : Type 0} (f g : X → ℕ) → ((x : X) → f x ≡ g x) → (xs : List X) → sum_by f xs ≡ sum_by g xs
+sums_same f g e [] = refl
+sums_same f g e (x ∷ xs) = sum_by-cons f x xs ∙ ap (λ n. n + sum_by f xs) (e x) ∙ ap (λ n. g x + n) (sums_same f g e xs) ∙ sym (sum_by-cons g x xs)
+
+sums_none : {X : Type 0} (xs : List X) → sum_by (λ x. 0) xs ≡ 0
+sums_none [] = refl
+sums_none (x ∷ xs) = sum_by-cons (λ y. 0) x xs ∙ ap (λ n. 0 + n) (sums_none xs)
+
+sums_two : {X : Type 0} (f g h : X → ℕ) → ((x : X) → h x ≡ f x + g x) → (xs : List X) → sum_by f xs + sum_by g xs ≡ sum_by h xs
+sums_two f g h e [] = refl
+sums_two f g h e (x ∷ xs) =
+    let one = sum_by-cons f x xs in
+    let two = sum_by-cons g x xs in
+    let both = sum_by-cons h x xs in
+    let rest = sums_two f g h e xs in
+    let here = e x in
+    omega (arith, one, two, both, rest, here)
+
+-- ---- a plan
+
+module _ (s : Switch) (queries : List TypedQuery) (given : List Given) (entry : ℕ → ℕ → ℕ → ℕ → ℕ) (counted : AreCounted s queries given entry) where
+  abbrev windows : Windows
+  windows = windows_of given
+
+  abbrev sent : List Placed → ℕ → ℕ
+  sent xs w = sum (map (piece_count queries s.chain windows w) xs)
+
+  piece_priced : (n : ℕ) (e : Entry) (p : Piece) → n < length queries → IsRising (query_at queries n).levels → IsEntryOf (query_at queries n) e → GoodPiece s (query_at queries n) e.levels p → is_among e.levels p.level ≡ true
+      → piece_cost s entry n (query_at queries n) e.levels p ≡ sum_by (λ (g : Given). piece_count queries s.chain windows g.0 (placed n e.levels p)) given
+  piece_priced n e p lt rising is good among =
+      let query : TypedQuery = query_at queries n in
+      let branch : TypedBranch = branch_of query p.branch in
+      let o : Setting = (p.cut, p.slots) in
+      let prefix : ℕ = bits_of (is_upto e.levels p.level) query.levels in
+      let at = place_is e.levels p.level among in
+      let j : ℕ = place_in e.levels p.level in
+      let front = front_is query.levels e.levels p.level j rising is.path.rising is.path.known at.within at.is in
+      let long = ap length front ∙ length-take-le (suc j) e.levels (omega (arith, at.within)) in
+      let option = number_of_option s branch o (is_option s query e.levels p good) in
+      let piece : IsPiece s queries n prefix p.branch (option_of s query p) = record {
+        of_query = lt;
+        of_levels = bits_below (is_upto e.levels p.level) query.levels;
+        some_level = omega (arith, long);
+        of_branch = index_within query.branches p.branch branch good.known;
+        of_option = option.0;
+      } in
+      counted n prefix p.branch (option_of s query p) piece
+      ∙ ap (λ (x : Setting). entry_count s.chain query given prefix p.branch x) option.1
+      ∙ sums_same (λ (g : Given). cost.sent_in query windows (cost.front_of prefix query.levels) p.branch s.chain o g.0) (λ (g : Given). piece_count queries s.chain windows g.0 (placed n e.levels p))
+      (λ g. piece_sent queries s.chain n windows e.levels (cost.front_of prefix query.levels) p g.0 among front) given
+
+  pieces_priced : (n : ℕ) (e : Entry) (ps : List Piece) → n < length queries → IsRising (query_at queries n).levels → IsEntryOf (query_at queries n) e → AllByRecursion (GoodPiece s (query_at queries n) e.levels) ps
+      → AllByRecursion (λ p. is_among e.levels p.level ≡ true) ps → sum_by (piece_cost s entry n (query_at queries n) e.levels) ps ≡ sum_by (λ (g : Given). sent (map (placed n e.levels) ps) g.0) given
+  pieces_priced n e [] lt rising is good among = sym (sums_none given)
+  pieces_priced n e (p ∷ ps) lt rising is good among =
+      let query : TypedQuery = query_at queries n in
+      let one = sum_by-cons (piece_cost s entry n query e.levels) p ps in
+      let here = piece_priced n e p lt rising is good.0 among.0 in
+      let rest = pieces_priced n e ps lt rising is good.1 among.1 in
+      let both = sums_two (λ (g : Given). piece_count queries s.chain windows g.0 (placed n e.levels p)) (λ (g : Given). sent (map (placed n e.levels) ps) g.0) (λ (g : Given). sent (map (placed n e.levels) (p ∷ ps)) g.0)
+      (λ g. sum_more (piece_count queries s.chain windows g.0 (placed n e.levels p)) (map (piece_count queries s.chain windows g.0) (map (placed n e.levels) ps))) given in
+      one ∙ ap (λ (m : ℕ). m + sum_by (piece_cost s entry n query e.levels) ps) here
+      ∙ ap (λ (m : ℕ). sum_by (λ (g : Given). piece_count queries s.chain windows g.0 (placed n e.levels p)) given + m) rest ∙ both
+
+  entry_priced : (n : ℕ) (q : TypedQuery) (e : Entry) → query_at queries n ≡ q → n < length queries → IsRising q.levels → IsEntryOf q e → AllByRecursion (λ p. OnBranch (λ b. PieceFits s e.levels b p) (piece_branch q p)) e.pieces
+      → entry_cost s entry n q e ≡ sum_by (λ (g : Given). sent (map (placed n e.levels) e.pieces) g.0) given
+  entry_priced n q e at lt =
+      subst (λ (x : TypedQuery). IsRising x.levels → IsEntryOf x e → AllByRecursion (λ p. OnBranch (λ b. PieceFits s e.levels b p) (piece_branch x p)) e.pieces
+      → entry_cost s entry n x e ≡ sum_by (λ (g : Given). sent (map (placed n e.levels) e.pieces) g.0) given) at
+      (λ rising is fits. pieces_priced n e e.pieces lt rising is (good_entry s (query_at queries n) e is fits).good (levels_known (query_at queries n) e is))
+
+  entries_priced : (n : ℕ) (qs : List TypedQuery) (es : List Entry) → drop n queries ≡ qs → AllByRecursion HasLevels qs → AreEntriesOf qs es → PiecesFit (PieceFits s) qs es
+      → plan_cost s entry n qs es ≡ sum_by (λ (g : Given). sent (pieces_from n es) g.0) given
+  entries_priced n [] [] at levels are fit = sym (sums_none given)
+  entries_priced n [] (e ∷ es) at levels are fit = absurd are
+  entries_priced n (q ∷ qs) [] at levels are fit = absurd are
+  entries_priced n (q ∷ qs) (e ∷ es) at levels are fit =
+      let here : slice_get queries n ≡ Some q = get_ahead queries n q qs at in
+      let lt : n < length queries = index_within queries n q here in
+      let next : suc n ≡ n + 1 = omega arith in
+      let one = entry_priced n q e (ap (λ (x : Option TypedQuery). unwrap_or x blank_query) here) lt levels.0.rising are.0 fit.0 in
+      let rest : plan_cost s entry (n + 1) qs es ≡ sum_by (λ (g : Given). sent (pieces_from (suc n) es) g.0) given =
+      ap (λ (m : ℕ). plan_cost s entry m qs es) (sym next) ∙ entries_priced (suc n) qs es (drop_more queries n q qs at) levels.1 are.1 fit.1 in
+      let own : List Placed = map (placed n e.levels) e.pieces in
+      let both = sums_two (λ (g : Given). sent own g.0) (λ (g : Given). sent (pieces_from (suc n) es) g.0) (λ (g : Given). sent (pieces_from n (e ∷ es)) g.0)
+      (λ g. ap sum (map-append (piece_count queries s.chain windows g.0) own (pieces_from (suc n) es))
+      ∙ sum_both (map (piece_count queries s.chain windows g.0) own) (map (piece_count queries s.chain windows g.0) (pieces_from (suc n) es))) given in
+      ap (λ (m : ℕ). m + plan_cost s entry (n + 1) qs es) one
+      ∙ ap (λ (m : ℕ). sum_by (λ (g : Given). sent own g.0) given + m) rest ∙ both
+
+-- the cost of a plan that fits is the number of items that its pieces send over the windows
+pub plan_priced : (s : Switch) (queries : List TypedQuery) (given : List Given) (entry : ℕ → ℕ → ℕ → ℕ → ℕ) (entries : List Entry) → HaveRisingNumbers s queries → AreCounted s queries given entry
+    → Fits queries s entries → plan_cost s entry 0 queries entries ≡ sent_over s.chain queries entries given
+plan_priced s queries given entry entries rising counted fits = entries_priced s queries given entry counted 0 queries entries refl rising.levels fits.paths fits.pieces
+
+-- over the windows themselves
+pub trained_priced : (s : Switch) (queries : List TypedQuery) (given : List Given) (entries : List Entry) → HaveRisingNumbers s queries → Fits queries s entries
+    → plan_cost s (trained_entry s queries given) 0 queries entries ≡ sent_over s.chain queries entries given
+trained_priced s queries given entries rising fits = plan_priced s queries given (trained_entry s queries given) entries rising (λ q prefix b n is. refl) fits

@@ -1,0 +1,66 @@
+//! Items through operators.
+ghost use Rattle.std.specs.Prelude.{◌≡◌, ◌≤◌, length, map, IfOk};
+ghost use Rattle.sn_pipe_items.specs.Value.{is_at, is_partial, rows_with, taken, value};
+ghost use Rattle.sn_ops.specs.Flow.{Fits};
+ghost use Rattle.sn_engine.specs.Fitting.{PartsFit, ItemsFit};
+ghost use Rattle.sn_types.specs.Values.{op_at};
+
+use crate::rows::{partial_rows, push_rows_at};
+use sn_base::memory::Memory;
+use sn_base::row::Row;
+use sn_base::seed::Seed;
+use sn_base::seq::Seq;
+use sn_ops::group::{distinct_by, reduce_with};
+use sn_ops::select::{filter, map};
+use sn_report::frame::Item;
+use sn_types::typed_op::TOp;
+use std::alloc::Global;
+
+/// What an operator gives for these rows and for the Partial rows at it among the items. Only a reduce looks for some.
+fn taken(
+    alloc: Global,
+    seed: Seed,
+    op: &TOp,
+    level: u32,
+    rows: &[Row],
+    items: &[Item],
+    operator: u32,
+) -> Result<Seq<Row>, Memory>
+    requires rows { Fits op.now rows.now }
+    requires parts { PartsFit op.now (rows_with (is_partial operator) items.now) }
+    ensures { IfOk result (λ out. out ≡ taken (op_at level op.now) rows.now (rows_with (is_partial operator) items.now)) }
+{
+    match op {
+        TOp::Filter(conds) => filter(alloc, rows, conds.as_slice(), level),
+        TOp::Map(cols) => map(alloc, rows, cols.as_slice()),
+        TOp::Distinct => distinct_by(alloc, seed, rows),
+        TOp::Reduce(r) => {
+            let parts = partial_rows(alloc, items, operator)?;
+            reduce_with(alloc, seed, rows, parts.as_slice(), r)
+        }
+    }
+}
+
+/// The value of items: the rows that go into the first operator go through all, and at each operator the rows that go
+/// into the next one join.
+pub(crate) fn value(
+    alloc: Global,
+    seed: Seed,
+    ops: &[TOp],
+    level: u32,
+    items: &[Item],
+) -> Result<Seq<Row>, Memory>
+    requires few { length ops.now ≤ 12 }
+    requires items { ItemsFit level 0 ops.now items.now (rows_with (is_at 0) items.now) }
+    ensures { IfOk result (λ rows. rows ≡ value (map (op_at level) ops.now) items.now) }
+{
+    let mut rows = Seq::new(alloc);
+    push_rows_at(&mut rows, items, 0)?;
+    let mut operator = 0;
+    for op in ops {
+        rows = taken(alloc, seed, op, level, rows.as_slice(), items, operator)?;
+        operator += 1;
+        push_rows_at(&mut rows, items, operator)?;
+    }
+    Ok(rows)
+}

@@ -1,5 +1,0 @@
-use Rattle.std.proofs.Common.{length}
-use Rattle.sn_out.proofs.tests.+is_of.Given as goal
-
-abbrev pub decreases-is_of : goal.decreases-is_of
-decreases-is_of l = length l.columns.now

@@ -1,8 +1,0 @@
-use Rattle.sn_paid.proofs.Plans.{plan_priced, trained_priced}
-use Rattle.sn_paid.proofs.law.costs_are_items_sent.Goals as goal
-
-pub returns-clause-counted : goal.returns-clause-counted
-returns-clause-counted c = λ s queries given entry entries rising counted fits. plan_priced s queries given entry entries rising counted fits
-
-pub returns-clause-trained : goal.returns-clause-trained
-returns-clause-trained c = λ s queries given entries rising fits. trained_priced s queries given entries rising fits

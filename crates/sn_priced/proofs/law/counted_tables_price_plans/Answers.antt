@@ -1,6 +1,0 @@
-use Rattle.sn_plan_choices.specs.Costs.{entry_in}
-use Rattle.sn_priced.proofs.Priced.{counted_alike}
-use Rattle.sn_priced.proofs.law.counted_tables_price_plans.Goals as goal
-
-pub returns : goal.returns
-returns c = λ s queries given table counted. counted_alike s queries given (entry_in table) counted

@@ -1,2 +1,0 @@
-pub mod Space
-pub mod Priced

@@ -1,4 +1,0 @@
-//! What plans cost by the tables of training windows.
-#![tactic(auto)]
-
-pub mod law;

@@ -1,0 +1,128 @@
+//! Rows, their schemas, and what is made of their columns.
+use sn_base::any_fold::AnyFold;
+use sn_base::column::Column;
+use sn_base::fold::{Fold, Max, Min, Or, SatSum};
+use sn_base::mask::mask;
+use sn_base::members::Members;
+use sn_base::name::Name;
+use sn_base::row::Row;
+use sn_base::schema::Schema;
+use sn_base::seed::Seed;
+use sn_base::seq::Seq;
+use sn_base::slot::slot_of;
+use std::hash::BuildHasher;
+use std::test::Fail;
+
+#[test]
+fn takes_one_to_thirty_two_bytes(rt: HostRuntime) -> Result<(), Fail> {
+    assert!(rt; Name::new(b"").is_none());
+    assert!(rt; Name::new(&[b'a'; 33]).is_none());
+    assert!(rt;
+        Name::new(&[b'a'; 32]).is_some_and(|name| name.as_bytes() == [b'a'; 32].as_slice())
+    );
+    Ok(())
+}
+
+#[test]
+fn rows_hold_eight_columns(rt: HostRuntime) -> Result<(), Fail> {
+    assert!(rt; Row::new(&[0; 9]).is_none());
+    let row = Row::new(&[1, 2, 3, 4, 5, 6, 7]).and_then(|row| row.with(8));
+    assert_eq!(rt; row, Row::new(&[1, 2, 3, 4, 5, 6, 7, 8]));
+    assert!(rt; row.is_some_and(|row| row.with(9).is_none()));
+    assert!(rt; Row::empty() < Row::empty().with(0).unwrap_or(Row::empty()));
+    Ok(())
+}
+
+#[test]
+fn schemas_hold_eight_columns(rt: HostRuntime) -> Result<(), Fail> {
+    let name = Name::new(b"_").ok_or("no name")?;
+    let blank = Column {
+        name,
+        width: 0,
+        address: false,
+    };
+    let mut schema = Schema::new();
+    for width in 1..9 {
+        let column = Column { width, ..blank };
+        assert!(rt; schema.add(column));
+    }
+    assert!(rt; !schema.add(blank));
+    assert_eq!(rt; schema.len(), 8);
+    assert_eq!(rt; schema.get(7).map(|column| column.width), Some(8));
+    assert_eq!(rt; schema.get(8), None);
+    Ok(())
+}
+
+#[test]
+fn takes_items_and_gives_them_back(rt: HostRuntime) -> Result<(), Fail> {
+    let mut items = Seq::new(rt.alloc());
+    assert_eq!(rt; items.push(3u64), Ok(()));
+    assert_eq!(rt; items.push(4), Ok(()));
+    assert_eq!(rt; items.pop(), Some(4));
+    assert_eq!(rt; items.as_slice(), [3].as_slice());
+    assert_eq!(rt; Seq::from_vec(items.into_vec()).pop(), Some(3));
+    Ok(())
+}
+
+#[test]
+fn has_what_was_added(rt: HostRuntime) -> Result<(), Fail> {
+    let mut members = Members::new(rt.alloc());
+    assert_eq!(rt; members.add(7), Ok(()));
+    assert!(rt; members.has(7));
+    assert!(rt; !members.has(8));
+    assert_eq!(rt; members.add(7), Ok(()));
+    Ok(())
+}
+
+#[test]
+fn keeps_the_highest_bits(rt: HostRuntime) -> Result<(), Fail> {
+    assert_eq!(rt; mask(167772169, 32, 8), 167772160);
+    assert_eq!(rt; mask(5, 8, 0), 0);
+    assert_eq!(rt; mask(u64::MAX, 64, 0), 0);
+    assert_eq!(rt; mask(u64::MAX, 64, 64), u64::MAX);
+    Ok(())
+}
+
+#[test]
+fn folds_the_known_values(rt: HostRuntime) -> Result<(), Fail> {
+    assert_eq!(rt; SatSum { v: 4 }.step(9, 9), 15);
+    assert_eq!(rt; Min { v: 3 }.unit(), 7);
+    assert_eq!(rt; Or { v: 8 }.step(5, 2), 7);
+    assert_eq!(rt; Max { v: 64 }.step(5, u64::MAX), u64::MAX);
+    assert_eq!(rt; Max { v: 3 }.has(8), false);
+    assert_eq!(rt; AnyFold::SatSum(SatSum { v: 4 }).step(9, 9), 15);
+    assert_eq!(rt; AnyFold::Min(Min { v: 3 }).unit(), 7);
+    assert_eq!(rt; AnyFold::Or(Or { v: 8 }).step(5, 2), 7);
+    Ok(())
+}
+
+/// The slots of wide columns are by the formula in whole numbers, worked out elsewhere.
+#[test]
+fn gives_the_known_slots(rt: HostRuntime) -> Result<(), Fail> {
+    let table: [(u32, &[u64], u32, u32); 11] = [
+        (0, &[], 256, 37),
+        (1, &[], 256, 36),
+        (0, &[0], 256, 197),
+        (1, &[0], 256, 164),
+        (0, &[1], 256, 164),
+        (0, &[4294967295], 1000, 441),
+        (0, &[4294967296], 1000, 484),
+        (3, &[18446744073709551615, 7], 65535, 4042),
+        (2, &[167772169, 80, 1099511627781], 65536, 28986),
+        (1, &[5], 1, 0),
+        (0, &[9223372036854775808], 3, 2),
+    ];
+    for (index, columns, slots, slot) in table {
+        let key = Row::new(columns).ok_or("no row")?;
+        assert_eq!(rt; slot_of(index, &key, slots), slot);
+    }
+    Ok(())
+}
+
+#[test]
+fn other_numbers_give_other_hashes(rt: HostRuntime) -> Result<(), Fail> {
+    let (one, two) = (Seed::new(1), Seed::new(2));
+    assert_eq!(rt; one.hash_one(7u64), Seed::new(1).hash_one(7u64));
+    assert!(rt; one.hash_one(7u64) != two.hash_one(7u64));
+    Ok(())
+}

@@ -1,0 +1,143 @@
+//! Calls that a table of texts can't tell: writes that fail, bytes that are no text, large texts, and files that give
+//! one byte at a call.
+use sn_base::seq::Seq;
+use sn_io::mem_inputs::MemInputs;
+use sn_io::mem_sink::MemSink;
+use sn_test_inputs::call::call;
+use sn_test_inputs::packets::{HEADER, push_syns};
+use sn_test_inputs::slow::Slow;
+use std::alloc::Global;
+use std::test::Fail;
+
+const SYN: &str = "window 1000000\nquery q { packets | filter tcp.flags == 2; }\n";
+
+/// Destinations with more than one source, on a switch and by a plan with one slot in each register.
+const SPREAD: &str =
+    "window 1000000 query q { packets | map ip.dst as d, ip.src as s | distinct | map d as d, 1 as n | reduce d: sum(n) width 16 | filter n > 1; }";
+
+const SWITCH: &str = "stages 5; actions 2; bits 1000; meta 1000; chain 1; slots 1;";
+
+const PLAN: &str = "plan query q path 0; piece 0 0 cut 5 slots 1, 1 stages 1, 3;";
+
+/// Reports of one window by that plan: an item, a partial row, and the End.
+const REPORTS: [u8; 64] = [
+    1, 0, 0, 0, 0, 1, 2, 0, 0, 0, 0, 0, 10, 0, 0, 9, 0, 0, 0, 0, 10, 0, 0, 2, 1, 1, 0, 0, 0, 3, 2,
+    0, 0, 0, 0, 0, 10, 0, 0, 9, 0, 0, 0, 0, 0, 0, 0, 1, 1, 2, 0, 0, 0, 0, 1, 0, 0, 0, 0, 0, 0, 0,
+    0, 0,
+];
+
+/// The front of a job's text, by hand: 20,000 packets in the four windows of a second that the generated captures have.
+const JOB_FRONT: &[u8] = b"job 7 packets 20000 windows 4\ncost ";
+
+/// The last lines of a job, by hand: one server has 500 new connections, of 500 sources, and another 25,000 connections
+/// for each million bytes.
+const JOB_LAST: &[u8] =
+    b"query newconn rows 1\n10.1.2.3 500\nquery spread rows 1\n10.1.2.3 500\nquery slow rows 1\n10.9.8.7 25000\n";
+
+fn file_of(alloc: Global, bytes: &[u8]) -> Result<Seq<u8>, Fail> {
+    Ok(Seq::from_vec(Vec::from_slice(alloc, bytes)?))
+}
+
+/// The files `q` and `c` of a query and of three packets, at 0, 1 and 2 microseconds after one second, of which so many
+/// bytes are there.
+fn syn_files(alloc: Global, most: usize) -> Result<MemInputs, Fail> {
+    let mut capture = Vec::from_slice(alloc, &HEADER)?;
+    push_syns(&mut capture, "0 1 9, 1 1 9, 2 1 9")?;
+    capture.truncate(most);
+    let mut files = MemInputs::new(alloc);
+    files.put("q", file_of(alloc, SYN.as_bytes())?)?;
+    files.put("c", Seq::from_vec(capture))?;
+    Ok(files)
+}
+
+/// The files `s`, `q`, `p` and `c` of the plan, with two packets.
+fn spread_files(alloc: Global) -> Result<MemInputs, Fail> {
+    let mut capture = Vec::from_slice(alloc, &HEADER)?;
+    push_syns(&mut capture, "0 1 9, 1 2 9")?;
+    let mut files = MemInputs::new(alloc);
+    files.put("s", file_of(alloc, SWITCH.as_bytes())?)?;
+    files.put("q", file_of(alloc, SPREAD.as_bytes())?)?;
+    files.put("p", file_of(alloc, PLAN.as_bytes())?)?;
+    files.put("c", Seq::from_vec(capture))?;
+    Ok(files)
+}
+
+#[test]
+fn tells_that_a_write_failed(rt: HostRuntime) -> Result<(), Fail> {
+    let alloc = rt.alloc();
+    let mut files = syn_files(alloc, 1000)?;
+    let mut out = MemSink::new(alloc, 1000)?;
+    out.fail_at(0)?;
+    let failed = call(alloc, "plain q c", &mut files, out)?;
+    assert_eq!(rt; failed.status, 10);
+    assert_eq!(rt; failed.out.bytes(), b"".as_slice());
+    assert_eq!(rt; failed.err.bytes(), b"sonata: write fault\n".as_slice());
+    Ok(())
+}
+
+#[test]
+fn generates_a_capture(rt: HostRuntime) -> Result<(), Fail> {
+    let alloc = rt.alloc();
+    let mut files = MemInputs::new(alloc);
+    let out = MemSink::new(alloc, 1400024)?;
+    let ran = call(alloc, "gen 0000000007", &mut files, out)?;
+    assert_eq!(rt; ran.status, 0);
+    assert_eq!(rt; ran.out.bytes().len(), 1400024);
+    assert!(rt; ran.out.bytes().starts_with(&HEADER));
+    assert_eq!(rt; ran.err.bytes(), b"".as_slice());
+    let out = MemSink::new(alloc, 100)?;
+    let full = call(alloc, "gen 7", &mut files, out)?;
+    assert_eq!(rt; full.status, 10);
+    assert_eq!(rt; full.err.bytes(), b"sonata: write fault\n".as_slice());
+    Ok(())
+}
+
+#[test]
+fn sums_up_a_job(rt: HostRuntime) -> Result<(), Fail> {
+    let alloc = rt.alloc();
+    let mut files = MemInputs::new(alloc);
+    let out = MemSink::new(alloc, 1000)?;
+    let ran = call(alloc, "job 7", &mut files, out)?;
+    assert_eq!(rt; ran.status, 0);
+    assert!(rt; ran.out.bytes().starts_with(JOB_FRONT));
+    assert!(rt; ran.out.bytes().ends_with(JOB_LAST));
+    Ok(())
+}
+
+#[test]
+fn finishes_what_it_emits(rt: HostRuntime) -> Result<(), Fail> {
+    let alloc = rt.alloc();
+    let mut files = spread_files(alloc)?;
+    let out = MemSink::new(alloc, 1000)?;
+    let emitted = call(alloc, "emit s q p c", &mut files, out)?;
+    assert_eq!(rt; emitted.status, 0);
+    assert_eq!(rt; emitted.out.bytes(), &REPORTS[..]);
+    files.put("r", file_of(alloc, emitted.out.bytes())?)?;
+    let out = MemSink::new(alloc, 1000)?;
+    let finished = call(alloc, "finish q p r", &mut files, out)?;
+    assert_eq!(rt; finished.status, 0);
+    assert_eq!(rt;
+        finished.out.bytes(),
+        b"window 0 emitted 2\nquery q level 0 rows 1\n10.0.0.9 2\ntotal windows 1 emitted 2\n".as_slice()
+    );
+    Ok(())
+}
+
+#[test]
+fn answers_a_capture_that_comes_byte_by_byte(rt: HostRuntime) -> Result<(), Fail> {
+    let alloc = rt.alloc();
+    let files = syn_files(alloc, 233)?;
+    let mut slow = Slow { files, most: 1 };
+    let out = MemSink::new(alloc, 1000)?;
+    let ran = call(alloc, "plain q c", &mut slow, out)?;
+    assert_eq!(rt; ran.status, 5);
+    assert_eq!(rt;
+        ran.out.bytes(),
+        b"window 0\nquery q level 0 rows 2\n2\n2\ncapture cut at byte 164\ntotal windows 1\n".as_slice()
+    );
+    assert_eq!(rt;
+        ran.err.bytes(),
+        b"sonata: capture Cut byte 164\n".as_slice()
+    );
+    Ok(())
+}

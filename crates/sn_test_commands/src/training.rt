@@ -1,0 +1,102 @@
+//! Training captures: the windows of their records, whole ones alone, and the most that they may have.
+use sn_base::seq::Seq;
+use sn_command::desk::Desk;
+use sn_command::fault::Fault;
+use sn_command::refusal::Refusal;
+use sn_command_training::read::read_training;
+use sn_command_training::training::Training;
+use sn_fields::field::Field;
+use sn_io::mem_inputs::MemInputs;
+use sn_io::mem_sink::MemSink;
+use sn_pcap::header::HeadFault;
+use sn_test_inputs::packets::HEADER;
+use std::alloc::Global;
+use std::test::Fail;
+
+/// The header of a record at one second and so many microseconds, with no bytes captured of 60.
+fn record(micros: u32) -> [u8; 16] {
+    let [a, b, c, d] = micros.to_le_bytes();
+    [1, 0, 0, 0, a, b, c, d, 0, 0, 0, 0, 60, 0, 0, 0]
+}
+
+/// What this capture, in windows of a second, is trained on.
+fn trained(alloc: Global, file: Vec<u8>) -> Result<Result<Training, Refusal>, Fail> {
+    let mut files = MemInputs::new(alloc);
+    files.put("t", Seq::from_vec(file))?;
+    let mut out = MemSink::new(alloc, 100)?;
+    let mut desk = Desk {
+        files: &mut files,
+        out: &mut out,
+    };
+    Ok(read_training(alloc, &mut desk, "t", 1_000_000_000))
+}
+
+/// A capture of records at 0, 1500000 and 200000 microseconds.
+fn three_records(alloc: Global) -> Result<Vec<u8>, Fail> {
+    let mut file = Vec::from_slice(alloc, &HEADER)?;
+    for micros in [0, 1_500_000, 200_000] {
+        file.extend_from_slice(&record(micros))?;
+    }
+    Ok(file)
+}
+
+#[test]
+fn numbers_the_windows_of_a_training_capture(rt: HostRuntime) -> Result<(), Fail> {
+    let alloc = rt.alloc();
+    match trained(alloc, three_records(alloc)?)? {
+        Ok(training) => {
+            assert_eq!(rt; training.numbers.as_slice(), [0, 1, 1].as_slice());
+            assert_eq!(rt; training.tuples.as_slice().len(), 3);
+            for tuple in training.tuples.as_slice() {
+                assert_eq!(rt; tuple.get(Field::PacketLength), 60);
+            }
+        }
+        Err(_) => assert!(rt; false),
+    }
+    Ok(())
+}
+
+#[test]
+fn takes_the_whole_records_of_a_damaged_training_capture(rt: HostRuntime) -> Result<(), Fail> {
+    let alloc = rt.alloc();
+    let mut cut = three_records(alloc)?;
+    cut.truncate(71);
+    match trained(alloc, cut)? {
+        Ok(training) => assert_eq!(rt; training.numbers.as_slice(), [0, 1].as_slice()),
+        Err(_) => assert!(rt; false),
+    }
+    match trained(alloc, Vec::from_slice(alloc, &HEADER)?)? {
+        Ok(training) => assert_eq!(rt; training.numbers.as_slice().len(), 0),
+        Err(_) => assert!(rt; false),
+    }
+    Ok(())
+}
+
+#[test]
+fn refuses_a_header_and_too_many_records(rt: HostRuntime) -> Result<(), Fail> {
+    let alloc = rt.alloc();
+    let mut other_link = HEADER;
+    other_link[20] = 105;
+    assert!(rt;
+        matches!(
+            trained(alloc, Vec::from_slice(alloc, &other_link)?)?,
+            Err(Refusal::Refused(Fault::Head(HeadFault::Link)))
+        )
+    );
+    let mut file = Vec::from_slice(alloc, &HEADER)?;
+    for _ in 0..4_194_304u32 {
+        file.extend_from_slice(&record(0))?;
+    }
+    match trained(alloc, Vec::from_slice(alloc, file.as_slice())?)? {
+        Ok(training) => assert_eq!(rt; training.numbers.as_slice().len(), 4_194_304),
+        Err(_) => assert!(rt; false),
+    }
+    file.extend_from_slice(&record(0))?;
+    assert!(rt;
+        matches!(
+            trained(alloc, file)?,
+            Err(Refusal::Refused(Fault::TooLarge))
+        )
+    );
+    Ok(())
+}

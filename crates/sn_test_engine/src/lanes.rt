@@ -1,0 +1,216 @@
+//! What the lanes of plans send over small windows.
+ghost use Rattle.std.specs.Prelude.{◌≡◌, ◌<◌, ℕ, IfSome, length, slice_get};
+ghost use Rattle.sn_emit.specs.Making.{CanEncode};
+ghost use Rattle.sn_plan_fit.specs.Fits.{Fits};
+ghost use Rattle.sn_switch.specs.Texts.{IsSwitch};
+
+use crate::frames::REPORT;
+use crate::texts::{
+    COUNTS, FIVE, Fitting, NET, ONE_SLOT, REFINED, SPREAD, TWO_LEVELS, TWO_SLOTS, fitting_of, lane,
+    row, sent, syn,
+};
+use sn_base::members::Members;
+use sn_base::memory::Memory;
+use sn_base::seq::Seq;
+use sn_emit::lanes::Emitter;
+use sn_fields::tuple::Tuple;
+use sn_report::encode::encode;
+use sn_report::frame::{Frame, Item, Tag};
+use std::alloc::Global;
+use std::test::Fail;
+
+/// Destinations, each once.
+const KINDS: &[u8] = b"window 1000000 query q { packets | map ip.dst as d | distinct; }";
+
+/// A switch whose chains have two registers.
+const CHAINED: &[u8] = b"stages 4; actions 2; bits 1000; meta 1000; chain 2; slots 1;";
+
+/// One slot in each of two registers.
+const TWO_REGISTERS: &[u8] = b"plan query q path 0; piece 0 0 cut 2 slots 1 stages 1, 2;";
+
+/// The lanes of a plan that fits, if memory is found.
+#[tactic(auto, using(sn_emit::proofs::Unread::new_unread))]
+pub(crate) fn lanes_of(fitting: &Fitting) -> Option<Emitter>
+    requires switch { IsSwitch fitting.now.switch }
+    requires fits { Fits fitting.now.typed.queries fitting.now.switch fitting.now.plan.entries }
+    ensures { IfSome result (λ lanes. (lane : ℕ) → IfSome (slice_get lanes lane) (λ s. s.pipe.prefix.place ≡ 0)) }
+{
+    match Emitter::make(&fitting.typed, &fitting.switch, &fitting.plan) {
+        Ok(emitter) => Some(emitter),
+        Err(_) => None,
+    }
+}
+
+/// The lanes of these texts. `None` where one of them isn't read, or the plan doesn't fit.
+fn emitter(
+    rt: &HostRuntime,
+    queries_text: &[u8],
+    switch_text: &[u8],
+    plan_text: &[u8],
+) -> Option<Emitter>
+    ensures { IfSome result (λ lanes. (lane : ℕ) → IfSome (slice_get lanes lane) (λ s. s.pipe.prefix.place ≡ 0)) }
+{
+    let fitting = fitting_of(rt.alloc(), queries_text, switch_text, plan_text)?;
+    lanes_of(&fitting)
+}
+
+/// Frames, and their bytes one after another.
+#[derive(Drop)]
+struct Told {
+    frames: Seq<Frame>,
+    bytes: Seq<u8>,
+}
+
+impl Told {
+    fn push(&mut self, frame: Frame) -> Result<(), Memory>
+        requires { CanEncode frame }
+    {
+        let mut bytes = [0; 72];
+        let len = encode(&frame, &mut bytes);
+        self.frames.push(frame)?;
+        for byte in bytes.iter().take(len) {
+            self.bytes.push(*byte)?;
+        }
+        Ok(())
+    }
+}
+
+/// What a lane gives for these tuples, and then in ten calls of its read-out.
+fn window(
+    alloc: Global,
+    emitter: &mut Emitter,
+    lane: u32,
+    tuples: &[Tuple],
+    number: u64,
+) -> Result<Told, Memory>
+    requires lane { lane < length emitter.old }
+    requires unread { IfSome (slice_get emitter.old lane) (λ s. s.pipe.prefix.place ≡ 0) }
+    ensures { length emitter.new ≡ length emitter.old }
+{
+    let mut told = Told {
+        frames: Seq::new(alloc),
+        bytes: Seq::new(alloc),
+    };
+    for tuple in tuples {
+        if let Some(frame) = emitter.packet(lane, tuple) {
+            told.push(frame)?;
+        }
+    }
+    for _ in 0..10 {
+        if let Some(frame) = emitter.read_out(lane, number) {
+            told.push(frame)?;
+        }
+    }
+    Ok(told)
+}
+
+/// Begins a window of a lane.
+fn begin(emitter: &mut Emitter, lane: u32, kept: Members)
+    requires { lane < length emitter.old }
+    ensures count { length emitter.new ≡ length emitter.old }
+    ensures unread { IfSome (slice_get emitter.new lane) (λ s. s.pipe.prefix.place ≡ 0) }
+{
+    emitter.next_window(lane, kept);
+}
+
+/// What destinations 1 2 1 2 3 give in one register of one slot: three rows overflow, and one is read out.
+fn counted(number: u64) -> [Frame; 5] {
+    [
+        sent(Tag::At(1), row(&[NET + 2, 1])),
+        sent(Tag::At(1), row(&[NET + 2, 1])),
+        sent(Tag::At(1), row(&[NET + 3, 1])),
+        sent(Tag::At(2), row(&[NET + 1, 2])),
+        Frame::End(lane(0, 0), number),
+    ]
+}
+
+#[test]
+fn counts_in_one_register(rt: HostRuntime) -> Result<(), Fail> {
+    let mut emitter = emitter(&rt, COUNTS, FIVE, ONE_SLOT).expect(&rt, "a plan that fits");
+    let lanes = emitter.lanes();
+    assert!(rt; lanes == 1);
+    let tuples = [syn(1, 1), syn(1, 2), syn(1, 1), syn(1, 2), syn(1, 3)];
+    let first = window(rt.alloc(), &mut emitter, 0, &tuples, 0)?;
+    assert_eq!(rt; first.frames.as_slice(), &counted(0)[..]);
+    assert_eq!(rt; emitter.emitted(), 4);
+    begin(&mut emitter, 0, Members::new(rt.alloc()));
+    assert_eq!(rt; emitter.emitted(), 0);
+    let second = window(rt.alloc(), &mut emitter, 0, &tuples, 1)?;
+    assert_eq!(rt; second.frames.as_slice(), &counted(1)[..]);
+    assert_eq!(rt; emitter.emitted(), 4);
+    Ok(())
+}
+
+/// Of the destinations 1 2 1 2 3, their counts in a chain of two registers, and each destination once in one register.
+#[test]
+fn takes_the_free_registers(rt: HostRuntime) -> Result<(), Fail> {
+    let chained = [
+        sent(Tag::At(1), row(&[NET + 3, 1])),
+        sent(Tag::At(2), row(&[NET + 1, 2])),
+        sent(Tag::At(2), row(&[NET + 2, 2])),
+        Frame::End(lane(0, 0), 0),
+    ];
+    let kinds = [
+        sent(Tag::At(2), row(&[NET + 1])),
+        sent(Tag::At(1), row(&[NET + 2])),
+        sent(Tag::At(1), row(&[NET + 2])),
+        sent(Tag::At(1), row(&[NET + 3])),
+        Frame::End(lane(0, 0), 0),
+    ];
+    for (queries, switch, plan, frames) in [
+        (COUNTS, CHAINED, TWO_REGISTERS, &chained[..]),
+        (KINDS, FIVE, ONE_SLOT, &kinds[..]),
+    ] {
+        let mut emitter = emitter(&rt, queries, switch, plan).expect(&rt, "a plan that fits");
+        let lanes = emitter.lanes();
+        assert!(rt; lanes == 1);
+        let tuples = [syn(1, 1), syn(1, 2), syn(1, 1), syn(1, 2), syn(1, 3)];
+        let told = window(rt.alloc(), &mut emitter, 0, &tuples, 0)?;
+        assert_eq!(rt; told.frames.as_slice(), frames);
+    }
+    Ok(())
+}
+
+#[test]
+fn writes_a_partial_row(rt: HostRuntime) -> Result<(), Fail> {
+    let mut emitter = emitter(&rt, SPREAD, FIVE, TWO_SLOTS).expect(&rt, "a plan that fits");
+    let lanes = emitter.lanes();
+    assert!(rt; lanes == 1);
+    let told = window(rt.alloc(), &mut emitter, 0, &[syn(1, 9), syn(2, 9)], 0)?;
+    assert_eq!(rt; told.bytes.as_slice(), &REPORT[..]);
+    assert_eq!(rt; emitter.emitted(), 2);
+    Ok(())
+}
+
+#[test]
+fn admits_the_prefixes_of_the_level_before(rt: HostRuntime) -> Result<(), Fail> {
+    let mut emitter = emitter(&rt, REFINED, FIVE, TWO_LEVELS).expect(&rt, "a plan that fits");
+    let lanes = emitter.lanes();
+    assert!(rt; lanes == 2);
+    let coarse = window(rt.alloc(), &mut emitter, 0, &[syn(1, 9)], 0)?;
+    let frames = [sent(Tag::At(0), row(&[NET])), Frame::End(lane(0, 0), 0)];
+    assert_eq!(rt; coarse.frames.as_slice(), &frames[..]);
+    let mut kept = Members::new(rt.alloc());
+    kept.add(NET)?;
+    begin(&mut emitter, 1, kept);
+    let fine = window(rt.alloc(), &mut emitter, 1, &[syn(1, 9)], 1)?;
+    let tag = Tag::At(0);
+    let row = row(&[NET + 9]);
+    let frames = [
+        Frame::Row(lane(0, 1), Item { tag, row }),
+        Frame::End(lane(0, 1), 1),
+    ];
+    assert_eq!(rt; fine.frames.as_slice(), &frames[..]);
+    Ok(())
+}
+
+#[test]
+fn admits_nothing_at_first(rt: HostRuntime) -> Result<(), Fail> {
+    let mut emitter = emitter(&rt, REFINED, FIVE, TWO_LEVELS).expect(&rt, "a plan that fits");
+    let lanes = emitter.lanes();
+    assert!(rt; lanes == 2);
+    let told = window(rt.alloc(), &mut emitter, 1, &[syn(1, 9)], 0)?;
+    assert_eq!(rt; told.frames.as_slice(), &[Frame::End(lane(0, 1), 0)][..]);
+    assert_eq!(rt; emitter.emitted(), 0);
+    Ok(())
+}

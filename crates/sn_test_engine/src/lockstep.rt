@@ -1,0 +1,80 @@
+//! Plans at work window by window, from packets to answers.
+ghost use Rattle.std.specs.Prelude.{◌≡◌, ◌<◌, IfSome, length};
+ghost use Rattle.std.specs.List.{AllByRecursion};
+
+use crate::texts::{
+    COUNTS, FIVE, NET, ONE_SLOT, REFINED, SPREAD, TWO_LEVELS, TWO_SLOTS, fitting_of, row, rows, syn,
+};
+use sn_base::memory::Memory;
+use sn_engine_lockstep::driver::Driver;
+use sn_engine_lockstep::window::answer;
+use sn_types::answers::Answers;
+use std::test::Fail;
+
+/// The driver of these texts. `None` where one of them isn't read, or the plan doesn't fit.
+fn driver(rt: &HostRuntime, queries_text: &[u8], plan_text: &[u8]) -> Option<Driver>
+    ensures many { IfSome result (λ d. length d.sources ≡ length d.emitter) }
+    ensures known { IfSome result (λ d. AllByRecursion (λ source. source.query < length d.engine.t.queries) d.sources) }
+{
+    let fitting = fitting_of(rt.alloc(), queries_text, FIVE, plan_text)?;
+    match Driver::make(&fitting.typed, &fitting.switch, &fitting.plan) {
+        Ok(driver) => Some(driver),
+        Err(_) => None,
+    }
+}
+
+#[test]
+fn counts_in_one_register(rt: HostRuntime) -> Result<(), Fail> {
+    let mut driver = driver(&rt, COUNTS, ONE_SLOT).expect(&rt, "a plan that fits");
+    let tuples = [syn(1, 1), syn(1, 2), syn(1, 1), syn(1, 2), syn(1, 3)];
+    let answers = answer(&mut driver, &None, 0, &tuples)?;
+    assert_eq!(rt; answers.window, 0);
+    assert_eq!(rt; answers.emitted, 4);
+    let expected = [row(&[NET + 1, 2]), row(&[NET + 2, 2]), row(&[NET + 3, 1])];
+    assert_eq!(rt; rows(&answers, 0), &expected[..]);
+    Ok(())
+}
+
+#[test]
+fn counts_after_an_overflow(rt: HostRuntime) -> Result<(), Fail> {
+    let mut driver = driver(&rt, SPREAD, TWO_SLOTS).expect(&rt, "a plan that fits");
+    let answers = answer(&mut driver, &None, 0, &[syn(1, 9), syn(2, 9)])?;
+    assert_eq!(rt; answers.emitted, 2);
+    assert_eq!(rt; rows(&answers, 0), &[row(&[NET + 9, 2])][..]);
+    Ok(())
+}
+
+/// Two packets to 10.0.0.9 in window 0, and two in this one.
+fn second_window(rt: &HostRuntime, window: u64) -> Result<Option<Answers>, Memory> {
+    match driver(rt, REFINED, TWO_LEVELS) {
+        Some(mut driver) => {
+            let tuples = [syn(1, 9), syn(1, 9)];
+            let first = answer(&mut driver, &None, 0, &tuples)?;
+            if first.emitted != 2 || !rows(&first, 1).is_empty() {
+                return Ok(None);
+            }
+            let second = answer(&mut driver, &Some(first), window, &tuples)?;
+            Ok(Some(second))
+        }
+        None => Ok(None),
+    }
+}
+
+#[test]
+fn refines_over_windows(rt: HostRuntime) -> Result<(), Fail> {
+    let answers = second_window(&rt, 1)?.expect(&rt, "a plan that fits");
+    assert_eq!(rt; answers.emitted, 4);
+    assert_eq!(rt; rows(&answers, 0), &[row(&[NET, 2])][..]);
+    assert_eq!(rt; rows(&answers, 1), &[row(&[NET + 9, 2])][..]);
+    Ok(())
+}
+
+#[test]
+fn forgets_over_a_gap(rt: HostRuntime) -> Result<(), Fail> {
+    let answers = second_window(&rt, 2)?.expect(&rt, "a plan that fits");
+    assert_eq!(rt; answers.window, 2);
+    assert_eq!(rt; answers.emitted, 2);
+    assert_eq!(rt; rows(&answers, 0), &[row(&[NET, 2])][..]);
+    assert!(rt; rows(&answers, 1).is_empty());
+    Ok(())
+}

@@ -1,0 +1,108 @@
+//! Chains of registers.
+use crate::texts::row;
+use sn_base::any_fold::AnyFold;
+use sn_base::fold::{Max, SatSum};
+use sn_base::memory::Memory;
+use sn_base::row::Row;
+use sn_base::slot::slot_of;
+use sn_chain::chain::Chain;
+use sn_chain::offer::Offer;
+use std::alloc::Global;
+use std::test::Fail;
+
+#[test]
+fn holds_one_key_in_one_cell(rt: HostRuntime) -> Result<(), Fail> {
+    let mut chain = Chain::make(rt.alloc(), SatSum { v: 16 }, 1, 1)?;
+    assert_eq!(rt; chain.offer(&row(&[1]), 1), Offer::New);
+    assert_eq!(rt; chain.offer(&row(&[2]), 1), Offer::Over);
+    assert_eq!(rt; chain.offer(&row(&[1]), 1), Offer::Held);
+    assert_eq!(rt; chain.get(0), Some((row(&[1]), 2)));
+    chain.clear();
+    assert_eq!(rt; chain.get(0), None);
+    assert_eq!(rt; chain.offer(&row(&[2]), 1), Offer::New);
+    Ok(())
+}
+
+#[test]
+fn takes_the_second_register(rt: HostRuntime) -> Result<(), Fail> {
+    let mut chain = Chain::make(rt.alloc(), SatSum { v: 16 }, 2, 1)?;
+    assert_eq!(rt; chain.offer(&row(&[1]), 1), Offer::New);
+    assert_eq!(rt; chain.offer(&row(&[2]), 1), Offer::New);
+    assert_eq!(rt; chain.offer(&row(&[3]), 1), Offer::Over);
+    assert_eq!(rt; chain.get(1), Some((row(&[2]), 1)));
+    assert_eq!(rt; chain.get(2), None);
+    Ok(())
+}
+
+#[test]
+fn folds_by_the_fold_that_is_given(rt: HostRuntime) -> Result<(), Fail> {
+    let fold = AnyFold::Max(Max { v: 8 });
+    let mut chain = Chain::make(rt.alloc(), fold, 4, 65536)?;
+    assert_eq!(rt; chain.offer(&row(&[1]), 7), Offer::New);
+    assert_eq!(rt; chain.offer(&row(&[1]), 5), Offer::Held);
+    let place = slot_of(0, &row(&[1]), 65536);
+    assert_eq!(rt; chain.get(place), Some((row(&[1]), 7)));
+    Ok(())
+}
+
+#[test]
+fn takes_a_slot_that_is_known(rt: HostRuntime) -> Result<(), Fail> {
+    let mut chain = Chain::make(rt.alloc(), SatSum { v: 16 }, 1, 256)?;
+    let first = row(&[1]);
+    let at = [slot_of(0, &first, 256), 0, 0, 0];
+    assert_eq!(rt; chain.offer_at(&first, 3, &at), Offer::New);
+    assert_eq!(rt; chain.get(164), Some((first, 3)));
+    Ok(())
+}
+
+/// Whether a chain of two cells keeps two keys apart, the one offered first.
+fn are_apart(alloc: Global, one: &Row, other: &Row) -> Result<bool, Memory> {
+    let mut chain = Chain::make(alloc, SatSum { v: 16 }, 2, 1)?;
+    let came = chain.offer(one, 1) == Offer::New && chain.offer(other, 2) == Offer::New;
+    let again = chain.offer(one, 4) == Offer::Held && chain.offer(other, 8) == Offer::Held;
+    let shown = chain.get(0) == Some((*one, 5)) && chain.get(1) == Some((*other, 10));
+    Ok(came && again && shown)
+}
+
+#[test]
+fn tells_keys_apart_by_their_last_column(rt: HostRuntime) -> Result<(), Fail> {
+    for (one, other) in [
+        (row(&[7, 7, 1]), row(&[7, 7, 2])),
+        (row(&[7, 7, 7, 1]), row(&[7, 7, 7, 2])),
+        (
+            row(&[7, 7, 7, 7, 7, 7, 7, 1]),
+            row(&[7, 7, 7, 7, 7, 7, 7, 2]),
+        ),
+    ] {
+        assert!(rt; are_apart(rt.alloc(), &one, &other)?);
+        assert!(rt; are_apart(rt.alloc(), &other, &one)?);
+    }
+    Ok(())
+}
+
+#[test]
+fn shows_nothing_of_what_was_cleared(rt: HostRuntime) -> Result<(), Fail> {
+    let mut chain = Chain::make(rt.alloc(), SatSum { v: 16 }, 2, 1)?;
+    assert_eq!(rt; chain.offer(&row(&[1, 2, 3, 4, 5, 6, 7, 8]), 1), Offer::New);
+    assert_eq!(rt; chain.offer(&row(&[1, 2, 3, 4, 5]), 1), Offer::New);
+    chain.clear();
+    assert_eq!(rt; chain.get(0), None);
+    assert_eq!(rt; chain.get(1), None);
+    assert_eq!(rt; chain.offer(&row(&[1, 2, 3, 4]), 3), Offer::New);
+    assert_eq!(rt; chain.get(0), Some((row(&[1, 2, 3, 4]), 3)));
+    assert_eq!(rt; chain.get(1), None);
+    Ok(())
+}
+
+#[test]
+fn clears_in_the_last_round(rt: HostRuntime) -> Result<(), Fail> {
+    let mut chain = Chain::make_in_round(rt.alloc(), SatSum { v: 16 }, 2, 1, u32::MAX)?;
+    assert_eq!(rt; chain.offer(&row(&[1]), 1), Offer::New);
+    assert_eq!(rt; chain.offer(&row(&[2]), 2), Offer::New);
+    chain.clear();
+    assert_eq!(rt; chain.get(0), None);
+    assert_eq!(rt; chain.get(1), None);
+    assert_eq!(rt; chain.offer(&row(&[2]), 3), Offer::New);
+    assert_eq!(rt; chain.get(0), Some((row(&[2]), 3)));
+    Ok(())
+}

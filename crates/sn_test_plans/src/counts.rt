@@ -1,0 +1,71 @@
+//! The counts of worked captures.
+ghost use Rattle.std.specs.Prelude.{◌≤◌};
+
+use crate::texts::{DEEP, queries, syn};
+use sn_base::memory::Memory;
+use sn_base::seq::Seq;
+use sn_cost_counts::branch::counts_of;
+use sn_fields::tuple::Tuple;
+use sn_ops::packets::packet_rows;
+use std::alloc::Global;
+use std::test::Fail;
+
+/// The counts of the one query of a text, in chains of registers with one slot each.
+fn counts(alloc: Global, text: &[u8], chain: u32, tuples: &[Tuple]) -> Result<Seq<u64>, Memory>
+    requires some { 1 ≤ chain }
+    requires most { chain ≤ 4 }
+{
+    let Some(t) = queries(alloc, text) else {
+        return Err(Memory);
+    };
+    if t.queries() == 0 || t.branches(0) == 0 {
+        return Err(Memory);
+    }
+    let level = t.finest_level(0);
+    let rows = packet_rows(alloc, &t, 0, 0, level, None, tuples)?;
+    if rows.as_slice().len() > 1000 {
+        return Err(Memory);
+    }
+    counts_of(alloc, &t, 0, 0, level, chain, &[1], rows)
+}
+
+/// Destinations by packets.
+const DESTINATIONS: &[u8] =
+    b"window 1000000 query q { packets | map ip.dst as d, 1 as n | reduce d: sum(n) width 8; }";
+
+/// Sources by packets.
+const SOURCES: &[u8] =
+    b"window 1000000 query q { packets | map ip.src as s, 1 as n | reduce s: sum(n) width 8; }";
+
+/// Destinations.
+const KINDS: &[u8] = b"window 1000000 query q { packets | map ip.dst as d | distinct; }";
+
+#[test]
+fn counts_each_cut(rt: HostRuntime) -> Result<(), Fail> {
+    let tuples = [syn(1, 9), syn(1, 9), syn(1, 9), syn(2, 9), syn(2, 9)];
+    let one = counts(rt.alloc(), DESTINATIONS, 1, &tuples)?;
+    assert_eq!(rt; one.as_slice(), [5, 5, 1].as_slice());
+    let two = counts(rt.alloc(), SOURCES, 1, &tuples)?;
+    assert_eq!(rt; two.as_slice(), [5, 5, 3].as_slice());
+    Ok(())
+}
+
+#[test]
+fn counts_each_row_that_overflows(rt: HostRuntime) -> Result<(), Fail> {
+    let tuples = [syn(7, 1), syn(7, 2), syn(7, 1), syn(7, 2), syn(7, 3)];
+    let one = counts(rt.alloc(), DESTINATIONS, 1, &tuples)?;
+    assert_eq!(rt; one.as_slice(), [5, 5, 4].as_slice());
+    let chained = counts(rt.alloc(), DESTINATIONS, 2, &tuples)?;
+    assert_eq!(rt; chained.as_slice(), [5, 5, 3].as_slice());
+    let kinds = counts(rt.alloc(), KINDS, 1, &tuples)?;
+    assert_eq!(rt; kinds.as_slice(), [5, 5, 4].as_slice());
+    Ok(())
+}
+
+#[test]
+fn sends_held_rows_whole_where_the_distinct_overflowed(rt: HostRuntime) -> Result<(), Fail> {
+    let tuples = [syn(1, 9), syn(2, 9)];
+    let found = counts(rt.alloc(), DEEP, 1, &tuples)?;
+    assert_eq!(rt; found.as_slice(), [2, 2, 2, 2, 2, 2].as_slice());
+    Ok(())
+}

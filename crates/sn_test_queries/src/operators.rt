@@ -1,0 +1,112 @@
+//! Operators on small lists of rows.
+ghost use Rattle.std.specs.Prelude.{◌≡◌, ◌≤◌, length};
+
+use sn_base::any_fold::AnyFold;
+use sn_base::fold::Min;
+use sn_base::row::Row;
+use sn_base::seed::Seed;
+use sn_base::seq::Seq;
+use sn_ops::flow::run;
+use sn_ops::group::{distinct, reduce, reduce_with};
+use sn_ops::join::join;
+use sn_ops::select::{filter, map};
+use sn_query_grammar::ast::Cmp;
+use sn_types::evaluate::expr;
+use sn_types::typed_op::{JoinKey, TCond, TExpr, TOp, TReduce};
+use std::alloc::Global;
+use std::test::Fail;
+
+/// A row of these columns.
+pub(crate) fn row(columns: &[u64]) -> Row
+    requires { length columns.now ≤ 8 }
+    ensures { result ≡ columns.now }
+{
+    match Row::new(columns) {
+        Some(row) => row,
+        None => unreachable!(),
+    }
+}
+
+#[test]
+fn groups_of_no_rows_are_none(rt: HostRuntime) -> Result<(), Fail> {
+    let once = distinct(rt.alloc(), &[])?;
+    assert_eq!(rt; once.as_slice().len(), 0);
+    let r = TReduce {
+        keys: Seq::new(rt.alloc()),
+        value: 0,
+        fold: AnyFold::Min(Min { v: 3 }),
+    };
+    let reduced = reduce(rt.alloc(), &[], &r)?;
+    assert_eq!(rt; reduced.as_slice().len(), 0);
+    let folded = reduce_with(rt.alloc(), Seed::new(7), &[], &[], &r)?;
+    assert_eq!(rt; folded.as_slice().len(), 0);
+    Ok(())
+}
+
+#[test]
+fn joins_on_the_first_column(rt: HostRuntime) -> Result<(), Fail> {
+    let left = [row(&[1, 10]), row(&[1, 11]), row(&[2, 12])];
+    let right = [row(&[1, 20]), row(&[3, 21])];
+    let keys = [JoinKey { left: 0, right: 0 }];
+    let pairs = join(rt.alloc(), &left, &right, &keys)?;
+    assert_eq!(rt;
+        pairs.as_slice(),
+        [row(&[1, 10, 20]), row(&[1, 11, 20])].as_slice()
+    );
+    Ok(())
+}
+
+fn above_one(alloc: Global) -> TCond
+    ensures { result.col ≡ 0 }
+{
+    TCond {
+        col: 0,
+        and: u64::MAX,
+        cmp: Cmp::Gt,
+        own: 1,
+        relaxed: Seq::new(alloc),
+    }
+}
+
+#[test]
+fn filters_and_maps(rt: HostRuntime) -> Result<(), Fail> {
+    let rows = [row(&[1]), row(&[2])];
+    let conds = [above_one(rt.alloc())];
+    let kept = filter(rt.alloc(), &rows, &conds, 0)?;
+    assert_eq!(rt; kept.as_slice(), [row(&[2])].as_slice());
+    let cols = [TExpr::Copy(0), TExpr::Const(7)];
+    let made = map(rt.alloc(), &[row(&[1])], &cols)?;
+    assert_eq!(rt; made.as_slice(), [row(&[1, 7])].as_slice());
+    Ok(())
+}
+
+#[test]
+fn runs_operators_one_after_another(rt: HostRuntime) -> Result<(), Fail> {
+    let mut rows = Seq::new(rt.alloc());
+    rows.push(row(&[5]))?;
+    rows.push(row(&[5]))?;
+    rows.push(row(&[4]))?;
+    let out = run(rt.alloc(), Seed::new(7), &[TOp::Distinct], 0, rows)?;
+    assert_eq!(rt; out.as_slice(), [row(&[5]), row(&[4])].as_slice());
+    Ok(())
+}
+
+#[test]
+fn divides_in_128_bits(rt: HostRuntime) -> Result<(), Fail> {
+    let row = Row::empty().with(500).and_then(|row| row.with(20000));
+    if let Some(row) = row {
+        assert_eq!(rt; row.len(), 2);
+        assert_eq!(rt; expr(&TExpr::Ratio(0, 1000000, 1), &row), 25000);
+    }
+    let row = Row::empty().with(7).and_then(|row| row.with(0));
+    if let Some(row) = row {
+        assert_eq!(rt; row.len(), 2);
+        assert_eq!(rt; expr(&TExpr::Ratio(0, 1, 1), &row), 0);
+    }
+    let row = Row::empty().with(u64::MAX).and_then(|row| row.with(1));
+    if let Some(row) = row {
+        assert_eq!(rt; row.len(), 2);
+        assert_eq!(rt; expr(&TExpr::Ratio(0, 2, 1), &row), u64::MAX);
+    }
+    Ok(())
+}

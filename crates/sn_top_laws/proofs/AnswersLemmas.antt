@@ -1,0 +1,161 @@
+-- The answers to what `emit` wrote are those along the plan.
+use Rattle.std.proofs.Common.{◌≡◌, ℕ, ◌+◌, ◌<◌, List, [], ◌∷◌, ◌++◌, map, length, sum, sum_by, true, Option, Some, None, Ok, refl, ap, sym, ◌∙◌, subst, append_assoc}
+use Rattle.std.specs.List.{AllByRecursion, flat_map}
+use Rattle.std.proofs.lemmas.Bool.{lt-ltb}
+use Rattle.std.proofs.lemmas.Grind.{flat_map-append}
+use Rattle.std.proofs.lemmas.List.{length-map}
+use Rattle.std.proofs.lemmas.List.Folds.{flat_map-map}
+use Rattle.std.proofs.lemmas.List.Sums.{sum_by-cons}
+use Rattle.sn_base.proofs.Lists.{all_map, all_weaker, map_both}
+use Rattle.sn_command_capture.specs.Wording.{AreRising, IsAbove, Window}
+use Rattle.sn_engine_lockstep.specs.Sources.{kept_in, source_of}
+use Rattle.sn_engine_lockstep.specs.Windows.{answers_from}
+use Rattle.sn_engine_lockstep.proofs.Apart.{pieces_apart}
+use Rattle.sn_engine_lockstep.proofs.Laws.{all_windows, plan_made}
+use Rattle.sn_emit.specs.Making.{CanMake}
+use Rattle.sn_emit.specs.Plans.{Placed, pieces_from}
+use Rattle.sn_engine.specs.declared.intake.Intake.{Intake}
+use Rattle.sn_engine.specs.Intakes.{intakes_of}
+use Rattle.sn_engine.specs.Taking.{is_above}
+use Rattle.sn_engine.proofs.Firsts.{sum_cons}
+use Rattle.sn_command_finish.specs.Reported.{Reported}
+use Rattle.sn_command_finish.specs.Whole.{HaveNames, IsWindow, Rise, Sent, answered_text, answers_to, block_of, frames_in}
+use Rattle.sn_command_finish.proofs.WholeLemmas.{windows_answered}
+use Rattle.sn_plan_fit.specs.Fits.{AreEntriesOf, Fits}
+use Rattle.sn_report.specs.Framed.{bytes_of}
+use Rattle.sn_io.specs.Counts.{ByName}
+use Rattle.sn_out.specs.Text.{block_text, total_line}
+use Rattle.sn_pcap.specs.declared.packet.Ending.TheVariants.{Clean}
+use Rattle.sn_report.specs.declared.frame.Frame.{Frame}
+use Rattle.sn_report.specs.Frames.{IsFrame, spelling}
+use Rattle.sn_command_run.specs.Along.{last_of}
+use Rattle.sn_command_run.specs.Planned.{Planned, answers_at, emitted_in, plan_block, plan_lines}
+use Rattle.sn_command_run.proofs.AlongLemmas.{last_more, next_answers, rises_of, rising_front}
+use Rattle.sn_command.specs.Outcomes.{Outcome}
+use Rattle.sn_switch.specs.declared.switch.Switch.{Switch}
+use Rattle.sn_switch.specs.Texts.{IsSwitch}
+use Rattle.sn_types.specs.declared.answers.Answers.{Answers}
+use Rattle.sn_types.specs.Typed.{IsTyped}
+use Rattle.sn_command_emit.specs.Causal.{kept_is_causal}
+use Rattle.sn_command_emit.specs.Reporting.{kept_now}
+use Rattle.sn_command_emit.specs.Sent.{frames_block, kept_of, window_frames}
+use Rattle.sn_command_emit.proofs.KeptLemmas.{all_let_in}
+use Rattle.sn_top_laws.specs.Real.{IsReal}
+use Rattle.sn_top_laws.proofs.NameLemmas.{all_at, all_flat, each_among, have_names, intakes_are}
+use Rattle.sn_top_laws.proofs.WindowLemmas.{answers_are, are_frames, is_window, sent_of}
+
+-- ---- sums
+
+sum_is : {X : Type 0} (f : X → ℕ) (xs : List X) → sum_by f xs ≡ sum (map f xs)
+sum_is f [] = refl
+sum_is f (x ∷ xs) = sum_cons f x xs ∙ ap (λ n. f x + n) (sum_is f xs) ∙ sym (sum_by-cons (λ n. n) (f x) (map f xs))
+
+flat_flat : {X : Type 0} (f : X → List Frame) (xs : List X) → flat_map spelling (flat_map f xs) ≡ flat_map (λ x. flat_map spelling (f x)) xs
+flat_flat f [] = refl
+flat_flat f (x ∷ xs) = flat_map-append spelling (f x) (flat_map f xs) ∙ ap (λ ys. flat_map spelling (f x) ++ ys) (flat_flat f xs)
+
+-- ---- numbers rise
+
+above_is : (before : Option ℕ) (w : ℕ) → IsAbove before w → is_above before w ≡ true
+above_is None w h = refl
+above_is (Some before) w h = lt-ltb before w h
+
+rise_of : (p : Planned) (windows : List Window) (before : Option ℕ) (ws : List Window) → AreRising before ws → Rise before (map (sent_of p windows) ws)
+rise_of p windows before [] r = tt
+rise_of p windows before (w ∷ ws) r = (above_is before w.0 r.0, rise_of p windows (Some w.0) ws r.1)
+
+-- ---- windows
+
+module _ (typed_for : ℕ) (p : Planned) (t : ∥ IsTyped typed_for p.queries ∥₁) (entries : AreEntriesOf p.queries p.entries) (can : AllByRecursion (CanMake p.queries) (pieces_from 0 p.entries)) (windows : List Window)
+    (rising : AreRising None windows) (real : AllByRecursion IsReal windows) where
+  abbrev pieces : List Placed
+  pieces = pieces_from 0 p.entries
+
+  abbrev lanes : List Intake
+  lanes = intakes_of 0 p.entries
+
+  -- what the lanes admit
+  kept_at : (b : List Window) (w : Window) (a : List Window) → b ++ w ∷ a ≡ windows
+      → AllByRecursion (λ (x : Placed). kept_in p.queries (last_of p b) w.0 (source_of x) ≡ kept_of p.queries windows w.0 x) pieces
+  kept_at b w a e =
+      let here : AreRising None (b ++ w ∷ a) = subst (AreRising None) (sym e) rising in
+      let front : AreRising None (b ++ w ∷ []) = rising_front None (b ++ w ∷ []) a (subst (AreRising None) (sym (append_assoc b (w ∷ []) a)) here) in
+      subst (λ ws. AllByRecursion (λ (x : Placed). kept_in p.queries (last_of p b) w.0 (source_of x) ≡ kept_of p.queries ws w.0 x) pieces) e
+      (all_weaker (λ (x : Placed). kept_now p.queries (last_of p b) w.0 x ≡ kept_of p.queries (b ++ w ∷ []) w.0 x) (λ (x : Placed). kept_in p.queries (last_of p b) w.0 (source_of x) ≡ kept_of p.queries (b ++ w ∷ a) w.0 x)
+      (λ x is. is ∙ sym (kept_is_causal p.queries b w.0 w.1 a here x)) pieces (all_let_in p b w.0 w.1 entries front))
+
+  real_at : (b : List Window) (w : Window) (a : List Window) → b ++ w ∷ a ≡ windows → IsReal w
+  real_at b w a e = all_at IsReal b w a (subst (AllByRecursion IsReal) (sym e) real)
+
+  all_are_windows : AllByRecursion (λ (w : Window). IsWindow p.queries lanes (sent_of p windows w)) windows
+  all_are_windows =
+      each_among (λ (w : Window). IsWindow p.queries lanes (sent_of p windows w)) windows
+      (λ b w a e. is_window typed_for p t entries can windows w.0 w.1 (real_at b w a e).1 (kept_in p.queries (last_of p b) w.0) (kept_at b w a e))
+
+  all_are_frames : AllByRecursion (λ (w : Window). AllByRecursion IsFrame (window_frames p windows w.0 w.1)) windows
+  all_are_frames =
+      each_among (λ (w : Window). AllByRecursion IsFrame (window_frames p windows w.0 w.1)) windows
+      (λ b w a e. are_frames typed_for p t entries can windows w.0 w.1 (real_at b w a e).1 (kept_in p.queries (last_of p b) w.0) (kept_at b w a e) (real_at b w a e).0)
+
+  abbrev answers_in : Window → Answers
+  answers_in w = answers_to p.queries lanes (sent_of p windows w)
+
+  along : (b a : List Window) → b ++ a ≡ windows → map answers_in a ≡ answers_from p.queries p.depth p.entries (last_of p b) a
+  along b [] e = refl
+  along b (w ∷ a) e =
+      let now : Answers = next_answers p b w.0 w.1 in
+      ap (λ (x : Answers). x ∷ map answers_in a) (answers_are typed_for p t entries can windows w.0 w.1 (real_at b w a e).1 (kept_in p.queries (last_of p b) w.0) (kept_at b w a e))
+      ∙ ap (λ (xs : List Answers). now ∷ xs)
+      (along (b ++ w ∷ []) a (append_assoc b (w ∷ []) a ∙ e) ∙ ap (λ (last : Option Answers). answers_from p.queries p.depth p.entries last a) (last_more p b w.0 w.1))
+
+  right : map answers_in windows ≡ map (λ w. answers_at p windows w.0) windows
+  right = along [] windows refl ∙ all_windows p.queries p.depth p.entries windows entries (rises_of None windows rising)
+
+  abbrev sents : List Sent
+  sents = map (sent_of p windows) windows
+
+  blocks_are : flat_map (block_of p.queries lanes) sents ≡ flat_map (λ w. plan_block p windows w.0 w.1) windows
+  blocks_are =
+      let block : Answers → List ℕ = λ a. block_text p.queries a true in
+      flat_map-map (block_of p.queries lanes) (sent_of p windows) windows
+      ∙ sym (flat_map-map block answers_in windows)
+      ∙ ap (flat_map block) right
+      ∙ flat_map-map block (λ w. answers_at p windows w.0) windows
+
+  sums_are : sum_by (λ sent. (answers_to p.queries lanes sent).emitted) sents ≡ emitted_in p windows
+  sums_are =
+      let sent_in : Answers → ℕ = λ a. a.emitted in
+      sum_is (λ sent. (answers_to p.queries lanes sent).emitted) sents
+      ∙ ap sum (map_both (sent_of p windows) (λ sent. (answers_to p.queries lanes sent).emitted) windows)
+      ∙ ap sum (sym (map_both answers_in sent_in windows))
+      ∙ ap (λ (xs : List Answers). sum (map sent_in xs)) right
+      ∙ ap sum (map_both (λ w. answers_at p windows w.0) sent_in windows)
+
+  text_is : answered_text p.queries lanes sents ≡ flat_map (λ w. plan_block p windows w.0 w.1) windows ++ total_line (length windows) (Some (emitted_in p windows))
+  text_is =
+      ap (λ (ts : List ℕ). ts ++ total_line (length sents) (Some (sum_by (λ sent. (answers_to p.queries lanes sent).emitted) sents))) blocks_are
+      ∙ ap (λ n. flat_map (λ w. plan_block p windows w.0 w.1) windows ++ total_line n (Some (sum_by (λ sent. (answers_to p.queries lanes sent).emitted) sents))) (length-map windows (sent_of p windows))
+      ∙ ap (λ n. flat_map (λ w. plan_block p windows w.0 w.1) windows ++ total_line (length windows) (Some n)) sums_are
+
+  bytes_are : bytes_of (frames_in sents) ≡ flat_map (λ w. frames_block p windows w.0 w.1) windows
+  bytes_are =
+      ap (flat_map spelling) (flat_map-map (λ sent. sent.frames) (sent_of p windows) windows)
+      ∙ flat_flat (λ w. window_frames p windows w.0 w.1) windows
+
+  -- the frames of the windows are answered as the windows are along the plan
+  pub replayed : 0 < length lanes → (files : ByName (List ℕ)) (outcome : Outcome (Unit {0})) → Reported p.queries p.entries (flat_map (λ w. frames_block p windows w.0 w.1) windows) files outcome
+      → outcome ≡ record { text = flat_map (λ w. plan_block p windows w.0 w.1) windows ++ total_line (length windows) (Some (emitted_in p windows)); end = Ok tt }
+  replayed some files outcome is =
+      windows_answered p.queries p.entries sents some
+      (subst HaveNames (sym (intakes_are 0 p.entries)) (have_names pieces (pieces_apart p.queries 0 p.entries entries)))
+      (rise_of p windows None windows rising)
+      (all_map (IsWindow p.queries lanes) (sent_of p windows) windows all_are_windows)
+      (all_flat IsFrame (λ sent. sent.frames) sents (all_map (λ sent. AllByRecursion IsFrame sent.frames) (sent_of p windows) windows all_are_frames))
+      files outcome (subst (λ bytes. Reported p.queries p.entries bytes files outcome) (sym bytes_are) is)
+      ∙ ap (λ (ts : List ℕ). record { text = ts; end = Ok tt }) text_is
+
+pub fits_replayed : (typed_for : ℕ) (s : Switch) (p : Planned) (windows : List Window) → ∥ IsTyped typed_for p.queries ∥₁ → IsSwitch s → Fits p.queries s p.entries → 0 < length (intakes_of 0 p.entries) → AreRising None windows → AllByRecursion IsReal windows
+    → (files : ByName (List ℕ)) (outcome : Outcome (Unit {0})) → Reported p.queries p.entries (flat_map (λ w. frames_block p windows w.0 w.1) windows) files outcome
+    → outcome ≡ record { text = flat_map (λ w. plan_block p windows w.0 w.1) windows ++ plan_lines p windows Clean; end = Ok tt }
+fits_replayed typed_for s p windows t is fits some rising real files outcome reported =
+    replayed typed_for p t fits.paths (plan_made typed_for p.queries s p.entries t is fits) windows rising real some files outcome reported

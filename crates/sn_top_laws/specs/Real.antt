@@ -1,0 +1,10 @@
+-- to be believed
+-- Windows that a capture can have.
+use Rattle.std.specs.Prelude.{◌<◌, ◌^◌}
+use Rattle.std.specs.List.{AllByRecursion}
+use Rattle.sn_command_capture.specs.Wording.{Window}
+use Rattle.sn_types.specs.Typed.{HasWidths}
+
+-- a window's number has 64 bits, and its tuples have the widths of their fields
+abbrev pub IsReal : Window → Type 0
+IsReal w = (w.0 < 2 ^ 64) × AllByRecursion HasWidths w.1

@@ -1,3 +1,0 @@
-pub mod Goods
-pub mod Starts
-pub mod Bounded

@@ -1,5 +1,0 @@
-use Rattle.sn_types_laws.proofs.TupleBags.{branch_bag}
-use Rattle.sn_types_laws.proofs.bags.branches_keep_bags.Goals as goal
-
-pub returns : goal.returns
-returns c = branch_bag

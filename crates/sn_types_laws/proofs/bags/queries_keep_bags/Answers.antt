@@ -1,5 +1,0 @@
-use Rattle.sn_types_laws.proofs.TupleBags.{whole_bag}
-use Rattle.sn_types_laws.proofs.bags.queries_keep_bags.Goals as goal
-
-pub returns : goal.returns
-returns c = whole_bag
