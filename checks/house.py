@@ -1,0 +1,92 @@
+#!/usr/bin/env python3
+"""Checks that the documents name the house as it is.
+
+    python3 checks/house.py
+
+Each crate of crates.txt must stand once in docs/ARCHITECTURE.md, under the heading that it has in crates.txt, and in docs/PROVED.md where it isn't one of tests
+or the program; and each path of a crate that a document names must be there, and the code of each CALLING.md must be that of a file of sn_test_callers, which the gate
+proves. Prints how many crates there are and the longest chain. The status is 0
+only where all is so. Python 3 alone."""
+
+import functools
+import glob
+import os
+import re
+import sys
+
+TOP = os.path.dirname(os.path.dirname(os.path.abspath(__file__)))
+ROOM = re.compile(r'^\*\*([^*\n]+)\*\*:[^\n]*\n+```\n(.*?)```', re.M | re.S)
+CRATE = re.compile(r'^(sn_\w+|sonata)  +\S', re.M)
+PATH = re.compile(r'`(sn_\w+)/([\w/+]+)(\.\w+)?`')
+
+
+def text(*names):
+    with open(os.path.join(TOP, *names), encoding='utf-8') as file:
+        return file.read()
+
+
+def listed():
+    """The crates of crates.txt: the heading over each, and the crates of this repository that it stands on."""
+    room, rooms, below = '', {}, {}
+    for line in text('crates.txt').splitlines():
+        if line.startswith('#'):
+            room = line[1:].strip()
+        elif ':' in line:
+            name, rest = line.split('#')[0].split(':')
+            rooms[name.split()[0]], below[name.split()[0]] = room, rest.split()
+    return rooms, {name: [it for it in found if it in rooms] for name, found in below.items()}
+
+
+def longest(below):
+    """The longest chain of crates, each standing on the one before."""
+    @functools.lru_cache(None)
+    def chain(name):
+        return max((chain(it) for it in below[name]), key=len, default=()) + (name,)
+    return max((chain(name) for name in below), key=len)
+
+
+def off_the_map(rooms):
+    """What is wrong with the map of docs/ARCHITECTURE.md, and which crates docs/PROVED.md leaves out."""
+    drawn = [(name, room) for room, lines in ROOM.findall(text('docs', 'ARCHITECTURE.md')) for name in CRATE.findall(lines)]
+    for name in sorted(rooms.keys() | {name for name, _ in drawn}):
+        places = [room for it, room in drawn if it == name]
+        if places != [rooms.get(name)]:
+            yield f'{name}: crates.txt has it under {rooms.get(name)}, docs/ARCHITECTURE.md under {", ".join(places) or "nothing"}'
+    proved = text('docs', 'PROVED.md')
+    yield from (f'{name}: not in docs/PROVED.md' for name in rooms if not re.match(r'sn_test_|sonata$', name) and f'`{name}`' not in proved)
+
+
+def is_there(crate, path, ending):
+    """Whether a crate has a file or folder, or a definition file or test file of this name."""
+    folder = os.path.join(TOP, 'crates', crate)
+    return any(os.path.exists(os.path.join(folder, *it)) for it in [(path + ending,), ('specs', path + '.antt'), ('src', path + '.rt'), (path + '.antt',)])
+
+
+def lost_paths():
+    """The paths of crates that the documents name and that aren't there."""
+    names = ['README.md', 'CONTRIBUTING.md'] + sorted(glob.glob('docs/*.md', root_dir=TOP)) + sorted(glob.glob('crates/*/CALLING.md', root_dir=TOP))
+    for name in names:
+        for crate, path, ending in sorted(set(PATH.findall(text(name)))):
+            if not path.isupper() and 'NAME' not in crate and not is_there(crate, path, ending):
+                yield f'{name}: {crate}/{path}{ending} is not there'
+
+
+def unproved_callers():
+    """The pages CALLING.md whose code is that of no file of sn_test_callers."""
+    proved = [text('crates', 'sn_test_callers', 'src', name) for name in glob.glob('*.rt', root_dir=os.path.join(TOP, 'crates', 'sn_test_callers', 'src'))]
+    for name in sorted(glob.glob('crates/*/CALLING.md', root_dir=TOP)):
+        blocks = re.findall(r'```\w+\n(.*?)```', text(name), re.S)
+        yield from (f'{name}: its code stands in no file of sn_test_callers' for it in blocks if it not in proved)
+
+
+def main():
+    rooms, below = listed()
+    chain = longest(below)
+    print(f'{len(rooms)} crates, the longest chain has {len(chain)}: {" ".join(chain)}')
+    wrong = [*off_the_map(rooms), *lost_paths(), *unproved_callers()]
+    print('\n'.join(wrong) or 'the documents name the house as it is')
+    return 1 if wrong else 0
+
+
+if __name__ == '__main__':
+    sys.exit(main())
