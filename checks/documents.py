@@ -1,9 +1,10 @@
 #!/usr/bin/env python3
-"""Runs what stands in the documents. Of docs/QUERIES.md the examples: each query with the answer that stands behind it, and each refused text with its
-error line. Of the documents around plans each `sh` block, one after another in a folder of its own as one shell would, with the `shows` block that stands
-behind it, where one does; a line `...` there stands for any lines. A document is left out where the program hasn't all its commands; checks/planned.py has
-them (`documents.py --sonata checks/planned.py`). Without matplotlib and graphviz pictures are left out, and without editcap and mergecap the blocks that use
-them."""
+"""Runs what stands in the documents. Of docs/QUERIES.md the examples: each query with the answer that stands after it, and each refused text with its
+error line. Of README.md and the documents around plans each `sh` block, one after another in a folder of its own as one shell would, with the `shows`
+block that stands after it, where one does; a line `...` there stands for any lines. Blocks of other kinds, as `bash`, aren't run. Of answers that are
+drawn each key must stand in the picture, in the new one and in the one that the document shows. A document is left out
+where the program hasn't all its commands; checks/planned.py has them (`documents.py --sonata checks/planned.py`). Without matplotlib and graphviz pictures
+are left out, and without editcap, mergecap, psql, xxd, tcpdump, jq or Dask the blocks that use them."""
 
 import os
 import re
@@ -12,6 +13,7 @@ import subprocess
 import sys
 import tempfile
 
+import drawn_keys
 import program
 
 HERE = os.path.dirname(os.path.abspath(__file__))
@@ -19,14 +21,16 @@ TOP = os.path.dirname(HERE)
 GENERATE = os.path.join(TOP, 'bench', 'generate.py')
 PAIR = re.compile(r'```(query|refused)\n(.*?)```\n+```(answer|line)\n(.*?)```', re.S)
 BLOCK = re.compile(r'```sh\n(.*?)```(?:\n+```shows\n(.*?)```)?', re.S)
-SESSIONS = ['PLANS.md', 'TOUR.md', 'SCALE.md']
+# (the README and those around plans: blocks of other kinds than sh, as bash, aren't run)
+SESSIONS = ['README.md', 'FORMATS.md', 'PLANS.md', 'TOUR.md', 'SCALE.md']
 COMMAND = re.compile(r'\bsonata (plain|plan|run|emit|finish|check|live|gen|job) [^-|;&>\n]+( --csv)?')
-TOOLS = re.compile(r'^(?:.*\| *)?(editcap|mergecap|reordercap|psql) ', re.M)
-PICTURE = re.compile(r'^/usr/bin/python3 \S*view/(?:layout|tree|emitted|answers)\.py .*\n', re.M)
+TOOLS = re.compile(r'^(?:.*\| *)?(editcap|mergecap|reordercap|psql|xxd|jq|tcpdump) ', re.M)
+DASK = re.compile(r'examples/scale/(?:parts|rest)\.py')
+PICTURE = re.compile(r'^/usr/bin/python3 \S*view/(?:layout|tree|emitted|answers|report)\.py .*\n', re.M)
 
 
 def document(name):
-    with open(os.path.join(TOP, 'docs', name)) as file:
+    with open(os.path.join(TOP, '' if name == 'README.md' else 'docs', name)) as file:
         return file.read()
 
 
@@ -62,12 +66,13 @@ def draws():
 
 def is_missing(commands):
     """Whether a block needs a tool that isn't there."""
-    return any(shutil.which(tool) is None for tool in TOOLS.findall(commands))
+    dask = DASK.search(commands) and subprocess.run(['/usr/bin/python3', '-c', 'import distributed, pandas'], stderr=subprocess.DEVNULL).returncode
+    return bool(dask) or any(shutil.which(tool) is None for tool in TOOLS.findall(commands))
 
 
 def session_folder(executable, folder):
     """Make a folder in which the commands of a document find what a clone has, and the program. The environment for them."""
-    for part in ('bench', 'checks', 'docs', 'examples', 'view'):
+    for part in ('bench', 'checks', 'crates', 'docs', 'examples', 'view'):
         os.symlink(os.path.join(TOP, part), os.path.join(folder, part))
     os.makedirs(os.path.join(folder, 'bin'))
     os.symlink(os.path.abspath(executable), os.path.join(folder, 'bin', 'sonata'))
@@ -94,8 +99,20 @@ def try_session(executable, name):
                 continue
             status, found = spoken(commands if pictures else PICTURE.sub('', commands), place)
             good = is_shown(shown, found) if shown else status == 0
+            bad += pictures and good and lacks_keys(commands, place, name)
             bad += differs(commands, shown or 'status 0', shown or 'status 0' if good else found)
     return len(blocks), bad
+
+
+def lacks_keys(commands, place, name):
+    """Tell the keys of answers that aren't in the pictures that a block drew of them, and whether there are some."""
+    with open(place['PLACE']) as file:
+        folder = file.read().strip()
+    shown = [os.path.join(TOP, 'docs', link) for link in drawn_keys.LINK.findall(document(name))]
+    keys = drawn_keys.missing(commands, folder, shown)
+    for key in keys:
+        print('%s: no key %s' % (name, key))
+    return bool(keys)
 
 
 def unbuilt(executable, name):

@@ -5,35 +5,19 @@
     answers.py answers.csv --queries QUERIES --level 32 -o answers.svg
     sonata plain QUERIES CAPTURE | answers.py - -o answers.svg
 
-Printed answers are read too: those of `plain`, `run` and `finish`.
+Printed answers are read too: those of `plain`, `run` and `finish`. The axis goes from window 0 to the last one, whether it has a row or not. CSV doesn't
+tell of windows without a row: --windows says how many there are.
 
-A row's last column is its number, where it has more than one, and gives the darkness of its square, from the query's least number to its greatest. Its key
+A row's last column is its number, where it has more than one, and gives the darkness of its square, from the query's least number to its greatest. Where
+there are more than 800 windows a square stands for several, by the greatest of their numbers. Its key
 are the keys of the query's join or last reduce where the query file is given, else the columns before the number. Each query is drawn at its finest level
 that was answered; the rows of its other levels are counted behind its name."""
 
-import csv
-import itertools
 import sys
 
 import pictures
+import printed
 import texts
-
-
-def records(file):
-    """The rows of answers, in CSV or as they are printed: a window, a query, a level and the columns."""
-    first = file.readline()
-    if first.startswith('window,query,level,'):
-        for record in csv.reader(file):
-            yield record[0], record[1], record[2], [column for column in record[3:] if column]
-        return
-    window = query = level = None
-    for words in (line.split() for line in itertools.chain([first], file)):
-        if words[0] == 'window':
-            window = words[1]
-        elif words[0] == 'query':
-            _, query, _, level, _, _ = words
-        elif words[0] not in ('total', 'capture'):
-            yield window, query, level, words
 
 
 def key_places(query):
@@ -45,18 +29,14 @@ def key_places(query):
 
 def read(name, places):
     """The rows of each query and level: a window, a key and a number. `places` has the keys of some queries' rows."""
-    found, windows = {}, set()
-    try:
-        with sys.stdin if name == '-' else open(name, newline='') as file:
-            for window, query, level, columns in records(file):
-                key, number = (columns[:-1], columns[-1]) if len(columns) > 1 and columns[-1].isdigit() else (columns, '1')
-                key = [columns[place] for place in places.get(query, [])] or key
-                found.setdefault(query, {}).setdefault(int(level), []).append((int(window), ' '.join(key), int(number)))
-                windows.add(int(window))
-    except OSError as fault:
-        sys.exit('%s: %s' % (name, fault.strerror))
-    except (IndexError, TypeError, ValueError):
-        sys.exit('%s: neither CSV nor printed answers' % name)
+    found, windows = {}, {0}
+    for window, query, level, columns in printed.rows(name):
+        windows.add(window)
+        if query is None:
+            continue
+        key, number = (columns[:-1], columns[-1]) if len(columns) > 1 and columns[-1].isdigit() else (columns, '1')
+        key = [columns[place] for place in places.get(query, []) if place < len(columns)] or key
+        found.setdefault(query, {}).setdefault(level, []).append((window, ' '.join(key), int(number)))
     return found, windows
 
 
@@ -75,10 +55,6 @@ def chosen(rows, most):
     return sorted(best[:most], key=address_order), len(best)
 
 
-def write_title(part, query, level, levels, drawn, count, column):
-    part.set_title(title_words(query, level, levels, drawn, count, column), loc='left', fontsize=8, pad=3)
-
-
 def title_words(query, level, levels, drawn, count, column):
     if not levels:
         return query + ': no rows'
@@ -88,16 +64,36 @@ def title_words(query, level, levels, drawn, count, column):
     return words + (', number: ' + column if column else '')
 
 
-def draw_query(part, rows, keys, number, bordered):
-    """A square for each row of the drawn keys; darker is more."""
-    drawn = [row for row in rows if row[1] in set(keys)]
-    least, greatest = min(row[2] for row in drawn), max(row[2] for row in drawn)
-    for window, key, value in drawn:
+def greatest_numbers(rows, keys, width):
+    """The greatest number of each key and square, a square being so many windows wide."""
+    found = {}
+    for window, key, number in rows:
+        if key in keys:
+            square = key, window // width
+            found[square] = max(number, found.get(square, 0))
+    return found
+
+
+def draw_query(part, rows, keys, number, width, bordered):
+    """A square for each key and so many windows in which it was answered; darker is more."""
+    squares = greatest_numbers(rows, set(keys), width)
+    least, greatest = min(squares.values()), max(squares.values())
+    bars = {}
+    for (key, square), value in sorted(squares.items()):
         share = (value - least) / (greatest - least) if greatest > least else 1
-        place = keys.index(key)
-        part.bar(window, 0.8, 1, bottom=place - 0.4, color=pictures.shade(number, round(6 * share), 7), edgecolor='white', linewidth=0.3 if bordered else 0)
-    span = format(least, ',') if least == greatest else '%s to %s' % (format(least, ','), format(greatest, ','))
-    part.text(1.005, 0.5, span, transform=part.transAxes, fontsize=7, va='center', color='#555555')
+        bars.setdefault((key, round(6 * share)), []).append((square * width - 0.5, width))
+    for (key, step), spans in bars.items():
+        part.broken_barh(spans, (keys.index(key) - 0.4, 0.8), facecolors=[pictures.shade(number, step, 7)], edgecolors='white', linewidth=0.3 if bordered else 0)
+    write_shades(part, [(least, 0), (greatest, 6)] if greatest > least else [(greatest, 6)], number)
+
+
+def write_shades(part, shades, number):
+    """The least and the greatest number of a query, each behind its colour."""
+    height = part.get_window_extent().height
+    for place, (value, step) in enumerate(shades):
+        across = 0.5 + (len(shades) - 1 - 2 * place) * 6.5 / height
+        part.text(1.008, across, '\u25a0', transform=part.transAxes, fontsize=8, va='center', color=pictures.shade(number, step, 7))
+        part.text(1.024, across, format(value, ','), transform=part.transAxes, fontsize=7, va='center', color='#555555')
 
 
 def shown_key(key):
@@ -115,17 +111,18 @@ def drawn(found, windows, names, queries, given):
     figure, parts = pyplot.subplots(len(names), 1, figsize=(8.5, whole), sharex=True, squeeze=False,
                                     gridspec_kw={'height_ratios': heights, 'hspace': gap * len(names) / inches, 'bottom': edge / whole, 'top': 1 - edge / whole})
     columns = {query.name: query.columns[-1][0] for query in queries if len(query.columns) > 1}
+    width = 1 + max(windows) // 800
     for number, (query, (part,)) in enumerate(zip(names, parts)):
         shown, count = keys[query]
         if shown:
-            draw_query(part, lists[query], shown, number, max(windows) - min(windows) < 80)
+            draw_query(part, lists[query], shown, number, width, max(windows) < 80)
         part.set_yticks(range(len(shown)), [shown_key(key) for key in shown], fontsize=6.5)
         part.set_ylim(max(len(shown), 1) - 0.4, -0.6)
-        part.set_xlim(min(windows) - 0.5, max(windows) + 0.5)
-        write_title(part, query, levels[query], found.get(query, {}), len(shown), count, columns.get(query))
-        part.title.set_color(pictures.colour(number))
+        part.set_xlim(-0.5, max(windows) + 0.5)
+        title = title_words(query, levels[query], found.get(query, {}), len(shown), count, columns.get(query))
+        part.set_title(title, loc='left', fontsize=8, pad=3, color=pictures.colour(number))
     pictures.whole_ticks(parts[-1][0].xaxis)
-    parts[-1][0].set_xlabel('window')
+    parts[-1][0].set_xlabel('window' if width == 1 else 'window; a square is %d windows, by the greatest of their numbers' % width)
     return figure
 
 
@@ -135,13 +132,17 @@ def main():
     words.add_argument('--queries', help='the query file: its order, queries without a row, and the name of the number')
     words.add_argument('--level', type=int, help='draw this level in place of the finest')
     words.add_argument('--most', type=int, default=12, help='keys that are drawn of a query (default 12)')
+    words.add_argument('--windows', type=int, metavar='N', help='how many windows the capture has, where what is read doesn\'t tell it')
     given = words.parse_args()
     pictures.form_of(given.output)
     queries = texts.read_queries(given.queries) if given.queries else []
     found, windows = read(given.answers, {query.name: key_places(query) for query in queries})
     names = [query.name for query in queries] or list(found)
-    if not names or not windows:
+    if not names or not any(found.values()):
         sys.exit('%s: no row was answered' % given.answers)
+    if given.windows is not None and given.windows <= max(windows):
+        sys.exit('--windows %d: there is a window %d' % (given.windows, max(windows)))
+    windows.add((given.windows or 1) - 1)
     pictures.save(drawn(found, windows, names, queries, given), given.output)
     return 0
 

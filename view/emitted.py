@@ -4,7 +4,7 @@
     emitted.py --of one.plan one.reports --of other.plan other.reports -o emitted.svg
 
 Each plan comes with the report frames that `sonata emit` wrote for it. A column of the picture is a plan, a row a query; the first row is their sum. The
-lightest part of a bar is the coarsest level of the path."""
+lightest part of a bar is the coarsest level of the path. The axis begins at window 0, and windows in which nothing is sent have their place."""
 
 import collections
 import os
@@ -52,10 +52,14 @@ def sum_stacks(entries, windows, counts):
 
 
 def write_words(part, entry, total, number):
-    """The path of a query and what it sends, at the top of its part."""
+    """The path of a query and what it sends, at the top of its part, and which colour is which level."""
     path = 'path ' + ', '.join(map(str, entry.path)) if entry else 'all queries'
     part.text(0.01, 0.97, '%s: %s' % (path, format(total, ',')), transform=part.transAxes, va='top', fontsize=7,
               color=pictures.colour(number) if entry else '#333333', bbox={'facecolor': 'white', 'edgecolor': 'none', 'pad': 0.5, 'alpha': 0.8})
+    for place, level in enumerate(entry.path if entry and len(entry.path) > 1 else []):
+        across = 1 - 0.095 * (len(entry.path) - place)
+        part.text(across, 0.97, '\u25a0', transform=part.transAxes, va='top', fontsize=7, color=pictures.shade(number, place, len(entry.path)))
+        part.text(across + 0.03, 0.97, '/%d' % level, transform=part.transAxes, va='top', fontsize=6.5, color='#333333')
 
 
 def drawn(plans, titles):
@@ -73,6 +77,7 @@ def drawn(plans, titles):
             write_words(part, entries[query] if row else None, sum(sum(numbers) for _, numbers in stacks), query)
             part.set_ylim(0, max(part.get_ylim()[1] if column else 0, 1.45 * tallest, 1))
             pictures.whole_ticks(part.yaxis)
+            part.set_xlim(-0.6, max([0] + [window for _, numbers, _ in plans for window in numbers]) + 0.6)
             pictures.whole_ticks(part.xaxis)
         parts[-1][column].set_xlabel('window')
     for row, name in enumerate(['tuples'] + names):

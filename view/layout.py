@@ -4,7 +4,7 @@ actions and bits are. The metadata of the pieces stands at the right.
 
     layout.py SWITCH QUERIES PLAN -o plan.svg
 
-A plan says in which stages registers stand. A table without state stands in the first stage that is free for it; the switch may move it as far
+The registers of a reduce are dark, those of a distinct light, and a table without state is open. A plan says in which stages registers stand. A table without state stands in the first stage that is free for it; the switch may move it as far
 as the next register allows."""
 
 import dataclasses
@@ -21,6 +21,15 @@ class Table:
     words: str
     stage: int
     bits: int = 0
+
+    def fill(self, query):
+        """Its colour: dark for a reduce, light for a distinct, none for a table without state."""
+        if not self.bits:
+            return 'white'
+        return pictures.shade(query, 0, 2) if self.words.startswith('distinct') else pictures.colour(query)
+
+    def ink(self):
+        return 'white' if self.bits and not self.words.startswith('distinct') else '#333333'
 
 
 def tables_of(switch, query, entry, piece):
@@ -61,10 +70,8 @@ class Picture:
         part = self.parts[0][0]
         for row, (tables, (q, *_)) in enumerate(zip(self.tables, self.lanes)):
             for table in tables:
-                register = table.bits > 0
-                part.add_patch(self.pyplot.Rectangle((table.stage - 0.46, row - 0.4), 0.92, 0.8, facecolor=pictures.colour(q) if register else 'white',
-                                                     edgecolor=pictures.colour(q), linewidth=1))
-                part.text(table.stage, row, table.words, ha='center', va='center', fontsize=6.2, linespacing=0.95, color='white' if register else '#333333')
+                part.add_patch(self.pyplot.Rectangle((table.stage - 0.46, row - 0.4), 0.92, 0.8, facecolor=table.fill(q), edgecolor=pictures.colour(q), linewidth=1))
+                part.text(table.stage, row, table.words, ha='center', va='center', fontsize=6.2, linespacing=0.95, color=table.ink())
         part.set_xlim(-0.5, self.stages - 0.5)
         part.set_ylim(len(self.lanes) - 0.5, -0.5)
         part.set_yticks(range(len(self.lanes)), ['%s, cut %d' % (texts.piece_name(query, piece), piece.cut) for _, query, _, piece in self.lanes])
@@ -88,7 +95,7 @@ class Picture:
         for tables, (q, *_) in zip(self.tables, self.lanes):
             for table in tables:
                 if table.bits:
-                    part.bar(table.stage, amount(table), 0.8, bottom=sums[table.stage], color=pictures.colour(q), edgecolor='white', linewidth=0.4)
+                    part.bar(table.stage, amount(table), 0.8, bottom=sums[table.stage], color=table.fill(q), edgecolor=pictures.colour(q), linewidth=0.6)
                     sums[table.stage] += amount(table)
         for stage, total in enumerate(sums):
             if total:
@@ -112,13 +119,20 @@ class Picture:
         part.set_xticks([])
         part.set_title('metadata bits\n%d of %d (%.0f %%)' % (sum(bits), self.switch.meta, 100 * sum(bits) / max(1, self.switch.meta)), fontsize=8)
 
+    def draw_legend(self, part):
+        """What dark, light and open boxes are."""
+        part.axis('off')
+        for row, (words, table) in enumerate([('reduce', Table('reduce', 0, 1)), ('distinct', Table('distinct', 0, 1)), ('no state', Table('', 0))]):
+            part.add_patch(self.pyplot.Rectangle((0.08, 0.68 - 0.3 * row), 0.14, 0.2, transform=part.transAxes, facecolor=table.fill(0), edgecolor=pictures.colour(0), linewidth=1))
+            part.text(0.28, 0.78 - 0.3 * row, words, transform=part.transAxes, va='center', fontsize=7)
+
     def draw(self, title):
         self.draw_lanes()
         self.draw_metadata(self.parts[0][1])
         self.draw_stages(self.parts[1][0], lambda table: 1, self.switch.actions, 'registers', lambda total, limit: '%d of %d' % (total, limit))
         self.draw_stages(self.parts[2][0], lambda table: table.bits, self.switch.bits, 'bits', lambda total, limit: '%.1f %%' % (100 * total / limit))
-        for part in self.parts[1][1], self.parts[2][1]:
-            part.axis('off')
+        self.draw_legend(self.parts[1][1])
+        self.parts[2][1].axis('off')
         self.parts[0][0].set_title(title, loc='left', fontsize=9, pad=8)
 
 

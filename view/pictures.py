@@ -38,10 +38,16 @@ def drawing():
     return pyplot
 
 
+def rounded(tag):
+    """A tag with the numbers of its attributes to a tenth."""
+    return re.sub(r'-?\d+\.\d{2,}', lambda found: ('%.1f' % float(found.group())).rstrip('0').rstrip('.'), tag)
+
+
 def shortened(svg):
-    """The same picture in fewer bytes: numbers to a tenth, and neither comments, metadata, names of groups nor blanks between parts."""
+    """The same picture in fewer bytes: numbers of attributes to a tenth, and neither comments, metadata, names of groups nor blanks between parts. What
+    stands between tags is words, addresses among them, and stays as it is."""
     svg = re.sub(r'<!--.*?-->|<!DOCTYPE.*?>|<metadata>.*?</metadata>', '', svg, flags=re.S)
-    svg = re.sub(r'-?\d+\.\d{2,}', lambda found: ('%.1f' % float(found.group())).rstrip('0').rstrip('.'), svg)
+    svg = re.sub(r'<[^<>]*>', lambda found: rounded(found.group()), svg)
     svg = re.sub(r'<g id="(?!figure)[^"]*">', '<g>', svg)
     svg = re.sub(r' *\n *', '\n', svg)
     svg = re.sub(r'\n([LQCz"])', r'\1', svg)

@@ -5,7 +5,8 @@
 
 The green way goes from the empty plan down to the plan, one box for the choices of a query's path or of a piece (its cut, sizes and stages). Beside
 it hang the choices that weren't taken, folded by their kind: B can cost no less than the plan, by its bound, X breaks the switch's limits, and E was
-looked into further. Small trees are opened; in large ones what is below an E is counted in its box."""
+looked into further. Small trees are opened; in large ones what is below an E is counted in its box. The boxes are laid out downwards or to the right, boxes side by side in
+several rows where they are many, whichever comes nearest to a page."""
 
 import collections
 import dataclasses
@@ -16,11 +17,13 @@ import sys
 
 import pictures
 import texts
-from texts import costs
+from texts import costs, plans
 
 PACKAGE = 'Needs graphviz: on Debian `apt-get install graphviz`.'
 FILLS = {'E': '#e8eef7', 'B': '#eeeeee', 'X': '#f6dcdc', 'P': '#cfe8d5'}
 WORDS = {'E': 'expanded', 'B': 'bounded', 'X': 'broken', 'P': 'the plan'}
+LEGEND = {'E': 'E: looked into, its bound is below the cost', 'B': 'B: costs at least as much as the plan, by its bound', 'X': 'X: breaks a limit of the switch', 'P': 'P: the plan'}
+PAGE = 1.4
 
 
 @dataclasses.dataclass
@@ -33,6 +36,7 @@ class Node:
     children: list = dataclasses.field(default_factory=list)
     below: collections.Counter = dataclasses.field(default_factory=collections.Counter)
     to_plan: bool = False
+    limit: str = ''
 
 
 def listed(numbers):
@@ -48,7 +52,36 @@ def choice_of(before, partial):
         if old.option is None and piece.option is not None:
             slots = ' slots ' + listed(piece.option[1]) if piece.option[1] else ''
             return '%s: cut %d%s' % (texts.piece_name(partial.costs.queries[q], piece), piece.option[0], slots), 'option'
-    return 'stage %d' % partial.choices[-1], 'stage'
+    return '%s in stage %d' % (register_of(before, partial), partial.choices[-1]), 'stage'
+
+
+def register_of(before, partial):
+    """The register whose stage is a partial plan's last choice: that of a distinct or of a reduce, and its number in its chain."""
+    q, piece = next((q, piece) for (q, piece), (_, old) in zip(partial.pieces, before.pieces) if len(piece.stages) > len(old.stages))
+    kinds = [operator.kind for operator in partial.costs.queries[q].branches[piece.branch][:piece.option[0]] if operator.kind in ('distinct', 'reduce')]
+    chain, number = partial.costs.switch.chain, len(piece.stages) - 1
+    return kinds[number // chain] + (' %d/%d' % (number % chain + 1, chain) if chain > 1 else '')
+
+
+def broken_limit(partial):
+    """The limit of the switch that a partial plan breaks, in words."""
+    switch, registers, metadata = partial.costs.switch, [], 0
+    for q, piece in partial.pieces:
+        if piece.option is None:
+            continue
+        query = partial.costs.queries[q]
+        if partial.is_past_end(query, piece):
+            return 'the tables of %s reach behind the last stage' % texts.piece_name(query, piece)
+        whole = plans.Piece(piece.level, piece.branch, piece.option[0], piece.option[1], piece.stages + [-1] * 8)
+        registers += [one for one in plans.registers_of(switch, query, whole) if one[0] >= 0]
+        metadata += plans.metadata_of(query, whole)
+    for stage in range(switch.stages):
+        here = [bits for other, bits in registers if other == stage]
+        if len(here) > switch.actions:
+            return 'stage %d would have %d registers of %d' % (stage, len(here), switch.actions)
+        if sum(here) > switch.bits:
+            return 'stage %d would have %s bits of %s' % (stage, format(sum(here), ','), format(switch.bits, ','))
+    return 'the metadata would have %d bits of %d' % (metadata, switch.meta) if metadata > switch.meta else 'no limit: this node is wrong'
 
 
 def built(queries, switch, nodes):
@@ -61,7 +94,7 @@ def built(queries, switch, nodes):
         try:
             letter, number = next(listing)
             choice, kind = choice_of(before, partial) if before else ('all plans', 'start')
-            node = Node(letter, number, choice, kind)
+            node = Node(letter, number, choice, kind, limit=broken_limit(partial) if letter == 'X' else '')
             if letter == 'E':
                 waiting += [(node, partial, child) for child in reversed(partial.children())]
         except (StopIteration, TypeError):
@@ -121,21 +154,33 @@ def span(numbers):
     return 'bound %s' % format(least, ',') if least == greatest else 'bounds %s to %s' % (format(least, ','), format(greatest, ','))
 
 
+def stage_choices(nodes):
+    """The stages that were chosen, on a line for each register."""
+    stages = collections.defaultdict(set)
+    for node in nodes:
+        register, stage = node.choice.split(' in stage ')
+        stages[register].add(int(stage))
+    return ['%s in stage%s %s' % (register, 's' * (len(found) > 1), stage_span(sorted(found))) for register, found in stages.items()]
+
+
+def stage_span(stages):
+    whole = len(stages) > 2 and stages[-1] - stages[0] == len(stages) - 1
+    return '%d to %d' % (stages[0], stages[-1]) if whole else listed(stages)
+
+
 def shown_choices(nodes, most=3):
     """The first choices of nodes, one on a line, and how many more there are. Stages are told on one line."""
     if all(node.kind == 'stage' for node in nodes):
-        stages = sorted({int(node.choice.split()[1]) for node in nodes})
-        whole = len(stages) > 2 and stages[-1] - stages[0] == len(stages) - 1
-        return ['stages %d to %d' % (stages[0], stages[-1]) if whole else 'stage%s %s' % ('s' * (len(stages) > 1), listed(stages))]
+        return stage_choices(nodes)
     words = [node.choice for node in nodes]
     return words[:most] + (['and %d more' % (len(words) - most)] if len(words) > most else [])
 
 
 class Graph:
-    """The text for graphviz."""
+    """The text for graphviz. Edges are kept apart from boxes, so that boxes side by side can be laid out in several rows."""
 
     def __init__(self):
-        self.lines, self.boxes = [], 0
+        self.lines, self.boxes, self.edges = [], 0, collections.defaultdict(list)
 
     def box(self, words, fill, bold=False):
         name, self.boxes = 'n%d' % self.boxes, self.boxes + 1
@@ -144,7 +189,7 @@ class Graph:
         return name
 
     def edge(self, above, below, bold=False):
-        self.lines.append('%s -> %s [%s];' % (above, below, 'color="#3d9157", penwidth=2.5, weight=20' if bold else 'color="#999999"'))
+        self.edges[above].append((below, 'color="#3d9157", penwidth=2.5, weight=20' if bold else 'color="#999999"'))
 
     def folded(self, above, nodes):
         """A box for nodes of one letter side by side."""
@@ -171,16 +216,42 @@ class Graph:
         for group in groups.values():
             self.folded(above, group)
 
-    def text(self, title):
-        return '\n'.join(['digraph {', 'graph [label=<%s>, labelloc=t, fontname="DejaVu Sans", fontsize=12, nodesep=0.15, ranksep=0.3];' % title,
-                          'node [shape=box, style="filled,rounded", fontname="DejaVu Sans", fontsize=9, margin="0.14,0.05"];', 'edge [arrowhead=none];']
-                         + self.lines + ['}'])
+    def text(self, title, direction, rows):
+        """The graph laid out downwards or to the right. What hangs beside the way below one box is spread over so many rows."""
+        points = 12 * max(1, (self.boxes / 40) ** 0.5)
+        lines = ['digraph {', 'graph [label=<%s>, labelloc=t, rankdir=%s, fontname="DejaVu Sans", nodesep=0.15, ranksep=0.3];' % (legend(title, points), direction),
+                 'node [shape=box, style="filled,rounded", fontname="DejaVu Sans", fontsize=9, margin="0.14,0.05"];', 'edge [arrowhead=none];'] + self.lines
+        for above, below in self.edges.items():
+            for place, (name, style) in enumerate(below):
+                lines.append('%s -> %s [%s, minlen=%d];' % (above, name, style, 1 if 'weight' in style else 1 + place % rows))
+        return '\n'.join(lines + ['}'])
+
+
+def legend(title, points):
+    """The title with the meaning of each colour below it, in letters of a size."""
+    def cell(words, size, more):
+        return '<TD %s><FONT POINT-SIZE="%.0f">%s</FONT></TD>' % (more, size, html.escape(words))
+    cells = ''.join(cell(words, 0.75 * points, 'BGCOLOR="%s"' % FILLS[letter]) for letter, words in LEGEND.items())
+    return '<TABLE BORDER="0" CELLSPACING="4"><TR>%s</TR><TR>%s</TR></TABLE>' % (cell(title, points, 'COLSPAN="4"'), cells)
+
+
+def laid_out(graph, title):
+    """The graph's text in the layout that comes nearest to a page. Few boxes go downwards."""
+    if graph.boxes <= 60:
+        return graph.text(title, 'TB', 1)
+    found = []
+    for direction in ('TB', 'LR'):
+        for rows in (1, 2, 4, 8):
+            text = graph.text(title, direction, rows)
+            words = subprocess.run(['dot', '-Tplain'], input=text.encode(), stdout=subprocess.PIPE, check=True).stdout.split()
+            shape = float(words[2]) / float(words[3]) / PAGE
+            found.append((max(shape, 1 / shape), text))
+    return min(found)[1]
 
 
 def way_words(segment):
     last = segment[-1]
-    stages = [node.choice.split()[1] for node in segment[1:]]
-    words = [segment[0].choice + (' stages ' + ', '.join(stages) if stages else '')]
+    words = [segment[0].choice] + ([', '.join(node.choice for node in segment[1:])] if segment[1:] else [])
     if last.letter == 'P':
         return words + ['the plan, cost %s' % format(last.number, ',')]
     return words + ['bound %s' % format(last.number, ',')]
@@ -199,7 +270,7 @@ def drawn(root, most):
         graph.beside(name, [child for node in parents for child in node.children if not child.to_plan], open_)
         above = name
     counts = ', '.join('%s %s' % (format(root.below[letter], ','), WORDS[letter]) for letter in 'EBX')
-    return graph.text('%s nodes: %s, and the plan' % (format(sum(root.below.values()), ','), counts))
+    return laid_out(graph, '%s nodes: %s, and the plan' % (format(sum(root.below.values()), ','), counts))
 
 
 def main():

@@ -1,0 +1,52 @@
+"""Looks for the keys of answers in the picture that view/answers.py drew of them: each must stand there as it is."""
+
+import collections
+import csv
+import os
+import re
+import shlex
+import sys
+import xml.etree.ElementTree
+
+HERE = os.path.dirname(os.path.abspath(__file__))
+sys.path.insert(0, os.path.join(HERE, '..', 'view'))
+import texts  # noqa: E402
+
+COMMAND = re.compile(r'^/usr/bin/python3 \S*view/answers\.py (.*)$', re.M)
+LINK = re.compile(r'\]\((pictures/\S*answers\.svg)\)')
+
+
+def keys_of(answers, queries):
+    """The keys at each query's finest level that was answered: the columns that its join or last reduce names, else those before the number."""
+    rows = collections.defaultdict(lambda: collections.defaultdict(set))
+    places = {}
+    for query in queries:
+        reduces = [operator.keys for operator in query.branches[0] if operator.kind == 'reduce']
+        names = query.join_keys or (reduces[-1] if reduces else [])
+        places[query.name] = [place for place, (name, _, _) in enumerate(query.columns[:-1]) if name in names]
+    with open(answers, newline='') as file:
+        for record in list(csv.reader(file))[1:]:
+            columns = [column for column in record[3:] if column]
+            rows[record[1]][int(record[2])].add(' '.join([columns[place] for place in places[record[1]]] or columns[:-1] or columns))
+    return {key for levels in rows.values() for key in levels[max(levels)]}
+
+
+def words_of(picture):
+    """The words of a picture, each as it is read."""
+    root = xml.etree.ElementTree.parse(picture).getroot()
+    return {''.join(part.itertext()).strip() for part in root.iter('{http://www.w3.org/2000/svg}text')}
+
+
+def missing(commands, folder, pictures):
+    """The keys that aren't in a picture, for each command that draws answers from CSV: in the picture that it drew in this folder, and in the one of the
+    document whose name ends so."""
+    found = []
+    for words in (shlex.split(line) for line in COMMAND.findall(commands)):
+        if not words[0].endswith('.csv') or '--queries' not in words:
+            continue
+        drawn = words[words.index('-o') + 1]
+        queries = texts.read_queries(os.path.join(folder, words[words.index('--queries') + 1]))
+        keys = keys_of(os.path.join(folder, words[0]), queries)
+        for picture in [os.path.join(folder, drawn)] + [name for name in pictures if name.endswith(drawn)]:
+            found += ['%s in %s' % (key, picture) for key in sorted(keys - words_of(picture))]
+    return found

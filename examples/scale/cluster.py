@@ -1,0 +1,38 @@
+"""What the scripts on Dask share: a scheduler and workers as processes of this machine on loopback, or a scheduler that runs elsewhere."""
+
+import sys
+
+PACKAGE = 'Needs Dask: on Debian `apt-get install python3-distributed python3-pandas`, and the distribution\'s own /usr/bin/python3.'
+
+
+def add_options(words):
+    where = words.add_mutually_exclusive_group()
+    where.add_argument('--workers', type=int, default=2, metavar='N', help='start a scheduler and so many workers on 127.0.0.1 (default 2)')
+    where.add_argument('--scheduler', metavar='ADDRESS', help='use this scheduler, as tcp://127.0.0.1:8786, whose workers see the same files')
+
+
+def client(given):
+    """A client of the scheduler that the command line names, or of one that is started."""
+    try:
+        import dask
+        import distributed
+    except ImportError:
+        sys.exit(PACKAGE)
+    dask.config.set({'distributed.admin.tick.limit': '60s', 'distributed.scheduler.allowed-failures': 10})
+    if given.scheduler:
+        try:
+            return distributed.Client(given.scheduler, timeout=10)
+        except OSError as fault:
+            sys.exit('%s: %s' % (given.scheduler, fault))
+    if given.workers < 1:
+        sys.exit('--workers is at least 1')
+    cluster = distributed.LocalCluster(n_workers=given.workers, threads_per_worker=1, processes=True, host='127.0.0.1', dashboard_address=None, silence_logs=50)
+    return distributed.Client(cluster)
+
+
+def end(client):
+    """Leave the scheduler; one that was started here ends with its workers."""
+    cluster = client.cluster
+    client.close()
+    if cluster is not None:
+        cluster.close()

@@ -1,0 +1,76 @@
+"""Reads what `sonata` answered: printed answers of `plain`, `run`, `finish` and `live`, or the CSV of `run --csv`."""
+
+import csv
+import itertools
+import sys
+
+HEADING = 'window,query,level,'
+
+
+def opened(name):
+    """A file of answers, or standard input where its name is -."""
+    try:
+        return sys.stdin if name == '-' else open(name, newline='')
+    except OSError as fault:
+        sys.exit('%s: %s' % (name, fault.strerror))
+
+
+def blocks(file):
+    """The answers in order: for each window its number alone, and for each query and level of it the rows. CSV tells neither windows without a row nor
+    queries without one."""
+    first = file.readline()
+    if first == 'plan\n':
+        for line in file:
+            if line == 'done\n':
+                break
+        first = file.readline()
+    if first.startswith(HEADING):
+        yield from csv_blocks(csv.reader(file))
+    else:
+        yield from text_blocks(line.split() for line in itertools.chain([first], file))
+
+
+def csv_blocks(records):
+    last = None
+    for key, some in itertools.groupby(records, lambda record: tuple(record[:3])):
+        window, query, level = key
+        if window != last:
+            yield int(window), None, None, []
+            last = window
+        yield int(window), query, int(level), [[column for column in record[3:] if column] for record in some]
+
+
+def text_blocks(lines):
+    window = None
+    for words in lines:
+        if not words:
+            raise ValueError
+        if words[0] == 'window':
+            window = int(words[1])
+            yield window, None, None, []
+        elif words[0] == 'query':
+            _, query, _, level, _, count = words
+            rows = [row for row in itertools.islice(lines, int(count))]
+            if window is None or len(rows) < int(count):
+                raise ValueError
+            yield window, query, int(level), rows
+        elif words[0] not in ('total', 'capture'):
+            raise ValueError
+
+
+def rows(name):
+    """The rows of a file, each with its window, query and level, and a window's number alone before its rows."""
+    with opened(name) as file:
+        try:
+            for window, query, level, some in blocks(file):
+                if query is None:
+                    yield window, None, None, []
+                for row in some:
+                    yield window, query, level, row
+        except (IndexError, TypeError, ValueError):
+            sys.exit('%s: neither CSV nor printed answers' % name)
+
+
+def greatest_first(some):
+    """Rows by their last column, where that is a number, the greatest first."""
+    return sorted(some, key=lambda row: -int(row[-1]) if row and row[-1].isdigit() else 0)
