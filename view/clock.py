@@ -12,7 +12,6 @@ are. Windows begin at the first record, so the time is that of the first record 
 import argparse
 import csv
 import itertools
-import os
 import sys
 
 import printed
@@ -52,6 +51,18 @@ def timed_csv(records, clock, greatest):
             yield [record[0], clock.at(int(record[0])), *record[1:]]
 
 
+def written(file, clock, is_greatest_first):
+    """Writes the answers with times, as they come: CSV as CSV, and printed answers as these."""
+    first = file.readline()
+    if first.startswith(printed.HEADING):
+        out = csv.writer(sys.stdout, lineterminator='\n')
+        out.writerow(['window', 'time', *first.strip().split(',')[1:]])
+        out.writerows(timed_csv(csv.reader(file), clock, is_greatest_first))
+    else:
+        for line in timed_text(itertools.chain([first], file), clock, is_greatest_first):
+            sys.stdout.write(line)
+
+
 def main():
     words = argparse.ArgumentParser(description=__doc__, formatter_class=argparse.RawDescriptionHelpFormatter)
     words.add_argument('answers', nargs='?', default='-', help='answers; without it, or with -, standard input')
@@ -59,21 +70,7 @@ def main():
     words.add_argument('--greatest', action='store_true', help='the rows of each query by their last column, the greatest first')
     given = words.parse_args()
     clock = times.Clock(given)
-    try:
-        with printed.opened(given.answers) as file:
-            first = file.readline()
-            if first.startswith(printed.HEADING):
-                out = csv.writer(sys.stdout, lineterminator='\n')
-                out.writerow(['window', 'time', *first.strip().split(',')[1:]])
-                out.writerows(timed_csv(csv.reader(file), clock, given.greatest))
-            else:
-                for line in timed_text(itertools.chain([first], file), clock, given.greatest):
-                    sys.stdout.write(line)
-        sys.stdout.flush()
-    except (IndexError, ValueError):
-        sys.exit('%s: neither CSV nor printed answers' % given.answers)
-    except BrokenPipeError:
-        os.dup2(os.open(os.devnull, os.O_WRONLY), sys.stdout.fileno())
+    printed.passed_on(given.answers, lambda file: written(file, clock, given.greatest))
     return 0
 
 

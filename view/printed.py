@@ -2,6 +2,7 @@
 
 import csv
 import itertools
+import os
 import sys
 
 HEADING = 'window,query,level,'
@@ -13,6 +14,18 @@ def opened(name):
         return sys.stdin if name == '-' else open(name, newline='')
     except OSError as fault:
         sys.exit('%s: %s' % (name, fault.strerror))
+
+
+def passed_on(name, write):
+    """Lets `write` pass answers on to standard output. Ends with a line where they are none, and quietly where nobody reads on."""
+    try:
+        with opened(name) as file:
+            write(file)
+        sys.stdout.flush()
+    except (IndexError, TypeError, ValueError):
+        sys.exit('%s: neither CSV nor printed answers' % name)
+    except BrokenPipeError:
+        os.dup2(os.open(os.devnull, os.O_WRONLY), sys.stdout.fileno())
 
 
 def blocks(file):

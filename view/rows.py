@@ -11,7 +11,6 @@ time, query or level stands behind a low line (`_level`). --greatest puts the ro
 
 import argparse
 import json
-import os
 import sys
 
 import printed
@@ -57,14 +56,7 @@ def main():
         words.error('--finest needs --queries')
     queries = texts.read_queries(given.queries) if given.queries else []
     clock = times.Clock(given) if given.capture or given.first is not None else None
-    try:
-        with printed.opened(given.answers) as file:
-            written(file, given, queries, clock)
-        sys.stdout.flush()
-    except (IndexError, TypeError, ValueError):
-        sys.exit('%s: neither CSV nor printed answers' % given.answers)
-    except BrokenPipeError:
-        os.dup2(os.open(os.devnull, os.O_WRONLY), sys.stdout.fileno())
+    printed.passed_on(given.answers, lambda file: written(file, given, queries, clock))
     return 0
 
 
