@@ -124,7 +124,10 @@ class Page:
             self.must(self.script('return document.querySelectorAll("#rows tr").length') > before, 'no more lines are shown')
 
     def look(self, folder):
-        """A picture of the whole page."""
+        """A picture of the whole page as it is first seen, with the way to the plan open."""
+        self.driver.refresh()
+        self.open_way()
+        self.script('document.activeElement.blur(); window.scrollTo(0, 0)')
         height = self.script('return document.documentElement.scrollHeight')
         self.driver.execute_cdp_cmd('Emulation.setDeviceMetricsOverride', {'width': self.width, 'height': min(height, 8000), 'deviceScaleFactor': 1, 'mobile': False})
         self.driver.save_screenshot(os.path.join(folder, 'page-%d.png' % self.width))

@@ -11,20 +11,13 @@ tell of windows without a row: --windows says how many there are.
 A row's last column is its number, where it has more than one, and gives the darkness of its square, from the query's least number to its greatest. Where
 there are more than 800 windows a square stands for several, by the greatest of their numbers. Its key
 are the keys of the query's join or last reduce where the query file is given, else the columns before the number. Each query is drawn at its finest level
-that was answered; the rows of its other levels are counted behind its name."""
+that was answered; the rows of its other levels are counted after its name."""
 
 import sys
 
 import pictures
 import printed
 import texts
-
-
-def key_places(query):
-    """The places in a query's rows of the keys of its join or its last reduce, where its rows have them."""
-    reduces = [operator.keys for operator in query.branches[0] if operator.kind == 'reduce']
-    keys = query.join_keys or (reduces[-1] if reduces else [])
-    return [place for place, (name, _, _) in enumerate(query.columns[:-1]) if name in keys]
 
 
 def read(name, places):
@@ -34,9 +27,8 @@ def read(name, places):
         windows.add(window)
         if query is None:
             continue
-        key, number = (columns[:-1], columns[-1]) if len(columns) > 1 and columns[-1].isdigit() else (columns, '1')
-        key = [columns[place] for place in places.get(query, []) if place < len(columns)] or key
-        found.setdefault(query, {}).setdefault(level, []).append((window, ' '.join(key), int(number)))
+        key, number = printed.keyed(columns, places.get(query))
+        found.setdefault(query, {}).setdefault(level, []).append((window, key, 1 if number is None else number))
     return found, windows
 
 
@@ -88,7 +80,7 @@ def draw_query(part, rows, keys, number, width, bordered):
 
 
 def write_shades(part, shades, number):
-    """The least and the greatest number of a query, each behind its colour."""
+    """The least and the greatest number of a query, each after its colour."""
     height = part.get_window_extent().height
     for place, (value, step) in enumerate(shades):
         across = 0.5 + (len(shades) - 1 - 2 * place) * 6.5 / height
@@ -136,7 +128,7 @@ def main():
     given = words.parse_args()
     pictures.form_of(given.output)
     queries = texts.read_queries(given.queries) if given.queries else []
-    found, windows = read(given.answers, {query.name: key_places(query) for query in queries})
+    found, windows = read(given.answers, printed.places_of(queries))
     names = [query.name for query in queries] or list(found)
     if not names or not any(found.values()):
         sys.exit('%s: no row was answered' % given.answers)

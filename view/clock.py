@@ -6,7 +6,7 @@
     clock.py today.csv --capture today.pcap --window-us 1000000
 
 The line of a window tells when it begins, in UTC or by --local in the time of this place: `window 3 emitted 1125 at 2026-11-02 10:15:03.000000+00:00`.
-CSV gets the time as a column behind the window. --greatest puts the rows of each query with the greatest last column first. All other lines stay as they
+CSV gets the time as a column after the window. --greatest puts the rows of each query with the greatest last column first. All other lines stay as they
 are. Windows begin at the first record, so the time is that of the first record and the windows before. Needs nothing but Python."""
 
 import argparse
@@ -45,7 +45,7 @@ def last_number(line):
 
 
 def timed_csv(records, clock, greatest):
-    """Records with the time behind the window."""
+    """Records with the time after the window."""
     for _, some in itertools.groupby(records, lambda record: tuple(record[:3])):
         for record in sorted(some, key=lambda record: last_number(' '.join(record))) if greatest else some:
             yield [record[0], clock.at(int(record[0])), *record[1:]]

@@ -19,6 +19,7 @@ import sys
 
 MAGICS = {0xA1B2C3D4: 1000, 0xA1B23C4D: 1}
 LARGEST = 262144
+PCAPNG = bytes.fromhex('0a0d0d0a')
 
 
 def opened(file):
@@ -27,7 +28,8 @@ def opened(file):
     for order in '<>':
         if len(header) == 24 and struct.unpack_from(order + 'I', header)[0] in MAGICS:
             return header, order, MAGICS[struct.unpack_from(order + 'I', header)[0]]
-    sys.exit('no capture of classic pcap')
+    why = ', but of pcapng: `editcap -F pcap` makes one' if header[:4] == PCAPNG else ''
+    sys.exit('%s: no capture of classic pcap%s' % (file.name, why))
 
 
 def records(file, order, unit):
@@ -102,7 +104,7 @@ def main():
     words.add_argument('capture')
     words.add_argument('folder')
     words.add_argument('--window', type=count_from(1), required=True, help='the window of the query file, in microseconds')
-    words.add_argument('--windows', type=count_from(1), required=True, help='cut behind so many windows')
+    words.add_argument('--windows', type=count_from(1), required=True, help='cut after so many windows')
     words.add_argument('--before', type=count_from(0), default=0, help='begin each part so many windows earlier (one less than the levels of the longest path)')
     given = words.parse_args()
     try:

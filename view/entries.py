@@ -34,7 +34,7 @@ def lanes_of(queries):
 
 
 def least_stages(switch, query, lane, option):
-    """The least stages that the registers of a piece may have, and the first stage behind all its tables."""
+    """The least stages that the registers of a piece may have, and the first stage after all its tables."""
     tables, _ = plans.tables(switch, query, plans.Entry(query.name, list(lane.front)), lane.piece(option))
     return [place for place, table in enumerate(tables) if table is not None], len(tables)
 

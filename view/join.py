@@ -19,7 +19,7 @@ class NotWhole(Exception):
 
 
 def blocks(name):
-    """The kept windows of a part: their number, what was emitted (or None), and the lines behind."""
+    """The kept windows of a part: their number, what was emitted (or None), and the lines after."""
     told = NAME.match(os.path.basename(name))
     if not told:
         sys.exit('%s: no name of a part' % name)

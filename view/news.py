@@ -12,7 +12,7 @@ import json
 import os
 import sys
 
-import printed
+import keys
 import texts
 import times
 
@@ -43,19 +43,6 @@ def write_known(name, known):
         sys.exit('%s: %s' % (name, fault.strerror))
 
 
-def keys_of(name, queries):
-    """The keys of the finest levels: for each its first and last window, and the greatest number with its window."""
-    finest, found = {query.name: query.levels[-1] for query in queries if query.levels}, {}
-    for window, query, level, row in printed.rows(name):
-        if query is None or finest.get(query, level) != level:
-            continue
-        number = int(row[-1]) if len(row) > 1 and row[-1].isdigit() else None
-        key = ' '.join([query] + (row[:-1] if number is not None else row))
-        first, _, greatest = found.get(key, (window, window, None))
-        found[key] = first, window, number if greatest is None else max(greatest, number or 0)
-    return found
-
-
 def main():
     words = argparse.ArgumentParser(description=__doc__, formatter_class=argparse.RawDescriptionHelpFormatter)
     words.add_argument('answers', nargs='?', default='-', help='answers; without it, or with -, standard input')
@@ -65,7 +52,8 @@ def main():
     given = words.parse_args()
     clock, known = times.Clock(given), read_known(given.known)
     queries = texts.read_queries(given.queries) if given.queries else []
-    for key, (first, last, greatest) in keys_of(given.answers, queries).items():
+    for (query, key), (first, last, _, greatest) in keys.findings(given.answers, queries).items():
+        key = '%s %s' % (query, key)
         begun = (clock.first + first * clock.window) / 1e6
         if key not in known or begun - known[key] > given.days * 86400:
             print('%s from %s%s' % (key, clock.at(first), '' if greatest is None else ', at most %d a window' % greatest))

@@ -31,7 +31,7 @@ def windows_of(text):
 
 
 def taken(file, out, window, first, last):
-    """Copy the records of some windows behind the capture's header, and count them."""
+    """Copy the records of some windows after the capture's header, and count them."""
     header, order, unit = cut.opened(file)
     out.write(header)
     start, number, count = None, 0, 0

@@ -19,10 +19,12 @@ def command_line(description, package=PACKAGE):
 
 
 def form_of(name):
-    """The form that a picture's name asks for."""
+    """The form that a picture's name asks for, in a folder that is there."""
     form = os.path.splitext(name)[1].lower().lstrip('.')
     if form not in ('svg', 'png'):
         sys.exit('%s: a picture ends in .svg or .png' % name)
+    if not os.path.isdir(os.path.dirname(name) or '.'):
+        sys.exit('%s: no such folder' % os.path.dirname(name))
     return form
 
 
@@ -55,18 +57,27 @@ def shortened(svg):
     return re.sub(r'\n+', '\n', svg)
 
 
+def write(data, name):
+    """The bytes of a picture, in its file."""
+    try:
+        with open(name, 'wb') as file:
+            file.write(data)
+    except OSError as fault:
+        sys.exit('%s: %s' % (name, fault.strerror))
+
+
 def write_svg(svg, name):
-    with open(name, 'w', encoding='utf-8') as file:
-        file.write(shortened(svg))
+    write(shortened(svg).encode(), name)
 
 
 def save(figure, name):
+    drawn = io.BytesIO()
     if form_of(name) == 'png':
-        figure.savefig(name, format='png', dpi=110, bbox_inches='tight')
+        figure.savefig(drawn, format='png', dpi=110, bbox_inches='tight')
+        write(drawn.getvalue(), name)
         return
-    text = io.StringIO()
-    figure.savefig(text, format='svg', bbox_inches='tight', metadata={'Date': None})
-    write_svg(text.getvalue(), name)
+    figure.savefig(drawn, format='svg', bbox_inches='tight', metadata={'Date': None})
+    write_svg(drawn.getvalue().decode(), name)
 
 
 def colour(number):

@@ -84,6 +84,24 @@ def rows(name):
             sys.exit('%s: neither CSV nor printed answers' % name)
 
 
+def key_places(query):
+    """The places in a query's rows of the keys of its join or its last reduce, where its rows have them."""
+    reduces = [operator.keys for operator in query.branches[0] if operator.kind == 'reduce']
+    keys = query.join_keys or (reduces[-1] if reduces else [])
+    return [place for place, (name, _, _) in enumerate(query.columns[:-1]) if name in keys]
+
+
+def places_of(queries):
+    """The same for each query, by its name."""
+    return {query.name: key_places(query) for query in queries}
+
+
+def keyed(row, places=None):
+    """A row's key, by its places or else all columns before the number, and its number: the last column, where it has more than one."""
+    front, number = (row[:-1], int(row[-1])) if len(row) > 1 and row[-1].isdigit() else (row, None)
+    return ' '.join([row[place] for place in places or () if place < len(row)] or front), number
+
+
 def greatest_first(some):
     """Rows by their last column, where that is a number, the greatest first."""
     return sorted(some, key=lambda row: -int(row[-1]) if row and row[-1].isdigit() else 0)

@@ -137,9 +137,10 @@ def read_answers(name):
 def findings(rows, count, queries):
     """What was answered, key by key: query, level, key, first and last window, how many, the greatest number, its window, and a line of digits over time."""
     found, width, order = collections.defaultdict(Finding), columns_of(count), {query.name: place for place, query in enumerate(queries)}
+    places = printed.places_of(queries)
     for window, query, level, row in rows:
-        number = int(row[-1]) if len(row) > 1 and row[-1].isdigit() else 1
-        found[order.get(query, 0), level, ' '.join(row[:-1] if len(row) > 1 else row)].add(window, number, width)
+        key, number = printed.keyed(row, places.get(query))
+        found[order.get(query, 0), level, key].add(window, 1 if number is None else number, width)
     best = sorted(found.items(), key=lambda item: (-item[1].windows, -item[1].greatest))
     lines = []
     for (query, level, key), one in best[:KEYS]:

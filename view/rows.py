@@ -6,7 +6,7 @@
 
 A line has window, query, level, and the row's columns by the names that the query gives them; without --queries they stand in a list `columns`. Addresses
 are text, and all else numbers. With --capture (or --first) it has the time at which the window begins, too. A query's own column of the name window,
-time, query or level stands behind a low line (`_level`). --greatest puts the rows of a window and query with the greatest last column first, and
+time, query or level stands after a low line (`_level`). --greatest puts the rows of a window and query with the greatest last column first, and
 --finest leaves out rows of levels but the finest that the query has in its answers. Needs nothing but Python."""
 
 import argparse

@@ -73,7 +73,7 @@ class Piece:
         return [(option, column) for option, column in self.chosen.items() if len(option[1]) > kind]
 
     def add_registers(self, kind):
-        """The registers of a distinct or reduce stand where its option is chosen, each in one stage, at the earliest behind the tables before it."""
+        """The registers of a distinct or reduce stand where its option is chosen, each in one stage, at the earliest after the tables before it."""
         switch, program = self.model.switch, self.model.program
         for size in dict.fromkeys(option[1][kind] for option, _ in self.with_more(kind)):
             some = [(option, column) for option, column in self.with_more(kind) if option[1][kind] == size]
@@ -93,24 +93,24 @@ class Piece:
         return self.stateful[1] - self.stateful[0] - 1 if (number + 1) % chain == 0 else 0
 
     def add_order(self):
-        """Each register stands behind the one before it and the tables between: not both at or behind a stage, and before the first one allowed then."""
+        """Each register stands after the one before it and the tables between: not both at or after a stage, and before the first one allowed then."""
         for number in sorted(self.places)[:-1]:
             gap, used = self.gap(number), [(-1, column) for _, column in self.with_more(number // self.model.switch.chain)]
             for stage in self.places[number]:
-                behind = [(1, column) for other, some in self.places[number].items() if other >= stage for column in some]
+                after = [(1, column) for other, some in self.places[number].items() if other >= stage for column in some]
                 early = [(1, column) for other, some in self.places[number + 1].items() if other <= stage + gap for column in some]
                 if early:
-                    self.model.program.row(behind + early + used, -len(used), 0)
+                    self.model.program.row(after + early + used, -len(used), 0)
 
     def add_end(self):
-        """The tables behind the last register find stages."""
+        """The tables after the last register find stages."""
         switch = self.model.switch
         for kind in range(len(self.places) // switch.chain):
             last = [(option[0] - self.stateful[kind] - 1, column) for option, column in self.chosen.items() if len(option[1]) == kind + 1]
             used = [(-1, column) for _, column in self.with_more(kind)]
-            for behind in range(1, max([behind for behind, _ in last] + [0]) + 1):
-                late = [(1, column) for stage, some in self.places[(kind + 1) * switch.chain - 1].items() if stage > switch.stages - 1 - behind for column in some]
-                self.model.program.row(late + [(1, column) for more, column in last if more >= behind] + used, -len(used), 0)
+            for after in range(1, max([after for after, _ in last] + [0]) + 1):
+                late = [(1, column) for stage, some in self.places[(kind + 1) * switch.chain - 1].items() if stage > switch.stages - 1 - after for column in some]
+                self.model.program.row(late + [(1, column) for more, column in last if more >= after] + used, -len(used), 0)
 
     def plan_piece(self, ones):
         """The piece that a solution says."""

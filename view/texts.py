@@ -40,7 +40,7 @@ def read_switch(name):
 
 
 def read_plan(name):
-    """The entries of a plan. What `plan` prints behind it isn't looked at."""
+    """The entries of a plan. What `plan` prints after it isn't looked at."""
     return accepted(name, plans.parse)
 
 

@@ -1,13 +1,13 @@
 #!/usr/bin/env python3
 """Says which thresholds a quiet capture suggests: for each column that the filters at the end of a query ask, the quantiles of its values over all rows and
-windows, as numbers to write behind `>`.
+windows, as numbers to write after `>`.
 
     thresholds.py QUERIES CAPTURE
     thresholds.py QUERIES CAPTURE --quantiles 0.9 0.99 0.999 1
     thresholds.py QUERIES CAPTURE --level 24
 
-`sonata plain` answers each query without the filters behind its last reduce, map, distinct or join, so that every row is there. `filter n > 36` behind
-the quantile 1 says that no row of this capture has more than 36. --level asks refined queries at a coarser level, for the constants behind `at`; without
+`sonata plain` answers each query without the filters after its last reduce, map, distinct or join, so that every row is there. `filter n > 36` after
+the quantile 1 says that no row of this capture has more than 36. --level asks refined queries at a coarser level, for the constants after `at`; without
 it they are asked at the finest. Needs nothing but Python and the program."""
 
 import argparse

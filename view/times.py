@@ -45,7 +45,7 @@ class Clock:
         self.window = given.window_us or window_of(given.queries)
         self.local = given.local
 
-    def at(self, number):
+    def at(self, number, parts='microseconds'):
         """The time at which a window begins, as text with its zone."""
         time = EPOCH + datetime.timedelta(microseconds=self.first + number * self.window)
-        return (time.astimezone() if self.local else time).isoformat(sep=' ', timespec='microseconds')
+        return (time.astimezone() if self.local else time).isoformat(sep=' ', timespec=parts)

@@ -71,7 +71,7 @@ def broken_limit(partial):
             continue
         query = partial.costs.queries[q]
         if partial.is_past_end(query, piece):
-            return 'the tables of %s reach behind the last stage' % texts.piece_name(query, piece)
+            return 'the tables of %s reach past the last stage' % texts.piece_name(query, piece)
         whole = plans.Piece(piece.level, piece.branch, piece.option[0], piece.option[1], piece.stages + [-1] * 8)
         registers += [one for one in plans.registers_of(switch, query, whole) if one[0] >= 0]
         metadata += plans.metadata_of(query, whole)
@@ -101,7 +101,7 @@ def built(queries, switch, nodes):
             sys.exit('the nodes are no tree over the plans of this switch and these queries')
         above.children.append(node)
     if next(listing, None):
-        sys.exit('nodes stand behind the tree')
+        sys.exit('nodes stand after the tree')
     return root.children[0]
 
 
@@ -293,8 +293,7 @@ def main():
     if form == 'svg':
         pictures.write_svg(made.decode(), given.output)
     else:
-        with open(given.output, 'wb') as file:
-            file.write(made)
+        pictures.write(made, given.output)
     return 0
 
 
