@@ -70,13 +70,14 @@ def draw_query(part, rows, keys, number, width, bordered):
     """A square for each key and so many windows in which it was answered; darker is more."""
     squares = greatest_numbers(rows, set(keys), width)
     least, greatest = min(squares.values()), max(squares.values())
-    bars = {}
+    # Many windows make squares too thin for the lightest colours.
+    bars, lightest = {}, 0 if width == 1 else 2
     for (key, square), value in sorted(squares.items()):
         share = (value - least) / (greatest - least) if greatest > least else 1
-        bars.setdefault((key, round(6 * share)), []).append((square * width - 0.5, width))
+        bars.setdefault((key, lightest + round((6 - lightest) * share)), []).append((square * width - 0.5, width))
     for (key, step), spans in bars.items():
         part.broken_barh(spans, (keys.index(key) - 0.4, 0.8), facecolors=[pictures.shade(number, step, 7)], edgecolors='white', linewidth=0.3 if bordered else 0)
-    write_shades(part, [(least, 0), (greatest, 6)] if greatest > least else [(greatest, 6)], number)
+    write_shades(part, [(least, lightest), (greatest, 6)] if greatest > least else [(greatest, 6)], number)
 
 
 def write_shades(part, shades, number):
