@@ -24,19 +24,30 @@ def blocks(name):
     if not told:
         sys.exit('%s: no name of a part' % name)
     first, kept = (int(number) for number in told.groups())
-    found, whole = [], False
-    with open(name) as file:
-        for line in file:
-            words = line.split()
-            if words[0] == 'window':
-                found.append((first + int(words[1]), int(words[3]) if len(words) > 2 else None, []))
-            elif words[0] == 'total':
-                whole = True
-            elif words[0] != 'capture':
-                found[-1][2].append(line)
+    try:
+        with open(name) as file:
+            found, whole = read(file, first)
+    except OSError as fault:
+        sys.exit('%s: %s' % (name, fault.strerror))
+    except (IndexError, ValueError):
+        sys.exit('%s: no printed answers' % name)
     if not whole:
         raise NotWhole(name)
     return [block for block in found if block[0] >= kept]
+
+
+def read(file, first):
+    """The windows of a part, and whether its total stands at the end."""
+    found, whole = [], False
+    for line in file:
+        words = line.split()
+        if words[0] == 'window':
+            found.append((first + int(words[1]), int(words[3]) if len(words) > 2 else None, []))
+        elif words[0] == 'total':
+            whole = True
+        elif words[0] != 'capture':
+            found[-1][2].append(line)
+    return found, whole
 
 
 def main():

@@ -27,8 +27,11 @@ def read(plan, name):
     """The rows that a switch sent, as a frame of pandas, on a worker."""
     import pandas
     names = frames.names_of(plan)
-    with open(name, 'rb') as file:
-        rows = [(*frames.named(names, lane)[:2], window, *columns[:2]) for window, lane, kind, _, columns in frames.rows(frames.frames(file)) if kind != 'end']
+    try:
+        with open(name, 'rb') as file:
+            rows = [(*frames.named(names, lane)[:2], window, *columns[:2]) for window, lane, kind, _, columns in frames.rows(frames.frames(file)) if kind != 'end']
+    except frames.Spoilt as fault:
+        raise frames.Spoilt('%s: %s' % (name, fault.args[0]), fault.args[1])
     return pandas.DataFrame(rows, columns=list(COLUMNS)).astype(COLUMNS)
 
 
@@ -63,7 +66,11 @@ def main():
     parts = [client.submit(read, os.path.abspath(given.plan), os.path.abspath(name), pure=False) for name in given.reports]
     rows = dask.dataframe.from_delayed(parts, meta=empty)
     shuffled = rows.shuffle(on=['query', 'level', 'w'], npartitions=max(2, len(given.reports)), shuffle='tasks')
-    found = shuffled.map_partitions(rest, meta=empty).compute()
+    try:
+        found = shuffled.map_partitions(rest, meta=empty).compute()
+    except frames.Spoilt as fault:
+        cluster.end(client)
+        sys.exit('%s, frame at byte %s' % fault.args)
     for w, query, key, value in sorted((row.w, row.query, row.key, row.value) for row in found.itertuples()):
         print('%d %s %s %d' % (w, query, dotted(key), value))
     cluster.end(client)
