@@ -100,8 +100,8 @@ def sent_svg(plan, windows, counts, query, count):
                 steps.append('M%d %.1fh.9v-%.1fh-.9z' % (x, 62 - base, height))
                 below[x] += number
         parts.append('<path d="%s" fill="%s"/>' % (''.join(steps), hexed(pictures.shade(query, place, len(path)))))
-    legend = ' '.join('<span class="level"><i style="background:%s"></i>/%d %s</span>' % (
-        hexed(pictures.shade(query, place, len(path))), level, format(sum(sums[place]), ',')) for place, level in enumerate(path))
+    legend = ' '.join('<span class="level"><i style="background:%s"></i>%s%s</span>' % (
+        hexed(pictures.shade(query, place, len(path))), '/%d ' % level if level else '', format(sum(sums[place]), ',')) for place, level in enumerate(path))
     return '<figure><figcaption><b style="color:%s">%s</b> %s, at most %s a column</figcaption><svg viewBox="0 0 %d 63" preserveAspectRatio="none" role="img" ' \
         'aria-label="tuples of %s over windows"><path d="M0 62.5h%d" stroke="#999" stroke-width=".5"/>%s</svg></figure>' % (
             pictures.colour(query), html.escape(plan[query].name), legend, format(max(tops + [0]), ','), len(tops), html.escape(plan[query].name), len(tops), ''.join(parts))
