@@ -1,6 +1,8 @@
 """What the scripts on Dask share: a scheduler and workers as processes of this machine on loopback, or a scheduler that runs elsewhere."""
 
+import atexit
 import sys
+import tempfile
 
 PACKAGE = 'Needs Dask: on Debian `apt-get install python3-distributed python3-pandas`, and the distribution\'s own /usr/bin/python3.'
 
@@ -26,7 +28,11 @@ def client(given):
             sys.exit('%s: %s' % (given.scheduler, fault))
     if given.workers < 1:
         sys.exit('--workers is at least 1')
-    cluster = distributed.LocalCluster(n_workers=given.workers, threads_per_worker=1, processes=True, host='127.0.0.1', dashboard_address=None, silence_logs=50)
+    # A folder of their own: in the usual one they would tell of what workers left there that were killed.
+    folder = tempfile.TemporaryDirectory(prefix='sonata-dask-')
+    atexit.register(folder.cleanup)
+    cluster = distributed.LocalCluster(n_workers=given.workers, threads_per_worker=1, processes=True, host='127.0.0.1', dashboard_address=None, silence_logs=50,
+                                       local_directory=folder.name)
     return distributed.Client(cluster)
 
 
