@@ -1,5 +1,5 @@
 -- Small lemmas on tests, filters and lists that the crates above share.
-use Rattle.std.proofs.Common.{◌≡◌, ℕ, ◌+◌, List, [], ◌∷◌, ◌++◌, map, filter, take, slice_get, Bool, true, false, not, ◌||◌, ◌&&◌, cond, nat_eq, Option, None, Some, is_some, is_none, unwrap_or, IfSome, refl, ap, sym, ◌∙◌, subst, eq-eqb, append-nil, append_assoc}
+use Rattle.std.proofs.Common.{◌≡◌, ℕ, ◌+◌, List, [], ◌∷◌, ◌++◌, map, filter, length, take, zero, suc, ◌<◌, ◌≤◌, slice_get, slice_index, Bool, true, false, not, ◌||◌, ◌&&◌, cond, nat_eq, Option, None, Some, is_some, is_none, unwrap_or, IfSome, refl, ap, sym, ◌∙◌, subst, eq-eqb, append-nil, append_assoc, arith}
 use Rattle.std.specs.List.{list_any, find, AllByRecursion}
 use Rattle.std.proofs.lemmas.Bool.{false≢true, eqb-true}
 use Rattle.std.proofs.lemmas.List.{take_more, map-append}
@@ -246,3 +246,64 @@ find_some t (y ∷ ys) x among passes =
     (λ isnt. ap (λ b. is_some (cond b (Some y) (find t ys))) isnt ∙ find_some t ys x (by_test (nat_eq x y)
     (λ same. absurd (false≢true (sym isnt ∙ ap t (sym (nat_same x y same)) ∙ passes)))
     (λ other. sym (ap (λ b. b || list_any (nat_eq x) ys) other) ∙ among)) passes)
+
+-- ---- filters that agree
+
+pub filter_same : {X : Type 0} (f g : X → Bool) → ((x : X) → f x ≡ g x) → (xs : List X) → filter f xs ≡ filter g xs
+filter_same f g same [] = refl
+filter_same f g same (x ∷ xs) = rw (same x, filter_same f g same xs) refl
+
+pub filter_keeps : {X : Type 0} (t : X → Bool) (xs : List X) → AllByRecursion (λ x. t x ≡ true) xs → filter t xs ≡ xs
+filter_keeps t [] h = refl
+filter_keeps t (x ∷ xs) h = ap (λ b. cond b (x ∷ filter t xs) (filter t xs)) h.0 ∙ ap (λ ys. x ∷ ys) (filter_keeps t xs h.1)
+
+pub filter_short : {X : Type 0} (t : X → Bool) (xs : List X) → length (filter t xs) ≤ length xs
+filter_short t [] = omega arith
+filter_short t (x ∷ xs) =
+    let rest = filter_short t xs in
+    (elim (t x) as (λ b. length (cond b (x ∷ filter t xs) (filter t xs)) ≤ suc (length xs)) [ true ↦ omega (arith, rest) | false ↦ omega (arith, rest) ])
+
+pub none_all : {X : Type 0} (t : X → Bool) (xs : List X) → list_any t xs ≡ false → AllByRecursion (λ x. t x ≡ false) xs
+none_all t [] e = tt
+none_all t (x ∷ xs) e = let parts = or_none (t x) (list_any t xs) e in (parts.0, none_all t xs parts.1)
+
+pub map_front : {X Y : Type 0} (f : X → Y) (n : ℕ) (xs : List X) → map f (take n xs) ≡ take n (map f xs)
+map_front f zero xs = refl
+map_front f (suc n) [] = refl
+map_front f (suc n) (x ∷ xs) = ap (λ ys. f x ∷ ys) (map_front f n xs)
+
+-- ---- facts on each item
+
+pub all_of : {X : Type 0} (P : X → Type 0) → ((x : X) → P x) → (xs : List X) → AllByRecursion P xs
+all_of P h [] = tt
+all_of P h (x ∷ xs) = (h x, all_of P h xs)
+
+pub all_two : {X : Type 0} (P Q R : X → Type 0) → ((x : X) → P x → Q x → R x) → (xs : List X) → AllByRecursion P xs → AllByRecursion Q xs → AllByRecursion R xs
+all_two P Q R f [] h k = tt
+all_two P Q R f (x ∷ xs) h k = (f x h.0 k.0, all_two P Q R f xs h.1 k.1)
+
+pub all_both : {X : Type 0} (P Q : X → Type 0) (xs : List X) → AllByRecursion P xs → AllByRecursion Q xs → AllByRecursion (λ x. P x × Q x) xs
+all_both P Q [] h k = tt
+all_both P Q (x ∷ xs) h k = ((h.0, k.0), all_both P Q xs h.1 k.1)
+
+pub all_unmap : {X Y : Type 0} (P : Y → Type 0) (f : X → Y) (xs : List X) → AllByRecursion P (map f xs) → AllByRecursion (λ x. P (f x)) xs
+all_unmap P f [] h = tt
+all_unmap P f (x ∷ xs) h = (h.0, all_unmap P f xs h.1)
+
+pub all_front : {X : Type 0} (P : X → Type 0) (xs ys : List X) → AllByRecursion P (xs ++ ys) → AllByRecursion P xs
+all_front P [] ys h = tt
+all_front P (x ∷ xs) ys h = (h.0, all_front P xs ys h.1)
+
+pub all_rest : {X : Type 0} (P : X → Type 0) (xs ys : List X) → AllByRecursion P (xs ++ ys) → AllByRecursion P ys
+all_rest P [] ys h = h
+all_rest P (x ∷ xs) ys h = all_rest P xs ys h.1
+
+pub all_at : (P : ℕ → Type 0) (ns : List ℕ) (i : ℕ) → AllByRecursion P ns → i < length ns → P (slice_index ns i)
+all_at P [] i h lt = absurd (omega (arith, lt))
+all_at P (n ∷ ns) zero h lt = h.0
+all_at P (n ∷ ns) (suc i) h lt = all_at P ns i h.1 (omega (arith, lt))
+
+pub index_within : {X : Type 0} (xs : List X) (i : ℕ) (x : X) → slice_get xs i ≡ Some x → i < length xs
+index_within [] i x e = absurd (none_some e)
+index_within (y ∷ ys) zero x e = omega arith
+index_within (y ∷ ys) (suc i) x e = let rest = index_within ys i x e in omega (arith, rest)

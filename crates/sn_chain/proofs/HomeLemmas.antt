@@ -9,7 +9,7 @@ use Rattle.std.proofs.lemmas.Bool.{false≢true, le-leb, lt-leb, or_parts}
 use Rattle.sn_base.specs.Bags.{SameBag}
 use Rattle.sn_base.specs.Bags.SameBag.{stays, behind, turned, joined}
 use Rattle.sn_base.specs.Groups.{Row, Apart, same_row}
-use Rattle.sn_base.proofs.Lists.{by_test, by_pushes, map_both, not_true, nat_same, nat_self}
+use Rattle.sn_base.proofs.Lists.{by_test, by_pushes, map_both, not_true, nat_same, nat_self, none_all}
 use Rattle.sn_base.proofs.BagLemmas.{all_bag, bag_map, bag_any, bag_back}
 use Rattle.sn_base.proofs.FoldedLemmas.{same_row_exact}
 use Rattle.sn_chain.specs.Residence.{free_place, seated_at, seated, residents}
@@ -18,6 +18,7 @@ use Rattle.sn_chain.specs.Chain.{places_of, homes_of, has_home}
 use Rattle.sn_chain.specs.Homes.{put_by_place, by_place, homes_by_place, held_in_order}
 use Rattle.sn_chain.proofs.ResidenceLemmas.{seats, offered, residents_push, residents_keep, free_own, free_empty}
 use Rattle.sn_chain.proofs.Places.{within_cells}
+use Rattle.sn_base.proofs.Tests.{nat_above}
 
 -- ---- the order by places keeps the bag
 
@@ -47,9 +48,6 @@ AreApart n (h ∷ hs) = (h.0 < n) × ((lookup (nat_eq h.0) hs ≡ None) × AreAp
 abbrev met : {K : Type 0} → ℕ → Option K → List (ℕ × K) → List (ℕ × K)
 met a o rest = cons_option (option_map (λ k. (a, k)) o) rest
 
-not_same : (a p : ℕ) → p < a → nat_eq a p ≡ false
-not_same a p below = not_true (nat_eq a p) (λ is. let same : a ≡ p = nat_same a p is in absurd (omega arith))
-
 walk_none : {K : Type 0} (a n : ℕ) → walk {K = K} a n [] ≡ []
 walk_none a zero = refl
 walk_none a (suc n) = walk_none (a + 1) n
@@ -58,7 +56,7 @@ walk_none a (suc n) = walk_none (a + 1) n
 walk_behind : {K : Type 0} (p : ℕ) (k : K) (a n : ℕ) (hs : List (ℕ × K)) → p < a → walk a n ((p, k) ∷ hs) ≡ walk a n hs
 walk_behind p k a zero hs below = refl
 walk_behind p k a (suc n) hs below =
-    ap (λ b. met a (cond b (Some k) (lookup (nat_eq a) hs)) (walk (a + 1) n ((p, k) ∷ hs))) (not_same a p below)
+    ap (λ b. met a (cond b (Some k) (lookup (nat_eq a) hs)) (walk (a + 1) n ((p, k) ∷ hs))) (nat_above a p below)
     ∙ ap (λ rest. met a (lookup (nat_eq a) hs) rest) (walk_behind p k (a + 1) n hs (omega arith))
 
 -- and its key goes before all that are met
@@ -122,10 +120,6 @@ cells_walk {K = K} {X = X} f hs (c ∷ cells) a shown =
     by_first (Some k) = refl
 
 -- ---- residents
-
-none_all : {K : Type 0} (t : K → Bool) (ks : List K) → list_any t ks ≡ false → AllByRecursion (λ x. t x ≡ false) ks
-none_all t [] e = tt
-none_all t (x ∷ xs) e = let parts = or_parts (t x) (list_any t xs) e in (parts.0, none_all t xs parts.1)
 
 apart_bagged : {K : Type 0} {same : K → K → Bool} → IsEquivalence same → (xs ys : List K) → SameBag xs ys → Apart same xs → Apart same ys
 apart_bagged E _ _ (stays xs) h = h

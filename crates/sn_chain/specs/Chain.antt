@@ -47,7 +47,8 @@ pub record ChainState (F : Type 0) : Type 0 where
 
 abbrev pub chain_code : {F : Type 0} → Coded F → Coded (ChainState F)
 chain_code {F = F} code =
-    code_by (F × (ℕ × (ℕ × List (Option (Row × ℕ))))) (coded× code (coded× coded_ℕ (coded× coded_ℕ (coded_list (coded_option (coded× (coded_list coded_ℕ) coded_ℕ))))))
+    code_by (F × (ℕ × (ℕ × List (Option (Row × ℕ)))))
+    (coded× code (coded× coded_ℕ (coded× coded_ℕ (coded_list (coded_option (coded× (coded_list coded_ℕ) coded_ℕ))))))
     (λ c. (c.fold, (c.depth, (c.slots, c.cells)))) (λ t. record { fold = t.0; depth = t.1.0; slots = t.1.1.0; cells = t.1.1.1 }) (λ _. refl)
 
 -- a chain that holds nothing

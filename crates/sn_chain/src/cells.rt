@@ -1,5 +1,6 @@
 //! The cells of a chain, as they lie in memory.
-ghost use Rattle.std.specs.Prelude.{◌≡◌, ◌<◌, ◌≤◌, ◌-◌, ◌+◌, ◌++◌, length, map, replicate, take, drop, slice_set, slice_index_or, is_none, None, Some, IfOk, if◌then◌else◌};
+ghost use Rattle.std.specs.Prelude.{◌≡◌, ◌<◌, ◌≤◌, ◌-◌, ◌+◌, ◌++◌, length, map, replicate, take, drop, slice_set, slice_index_or, is_none, None, Some, IfOk};
+ghost use Rattle.std.specs.Prelude.{if◌then◌else◌};
 ghost use Rattle.sn_base.specs.Groups.{same_row};
 ghost use Rattle.sn_chain.specs.Cells.{all_shown_by, forgotten, untaken, with_value};
 ghost use Rattle.sn_chain.specs.Registers.{cell, holds};

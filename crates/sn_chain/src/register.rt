@@ -54,7 +54,8 @@ pub(crate) fn look(
     requires most { slots ≤ 65536 }
     requires cells { length cells.now ≡ depth * slots }
     requires known { ForSome known (λ at. AreSlots depth slots key.now at.now) }
-    ensures found { result ≡ found_at (held_place same_row (all_shown_by round cells.now) (places_of depth slots key.now) key.now) (empty_place (all_shown_by round cells.now) (places_of depth slots key.now)) }
+    ensures found { result ≡ found_at (held_place same_row (all_shown_by round cells.now) (places_of depth slots key.now) key.now)
+        (empty_place (all_shown_by round cells.now) (places_of depth slots key.now)) }
     ensures within { IsWithin result (length cells.now) }
 {
     let mut empty = None;

@@ -5,7 +5,7 @@ use Rattle.std.specs.String.{string_bytes}
 use Rattle.std.specs.declared.alloc.Global.{Global}
 use Rattle.std.proofs.lemmas.Bool.{le-ltb, ltb-false}
 use Rattle.std.proofs.lemmas.List.{length-take-le}
-use Rattle.sn_base.proofs.Lists.{by_test}
+use Rattle.sn_base.proofs.Lists.{by_test, none_is as is_free}
 use Rattle.sn_cli.specs.declared.command.Command.{Command}
 use Rattle.sn_cli.specs.declared.command.Command.TheVariants as commands
 use Rattle.sn_cli.specs.declared.options.Options.{Options}
@@ -13,7 +13,8 @@ use Rattle.sn_cli.specs.Words.{texts}
 use Rattle.sn_cli.specs.Grammar.{no_options, Line, Numbered, Spells}
 use Rattle.sn_cli.specs.Reading.{same, is_flag, flag_of, numbered_of, options_from, all_file_words, line_of, lone_number, bare_of, plan_of, run_of, live_of, command_with, command_of}
 use Rattle.sn_cli.proofs.NumberLemmas.{and_left, and_right, none_some, some_same, taken, passed, number_is, is_number}
-use Rattle.sn_cli.proofs.OptionLemmas.{flag_step, options_found, options_are_said, is_free, is_false, word_is}
+use Rattle.sn_cli.proofs.OptionLemmas.{flag_step, options_found, options_are_said, word_is}
+use Rattle.sn_base.proofs.Tests.{not_to_false as is_false}
 
 -- what was found after a step
 record Behind {A B : Type 0} (f : A → Option B) (from : Option A) (to : B) : Type 0 where

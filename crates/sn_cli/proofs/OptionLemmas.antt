@@ -2,12 +2,13 @@
 use Rattle.std.proofs.Common.{◌≡◌, ◌⊎◌, ℕ, List, [], ◌∷◌, Bool, true, false, not, cond, ◌&&◌, ◌||◌, Option, Some, None, inl, inr, refl, ap, sym, ◌∙◌, subst}
 use Rattle.std.specs.Prelude.{is_none, option_and_then, option_map, codes}
 use Rattle.std.specs.Cmp.Lexicographic.{bytes_decides}
-use Rattle.sn_base.proofs.Lists.{by_test}
+use Rattle.sn_base.proofs.Lists.{by_test, none_is, or_false}
 use Rattle.sn_cli.specs.declared.options.Options.{Options}
 use Rattle.sn_cli.specs.Words.{IsNumber}
 use Rattle.sn_cli.specs.Grammar.{no_options, AreOptions, none, nodes, schedule, csv, trace}
 use Rattle.sn_cli.specs.Reading.{same, number_of, is_flag, flag_of, with_nodes, with_schedule, numbered_of, options_from}
-use Rattle.sn_cli.proofs.NumberLemmas.{and_left, and_right, never_both, none_some, some_same, passed, number_is, is_number}
+use Rattle.sn_cli.proofs.NumberLemmas.{and_left, and_right, none_some, some_same, passed, number_is, is_number}
+use Rattle.sn_base.proofs.Tests.{not_to_false, and_never as never_both}
 
 -- no option is in both
 record Apart (a b : Options) : Type 0 where
@@ -32,10 +33,6 @@ options_are a b e f g h = made a.nodes b.nodes a.schedule b.schedule a.csv b.csv
 or_else_none : {A : Type 0} (a : Option A) → or_else a None ≡ a
 or_else_none None = refl
 or_else_none (Some a) = refl
-
-or_false : (b : Bool) → (b || false) ≡ b
-or_false true = refl
-or_false false = refl
 
 both_none : (given : Options) → both given no_options ≡ given
 both_none given = options_are (both given no_options) given (or_else_none given.nodes) (or_else_none given.schedule) (or_false given.csv) (or_false given.trace)
@@ -155,21 +152,13 @@ trace_more words given all free f = record {
 pub word_is : (word other : List ℕ) → same word other ≡ true → word ≡ other
 word_is word other is = (bytes_decides word other).0 is
 
-pub is_false : (b : Bool) → not b ≡ true → b ≡ false
-is_false true e = sym e
-is_false false e = refl
-
-pub is_free : {A : Type 0} (o : Option A) → is_none o ≡ true → o ≡ None
-is_free None e = refl
-is_free (Some a) e = absurd (let no = e in cc)
-
 module _ (word : List ℕ) (words : List (List ℕ)) (given all : Options) (rest : (more : Options) → options_from more words ≡ Some all → Found words more all) where
   flag_case : option_and_then (λ more. options_from more words) (flag_of word given) ≡ Some all → Found (word ∷ words) given all
   flag_case e =
       by_test (same word (codes "--csv") && not given.csv)
       (λ is.
       let first : word ≡ codes "--csv" = word_is word (codes "--csv") (and_left (same word (codes "--csv")) (not given.csv) is) in
-      let free : given.csv ≡ false = is_false given.csv (and_right (same word (codes "--csv")) (not given.csv) is) in
+      let free : given.csv ≡ false = not_to_false given.csv (and_right (same word (codes "--csv")) (not given.csv) is) in
       let more : options_from (with_csv given) words ≡ Some all =
       sym (ap (λ b. option_and_then (λ more. options_from more words) (cond b (Some (with_csv given)) (cond (same word (codes "--trace") && not given.trace) (Some (with_trace given)) None))) is) ∙ e in
       subst (λ (w : List ℕ). Found (w ∷ words) given all) (sym first) (csv_more words given all free (rest (with_csv given) more)))
@@ -179,7 +168,7 @@ module _ (word : List ℕ) (words : List (List ℕ)) (given all : Options) (rest
       by_test (same word (codes "--trace") && not given.trace)
       (λ is.
       let first : word ≡ codes "--trace" = word_is word (codes "--trace") (and_left (same word (codes "--trace")) (not given.trace) is) in
-      let free : given.trace ≡ false = is_false given.trace (and_right (same word (codes "--trace")) (not given.trace) is) in
+      let free : given.trace ≡ false = not_to_false given.trace (and_right (same word (codes "--trace")) (not given.trace) is) in
       let more : options_from (with_trace given) words ≡ Some all = sym (ap (λ b. option_and_then (λ more. options_from more words) (cond b (Some (with_trace given)) None)) is) ∙ next in
       subst (λ (w : List ℕ). Found (w ∷ words) given all) (sym first) (trace_more words given all free (rest (with_trace given) more)))
       (λ none. absurd (none_some (sym (ap (λ b. option_and_then (λ more. options_from more words) (cond b (Some (with_trace given)) None)) none) ∙ next))))
@@ -202,14 +191,14 @@ module _ (word : List ℕ) (words : List (List ℕ)) (given all : Options) (rest
         by_test (same first (codes "--nodes") && is_none given.nodes)
         (λ is.
         let is_nodes : first ≡ codes "--nodes" = word_is first (codes "--nodes") (and_left (same first (codes "--nodes")) (is_none given.nodes) is) in
-        let free : given.nodes ≡ None = is_free given.nodes (and_right (same first (codes "--nodes")) (is_none given.nodes) is) in
+        let free : given.nodes ≡ None = none_is given.nodes (and_right (same first (codes "--nodes")) (is_none given.nodes) is) in
         subst (λ (w : List ℕ). Found (w ∷ word ∷ words) given all) (sym is_nodes) (nodes_found (number_of 1 1000000 word) refl free (sym (ap (λ b. K (cond b A (cond (same first (codes "--schedule") && is_none given.schedule) B None))) is) ∙ e)))
         (λ isnt.
         let next : K (cond (same first (codes "--schedule") && is_none given.schedule) B None) ≡ Some all = sym (ap (λ b. K (cond b A (cond (same first (codes "--schedule") && is_none given.schedule) B None))) isnt) ∙ e in
         by_test (same first (codes "--schedule") && is_none given.schedule)
         (λ is.
         let is_schedule : first ≡ codes "--schedule" = word_is first (codes "--schedule") (and_left (same first (codes "--schedule")) (is_none given.schedule) is) in
-        let free : given.schedule ≡ None = is_free given.schedule (and_right (same first (codes "--schedule")) (is_none given.schedule) is) in
+        let free : given.schedule ≡ None = none_is given.schedule (and_right (same first (codes "--schedule")) (is_none given.schedule) is) in
         subst (λ (w : List ℕ). Found (w ∷ word ∷ words) given all) (sym is_schedule) (schedule_found (number_of 0 4294967295 word) refl free (sym (ap (λ b. K (cond b B None)) is) ∙ next)))
         (λ none. absurd (none_some (sym (ap (λ b. K (cond b B None)) none) ∙ next))))
 

@@ -16,13 +16,16 @@ pub data AreOptions : List (List ℕ) → Options → Type 0 where
   -- no words
   none : AreOptions [] no_options
   -- `--nodes N` before options without it, N from 1 to 1000000
-  nodes : (word : List ℕ) (number : ℕ) (words : List (List ℕ)) (rest : Options) → IsNumber 1 1000000 word number → rest.nodes ≡ None → AreOptions words rest → AreOptions (codes "--nodes" ∷ word ∷ words) (record rest { nodes = Some number })
+  nodes : (word : List ℕ) (number : ℕ) (words : List (List ℕ)) (rest : Options) → IsNumber 1 1000000 word number → rest.nodes ≡ None → AreOptions words rest
+      → AreOptions (codes "--nodes" ∷ word ∷ words) (record rest { nodes = Some number })
   -- `--schedule K` before options without it, K from 0 to 4294967295
-  schedule : (word : List ℕ) (number : ℕ) (words : List (List ℕ)) (rest : Options) → IsNumber 0 4294967295 word number → rest.schedule ≡ None → AreOptions words rest → AreOptions (codes "--schedule" ∷ word ∷ words) (record rest { schedule = Some number })
+  schedule : (word : List ℕ) (number : ℕ) (words : List (List ℕ)) (rest : Options) → IsNumber 0 4294967295 word number → rest.schedule ≡ None
+      → AreOptions words rest → AreOptions (codes "--schedule" ∷ word ∷ words) (record rest { schedule = Some number })
   -- `--csv` before options without it
   csv : (words : List (List ℕ)) (rest : Options) → rest.csv ≡ false → AreOptions words rest → AreOptions (codes "--csv" ∷ words) (record rest { csv = true })
   -- `--trace` before options without it
-  trace : (words : List (List ℕ)) (rest : Options) → rest.trace ≡ false → AreOptions words rest → AreOptions (codes "--trace" ∷ words) (record rest { trace = true })
+  trace : (words : List (List ℕ)) (rest : Options) → rest.trace ≡ false → AreOptions words rest
+      → AreOptions (codes "--trace" ∷ words) (record rest { trace = true })
 
 -- a command word, this many file words, and after all of them the options that say this
 pub record Line (command : List ℕ) (files : ℕ) (options : Options) (words : List (List ℕ)) : Type 0 where
@@ -45,7 +48,8 @@ abbrev pub Spells : List (List ℕ) → Command → Type 0
 -- `plain QUERIES CAPTURE`
 Spells words commands.Plain = Line (codes "plain") 2 no_options words
 -- `plan SWITCH QUERIES TRAIN [--nodes N]`
-Spells words (commands.Plan most) = (given : Option ℕ) × Line (codes "plan") 3 (record { nodes = given; schedule = None; csv = false; trace = false }) words × (most ≡ unwrap_or given 100000)
+Spells words (commands.Plan most) = (given : Option ℕ) × Line (codes "plan") 3 (record { nodes = given; schedule = None; csv = false; trace = false }) words
+    × (most ≡ unwrap_or given 100000)
 -- `run SWITCH QUERIES PLAN CAPTURE [--csv]`
 Spells words (commands.Run table) = Line (codes "run") 4 (record { nodes = None; schedule = None; csv = table; trace = false }) words
 -- `emit SWITCH QUERIES PLAN CAPTURE`
@@ -55,7 +59,9 @@ Spells words commands.Finish = Line (codes "finish") 3 no_options words
 -- `check SWITCH QUERIES TRAIN PLANTREE`
 Spells words commands.Check = Line (codes "check") 4 no_options words
 -- `live SWITCH QUERIES TRAIN CAPTURE [--nodes N] [--schedule K] [--trace]`
-Spells words (commands.Live most turn events) = (given chosen : Option ℕ) × Line (codes "live") 4 (record { nodes = given; schedule = chosen; csv = false; trace = events }) words × (most ≡ unwrap_or given 100000) × (turn ≡ unwrap_or chosen 0)
+Spells words (commands.Live most turn events) =
+    (given chosen : Option ℕ) × Line (codes "live") 4 (record { nodes = given; schedule = chosen; csv = false; trace = events }) words
+    × (most ≡ unwrap_or given 100000) × (turn ≡ unwrap_or chosen 0)
 -- `gen NUMBER`
 Spells words (commands.Gen number) = Numbered (codes "gen") number words
 -- `job NUMBER`

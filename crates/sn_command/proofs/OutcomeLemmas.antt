@@ -7,10 +7,7 @@ use Rattle.std.proofs.lemmas.List.{take_all, take-append-le}
 use Rattle.sn_command.specs.declared.refusal.Refusal.{Refusal}
 use Rattle.sn_command.specs.Refusals.{is_chance}
 use Rattle.sn_command.specs.Outcomes.{Outcome, silent, WentOutFront, Keeps}
-
-pub told_twice : (told : Option (List ℕ)) (xs ys : List ℕ) → append_known (append_known told xs) ys ≡ append_known told (xs ++ ys)
-told_twice None xs ys = refl
-told_twice (Some out) xs ys = ap (λ zs. Some zs) (append_assoc out xs ys)
+use Rattle.sn_io.proofs.Told.{append_known-append}
 
 pub told_none : (told : Option (List ℕ)) → told ≡ append_known told []
 told_none None = refl
@@ -33,7 +30,7 @@ pub front_behind : (first text : List ℕ) (before now later : Option (List ℕ)
 front_behind first text before now later told (k, within, e) = (
   length first + k,
   rw length-append (omega arith),
-  e ∙ ap (λ t. append_known t (take k text)) told ∙ told_twice before first (take k text) ∙ ap (append_known before) (sym (take-append-add first text k)),
+  e ∙ ap (λ t. append_known t (take k text)) told ∙ append_known-append before first (take k text) ∙ ap (append_known before) (sym (take-append-add first text k)),
 )
 
 -- a text after one that went out
@@ -41,7 +38,7 @@ pub behind_text : {A : Type 0} (first : List ℕ) (o : Outcome A) (answer : Resu
 behind_text first o answer before now later told k = record {
   front = front_behind first o.text before now later told k.front;
   ends = k.ends;
-  whole = λ e. k.whole e ∙ ap (λ t. append_known t o.text) told ∙ told_twice before first o.text;
+  whole = λ e. k.whole e ∙ ap (λ t. append_known t o.text) told ∙ append_known-append before first o.text;
 }
 
 -- the end is the one that is due, and all of the text went out

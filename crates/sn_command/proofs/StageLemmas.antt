@@ -19,7 +19,7 @@ use Rattle.sn_command.proofs.WorldLemmas.{follows_self, follows_then, any_earlie
 err_ok : {A : Type 0} {r : Refusal} {a : A} {G : Type 0} → ◌≡◌ {A = Result A Refusal} (Err r) (Ok a) → G
 err_ok e = absurd cc
 
-err_err : {A B : Type 0} {r s : Refusal} → ◌≡◌ {A = Result A Refusal} (Err r) (Err s) → ◌≡◌ {A = Result B Refusal} (Err r) (Err s)
+pub err_err : {A B : Type 0} {r s : Refusal} → ◌≡◌ {A = Result A Refusal} (Err r) (Err s) → ◌≡◌ {A = Result B Refusal} (Err r) (Err s)
 err_err e = cc
 
 module _ {A B : Type 0} (first : Stage A) (second : A → Stage B) (files : ByName (List ℕ)) (before now : Option (List ℕ)) where

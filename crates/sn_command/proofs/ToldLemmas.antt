@@ -9,8 +9,9 @@ use Rattle.sn_command.specs.declared.pieces.Piece.{Piece}
 use Rattle.std.proofs.Math.Seq.{drop-cons}
 use Rattle.std.proofs.lemmas.List.{drop_all}
 use Rattle.sn_command.specs.Ends.{IsTold}
-use Rattle.sn_command.proofs.OutcomeLemmas.{told_twice, told_none, front_longer, front_behind, all_front}
-use Rattle.sn_command.proofs.WorldLemmas.{rose_earlier}
+use Rattle.sn_command.proofs.OutcomeLemmas.{told_none, front_longer, front_behind, all_front}
+use Rattle.sn_io.proofs.Told.{append_known-append as told_twice}
+use Rattle.sn_io.proofs.CountLemmas.{rose_earlier}
 
 -- What is left of a line leads to the whole line.
 abbrev pub TellsOn : List ℕ → List ℕ → Sunk → Sunk → Type 0

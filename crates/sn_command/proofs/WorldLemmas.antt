@@ -4,6 +4,7 @@ use Rattle.std.specs.FinMap.{get}
 use Rattle.std.proofs.lemmas.Bool.{false≢true}
 use Rattle.sn_io.specs.Counts.{Rose, count_of}
 use Rattle.sn_command.specs.Worlds.{Files, World, AnyRose, AnyUnknown, IsNoneOf, Spares, OutRose, Follows}
+use Rattle.sn_io.proofs.CountLemmas.{rose_earlier}
 
 pub follows_self : (w : World) → Follows w w
 follows_self w = record { told = refl; known = λ name. refl; faults = λ name. omega arith; write_faults = omega arith; empty_takes = omega arith; places = refl }
@@ -17,10 +18,6 @@ follows_then a b c f g = record {
   empty_takes = let x = f.empty_takes in let y = g.empty_takes in omega arith;
   places = g.places ∙ f.places;
 }
-
-pub rose_earlier : (x y z : ℕ) → x ≤ y → Rose y z → Rose x z
-rose_earlier x y z le (inl rose) = inl (omega arith)
-rose_earlier x y z le (inr full) = inr full
 
 rose_later : (x y z : ℕ) → y ≤ z → Rose x y → Rose x z
 rose_later x y z le (inl rose) = inl (omega arith)

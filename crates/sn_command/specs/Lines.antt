@@ -84,9 +84,11 @@ fault_line (Head fault) = head_line fault
 fault_line (Cut at) = codes "sonata: capture Cut byte " ++ decimal at ++ 10 ∷ []
 fault_line (Bad at) = codes "sonata: capture Bad byte " ++ decimal at ++ 10 ∷ []
 fault_line (Plan fault) = codes "sonata: plan " ++ text_kind fault.kind ++ codes " line " ++ decimal fault.line ++ 10 ∷ []
-fault_line (Misfit misfit) = (codes "sonata: plan " ++ misfit_kind misfit.kind ++ codes " want ") ++ (decimal misfit.want ++ codes " got " ++ decimal misfit.got ++ 10 ∷ [])
+fault_line (Misfit misfit) = (codes "sonata: plan " ++ misfit_kind misfit.kind ++ codes " want ") ++
+    (decimal misfit.want ++ codes " got " ++ decimal misfit.got ++ 10 ∷ [])
 fault_line (Tree fault) = codes "sonata: tree " ++ text_kind fault.kind ++ codes " line " ++ decimal fault.line ++ 10 ∷ []
-fault_line (Unshown flaw) = (codes "sonata: tree " ++ tree_kind flaw.kind ++ codes " node " ++ decimal flaw.node ++ codes " want ") ++ (decimal flaw.want ++ codes " got " ++ decimal flaw.got ++ 10 ∷ [])
+fault_line (Unshown flaw) = (codes "sonata: tree " ++ tree_kind flaw.kind ++ codes " node " ++ decimal flaw.node ++ codes " want ") ++
+    (decimal flaw.want ++ codes " got " ++ decimal flaw.got ++ 10 ∷ [])
 fault_line (Budget spent) = codes "sonata: budget " ++ decimal spent.nodes ++ codes " bound " ++ decimal spent.bound ++ 10 ∷ []
 fault_line (Reports fault) = codes "sonata: reports " ++ report_kind fault.kind ++ codes " byte " ++ decimal fault.at ++ 10 ∷ []
 fault_line TooLarge = codes "sonata: too large\n"

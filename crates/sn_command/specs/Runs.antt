@@ -13,9 +13,11 @@ use Rattle.sn_command.specs.Outcomes.{Outcome, Stage, Keeps}
 
 -- A run of a stage that reads the files of these names, each when its turn comes. A command reads the queries first, and then
 -- the switch, if it reads one: of these two files this many stand at the front of the names, and the others were read before.
-pub record RunsFrom {A : Type 0} (unread : ℕ) (names : List (List ℕ)) (stage : Stage A) (before : World) (answer : Result A Refusal) (now : World) : Type 0 where
+pub record RunsFrom {A : Type 0} (unread : ℕ) (names : List (List ℕ)) (stage : Stage A) (before : World) (answer : Result A Refusal)
+    (now : World) : Type 0 where
   -- Over files whose contents are known, it is the run of each outcome of the stage.
-  pub keeps : (files : ByName (List ℕ)) → before.files.told ≡ Some files → (outcome : Outcome A) → stage files outcome → Keeps outcome answer before.out.written now.out.written
+  pub keeps : (files : ByName (List ℕ)) → before.files.told ≡ Some files → (outcome : Outcome A) → stage files outcome
+      → Keeps outcome answer before.out.written now.out.written
   -- A name is missing only where one of them isn't known.
   pub missing : answer ≡ Err Missing → AnyUnknown names before.files
   -- A read failed only where the count of one of them rose.
@@ -37,7 +39,8 @@ abbrev pub Runs : {A : Type 0} → List (List ℕ) → Stage A → World → Res
 Runs = RunsFrom 0
 
 -- A run that begins with the first of these files: it is missing where that one isn't known.
-pub record WorksFrom {A : Type 0} (unread : ℕ) (names : List (List ℕ)) (stage : Stage A) (before : World) (answer : Result A Refusal) (now : World) : Type 0 where
+pub record WorksFrom {A : Type 0} (unread : ℕ) (names : List (List ℕ)) (stage : Stage A) (before : World) (answer : Result A Refusal)
+    (now : World) : Type 0 where
   pub runs : RunsFrom unread names stage before answer now
   pub unknown : FirstUnknown names before.files → answer ≡ Err Missing
 

@@ -10,7 +10,8 @@ use Rattle.sn_command.specs.Outcomes.{HasOne}
 use Rattle.sn_command.specs.Stages.{HasVerdict}
 use Rattle.sn_command.proofs.OneLemmas.{one_does, one_judges, one_then}
 use Rattle.sn_command_capture.specs.Capture.{Whole, Found, RecordsIn, WindowsOf, LastLines, Answered}
-use Rattle.sn_command_capture.specs.Wording.{Window, Wording}
+use Rattle.sn_command_capture.specs.Wording.{Wording}
+use Rattle.sn_windows.specs.Rising.{Window}
 
 found_is : (a b : Found) → a.packets ≡ b.packets → a.ending ≡ b.ending → a ≡ b
 found_is a b e f = made a.packets b.packets a.ending b.ending e f

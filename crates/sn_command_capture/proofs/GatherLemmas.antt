@@ -7,7 +7,7 @@ use Rattle.std.proofs.lemmas.List.{map-append, length-map, take_all}
 use Rattle.std.proofs.lemmas.List.Elements.{filter-append}
 use Rattle.std.proofs.lemmas.Bool.{eq-eqb, eqb-true, eqb-false, ne_eqb, lt-ltb, le-ltb, ltb-false, leb-true, leb-false, false≢true}
 use borrow.Author.Tests.{ltb-true}
-use Rattle.sn_base.proofs.Lists.{by_test}
+use Rattle.sn_base.proofs.Lists.{by_test, or_right}
 use Rattle.sn_pcap.specs.declared.packet.Packet.{Packet}
 use Rattle.sn_pcap.specs.declared.packet.Ending.{Ending}
 use Rattle.sn_pcap.specs.declared.seen.Last.{Last}
@@ -21,11 +21,12 @@ use Rattle.sn_windows.specs.Numbering.{Numbering, next_first, next_number, next_
 use Rattle.sn_windows.specs.Blocks.{all_few, most_records}
 use Rattle.sn_windows.proofs.RunLemmas.{Rises, AtLeast}
 use Rattle.sn_windows.proofs.NumberLemmas.{numbered_is, numbers_rise, numbers_stay}
-use Rattle.sn_command_capture.specs.Wording.{AreRising, IsCausal, Window, Wording}
+use Rattle.sn_command_capture.specs.Wording.{IsCausal, Wording}
 use Rattle.sn_command_capture.specs.Capture.{last_from, last_number, before_last, blocks_in, ends_large, time_of, unfinished_in, windows_in, windows_outcome, windows_refused}
 use Rattle.sn_command_capture.specs.Gathering.{Gathering, begins, closing, closing_of, hand_text, joined, none_gathered, refused, taken, unfinished_of, with_hand}
 use Rattle.sn_command_capture.proofs.RisingLemmas.{rising_next, rising_other}
 use Rattle.sn_command_capture.proofs.WindowLemmas.{left_outcome, left_none, left_large, left_next, run_long, windows_more}
+use Rattle.sn_windows.specs.Rising.{AreRising, Window}
 
 -- ---- one run, and what stands after it
 
@@ -165,11 +166,6 @@ followed_by text (Err refusal) f = record { text = text; end = Err refusal }
 abbrev follow : {A B : Type 0} → Outcome A → (A → Outcome B) → Outcome B
 follow o f = followed_by o.text o.end f
 
--- the second one is enough
-either_true : (a b : Bool) → b ≡ true → (a || b) ≡ true
-either_true true b e = refl
-either_true false b e = e
-
 -- records are counted that have the number of the current window
 counted_here : (some same : Bool) (count : ℕ) → 4194304 ≤ cond (some && same) count 0 → (some ≡ true) × (same ≡ true) × (4194304 ≤ count)
 counted_here true true count h = (refl, refl, h)
@@ -274,7 +270,7 @@ module _ (wording : Wording) (shown : Packet → List ℕ)
       let kept : take most_records tuples ≡ map shown held = ap (take most_records) tuples_are ∙ ap (λ (k : ℕ). take k (map shown held ++ shown_rest)) most ∙ take-append_seam (map shown held) shown_rest in
       let others : List Window = windows_in shown (drop (first_run ys) ys) in
       ap (unfinished_in wording l closed) (windows_more shown (n, h) (at_hand n hs ++ more) rises_all)
-      ∙ ap (λ b. cond b (wording.unfinished closed n (take most_records tuples)) (unfinished_in wording l (closed ++ (n, tuples) ∷ []) others)) (either_true (ends_large l others) (nat_lt most_records (length tuples)) large)
+      ∙ ap (λ b. cond b (wording.unfinished closed n (take most_records tuples)) (unfinished_in wording l (closed ++ (n, tuples) ∷ []) others)) (or_right (ends_large l others) (nat_lt most_records (length tuples)) large)
       ∙ ap (wording.unfinished closed n) kept
 
   -- it is, since the capture has too many bytes

@@ -1,6 +1,6 @@
 -- Windows with rising numbers, over plain values.
 use Rattle.std.proofs.Common.{ℕ, ◌<◌, List, [], ◌∷◌, ◌++◌, Option, Some, None}
-use Rattle.sn_command_capture.specs.Wording.{AreRising, Window}
+use Rattle.sn_windows.specs.Rising.{AreRising, Window}
 
 -- windows after a window rise from it on
 pub rising_join : (before : Option ℕ) (closed : List Window) (number : ℕ) (tuples other : List (List ℕ)) (more : List Window) → AreRising before (closed ++ (number, tuples) ∷ []) → AreRising (Some number) more → AreRising before (closed ++ (number, other) ∷ more)

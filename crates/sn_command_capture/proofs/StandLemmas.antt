@@ -14,9 +14,10 @@ use Rattle.sn_windows.specs.Numbering.{Numbering, next_count, next_first, next_n
 use Rattle.sn_windows.specs.NumberingOf.{numbering}
 use Rattle.sn_command_capture.specs.declared.gathered.Gathered.{Gathered}
 use Rattle.sn_command_capture.specs.Gathering.{Gathering, after, hand_text, Stands, with_hand}
-use Rattle.sn_command_capture.specs.Wording.{AreRising, Window, Wording}
+use Rattle.sn_command_capture.specs.Wording.{Wording}
 use Rattle.sn_command_capture.proofs.RisingLemmas.{rising_next, rising_other}
 use Rattle.sn_command_capture.proofs.StreamLemmas.{after_here, after_next}
+use Rattle.sn_windows.specs.Rising.{AreRising, Window}
 
 -- what holds where all went well
 pub ok_weaker : {X Y : Type 0} (P Q : X → Type 0) (r : Result X Y) → ((x : X) → P x → Q x) → IfOk r P → IfOk r Q

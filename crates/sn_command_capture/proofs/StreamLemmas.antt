@@ -34,16 +34,17 @@ use Rattle.sn_command.specs.Runs.{Runs, Leads}
 use Rattle.sn_command.specs.Stages.{Does, Adds, Gives, GoesOn, named, Then}
 use Rattle.sn_command.specs.Worlds.{World, Sunk, AnyUnknown, AnyRose, Spares, Follows}
 use Rattle.sn_command.proofs.OutcomeLemmas.{silent_keeps, chance_keeps}
-use Rattle.sn_command.proofs.StageLemmas.{MayCome, runs_chance, runs_gives, runs_stops, runs_then, runs_earlier, text_stops, text_then}
+use Rattle.sn_command.proofs.StageLemmas.{MayCome, runs_chance, runs_gives, runs_stops, runs_then, runs_earlier, text_stops, text_then, err_err}
 use Rattle.sn_command.proofs.WorldLemmas.{follows_self, spares_none, spares_self}
 use Rattle.sn_windows.specs.Numbering.{next_number, next_count}
 use Rattle.sn_windows.specs.Windows.{numbered}
-use Rattle.sn_command_capture.specs.Wording.{IsCausal, Window, Wording}
+use Rattle.sn_command_capture.specs.Wording.{IsCausal, Wording}
 use Rattle.sn_command_capture.specs.Capture.{known_bytes, Whole, Head, Found, RecordsIn, packet_tuple, time_of, ending_verdict, windows_outcome, WindowsIn, WindowsOf}
 use Rattle.sn_command_capture.specs.Gathering.{Gathering, after, all_of, begins, closing, closing_of, hand_text, joined, none_gathered, refused, taken}
-use Rattle.sn_pcap.proofs.OneCapture.{below_or_not}
 use Rattle.sn_pcap.proofs.ToldLemmas.{at_told}
 use Rattle.sn_command_capture.proofs.GatherLemmas.{left_of, put_before, text_end, followed_by, gathered_all}
+use Rattle.sn_windows.specs.Rising.{Window}
+use Rattle.sn_base.proofs.Tests.{by_order as below_or_not}
 
 -- a run of a stage is one of another that allows no more over the files that are known
 pub runs_told : {A : Type 0} {names : List (List ℕ)} {from to : Stage A} {before now : World} {answer : Result A Refusal}
@@ -399,23 +400,19 @@ module _ {A : Type 0} (text : List ℕ) (before now : World) where
       subst (λ (bytes : List ℕ). Runs {A = A} [] (Does (record { text = bytes; end = Err (Refused faults.TooLarge) })) before (Err refusal) now) (append-nil text)
       (text_stops text (silent (Err (Refused faults.TooLarge))) r)
 
--- a refusal is one whatever value is wanted
-same_refusal : {A B : Type 0} {r s : Refusal} → ◌≡◌ {A = Result A Refusal} (Err r) (Err s) → ◌≡◌ {A = Result B Refusal} (Err r) (Err s)
-same_refusal e = cc
-
 pub refused_elsewhere : {A B : Type 0} {text : List ℕ} {due refusal : Refusal} {before now : World} → Runs [] (Does {A = A} (record { text = text; end = Err due })) before (Err refusal) now
     → Runs [] (Does {A = B} (record { text = text; end = Err due })) before (Err refusal) now
 refused_elsewhere {A} {B} {text} {due} {refusal} {before} {now} r = record {
   keeps = λ files told outcome is.
       let k : Keeps {A = A} (record { text = text; end = Err due }) (Err refusal) before.out.written now.out.written = r.keeps files told (record { text = text; end = Err due }) refl in
-      subst (λ (o : Outcome B). Keeps o (Err refusal) before.out.written now.out.written) (sym is) (record { front = k.front; ends = λ e. same_refusal (k.ends e); whole = k.whole });
-  missing = λ e. r.missing (same_refusal e);
-  read_fault = λ e. r.read_fault (same_refusal e);
-  write_fault = λ e. r.write_fault (same_refusal e);
-  words = λ e. r.words (same_refusal e);
+      subst (λ (o : Outcome B). Keeps o (Err refusal) before.out.written now.out.written) (sym is) (record { front = k.front; ends = λ e. err_err (k.ends e); whole = k.whole });
+  missing = λ e. r.missing (err_err e);
+  read_fault = λ e. r.read_fault (err_err e);
+  write_fault = λ e. r.write_fault (err_err e);
+  words = λ e. r.words (err_err e);
   others = r.others;
-  queries = λ fault e. r.queries fault (same_refusal e);
-  switch = λ fault e. r.switch fault (same_refusal e);
+  queries = λ fault e. r.queries fault (err_err e);
+  switch = λ fault e. r.switch fault (err_err e);
   follows = r.follows;
 }
 

@@ -23,11 +23,12 @@ use Rattle.sn_command.specs.Stages.{Does}
 use Rattle.sn_command.specs.Worlds.{Files, World, Spares, Follows}
 use Rattle.sn_command.proofs.FileLemmas.{none_other}
 use Rattle.sn_command.proofs.OutcomeLemmas.{chance_keeps}
-use Rattle.sn_command_capture.specs.Wording.{IsCausal, Window, Wording}
+use Rattle.sn_command_capture.specs.Wording.{IsCausal, Wording}
 use Rattle.sn_command_capture.specs.Capture.{WindowsOf}
 use Rattle.sn_command_capture.specs.declared.gathered.Gathered.{Gathered}
 use Rattle.sn_command_capture.specs.Gathering.{Gathering, none_gathered, refused, Stands, Stops, taken, closing}
 use Rattle.sn_command_capture.proofs.StreamLemmas.{LeftOver, refused_elsewhere, runs_told, read_follows, file_known, left_begin, packet_answer, end_answer, large_answer, left_packet, left_end, left_large, turn_goes, turn_stops, turn_ends}
+use Rattle.sn_windows.specs.Rising.{Window}
 
 if_all : (told : Option (List ℕ)) (P : List ℕ → Type 0) → ((file : List ℕ) → P file) → IfSome told P
 if_all None P all = tt

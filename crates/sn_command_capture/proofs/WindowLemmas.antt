@@ -13,8 +13,9 @@ use Rattle.sn_windows.specs.Windows.{in_window, record_at, windows_of, run_of, f
 use Rattle.sn_windows.specs.Blocks.{most_records, is_few, all_few, blocks}
 use Rattle.sn_windows.proofs.RunLemmas.{Above, Rises, blocks_step, drop_rises, few_here, few_step, once_above, run_above, run_is, run_isnt, windows_step}
 use Rattle.sn_command_capture.specs.Capture.{block_in, window_in, windows_in}
-use Rattle.sn_command_capture.specs.Wording.{AreRising, IsAbove, Window, Wording}
+use Rattle.sn_command_capture.specs.Wording.{Wording}
 use Rattle.sn_command_capture.proofs.RisingLemmas.{rising_join}
+use Rattle.sn_windows.specs.Rising.{AreRising, IsAbove, Window}
 
 run_within : (w : ℕ) (ps : List (ℕ × Packet)) → run_of w ps ≤ length ps
 run_within w [] = omega arith

@@ -1,6 +1,7 @@
 -- to be believed
 -- The stages of an answered capture.
-use Rattle.std.specs.Prelude.{◌≡◌, ℕ, nat_lt, List, [], ◌∷◌, ◌++◌, Bool, true, false, ◌||◌, length, take, map, filter, Result, Ok, Err, Option, Some, None, if◌then◌else◌}
+use Rattle.std.specs.Prelude.{◌≡◌, ℕ, nat_lt, List, [], ◌∷◌, ◌++◌, Bool, true, false, ◌||◌, length, take, map, filter, Result, Ok, Err, Option, Some, None}
+use Rattle.std.specs.Prelude.{if◌then◌else◌}
 use Rattle.std.specs.FinMap.{get}
 use Rattle.sn_base.specs.declared.link.Link.{Link}
 use Rattle.sn_fields.specs.Tuples.{tuple}
@@ -22,7 +23,8 @@ use Rattle.sn_command.specs.Outcomes.{Outcome, silent, Stage}
 use Rattle.sn_command.specs.Stages.{Does, Adds, Gives, Judges, named, Then}
 use Rattle.sn_windows.specs.Windows.{in_window, numbered, windows_of}
 use Rattle.sn_windows.specs.Blocks.{blocks, all_few, most_records}
-use Rattle.sn_command_capture.specs.Wording.{Window, Wording}
+use Rattle.sn_command_capture.specs.Wording.{Wording}
+use Rattle.sn_windows.specs.Rising.{Window}
 
 -- the refusal of a capture that can't be read on
 abbrev pub read_refusal : ReadError → Refusal
@@ -101,7 +103,8 @@ ends_large last.TooLarge (w ∷ ws) = false
 abbrev pub unfinished_in : Wording → Last → List Window → List Window → List ℕ
 unfinished_in wording end closed [] = []
 unfinished_in wording end closed (w ∷ ws) =
-    if ends_large end ws || nat_lt most_records (length w.1) then wording.unfinished closed w.0 (take most_records w.1) else unfinished_in wording end (closed ++ w ∷ []) ws
+    if ends_large end ws || nat_lt most_records (length w.1) then wording.unfinished closed w.0 (take most_records w.1)
+    else unfinished_in wording end (closed ++ w ∷ []) ws
 
 -- a capture with these windows is refused, after these blocks
 abbrev pub windows_refused : Wording → Last → List ℕ → List Window → Outcome (List Window × Ending)
@@ -113,7 +116,8 @@ abbrev pub windows_outcome : Wording → (Packet → List ℕ) → List (ℕ × 
 windows_outcome wording shown packets (last.Ended ending) =
     if all_few packets then record { text = blocks_in wording shown packets; end = Ok (windows_in shown packets, ending) }
     else windows_refused wording (last.Ended ending) (blocks_in wording shown packets) (windows_in shown packets)
-windows_outcome wording shown packets last.TooLarge = windows_refused wording last.TooLarge (blocks_in wording shown (before_last packets)) (windows_in shown packets)
+windows_outcome wording shown packets last.TooLarge =
+    windows_refused wording last.TooLarge (blocks_in wording shown (before_last packets)) (windows_in shown packets)
 
 -- the windows of a capture's first 2^40 bytes, each of this many nanoseconds
 abbrev pub WindowsIn : Wording → ℕ → Header → List ℕ → Stage (List Window × Ending)

@@ -14,8 +14,9 @@ use Rattle.sn_command.specs.Worlds.{World}
 use Rattle.sn_windows.specs.Numbering.{Numbering, begun, next_number, next_count, stepped}
 use Rattle.sn_windows.specs.NumberingOf.{numbering}
 use Rattle.sn_command_capture.specs.Capture.{read_refusal}
-use Rattle.sn_command_capture.specs.Wording.{AreRising, Window, Wording}
+use Rattle.sn_command_capture.specs.Wording.{Wording}
 use Rattle.sn_command_capture.specs.declared.gathered.Gathered.{Gathered}
+use Rattle.sn_windows.specs.Rising.{AreRising, Window}
 
 -- the numbering of the windows, the tuples of the current one, and the windows that were closed
 pub record Gathering : Type 0 where
@@ -72,7 +73,8 @@ taken wording g time tuple =
 -- The records end: the block of the current window goes out, if there is one.
 abbrev pub closing_of : Wording → ℕ → List Window → Ending → List (List ℕ) → Outcome (List Window × Ending)
 closing_of wording number closed ending [] = silent (Ok (closed, ending))
-closing_of wording number closed ending (t ∷ ts) = record { text = wording.block (closed ++ (number, t ∷ ts) ∷ []) number (t ∷ ts); end = Ok (closed ++ (number, t ∷ ts) ∷ [], ending) }
+closing_of wording number closed ending (t ∷ ts) =
+    record { text = wording.block (closed ++ (number, t ∷ ts) ∷ []) number (t ∷ ts); end = Ok (closed ++ (number, t ∷ ts) ∷ [], ending) }
 
 abbrev pub closing : Wording → Gathering → Ending → Outcome (List Window × Ending)
 closing wording g ending = closing_of wording g.numbering.number g.closed ending g.tuples
@@ -98,5 +100,6 @@ pub record Stands (hand : List Window → ℕ → List (List ℕ) → Type 0) (k
 -- A capture that can't be read on is refused. Where it has too many bytes, what stands of the current window went out before;
 -- else nothing did.
 abbrev pub Stops : (List Window → ℕ → List (List ℕ) → Type 0) → Wording → Gathered → ReadError → World → Refusal → World → Type 0
-Stops hand wording kept errors.TooLarge before refusal now = (g : Gathering) → Stands hand kept g → Runs [] (Does (refused {A = Gathering} wording g)) before (Err refusal) now
+Stops hand wording kept errors.TooLarge before refusal now = (g : Gathering) → Stands hand kept g
+    → Runs [] (Does (refused {A = Gathering} wording g)) before (Err refusal) now
 Stops hand wording kept error before refusal now = (refusal ≡ read_refusal error) × (now ≡ before)

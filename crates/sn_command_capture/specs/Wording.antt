@@ -2,20 +2,7 @@
 -- How the windows of a capture are answered.
 use Rattle.std.specs.Prelude.{◌≡◌, ◌⊎◌, ℕ, ◌<◌, List, [], ◌∷◌, ◌++◌, length, Option, None, Some}
 use Rattle.sn_pcap.specs.declared.packet.Ending.{Ending}
-
--- a window: its number, and its tuples in capture order
-abbrev pub Window : Type 0
-Window = ℕ × List (List ℕ)
-
--- a number is above the one before it, if there is one
-abbrev pub IsAbove : Option ℕ → ℕ → Type 0
-IsAbove None number = Unit {0}
-IsAbove (Some before) number = before < number
-
--- the numbers of windows rise
-abbrev pub AreRising : Option ℕ → List Window → Type 0
-AreRising before [] = Unit {0}
-AreRising before (w ∷ ws) = IsAbove before w.0 × AreRising (Some w.0) ws
+use Rattle.sn_windows.specs.Rising.{AreRising, Window}
 
 -- What stands before the blocks of a capture; the block of a window with this number and these tuples, in a capture that has
 -- these windows; what stands of the window with this number after the blocks of these windows, where the capture is refused

@@ -1,6 +1,7 @@
 //! A way of answering the windows of a capture.
 ghost use Rattle.std.specs.Prelude.{◌≡◌, ◌<◌, ℕ, List, [], ◌∷◌, ◌++◌, length, None, IfOk, OnOk};
-ghost use Rattle.sn_command_capture.specs.Wording.{AreRising, Closed, Holds, HoldsSome, IsCausal, Window, Wording};
+ghost use Rattle.sn_command_capture.specs.Wording.{Closed, Holds, HoldsSome, IsCausal, Wording};
+ghost use Rattle.sn_windows.specs.Rising.{AreRising, Window};
 
 use sn_base::memory::Memory;
 use sn_base::seq::Seq;
@@ -28,33 +29,40 @@ pub trait Answering {
     /// Takes the next tuple of the current window, which has this number.
     fn packet(&mut self, number: u64, tuple: &Tuple) -> Result<(), Memory>
         requires { Holds (hand self.old) number }
-        ensures given { OnOk result ((closed : List Window) (tuples : List (List ℕ)) → hand self.old closed number tuples → hand self.new closed number (tuples ++ tuple.now ∷ [])) }
+        ensures given { OnOk result ((closed : List Window) (tuples : List (List ℕ)) → hand self.old closed number tuples →
+            hand self.new closed number (tuples ++ tuple.now ∷ [])) }
         ensures wording { OnOk result (wording self.new ≡ wording self.old) };
 
     /// Takes the first tuple of a later window. Closes the current window, and gives its block.
     fn pass(&mut self, at_hand: u64, number: u64, tuple: &Tuple) -> Result<Seq<u8>, Memory>
         requires hand { HoldsSome (hand self.old) at_hand }
         requires above { at_hand < number }
-        ensures text { IfOk result (λ text. (closed : List Window) (tuples : List (List ℕ)) → 0 < length tuples → hand self.old closed at_hand tuples → text ≡ (wording self.old).block (closed ++ (at_hand, tuples) ∷ []) at_hand tuples) }
-        ensures begun { OnOk result ((closed : List Window) (tuples : List (List ℕ)) → 0 < length tuples → hand self.old closed at_hand tuples → AreRising None ((closed ++ (at_hand, tuples) ∷ []) ++ (number, []) ∷ []) →
+        ensures text { IfOk result (λ text. (closed : List Window) (tuples : List (List ℕ)) → 0 < length tuples → hand self.old closed at_hand tuples →
+            text ≡ (wording self.old).block (closed ++ (at_hand, tuples) ∷ []) at_hand tuples) }
+        ensures begun { OnOk result ((closed : List Window) (tuples : List (List ℕ)) → 0 < length tuples → hand self.old closed at_hand tuples →
+            AreRising None ((closed ++ (at_hand, tuples) ∷ []) ++ (number, []) ∷ []) →
             hand self.new (closed ++ (at_hand, tuples) ∷ []) number (tuple.now ∷ [])) }
         ensures wording { OnOk result (wording self.new ≡ wording self.old) };
 
     /// Closes the current window, which is the last one, and gives its block.
     fn close(&mut self, number: u64) -> Result<Seq<u8>, Memory>
         requires { HoldsSome (hand self.old) number }
-        ensures text { IfOk result (λ text. (closed : List Window) (tuples : List (List ℕ)) → 0 < length tuples → hand self.old closed number tuples → text ≡ (wording self.old).block (closed ++ (number, tuples) ∷ []) number tuples) }
-        ensures closed { OnOk result ((closed : List Window) (tuples : List (List ℕ)) → 0 < length tuples → hand self.old closed number tuples → idle self.new (closed ++ (number, tuples) ∷ [])) }
+        ensures text { IfOk result (λ text. (closed : List Window) (tuples : List (List ℕ)) → 0 < length tuples → hand self.old closed number tuples →
+            text ≡ (wording self.old).block (closed ++ (number, tuples) ∷ []) number tuples) }
+        ensures closed { OnOk result ((closed : List Window) (tuples : List (List ℕ)) → 0 < length tuples → hand self.old closed number tuples →
+            idle self.new (closed ++ (number, tuples) ∷ [])) }
         ensures wording { OnOk result (wording self.new ≡ wording self.old) };
 
     /// What stands of the current window, which has this number, where the capture is refused there.
     fn unfinished(&self, number: u64) -> Result<Seq<u8>, Memory>
         requires { Holds (hand self.now) number }
-        ensures { IfOk result (λ text. (closed : List Window) (tuples : List (List ℕ)) → hand self.now closed number tuples → text ≡ (wording self.now).unfinished closed number tuples) };
+        ensures { IfOk result (λ text. (closed : List Window) (tuples : List (List ℕ)) → hand self.now closed number tuples →
+            text ≡ (wording self.now).unfinished closed number tuples) };
 
     /// What stands after the blocks of all windows, of which there were this many, where the records end so.
     fn last(&self, windows: u64, ending: Ending) -> Result<Seq<u8>, Memory>
-        ensures { IfOk result (λ text. (closed : List Window) → Closed (idle self.now) (hand self.now) closed → windows ≡ length closed → text ≡ (wording self.now).last closed ending) };
+        ensures { IfOk result (λ text. (closed : List Window) → Closed (idle self.now) (hand self.now) closed → windows ≡ length closed →
+            text ≡ (wording self.now).last closed ending) };
 
     /// The block of a window depends on no later one.
     ghost causal: { (a : Self) → IsCausal (wording a) };

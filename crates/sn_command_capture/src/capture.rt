@@ -4,12 +4,13 @@ ghost use Rattle.std.specs.Prelude.{◌≡◌, ◌<◌, ◌≤◌, ◌+◌, ◌^
 ghost use Rattle.std.specs.FinMap.{get};
 ghost use Rattle.sn_command_capture.specs.Capture.{Head, WindowsOf, ending_verdict, LastLines, AfterHead, Answered};
 ghost use Rattle.sn_command_capture.specs.Gathering.{Gathering, after, all_closed, closing, refused, Stands, Stops, taken, unfinished_text};
-ghost use Rattle.sn_command_capture.specs.Wording.{AreRising, Closed, HoldsSome, Window};
+ghost use Rattle.sn_command_capture.specs.Wording.{Closed, HoldsSome};
 ghost use Rattle.sn_fields.specs.Tuples.{tuple};
 ghost use Rattle.sn_command.specs.Desks.{world};
 ghost use Rattle.sn_command.specs.Refusals.{refusing, seen_as};
 ghost use Rattle.sn_command.specs.Runs.{Runs};
 ghost use Rattle.sn_command.specs.Stages.{Does, Adds};
+ghost use Rattle.sn_windows.specs.Rising.{AreRising, Window};
 
 use crate::answering::Answering;
 use crate::gathered::Gathered;
@@ -37,8 +38,10 @@ fn write_window<A: Answering, I: Inputs, O: Sink>(
 ) -> Result<(), Refusal>
     requires { HoldsSome (A.hand answering.old) number }
     ensures runs { (closed : List Window) (tuples : List (List ℕ)) → 0 < length tuples → A.hand answering.old closed number tuples →
-        Runs [] (Adds ((A.wording answering.old).block (closed ++ (number, tuples) ∷ []) number tuples)) (world I.Inputs O.Sink desk.old) result (world I.Inputs O.Sink desk.new) }
-    ensures closed { OnOk result ((closed : List Window) (tuples : List (List ℕ)) → 0 < length tuples → A.hand answering.old closed number tuples → A.idle answering.new (closed ++ (number, tuples) ∷ [])) }
+        Runs [] (Adds ((A.wording answering.old).block (closed ++ (number, tuples) ∷ []) number tuples)) (world I.Inputs O.Sink desk.old) result
+        (world I.Inputs O.Sink desk.new) }
+    ensures closed { OnOk result ((closed : List Window) (tuples : List (List ℕ)) → 0 < length tuples → A.hand answering.old closed number tuples →
+        A.idle answering.new (closed ++ (number, tuples) ∷ [])) }
     ensures wording { OnOk result (A.wording answering.new ≡ A.wording answering.old) }
 {
     let text = answering.close(number)?;
@@ -56,8 +59,10 @@ fn next_window<A: Answering, I: Inputs, O: Sink>(
     requires hand { HoldsSome (A.hand answering.old) at_hand }
     requires above { at_hand < number }
     ensures runs { (closed : List Window) (tuples : List (List ℕ)) → 0 < length tuples → A.hand answering.old closed at_hand tuples →
-        Runs [] (Adds ((A.wording answering.old).block (closed ++ (at_hand, tuples) ∷ []) at_hand tuples)) (world I.Inputs O.Sink desk.old) result (world I.Inputs O.Sink desk.new) }
-    ensures begun { OnOk result ((closed : List Window) (tuples : List (List ℕ)) → 0 < length tuples → A.hand answering.old closed at_hand tuples → AreRising None ((closed ++ (at_hand, tuples) ∷ []) ++ (number, []) ∷ []) →
+        Runs [] (Adds ((A.wording answering.old).block (closed ++ (at_hand, tuples) ∷ []) at_hand tuples)) (world I.Inputs O.Sink desk.old) result
+        (world I.Inputs O.Sink desk.new) }
+    ensures begun { OnOk result ((closed : List Window) (tuples : List (List ℕ)) → 0 < length tuples → A.hand answering.old closed at_hand tuples →
+        AreRising None ((closed ++ (at_hand, tuples) ∷ []) ++ (number, []) ∷ []) →
         A.hand answering.new (closed ++ (at_hand, tuples) ∷ []) number (tuple.now ∷ [])) }
     ensures wording { OnOk result (A.wording answering.new ≡ A.wording answering.old) }
 {
@@ -72,7 +77,8 @@ fn write_unfinished<A: Answering, I: Inputs, O: Sink>(
     desk: &mut Desk<'_, I, O>,
 ) -> Result<(), Refusal>
     requires { (g : Gathering) × Stands (A.hand answering.now) gathered g }
-    ensures { (g : Gathering) → Stands (A.hand answering.now) gathered g → Runs [] (Adds (unfinished_text (A.wording answering.now) g)) (world I.Inputs O.Sink desk.old) result (world I.Inputs O.Sink desk.new) }
+    ensures { (g : Gathering) → Stands (A.hand answering.now) gathered g →
+        Runs [] (Adds (unfinished_text (A.wording answering.now) g)) (world I.Inputs O.Sink desk.old) result (world I.Inputs O.Sink desk.new) }
 {
     if !gathered.some {
         return Ok(());
@@ -109,8 +115,10 @@ fn take_packet<A: Answering, I: Inputs, O: Sink>(
     requires room { gathered.closed < 2 ^ 63 }
     requires stands { (g : Gathering) × Stands (A.hand answering.old) gathered g }
     ensures runs { (g : Gathering) → Stands (A.hand answering.old) gathered g → let shown = tuple link seen.now.wire (take seen.now.len seen.now.front) in
-        Runs [] (Does (taken (A.wording answering.old) g seen.now.time shown)) (world I.Inputs O.Sink desk.old) (seen_as (λ _. after g seen.now.time shown) result) (world I.Inputs O.Sink desk.new) }
-    ensures stands { IfOk result (λ later. (g : Gathering) → Stands (A.hand answering.old) gathered g → Stands (A.hand answering.new) later (after g seen.now.time (tuple link seen.now.wire (take seen.now.len seen.now.front)))) }
+        Runs [] (Does (taken (A.wording answering.old) g seen.now.time shown)) (world I.Inputs O.Sink desk.old)
+        (seen_as (λ _. after g seen.now.time shown) result) (world I.Inputs O.Sink desk.new) }
+    ensures stands { IfOk result (λ later. (g : Gathering) → Stands (A.hand answering.old) gathered g →
+        Stands (A.hand answering.new) later (after g seen.now.time (tuple link seen.now.wire (take seen.now.len seen.now.front)))) }
     ensures closed { IfOk result (λ later. later.closed ≤ gathered.closed + 1) }
     ensures wording { OnOk result (A.wording answering.new ≡ A.wording answering.old) }
 {
@@ -148,8 +156,10 @@ fn close_last<A: Answering, I: Inputs, O: Sink>(
     requires room { gathered.closed < 2 ^ 63 }
     requires stands { (g : Gathering) × Stands (A.hand answering.old) gathered g }
     ensures runs { (g : Gathering) → Stands (A.hand answering.old) gathered g →
-        Runs [] (Does (closing (A.wording answering.old) g ending)) (world I.Inputs O.Sink desk.old) (seen_as (λ _. (all_closed g, ending)) result) (world I.Inputs O.Sink desk.new) }
-    ensures closed { IfOk result (λ found. (g : Gathering) → Stands (A.hand answering.old) gathered g → (found.0 ≡ length (all_closed g)) × (found.1 ≡ ending) × Closed (A.idle answering.new) (A.hand answering.new) (all_closed g)) }
+        Runs [] (Does (closing (A.wording answering.old) g ending)) (world I.Inputs O.Sink desk.old) (seen_as (λ _. (all_closed g, ending)) result)
+        (world I.Inputs O.Sink desk.new) }
+    ensures closed { IfOk result (λ found. (g : Gathering) → Stands (A.hand answering.old) gathered g →
+        (found.0 ≡ length (all_closed g)) × (found.1 ≡ ending) × Closed (A.idle answering.new) (A.hand answering.new) (all_closed g)) }
     ensures wording { OnOk result (A.wording answering.new ≡ A.wording answering.old) }
 {
     if !gathered.some {
@@ -190,7 +200,8 @@ fn write_windows<A: Answering, I: Inputs, O: Sink>(
     requires known { is_some (get (world I.Inputs O.Sink desk.old).files.faults capture.now) ≡ true }
     requires window { 1 ≤ window_ns }
     requires begun { A.hand answering.old [] 0 [] }
-    ensures runs { (windows : List Window) × Runs (capture.now ∷ []) (WindowsOf (A.wording answering.old) window_ns capture.now header.now) (world I.Inputs O.Sink desk.old) (seen_as (λ found. (windows, found.1)) result) (world I.Inputs O.Sink desk.new)
+    ensures runs { (windows : List Window) × Runs (capture.now ∷ []) (WindowsOf (A.wording answering.old) window_ns capture.now header.now)
+        (world I.Inputs O.Sink desk.old) (seen_as (λ found. (windows, found.1)) result) (world I.Inputs O.Sink desk.new)
         × IfOk result (λ found. (found.0 ≡ length windows) × Closed (A.idle answering.new) (A.hand answering.new) windows) }
     ensures wording { OnOk result (A.wording answering.new ≡ A.wording answering.old) }
 {
@@ -277,7 +288,8 @@ fn answer_records<A: Answering, I: Inputs, O: Sink>(
     requires known { is_some (get (world I.Inputs O.Sink desk.old).files.faults capture.now) ≡ true }
     requires window { 1 ≤ window_ns }
     requires begun { A.hand answering.old [] 0 [] }
-    ensures { Runs (capture.now ∷ []) (AfterHead (A.wording answering.old) window_ns capture.now header.now) (world I.Inputs O.Sink desk.old) result (world I.Inputs O.Sink desk.new) }
+    ensures { Runs (capture.now ∷ []) (AfterHead (A.wording answering.old) window_ns capture.now header.now) (world I.Inputs O.Sink desk.old) result
+        (world I.Inputs O.Sink desk.new) }
 {
     write_first_lines(answering, desk)?;
     let (windows, ending) = write_windows(alloc, window_ns, header, capture, answering, desk)?;
@@ -294,7 +306,8 @@ pub fn answer_capture<A: Answering, I: Inputs, O: Sink>(
 ) -> Result<(), Refusal>
     requires window { 1 ≤ window_ns }
     requires begun { A.hand answering.old [] 0 [] }
-    ensures { Runs (capture.now ∷ []) (Answered (A.wording answering.old) window_ns capture.now) (world I.Inputs O.Sink desk.old) result (world I.Inputs O.Sink desk.new) }
+    ensures { Runs (capture.now ∷ []) (Answered (A.wording answering.old) window_ns capture.now) (world I.Inputs O.Sink desk.old) result
+        (world I.Inputs O.Sink desk.new) }
 {
     let header = read_header(capture, desk)?;
     answer_records(alloc, window_ns, &header, capture, answering, desk)

@@ -10,7 +10,7 @@ use Rattle.sn_plan_grammar.specs.declared.plan.Plan.{Plan}
 use Rattle.sn_cost_laws.proofs.Priced.{counted_alike}
 use Rattle.sn_cost_laws.specs.Priced.{AreCounted}
 use Rattle.sn_cost_laws.specs.Space.{trained_plans}
-use Rattle.sn_refine.specs.Steps.{Given}
+use Rattle.sn_windows.specs.Rising.{Window}
 use Rattle.sn_tree_space.specs.declared.node.Node.{Node}
 use Rattle.sn_tree_space.specs.Space.{IsPlan, Space}
 use Rattle.sn_switch.specs.declared.switch.Switch.{Switch}
@@ -27,7 +27,7 @@ module _ (s : Switch) (queries : List TypedQuery) (table : CostTable) where
   counted_of numbers found tuples seen e f counted =
       subst (λ (ns : List ℕ). AreCounted s queries (trained ns tuples) (entry_in table)) e (subst (λ (ts : List (List ℕ)). AreCounted s queries (trained found ts) (entry_in table)) f counted)
 
-  pub answers_same : (given : List Given) (plan : Plan) (space : Space) (list choices : List ℕ) (cost : ℕ) (found nodes : List Node) (r : Result (Unit {0}) TreeFault) → AreCounted s queries given (entry_in table)
+  pub answers_same : (given : List Window) (plan : Plan) (space : Space) (list choices : List ℕ) (cost : ℕ) (found nodes : List Node) (r : Result (Unit {0}) TreeFault) → AreCounted s queries given (entry_in table)
       → space ≡ plans_of s (entry_in table) queries → list ≡ choices → choices ≡ plan_choices s queries plan.entries → IsPlan (plans_of s (entry_in table) queries) choices → found ≡ nodes
       → Answers r (tree_fault space list cost found) → Answers r (tree_fault (trained_plans s queries given) (plan_choices s queries plan.entries) cost nodes)
   answers_same given plan space list choices cost found nodes r counted e f g is h =

@@ -15,7 +15,7 @@ use Rattle.sn_plan_grammar.specs.declared.plan.Entry.{Entry}
 use Rattle.sn_command_texts.specs.Fitting.{misfit_verdict}
 use Rattle.sn_command_texts.proofs.Accepted.{ok_err}
 use Rattle.sn_cost_laws.specs.Space.{trained_entry, trained_plans}
-use Rattle.sn_refine.specs.Steps.{Given}
+use Rattle.sn_windows.specs.Rising.{Window}
 use Rattle.sn_tree_space.proofs.Least.{least_by_cover}
 use Rattle.sn_tree_space.specs.declared.node.Node.{Node}
 use Rattle.sn_tree_space.specs.Space.{Space}
@@ -42,7 +42,7 @@ none_flawed : (o : Option TreeFault) → Ok tt ≡ flaw_verdict o → o ≡ None
 none_flawed None e = refl
 none_flawed (Some f) e = ok_err e
 
-module _ (s : Switch) (queries : List TypedQuery) (given : List Given) (rising : HaveRisingNumbers s queries) (entries : List Entry) (fits : Fits queries s entries) where
+module _ (s : Switch) (queries : List TypedQuery) (given : List Window) (rising : HaveRisingNumbers s queries) (entries : List Entry) (fits : Fits queries s entries) where
   abbrev plans : Space
   plans = trained_plans s queries given
 

@@ -8,7 +8,7 @@ use Rattle.sn_plan.proofs.Readings as plan_readings
 use Rattle.sn_plan_grammar.specs.declared.plan.Plan.{Plan}
 use Rattle.sn_plan_lists.specs.Chosen.{plan_choices}
 use Rattle.sn_cost_laws.specs.Space.{trained_plans}
-use Rattle.sn_refine.specs.Steps.{Given}
+use Rattle.sn_windows.specs.Rising.{Window}
 use Rattle.sn_tree_space.specs.declared.node.Node.{Node}
 use Rattle.sn_command.specs.declared.fault.Fault.{Fault}
 use Rattle.sn_command.specs.Runs.{Answers}
@@ -73,7 +73,7 @@ flaw_may (Some (flaws.NotBroken node want got)) = tt
 flaw_may (Some (flaws.NoPlan node want got)) = tt
 flaw_may (Some flaws.Memory) = tt
 
-module _ (s : Switch) (queries : List TypedQuery) (given : List Given) (plan : Plan) (cost : ℕ) (nodes : List Node) where
+module _ (s : Switch) (queries : List TypedQuery) (given : List Window) (plan : Plan) (cost : ℕ) (nodes : List Node) where
   pub shown_once : (first second : Result (Unit {0}) Fault) → ShownFor s queries given plan cost nodes first → ShownFor s queries given plan cost nodes second → first ≡ second
   shown_once first second a b = a ∙ sym b
 

@@ -4,7 +4,7 @@ use Rattle.std.specs.Prelude.{◌≡◌, ℕ, List, Option, None, Some, Result, 
 use Rattle.sn_plan_lists.specs.Chosen.{plan_choices}
 use Rattle.sn_plan_grammar.specs.declared.plan.Plan.{Plan}
 use Rattle.sn_cost_laws.specs.Space.{trained_plans}
-use Rattle.sn_refine.specs.Steps.{Given}
+use Rattle.sn_windows.specs.Rising.{Window}
 use Rattle.sn_tree_space.specs.declared.node.Node.{Node}
 use Rattle.sn_command.specs.declared.fault.Fault.{Fault}
 use Rattle.sn_command.specs.declared.fault.Fault.TheVariants as faults
@@ -46,5 +46,6 @@ flaw_verdict (Some fault) = Err (flaw_of fault)
 
 -- A cost and a tree are judged by their first fault, for the choices of a plan: among the plans of these queries on a switch, each
 -- with what it costs over training windows.
-abbrev pub ShownFor : Switch → List TypedQuery → List Given → Plan → ℕ → List Node → Result (Unit {0}) Fault → Type 0
-ShownFor s queries given plan cost nodes verdict = verdict ≡ flaw_verdict (tree_fault (trained_plans s queries given) (plan_choices s queries plan.entries) cost nodes)
+abbrev pub ShownFor : Switch → List TypedQuery → List Window → Plan → ℕ → List Node → Result (Unit {0}) Fault → Type 0
+ShownFor s queries given plan cost nodes verdict =
+    verdict ≡ flaw_verdict (tree_fault (trained_plans s queries given) (plan_choices s queries plan.entries) cost nodes)

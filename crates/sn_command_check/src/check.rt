@@ -37,7 +37,8 @@ fn check_text<I: Inputs, O: Sink>(
     requires switch { IsSwitch limits.now }
     requires order { IsInOrder training.now }
     requires within { length text.now ≤ 2 ^ 30 }
-    ensures { Runs [] (PlanTree (queries_of typed.now) limits.now training.now text.now) (world I.Inputs O.Sink desk.old) result (world I.Inputs O.Sink desk.new) }
+    ensures { Runs [] (PlanTree (queries_of typed.now) limits.now training.now text.now) (world I.Inputs O.Sink desk.old) result
+        (world I.Inputs O.Sink desk.new) }
 {
     let (plan, byte) = judge_plan(alloc, text)?;
     test_fit(typed, limits, &plan)?;
@@ -56,7 +57,8 @@ pub fn check<I: Inputs, O: Sink>(
     plantree: &str,
     desk: &mut Desk<'_, I, O>,
 ) -> Result<(), Refusal>
-    ensures { WorksFrom 2 (queries.now ∷ switch.now ∷ train.now ∷ plantree.now ∷ []) (Check switch.now queries.now train.now plantree.now) (world I.Inputs O.Sink desk.old) result (world I.Inputs O.Sink desk.new) }
+    ensures { WorksFrom 2 (queries.now ∷ switch.now ∷ train.now ∷ plantree.now ∷ []) (Check switch.now queries.now train.now plantree.now)
+        (world I.Inputs O.Sink desk.old) result (world I.Inputs O.Sink desk.new) }
 {
     let typed = read_queries(alloc, desk, queries)?;
     let limits = read_switch(alloc, desk, switch)?;

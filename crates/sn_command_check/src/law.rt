@@ -12,6 +12,7 @@ pub fn check_has_one_outcome()
 
 /// Where `check` says yes, the plan fits, and no plan that fits sends fewer items of the training capture, whoever made the tree.
 pub fn yes_shows_least()
-    ensures { (switch queries train plantree : List ℕ) (files : ByName (List ℕ)) (outcome : Outcome (Unit {0})) → Check switch queries train plantree files outcome → outcome.end ≡ Ok tt →
+    ensures { (switch queries train plantree : List ℕ) (files : ByName (List ℕ)) (outcome : Outcome (Unit {0})) →
+        Check switch queries train plantree files outcome → outcome.end ≡ Ok tt →
         ShowsLeast switch queries train plantree files outcome.text }
 {}

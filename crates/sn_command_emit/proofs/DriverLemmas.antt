@@ -1,30 +1,23 @@
 -- A driver of a plan, from one window to the next, over plain values.
-use Rattle.std.proofs.Common.{◌≡◌, ℕ, ◌+◌, ◌<◌, List, [], ◌∷◌, ◌++◌, map, length, Option, None, Some, Result, Ok, Err, inl, inr, ap, sym, ◌∙◌, subst}
+use Rattle.std.proofs.Common.{◌≡◌, ℕ, ◌<◌, List, [], map, length, Option, Result, Ok, Err, ap, sym, ◌∙◌, subst}
 use Rattle.std.specs.List.{AllByRecursion}
 use Rattle.std.specs.Result.{OnOk}
-use Rattle.sn_base.proofs.Lists.{all_append}
-use Rattle.sn_plan_fit.specs.Fits.{Fits}
-use Rattle.sn_refine.specs.Steps.{Set}
-use Rattle.sn_switch.specs.declared.switch.Switch.{Switch}
-use Rattle.sn_switch.specs.Texts.{IsSwitch}
-use Rattle.sn_command_capture.specs.Wording.{AreRising, Closed as AreClosed, Window}
 use Rattle.sn_engine_lockstep.specs.declared.driver.Driver.{Driver}
 use Rattle.sn_engine_lockstep.specs.declared.source.Source.{Source}
 use Rattle.sn_engine_lockstep.specs.Sources.{kept_in, source_of, sources_of}
 use Rattle.sn_engine_lockstep.specs.Windows.{window_answers}
-use Rattle.sn_engine_lockstep.specs.Work.{AreAtWork, AreIdle, AreUnread}
+use Rattle.sn_engine_lockstep.specs.Work.{AreAtWork, AreIdle}
 use Rattle.sn_engine_lockstep.proofs.Beginning.{sources_are}
-use Rattle.sn_engine_lockstep.proofs.Laws.{Closed, Emptied, made_known, new_idle, plan_made, window_is}
+use Rattle.sn_engine_lockstep.proofs.Laws.{Closed, Emptied, made_known, window_is}
 use Rattle.sn_emit.specs.declared.sender.Sender.{Sender}
-use Rattle.sn_emit.specs.Plans.{AreLanesOf, AreNewLanes, Placed, pieces_from}
+use Rattle.sn_emit.specs.Plans.{AreLanesOf, Placed, pieces_from}
 use Rattle.sn_engine.specs.declared.intake.Intake.{Intake}
-use Rattle.sn_engine.specs.Intakes.{intakes_of}
-use Rattle.sn_out.specs.Text.{IsPartOf}
 use Rattle.sn_types.specs.declared.answers.Answers.{Answers}
 use Rattle.sn_types.specs.declared.typed_query.TypedQuery.{TypedQuery}
 use Rattle.sn_types.specs.Typed.{HasWidths}
 use Rattle.sn_command_emit.specs.Reporting.{IsDriverOf}
 use Rattle.sn_command_run.specs.Planned.{Planned}
+use Rattle.sn_windows.specs.Rising.{AreRising, Window}
 
 module _ (p : Planned) (d : Driver) (h : IsDriverOf p d) where
   abbrev pieces : List Placed

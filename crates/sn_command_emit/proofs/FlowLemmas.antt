@@ -8,20 +8,13 @@ use Rattle.sn_pipe_items.specs.Items.{at_packet, numbered, rows_of}
 use Rattle.sn_pipe.specs.declared.stage.Stage.{Stage}
 use Rattle.sn_pipe.specs.Pipes.{PipeState, after_packets, item_of, lets_in, row_in}
 use Rattle.sn_pipe.specs.Stages.{item_from, stages_after, stages_behind}
-use Rattle.sn_pipe.specs.Windows.{option_list}
+use Rattle.std.specs.Option.{option_to_list}
 use Rattle.sn_pipe.proofs.Flows.{Above, Flow, Rising, at_first, give, run}
 use Rattle.sn_report.specs.declared.frame.Item.{Item}
 use Rattle.sn_types.specs.Typed.{HasWidths}
+use Rattle.sn_pipe.proofs.WindowLaw.{give_other, give_here}
 
 -- ---- what stands at a packet
-
-give_other : (n k : ℕ) (o : Option Item) (stand : List (ℕ × Item)) → nat_eq n k ≡ false → at_packet (give k o stand) n ≡ at_packet stand n
-give_other n k None stand e = refl
-give_other n k (Some item) stand e = at_first n (k, item) stand ∙ ap (λ b. cond b (item ∷ at_packet stand n) (at_packet stand n)) e
-
-give_here : (n : ℕ) (o : Option Item) (stand : List (ℕ × Item)) → at_packet (give n o stand) n ≡ option_list o ++ at_packet stand n
-give_here n None stand = refl
-give_here n (Some item) stand = at_first n (n, item) stand ∙ ap (λ b. cond b (item ∷ at_packet stand n) (at_packet stand n)) (nat_self n)
 
 none_above : (level n : ℕ) (flow : Flow) (ss : List Stage) → Above n flow → at_packet (run level 0 ss flow) n ≡ []
 none_above level n [] ss h = refl
@@ -79,16 +72,16 @@ module _ (p : PipeState) where
 
   -- the tuple of a packet gives what stands at it
   pub run_at : (n : ℕ) (before later : List (List ℕ)) (tuple : List ℕ) (ss : List Stage)
-      → at_packet (run level 0 ss (flow n (before ++ tuple ∷ later))) (n + length before) ≡ option_list (item_of (after_packets (with_stages p ss) before) tuple)
+      → at_packet (run level 0 ss (flow n (before ++ tuple ∷ later))) (n + length before) ≡ option_to_list (item_of (after_packets (with_stages p ss) before) tuple)
   run_at n [] later tuple ss =
       let rest : List (ℕ × List ℕ) = filter lets (numbered (suc n) later) in
       let here : n + 0 ≡ n = omega arith in
       let item : Option Item = item_from level 0 ss (row_in p tuple) in
       let above : Above n (flow (suc n) later) = above_flow n (suc n) later (omega arith) in
       ap (at_packet (run level 0 ss (flow n (tuple ∷ later)))) here
-      ∙ elim (lets_in p tuple) as (λ b. at_packet (run level 0 ss (map beside (cond b ((n, tuple) ∷ rest) rest))) n ≡ option_list (cond b item None)) [
+      ∙ elim (lets_in p tuple) as (λ b. at_packet (run level 0 ss (map beside (cond b ((n, tuple) ∷ rest) rest))) n ≡ option_to_list (cond b item None)) [
         | true ↦ give_here n item (run level 0 (stages_after level ss (row_in p tuple)) (flow (suc n) later))
-            ∙ ap (λ xs. option_list item ++ xs) (none_above level n (flow (suc n) later) (stages_after level ss (row_in p tuple)) above) ∙ append-nil (option_list item)
+            ∙ ap (λ xs. option_to_list item ++ xs) (none_above level n (flow (suc n) later) (stages_after level ss (row_in p tuple)) above) ∙ append-nil (option_to_list item)
         | false ↦ none_above level n (flow (suc n) later) ss above
       ]
   run_at n (first ∷ before) later tuple ss =
@@ -98,7 +91,7 @@ module _ (p : PipeState) where
       let there : n + suc (length before) ≡ suc n + length before = omega arith in
       let other : nat_eq (suc n + length before) n ≡ false = ne_eqb (suc n + length before) n (λ e. omega (arith, e)) in
       ap (at_packet (run level 0 ss (flow n (first ∷ behind)))) there
-      ∙ elim (lets_in p first) as (λ b. at_packet (run level 0 ss (map beside (cond b ((n, first) ∷ rest) rest))) (suc n + length before) ≡ option_list (item_of (after_packets (with_stages p (cond b next ss)) before) tuple)) [
+      ∙ elim (lets_in p first) as (λ b. at_packet (run level 0 ss (map beside (cond b ((n, first) ∷ rest) rest))) (suc n + length before) ≡ option_to_list (item_of (after_packets (with_stages p (cond b next ss)) before) tuple)) [
         | true ↦ give_other (suc n + length before) n (item_from level 0 ss (row_in p first)) (run level 0 next (flow (suc n) behind)) other ∙ run_at (suc n) before later tuple next
         | false ↦ run_at (suc n) before later tuple ss
       ]

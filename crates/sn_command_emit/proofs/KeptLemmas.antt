@@ -3,7 +3,7 @@ use Rattle.std.proofs.Common.{◌≡◌, ℕ, zero, suc, ◌+◌, ◌-◌, ◌<�
 use Rattle.std.specs.FinSet as set
 use Rattle.std.specs.List.{AllByRecursion}
 use Rattle.sn_base.proofs.Lists.{all_append, all_weaker, nat_same, not_true}
-use Rattle.sn_command_capture.specs.Wording.{AreRising, Window}
+use Rattle.sn_windows.specs.Rising.{AreRising, IsAbove, Window}
 use Rattle.sn_engine_lockstep.specs.Sources.{kept_in, source_at}
 use Rattle.sn_engine_lockstep.specs.Windows.{Follows, Remembers, answers_from, plan_answers, window_answers, window_of}
 use Rattle.sn_engine_lockstep.proofs.Along.{kept_right, window_right}
@@ -15,11 +15,10 @@ use Rattle.sn_base.specs.Rising.{IsRising}
 use Rattle.sn_plan_grammar.specs.declared.plan.Entry.{Entry}
 use Rattle.sn_plan_grammar.specs.declared.plan.Piece.{Piece}
 use Rattle.sn_refine.specs.Refined.{Windows, before, refined_rows}
-use Rattle.sn_refine.specs.Steps.{IsAbove, Rises, prefixes_of, windows_of}
+use Rattle.sn_refine.specs.Steps.{prefixes_of, windows_of}
 use Rattle.sn_refine.proofs.Windows.{above_last, earlier, here, later}
 use Rattle.sn_command_run.specs.Along.{last_from, last_of}
 use Rattle.sn_command_run.specs.Planned.{Planned}
-use Rattle.sn_command_run.proofs.AlongLemmas.{rises_of}
 use Rattle.sn_types.specs.declared.answers.Answers.{Answers}
 use Rattle.sn_types.specs.declared.typed_query.TypedQuery.{TypedQuery}
 use Rattle.sn_types.specs.Typed.{query_at}
@@ -107,7 +106,7 @@ pub record IsLast (p : Planned) (windows : Windows) (last : Option Answers) (w :
   pub remembers : Remembers p.queries p.entries windows last
 
 module _ (p : Planned) (windows : Windows) (h : AreEntriesOf p.queries p.entries) where
-  last_right : (last : Option Answers) (closed : List Window) (number : ℕ) (tuples : List (List ℕ)) → Rises (window_of last) (closed ++ (number, tuples) ∷ [])
+  last_right : (last : Option Answers) (closed : List Window) (number : ℕ) (tuples : List (List ℕ)) → AreRising (window_of last) (closed ++ (number, tuples) ∷ [])
       → ((v : ℕ) → IsAbove (window_of last) v → windows v ≡ windows_of (closed ++ (number, tuples) ∷ []) v) → Remembers p.queries p.entries windows last
       → IsLast p windows (last_from last (answers_from p.queries p.depth p.entries last closed)) number
   last_right last [] number tuples rises agrees r =
@@ -124,6 +123,6 @@ pub all_let_in : (p : Planned) (closed : List Window) (number : ℕ) (tuples : L
     → AllByRecursion (λ (x : Placed). kept_now p.queries (last_of p closed) number x ≡ kept_of p.queries (closed ++ (number, tuples) ∷ []) number x) (pieces_from 0 p.entries)
 all_let_in p closed number tuples h rising =
     let windows : List Window = closed ++ (number, tuples) ∷ [] in
-    let last = last_right p (windows_of windows) h None closed number tuples (rises_of None windows rising) (λ v above. refl) tt in
+    let last = last_right p (windows_of windows) h None closed number tuples rising (λ v above. refl) tt in
     all_weaker (IsPieceOf p.entries) (λ (x : Placed). kept_now p.queries (last_of p closed) number x ≡ kept_of p.queries windows number x)
     (λ x is. lets_in_kept p.queries windows p.entries (last_of p closed) number last.follows last.remembers x is) (pieces_from 0 p.entries) (all_pieces p.queries p.entries h)

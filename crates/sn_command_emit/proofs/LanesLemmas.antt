@@ -3,10 +3,9 @@ use Rattle.std.proofs.Common.{◌≡◌, ℕ, suc, List, [], ◌∷◌, ◌++◌
 use Rattle.std.specs.List.{AllByRecursion, flat_map}
 use Rattle.sn_engine_lockstep.specs.declared.source.Source.{Source}
 use Rattle.sn_engine_lockstep.specs.Sources.{source_of}
-use Rattle.sn_engine_lockstep.specs.Work.{AreAtWork, IsAtWork}
+use Rattle.sn_engine_lockstep.specs.Work.{AreAtWork, IsAtWork, frames_given}
 use Rattle.sn_engine_lockstep.proofs.Changes.{all_get}
 use Rattle.sn_engine_lockstep.proofs.Draining.{Holds, holds}
-use Rattle.sn_engine_lockstep.proofs.Giving.{within}
 use Rattle.sn_emit.specs.declared.sender.Sender.{Sender}
 use Rattle.sn_emit.specs.Making.{CanMake}
 use Rattle.sn_emit.specs.Plans.{Placed}
@@ -16,9 +15,9 @@ use Rattle.sn_refine.specs.Steps.{Set}
 use Rattle.sn_report.specs.declared.frame.Frame.{Frame}
 use Rattle.sn_types.specs.declared.typed_query.TypedQuery.{TypedQuery}
 use Rattle.sn_types.specs.Typed.{HasWidths, IsTyped}
-use Rattle.sn_command_emit.specs.Lanes.{frames_given}
 use Rattle.sn_command_emit.specs.Sent.{frames_at, frames_behind}
 use Rattle.sn_command_emit.proofs.PieceLemmas.{lane_reads, lane_sends}
+use Rattle.sn_base.proofs.Lists.{index_within as within}
 
 flat_beside : (f : Sender → List Frame) (g : Placed → List Frame) (ss : List Sender) (xs : List Placed) → length ss ≡ length xs → ((j : ℕ) (x : Placed) (s : Sender) → slice_get xs j ≡ Some x → slice_get ss j ≡ Some s → f s ≡ g x) → flat_map f ss ≡ flat_map g xs
 flat_beside f g [] [] many each = refl

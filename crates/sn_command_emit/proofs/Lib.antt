@@ -2,7 +2,6 @@ pub mod FlowLemmas
 pub mod PieceLemmas
 pub mod KeptLemmas
 pub mod LanesLemmas
-pub mod SendingLemmas
 pub mod DriverLemmas
 pub mod StateLemmas
 pub mod EmitLemmas

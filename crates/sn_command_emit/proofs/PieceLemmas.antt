@@ -2,14 +2,14 @@
 use Rattle.std.proofs.Common.{◌≡◌, ℕ, zero, suc, ◌+◌, ◌<◌, ◌≤◌, List, [], ◌∷◌, ◌++◌, map, filter, take, length, false, cond, Option, Some, None, refl, ap, sym, subst, ◌∙◌, slice_index, arith}
 use Rattle.std.specs.FinSet as set
 use Rattle.std.specs.List.{AllByRecursion}
-use Rattle.std.specs.Option.{option_map}
+use Rattle.std.specs.Option.{option_map, option_to_list}
 use Rattle.std.proofs.lemmas.List.{length-map, length-take, take-take}
 use Rattle.sn_base.specs.declared.lane.Lane.{Lane}
 use Rattle.sn_base.specs.Groups.{Row}
 use Rattle.sn_base.specs.Operators.{Had, Op as Acting}
 use Rattle.sn_base.specs.Operators.Op.{Filter as Passing, Map as Mapping, Distinct as Once, Reduce as Grouping}
-use Rattle.sn_base.proofs.Lists.{map_both}
-use Rattle.sn_engine_lockstep.specs.Work.{name_of}
+use Rattle.sn_base.proofs.Lists.{map_both, map_front}
+use Rattle.sn_engine_lockstep.specs.Work.{frames_given, name_of}
 use Rattle.sn_emit.specs.declared.sender.Sender.{Sender}
 use Rattle.sn_emit.specs.Making.{CanMake}
 use Rattle.sn_emit.specs.Plans.{IsLaneOf, IsNewPipeOf, Placed}
@@ -21,7 +21,7 @@ use Rattle.sn_pipe.specs.declared.stage.Stage.TheVariants.{Filter, Map, Distinct
 use Rattle.sn_pipe.specs.Pipes.{PipeState, after_packets, at_start, is_let_in, item_of, row_in}
 use Rattle.sn_pipe.specs.Prefixes.{left_in}
 use Rattle.sn_pipe.specs.Stages.{cleared, ops_of as acting, top_of}
-use Rattle.sn_pipe.specs.Windows.{AreFilters, HasRegisters, HaveSizes, IsPrefix, option_list}
+use Rattle.sn_pipe.specs.Windows.{AreFilters, HasRegisters, HaveSizes, IsPrefix}
 use Rattle.sn_pipe.proofs.Flows.{Flow, run}
 use Rattle.sn_pipe.proofs.Starts.{starts_again}
 use Rattle.sn_pipe.proofs.WindowLaw.{read_is, sent_is}
@@ -37,9 +37,10 @@ use Rattle.sn_types.specs.Typed.{HasWidths, IsTyped, branch_at, branch_of, packe
 use Rattle.sn_types.specs.Values.{op_at}
 use Rattle.sn_types.proofs.RowsAfter.{packet_of}
 use Rattle.sn_types.proofs.TypedRows.{of_fields}
-use Rattle.sn_command_emit.specs.Lanes.{frames_given}
 use Rattle.sn_command_emit.specs.Sent.{flow_of, ops_of, reads_out, sends_at, sizes_of}
 use Rattle.sn_command_emit.proofs.FlowLemmas.{after_run, all_flow, flow, rising_flow, run_at}
+use Rattle.sn_pipe.proofs.TypedLaw.{sized_same}
+use Rattle.sn_emit.proofs.LaneLaw.{same_lane, same_end, pipe_after}
 
 -- ---- operators up to a cut
 
@@ -50,16 +51,6 @@ had_front (suc n) (Passing t ∷ ops) row h = λ is. had_front n ops row (h is)
 had_front (suc n) (Mapping f ∷ ops) row h = had_front n ops (f row) h
 had_front (suc n) (Once ∷ ops) row h = had_front n ops row h
 had_front (suc n) (Grouping g ∷ ops) row h = (h.0, λ a has. had_front n ops _ (h.1 a has))
-
-map_front : {X Y : Type 0} (f : X → Y) (n : ℕ) (xs : List X) → map f (take n xs) ≡ take n (map f xs)
-map_front f zero xs = refl
-map_front f (suc n) [] = refl
-map_front f (suc n) (x ∷ xs) = ap (λ ys. f x ∷ ys) (map_front f n xs)
-
-sized_same : (depth : ℕ) (size other : ℕ → ℕ) (i : ℕ) (ss : List Stage) → ((j : ℕ) → j < i + length ss → size j ≡ other j) → HaveSizes depth size i ss → HaveSizes depth other i ss
-sized_same depth size other i [] e h = tt
-sized_same depth size other i (s ∷ ss) e h =
-    (subst (λ n. HasRegisters depth n s) (e i (omega arith)) h.0, sized_same depth size other (suc i) ss (λ j lt. e j (omega (arith, lt))) h.1)
 
 -- only filters stand after the reduce of a cut
 only_filters : (level : ℕ) (ss : List Stage) → OnlyFilters (acting level ss) → AreFilters ss
@@ -146,7 +137,7 @@ module _ (window : ℕ) (queries : List TypedQuery) (depth : ℕ) (x : Placed) (
 
   -- the tuple of a packet gives the item that stands at it
   pub piece_sends : (before later : List (List ℕ)) (tuple : List ℕ) → AllByRecursion HasWidths (before ++ tuple ∷ later)
-      → option_list (item_of (after_packets start before) tuple) ≡ sends_at queries depth x kept (before ++ tuple ∷ later) (length before)
+      → option_to_list (item_of (after_packets start before) tuple) ≡ sends_at queries depth x kept (before ++ tuple ∷ later) (length before)
   piece_sends before later tuple widths =
       let all : List (List ℕ) = before ++ tuple ∷ later in
       let none : 0 + length before ≡ length before = omega arith in
@@ -166,19 +157,7 @@ module _ (window : ℕ) (queries : List TypedQuery) (depth : ℕ) (x : Placed) (
 
 -- ---- the lane of a piece
 
-same_lane : (s : Sender) (tuples : List (List ℕ)) → (sender_after s tuples).lane ≡ s.lane
-same_lane s [] = refl
-same_lane s (tuple ∷ tuples) = same_lane (sender_next s tuple) tuples
-
-same_end : (s : Sender) (tuples : List (List ℕ)) → (sender_after s tuples).ended ≡ s.ended
-same_end s [] = refl
-same_end s (tuple ∷ tuples) = same_end (sender_next s tuple) tuples
-
-pipe_after : (s : Sender) (tuples : List (List ℕ)) → (sender_after s tuples).pipe ≡ after_packets s.pipe tuples
-pipe_after s [] = refl
-pipe_after s (tuple ∷ tuples) = pipe_after (sender_next s tuple) tuples
-
-as_frames : (name : Lane) (o : Option Item) → option_list (option_map (row_frame name) o) ≡ map (row_frame name) (option_list o)
+as_frames : (name : Lane) (o : Option Item) → option_to_list (option_map (row_frame name) o) ≡ map (row_frame name) (option_to_list o)
 as_frames name None = refl
 as_frames name (Some item) = refl
 
@@ -197,9 +176,9 @@ module _ (window : ℕ) (queries : List TypedQuery) (depth : ℕ) (x : Placed) (
       → frames_given tuple (sender_after first before) ≡ map (row_frame (name_of x)) (sends_at queries depth x kept (before ++ tuple ∷ later) (length before))
   lane_sends before later tuple widths =
       let s : Sender = sender_after first before in
-      ap (λ n. option_list (option_map (row_frame n) (item_of s.pipe tuple))) (name_is before)
+      ap (λ n. option_to_list (option_map (row_frame n) (item_of s.pipe tuple))) (name_is before)
       ∙ as_frames (name_of x) (item_of s.pipe tuple)
-      ∙ ap (λ (p : PipeState). map (row_frame (name_of x)) (option_list (item_of p tuple))) (pipe_is before)
+      ∙ ap (λ (p : PipeState). map (row_frame (name_of x)) (option_to_list (item_of p tuple))) (pipe_is before)
       ∙ ap (map (row_frame (name_of x))) (piece_sends window queries depth x (at_start base.pipe set.empty) kept t can lane.pipe before later tuple widths)
 
   -- what is left after the last one are the frames after the last packet

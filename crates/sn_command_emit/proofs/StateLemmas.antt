@@ -7,13 +7,14 @@ use Rattle.std.specs.declared.alloc.Global.{Global}
 use Rattle.std.proofs.lemmas.Grind.{flat_map-append}
 use Rattle.std.proofs.lemmas.List.{length-append}
 use Rattle.sn_base.proofs.Lists.{all_append}
-use Rattle.sn_command_capture.specs.Wording.{AreRising, Window}
+use Rattle.sn_windows.specs.Rising.{AreRising, Window}
 use Rattle.sn_engine_lockstep.specs.declared.driver.Driver.{Driver}
 use Rattle.sn_engine_lockstep.specs.declared.source.Source.{Source}
 use Rattle.sn_engine_lockstep.specs.Sources.{kept_in, source_of, sources_of}
 use Rattle.sn_engine_lockstep.specs.Windows.{window_answers}
-use Rattle.sn_engine_lockstep.specs.Work.{AreAtWork, AreIdle, AreUnread}
+use Rattle.sn_engine_lockstep.specs.Work.{AreAtWork, AreIdle, AreUnread, frames_given}
 use Rattle.sn_engine_lockstep.proofs.Laws.{new_idle, plan_made}
+use Rattle.sn_engine_lockstep.proofs.Sending.{one_behind}
 use Rattle.sn_emit.specs.Plans.{AreLanesOf, AreNewLanes, Placed, pieces_from}
 use Rattle.sn_emit.specs.Senders.{frames_left}
 use Rattle.sn_engine.specs.declared.intake.Intake.{Intake}
@@ -32,12 +33,10 @@ use Rattle.sn_types.specs.declared.typed_query.TypedQuery.{TypedQuery}
 use Rattle.sn_types.specs.Typed.{HasWidths}
 use Rattle.sn_command_emit.specs.declared.reporter.Reporter.{Reporter}
 use Rattle.sn_command_emit.specs.Causal.{same_frames}
-use Rattle.sn_command_emit.specs.Lanes.{frames_given}
 use Rattle.sn_command_emit.specs.Reporting.{AreBytesOf, IsAtHand, IsDriverOf, IsIdle, kept_now, plan_of}
 use Rattle.sn_command_emit.specs.Sent.{frames_behind, frames_block, kept_of, packet_frames}
 use Rattle.sn_command_emit.proofs.KeptLemmas.{all_let_in}
 use Rattle.sn_command_emit.proofs.LanesLemmas.{all_read, all_send}
-use Rattle.sn_command_emit.proofs.SendingLemmas.{one_behind}
 
 abbrev pub with_sent : Reporter → Driver → Vec ℕ Global → Reporter
 with_sent a d sent = record { typed = a.typed; plan = a.plan; depth = a.depth; driver = d; last = a.last; sent = sent }
@@ -71,7 +70,7 @@ module _ (a : Reporter) (closed : List Window) (number : ℕ) (tuples : List (Li
       sent
       ∙ ap (λ bs. bs ++ flat_map spelling (flat_map (frames_given tuple) a.driver.emitter)) (h.sent (tuple ∷ more) (width, widths))
       ∙ ap (λ fs. flat_map spelling (flat_map frames (range_with_len 0 (length tuples))) ++ flat_map spelling fs) given
-      ∙ sym (one_behind frames (range_with_len 0 (length tuples)) (length tuples))
+      ∙ sym (one_behind spelling frames (range_with_len 0 (length tuples)) (length tuples))
       ∙ ap (λ ns. flat_map spelling (flat_map frames ns)) (ap (λ m. range_with_len 0 (length tuples) ++ m ∷ []) (from (length tuples)) ∙ sym (range_more 0 (length tuples)))
       ∙ ap (λ n. flat_map spelling (flat_map frames (range_with_len 0 n))) count
       ∙ ap (λ ts. flat_map spelling (flat_map (packet_frames p kept ts) (range_with_len 0 (length (tuples ++ tuple ∷ []))))) (sym (append_assoc tuples (tuple ∷ []) more))

@@ -2,7 +2,7 @@
 -- What is kept of a plan between two windows that it reports, and while a window is open.
 use Rattle.std.specs.Prelude.{◌≡◌, ℕ, List, [], ◌∷◌, ◌++◌, length, Option, None}
 use Rattle.std.specs.List.{AllByRecursion, flat_map, range_with_len}
-use Rattle.sn_command_capture.specs.Wording.{AreRising, Window}
+use Rattle.sn_windows.specs.Rising.{AreRising, Window}
 use Rattle.sn_engine_lockstep.specs.declared.driver.Driver.{Driver}
 use Rattle.sn_engine_lockstep.specs.Sources.{kept_in, source_of, sources_of}
 use Rattle.sn_engine_lockstep.specs.Work.{AreAtWork, AreIdle, AreUnread}
@@ -53,7 +53,8 @@ pub record IsIdle (a : Reporter) (closed : List Window) : Type 0 where
 -- these windows were closed, and of the one with this number these tuples came
 pub record IsAtHand (a : Reporter) (closed : List Window) (number : ℕ) (tuples : List (List ℕ)) : Type 0 where
   pub driver : IsDriverOf (plan_of a) a.driver
-  pub work : AreAtWork a.typed.queries a.depth (pieces_from 0 a.plan.entries) (kept_in a.typed.queries a.last number) tuples a.driver.emitter a.driver.engine.lanes.items
+  pub work : AreAtWork a.typed.queries a.depth (pieces_from 0 a.plan.entries)
+      (kept_in a.typed.queries a.last number) tuples a.driver.emitter a.driver.engine.lanes.items
   pub lanes : AreLanesOf a.typed.queries a.depth (pieces_from 0 a.plan.entries) a.driver.emitter
   pub unread : AreUnread a.driver.emitter
   pub widths : AllByRecursion HasWidths tuples

@@ -3,7 +3,7 @@
 use Rattle.std.specs.Prelude.{ℕ, zero, suc, List, [], ◌∷◌, ◌++◌, map, filter, take, length, false}
 use Rattle.std.specs.FinSet as set
 use Rattle.std.specs.List.{flat_map, range_with_len}
-use Rattle.sn_command_capture.specs.Wording.{Window, Wording}
+use Rattle.sn_command_capture.specs.Wording.{Wording}
 use Rattle.sn_base.specs.Groups.{Row}
 use Rattle.sn_base.specs.Operators.{Op}
 use Rattle.sn_engine_lockstep.specs.Work.{name_of}
@@ -24,6 +24,7 @@ use Rattle.sn_types.specs.declared.typed_query.TypedQuery.{TypedQuery}
 use Rattle.sn_types.specs.Cuts.{size_at}
 use Rattle.sn_types.specs.Typed.{branch_at, packet_row, query_at}
 use Rattle.sn_types.specs.Values.{op_at}
+use Rattle.sn_windows.specs.Rising.{Window}
 
 -- ---- what a lane admits
 

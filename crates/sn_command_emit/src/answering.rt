@@ -1,13 +1,13 @@
 //! A plan reports the windows of a capture.
 ghost use Rattle.std.specs.Prelude.{◌≡◌, ◌++◌, ◌∷◌, [], ℕ, List, None, IfOk, OnOk};
-ghost use Rattle.sn_command_capture.specs.Wording.{AreRising, Holds, Window};
+ghost use Rattle.sn_command_capture.specs.Wording.{Holds};
 ghost use Rattle.sn_command_emit.specs.Reporting.{IsAtHand, IsIdle, Rests, plan_of};
 ghost use Rattle.sn_command_emit.specs.Sent.{frames_block};
 ghost use Rattle.sn_plan_fit.specs.Fits.{Fits};
 ghost use Rattle.sn_switch.specs.Texts.{IsSwitch};
+ghost use Rattle.sn_windows.specs.Rising.{AreRising, Window};
 
 use crate::reporter::Reporter;
-use crate::window::{end_window, give_packet};
 use sn_base::memory::Memory;
 use sn_base::seq::Seq;
 use sn_command_capture::answering::Answering;
@@ -54,7 +54,8 @@ impl Reporter {
     /// Begins a window, whose number is above those before.
     fn begin(&mut self, number: u64) -> Result<(), Memory>
         requires { Rests (IsIdle self.old) }
-        ensures begun { OnOk result ((closed : List Window) → IsIdle self.old closed → AreRising None (closed ++ (number, []) ∷ []) → IsAtHand self.new closed number []) }
+        ensures begun { OnOk result ((closed : List Window) → IsIdle self.old closed → AreRising None (closed ++ (number, []) ∷ []) →
+            IsAtHand self.new closed number []) }
         ensures plan { plan_of self.new ≡ plan_of self.old }
     {
         self.driver.begin(&self.last, number)
@@ -63,21 +64,24 @@ impl Reporter {
     /// Takes the next tuple of the current window.
     fn take(&mut self, tuple: &Tuple) -> Result<(), Memory>
         requires { (number : ℕ) × Holds (IsAtHand self.old) number }
-        ensures given { OnOk result ((closed : List Window) (number : ℕ) (tuples : List (List ℕ)) → IsAtHand self.old closed number tuples → IsAtHand self.new closed number (tuples ++ tuple.now ∷ [])) }
+        ensures given { OnOk result ((closed : List Window) (number : ℕ) (tuples : List (List ℕ)) → IsAtHand self.old closed number tuples →
+            IsAtHand self.new closed number (tuples ++ tuple.now ∷ [])) }
         ensures plan { plan_of self.new ≡ plan_of self.old }
     {
         tuple.widths();
-        give_packet(&mut self.driver, &mut self.sent, tuple)
+        self.driver.packet(&mut self.sent, tuple)
     }
 
     /// Closes the current window, and gives its frames.
     fn end(&mut self, number: u64) -> Result<Seq<u8>, Memory>
         requires { Holds (IsAtHand self.old) number }
-        ensures text { IfOk result (λ text. (closed : List Window) (tuples : List (List ℕ)) → IsAtHand self.old closed number tuples → text ≡ frames_block (plan_of self.old) (closed ++ (number, tuples) ∷ []) number tuples) }
-        ensures closed { OnOk result ((closed : List Window) (tuples : List (List ℕ)) → IsAtHand self.old closed number tuples → IsIdle self.new (closed ++ (number, tuples) ∷ [])) }
+        ensures text { IfOk result (λ text. (closed : List Window) (tuples : List (List ℕ)) → IsAtHand self.old closed number tuples →
+            text ≡ frames_block (plan_of self.old) (closed ++ (number, tuples) ∷ []) number tuples) }
+        ensures closed { OnOk result ((closed : List Window) (tuples : List (List ℕ)) → IsAtHand self.old closed number tuples →
+            IsIdle self.new (closed ++ (number, tuples) ∷ [])) }
         ensures plan { plan_of self.new ≡ plan_of self.old }
     {
-        let answers = end_window(&mut self.driver, &mut self.sent, number)?;
+        let answers = self.driver.close(&mut self.sent, number)?;
         self.last = Some(answers);
         let sent = mem::replace(&mut self.sent, Vec::new(self.typed.alloc));
         Ok(Seq::from_vec(sent))

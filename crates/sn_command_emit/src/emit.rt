@@ -25,7 +25,8 @@ pub fn emit<I: Inputs, O: Sink>(
     capture: &str,
     desk: &mut Desk<'_, I, O>,
 ) -> Result<(), Refusal>
-    ensures { WorksFrom 2 (queries.now ∷ switch.now ∷ plan.now ∷ capture.now ∷ []) (Emit switch.now queries.now plan.now capture.now) (world I.Inputs O.Sink desk.old) result (world I.Inputs O.Sink desk.new) }
+    ensures { WorksFrom 2 (queries.now ∷ switch.now ∷ plan.now ∷ capture.now ∷ []) (Emit switch.now queries.now plan.now capture.now)
+        (world I.Inputs O.Sink desk.old) result (world I.Inputs O.Sink desk.new) }
 {
     let typed = read_queries(alloc, desk, queries)?;
     let limits = read_switch(alloc, desk, switch)?;

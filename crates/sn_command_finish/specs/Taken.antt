@@ -87,7 +87,8 @@ taken_unless at None taken = taken
 taken_unless at (Some fault) taken = refused_at (kind_of fault) at
 
 abbrev pub take_frame : List TypedQuery → ℕ → Frame → Standing → Outcome Standing
-take_frame queries at frame s = taken_unless at (take_fault queries s.lanes s.closed frame) (close_ended queries (record s { lanes = after_frame s.lanes frame }))
+take_frame queries at frame s = taken_unless at (take_fault queries s.lanes s.closed frame)
+    (close_ended queries (record s { lanes = after_frame s.lanes frame }))
 
 -- frames one after another, the first of which begins at this byte
 abbrev pub take_frames : List TypedQuery → ℕ → List Frame → Standing → Outcome Standing

@@ -24,7 +24,8 @@ pub fn finish<I: Inputs, O: Sink>(
     reports: &str,
     desk: &mut Desk<'_, I, O>,
 ) -> Result<(), Refusal>
-    ensures { WorksFrom 2 (queries.now ∷ plan.now ∷ reports.now ∷ []) (Finish queries.now plan.now reports.now) (world I.Inputs O.Sink desk.old) result (world I.Inputs O.Sink desk.new) }
+    ensures { WorksFrom 2 (queries.now ∷ plan.now ∷ reports.now ∷ []) (Finish queries.now plan.now reports.now) (world I.Inputs O.Sink desk.old) result
+        (world I.Inputs O.Sink desk.new) }
 {
     let typed = read_queries(alloc, desk, queries)?;
     let chosen = read_plan(alloc, desk, plan)?;

@@ -21,7 +21,8 @@ pub fn finish_has_one_outcome()
 /// Reports that are the frames of whole windows by rising number, in whatever order between the lanes of a plan, are answered
 /// with the value of the items of each window, their number, and the total.
 pub fn whole_windows_are_answered()
-    ensures { (queries : List TypedQuery) (entries : List Entry) (windows : List Sent) → 0 < length (intakes_of 0 entries) → HaveNames (intakes_of 0 entries) → Rise None windows →
+    ensures { (queries : List TypedQuery) (entries : List Entry) (windows : List Sent) → 0 < length (intakes_of 0 entries) → HaveNames (intakes_of 0 entries) →
+        Rise None windows →
         AllByRecursion (IsWindow queries (intakes_of 0 entries)) windows → AllByRecursion IsFrame (frames_in windows) →
         (files : ByName (List ℕ)) (outcome : Outcome (Unit {0})) → Reported queries entries (bytes_of (frames_in windows)) files outcome →
         outcome ≡ record { text = answered_text queries (intakes_of 0 entries) windows; end = Ok tt } }

@@ -24,7 +24,8 @@ pub(crate) fn refusal_at(kind: ReportKind, at: usize) -> Refusal
 
 /// The engine takes a frame that begins at this byte.
 pub(crate) fn take(engine: &mut Engine, frame: &Frame, at: usize) -> Result<(), Refusal>
-    ensures verdict { Answers (λ verdict. verdict ≡ take_verdict at (take_fault engine.old.t.queries engine.old.lanes.items engine.old.closed frame.now)) result }
+    ensures verdict { Answers (λ verdict. verdict ≡
+        take_verdict at (take_fault engine.old.t.queries engine.old.lanes.items engine.old.closed frame.now)) result }
     ensures taken { OnOk result (engine.new.lanes.items ≡ after_frame engine.old.lanes.items frame.now) }
     ensures closed { engine.new.closed ≡ engine.old.closed }
     ensures queries { engine.new.t.queries ≡ engine.old.t.queries }

@@ -46,7 +46,8 @@ fn close_ended<I: Inputs, O: Sink>(
 ) -> Result<Tally, Refusal>
     requires windows { tally.windows < 2 ^ 63 }
     requires emitted { tally.emitted + total tally.engine.lanes.items < 2 ^ 63 }
-    ensures runs { Runs [] (Does (close_ended tally.engine.t.queries (standing tally))) (world I.Inputs O.Sink desk.old) (seen_as standing result) (world I.Inputs O.Sink desk.new) }
+    ensures runs { Runs [] (Does (close_ended tally.engine.t.queries (standing tally))) (world I.Inputs O.Sink desk.old) (seen_as standing result)
+        (world I.Inputs O.Sink desk.new) }
     ensures queries { IfOk result (λ after. after.engine.t.queries ≡ tally.engine.t.queries) }
     ensures windows { IfOk result (λ after. after.windows ≤ tally.windows + 1) }
     ensures emitted { IfOk result (λ after. after.emitted + total after.engine.lanes.items ≤ tally.emitted + total tally.engine.lanes.items) }
@@ -84,7 +85,8 @@ pub(crate) fn take_frame<I: Inputs, O: Sink>(
 ) -> Result<Tally, Refusal>
     requires windows { tally.windows < 2 ^ 62 }
     requires emitted { tally.emitted + total tally.engine.lanes.items < 2 ^ 62 }
-    ensures runs { Runs [] (Does (take_frame tally.engine.t.queries at frame.now (standing tally))) (world I.Inputs O.Sink desk.old) (seen_as standing result) (world I.Inputs O.Sink desk.new) }
+    ensures runs { Runs [] (Does (take_frame tally.engine.t.queries at frame.now (standing tally))) (world I.Inputs O.Sink desk.old) (seen_as standing result)
+        (world I.Inputs O.Sink desk.new) }
     ensures queries { IfOk result (λ after. after.engine.t.queries ≡ tally.engine.t.queries) }
     ensures windows { IfOk result (λ after. after.windows ≤ tally.windows + 1) }
     ensures emitted { IfOk result (λ after. after.emitted + total after.engine.lanes.items ≤ tally.emitted + total tally.engine.lanes.items + 1) }

@@ -2,7 +2,7 @@
 use Rattle.std.proofs.Common.{◌≡◌, ℕ, List, [], ◌∷◌, ◌++◌, map, Option, None, Some, inl, inr, refl, ap, sym, ◌∙◌, append-nil}
 use Rattle.std.specs.List.{flat_map}
 use Rattle.std.proofs.lemmas.Grind.{flat_map-append}
-use Rattle.sn_command_capture.specs.Wording.{AreRising, Closed, Window}
+use Rattle.sn_command_capture.specs.Wording.{Closed}
 use Rattle.sn_core_drive.specs.declared.machine.Machine.{Ghosts as MachineOf}
 use Rattle.sn_plan_fit.specs.Fits.{AreEntriesOf}
 use Rattle.sn_types.specs.declared.answers.Answers.{Answers}
@@ -13,6 +13,7 @@ use Rattle.sn_command_run.proofs.HandLemmas.{all_emitted}
 use Rattle.sn_command_job.specs.declared.summing.Summing.{Summing}
 use Rattle.sn_command_job.specs.Summary.{shown, shown_in}
 use Rattle.sn_command_job.specs.Summing.{IsAtWork, IsIdle, shown_of}
+use Rattle.sn_windows.specs.Rising.{AreRising, Window}
 
 flat_map_map : {X Y Z : Type 0} (f : Y → List Z) (g : X → Y) (xs : List X) → flat_map f (map g xs) ≡ flat_map (λ x. f (g x)) xs
 flat_map_map f g [] = refl

@@ -25,5 +25,6 @@ pub held_unfailed : (files : List FileState) → held_by (unfailed files) ≡ he
 held_unfailed files = ap from_entries (same_bytes files)
 
 -- the names held are the names known
-pub made_known : (files : List FileState) (held : ByName (List ℕ)) (name : List ℕ) → Some (held_by files) ≡ Some held → is_some (get held name) ≡ is_some (get (no_faults files) name)
+pub made_known : (files : List FileState) (held : ByName (List ℕ)) (name : List ℕ) → Some (held_by files) ≡ Some held
+    → is_some (get held name) ≡ is_some (get (no_faults files) name)
 made_known files held name told = told_known (record { files = unfailed files; refused = []; reads = 0 }) held name (ap Some (held_unfailed files) ∙ told)

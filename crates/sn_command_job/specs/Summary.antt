@@ -3,7 +3,7 @@
 use Rattle.std.specs.Prelude.{ℕ, List, [], ◌∷◌, ◌++◌, length, ◌==◌, codes, if◌then◌else◌}
 use Rattle.std.specs.Fmt.{decimal}
 use Rattle.std.specs.List.{flat_map}
-use Rattle.sn_command_capture.specs.Wording.{Window, Wording}
+use Rattle.sn_command_capture.specs.Wording.{Wording}
 use Rattle.sn_gen.specs.Generated.{packet_count}
 use Rattle.sn_out.specs.Text.{row_line}
 use Rattle.sn_command_run.specs.Planned.{Planned, Telling, told_at, told_emitted_in}
@@ -11,6 +11,7 @@ use Rattle.sn_types.specs.declared.answers.Answers.{Answers}
 use Rattle.sn_types.specs.declared.answers.Part.{Part}
 use Rattle.sn_types.specs.declared.typed_query.TypedQuery.{TypedQuery}
 use Rattle.sn_types.specs.Typed.{final_columns, finest_level, query_at}
+use Rattle.sn_windows.specs.Rising.{Window}
 
 -- words and a number on a line of their own
 abbrev pub number_line : List ℕ → ℕ → List ℕ
@@ -51,4 +52,5 @@ summary told number cost nodes p windows = summary_text number cost nodes (lengt
 
 -- the summary is all that is written
 abbrev pub summary_wording : Telling → ℕ → ℕ → ℕ → Planned → Wording
-summary_wording told number cost nodes p = record { first = []; block = λ windows w tuples. []; unfinished = λ closed number tuples. []; last = λ windows ending. summary told number cost nodes p windows }
+summary_wording told number cost nodes p =
+    record { first = []; block = λ windows w tuples. []; unfinished = λ closed number tuples. []; last = λ windows ending. summary told number cost nodes p windows }

@@ -2,7 +2,7 @@
 -- What is kept of a job between two windows, and while a window is open.
 use Rattle.std.specs.Prelude.{◌≡◌, ℕ, List}
 use Rattle.std.specs.List.{flat_map}
-use Rattle.sn_command_capture.specs.Wording.{Window}
+use Rattle.sn_windows.specs.Rising.{Window}
 use Rattle.sn_core_drive.specs.declared.machine.Machine.{Ghosts as MachineOf}
 use Rattle.sn_command_job.specs.declared.summing.Summing.{Summing}
 use Rattle.sn_command_job.specs.Summary.{shown}

@@ -5,7 +5,7 @@ use Rattle.std.specs.FinMap.{get}
 use Rattle.std.specs.List.{flat_map, list_all}
 use Rattle.std.proofs.lemmas.Bool.{false≢true, ltb-false}
 use Rattle.sn_command_capture.specs.Capture.{AfterHead, Answered, Found, Head, LastLines, RecordsIn, Whole, WindowsIn, WindowsOf, block_in, blocks_in, ending_verdict, known_bytes, packet_tuple, time_of, windows_in, windows_outcome, windows_refused}
-use Rattle.sn_command_capture.specs.Wording.{Window, Wording}
+use Rattle.sn_command_capture.specs.Wording.{Wording}
 use Rattle.sn_base.proofs.Lists.{by_test}
 use Rattle.sn_io.specs.Counts.{ByName}
 use Rattle.sn_pcap.specs.Capture.{Records, head_of}
@@ -29,10 +29,11 @@ use Rattle.sn_windows.specs.Blocks.{all_few, answered, blocks, is_few, while_hol
 use Rattle.sn_windows.specs.Windows.{in_window, number_at, numbered, record_at, windows_of}
 use Rattle.sn_command_live.specs.Captures.{IsCapture}
 use Rattle.sn_command_live.proofs.Inversions.{EndsSo, NeverSo, is_ending, judged_so, never_does, never_judges, never_then, passed}
+use Rattle.sn_windows.specs.Rising.{Window}
 
 -- ---- blocks
 
-all_held : (test : ℕ → Bool) (ns : List ℕ) → list_all test ns ≡ true → while_holds test ns ≡ ns
+pub all_held : (test : ℕ → Bool) (ns : List ℕ) → list_all test ns ≡ true → while_holds test ns ≡ ns
 all_held test [] h = refl
 all_held test (n ∷ ns) h =
     by_test (test n)

@@ -3,7 +3,7 @@ use Rattle.std.proofs.Common.{◌≡◌, ℕ, ◌≤◌, List, [], ◌∷◌, �
 use Rattle.std.specs.FinMap.{get}
 use Rattle.std.specs.List.{flat_map}
 use Rattle.sn_command_capture.specs.Capture.{ending_verdict}
-use Rattle.sn_command_capture.specs.Wording.{Window}
+use Rattle.sn_windows.specs.Rising.{Window}
 use Rattle.sn_command_search.specs.Certificates.{IsCertificate, SearchedIn, certificate_text}
 use Rattle.sn_command_search.specs.Shown.{ShowsLeast}
 use Rattle.sn_command_search.specs.declared.certificate.Certificate.{Certificate}

@@ -13,6 +13,7 @@ use Rattle.sn_command.specs.Outcomes.{Outcome, Stage, silent}
 use Rattle.sn_command.specs.Refusals.{refusing}
 use Rattle.sn_command_live.specs.Captures.{IsHeld}
 use Rattle.sn_command.specs.Stages.{Bytes, Does, GoesOn, Judges, Text, Then, most_text, within_limit}
+use Rattle.sn_command.proofs.StageLemmas.{err_err}
 
 -- whether a fault is that of a damaged record
 abbrev pub is_damage : Fault → Bool
@@ -31,9 +32,6 @@ EndsSo {A} end = (r : Refusal) → ◌≡◌ {A = Result A Refusal} end (Err r) 
 -- a stage that is never refused so
 abbrev pub NeverSo : {A : Type 0} → Stage A → ByName (List ℕ) → Type 0
 NeverSo {A} stage files = (o : Outcome A) (r : Refusal) → stage files o → ◌≡◌ {A = Result A Refusal} o.end (Err r) → is_ending r ≡ false
-
-err_err : {A B : Type 0} {r s : Refusal} → ◌≡◌ {A = Result A Refusal} (Err r) (Err s) → ◌≡◌ {A = Result B Refusal} (Err r) (Err s)
-err_err e = cc
 
 err_is : {A : Type 0} {r s : Refusal} → ◌≡◌ {A = Result A Refusal} (Err r) (Err s) → r ≡ s
 err_is e = cc

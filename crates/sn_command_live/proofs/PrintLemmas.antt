@@ -18,7 +18,7 @@ use Rattle.sn_command_live.specs.Live.{Live}
 use Rattle.sn_command_live.proofs.LiveLemmas.{one_live_run}
 
 -- status 0 is that of the whole text alone
-zero_is : (end : Result (Unit {0}) Refusal) → end_status end ≡ 0 → end ≡ Ok tt
+pub zero_is : (end : Result (Unit {0}) Refusal) → end_status end ≡ 0 → end ≡ Ok tt
 zero_is (Ok u) e = refl
 zero_is (Err Memory) e = absurd (omega arith)
 zero_is (Err Usage) e = absurd (omega arith)

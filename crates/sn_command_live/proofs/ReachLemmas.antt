@@ -7,7 +7,7 @@ use Rattle.std.proofs.lemmas.Bool.{le-leb, le-ltb}
 use Rattle.std.proofs.lemmas.List.{length-map}
 use Rattle.std.proofs.lemmas.List.Sums.{sum_by-cons}
 use Rattle.sn_command_capture.specs.Capture.{AfterHead, Answered, Found, Head, LastLines, RecordsIn, Whole, WindowsIn, WindowsOf, blocks_in, ending_verdict, known_bytes, packet_tuple, time_of, window_in, windows_in, windows_outcome, windows_refused}
-use Rattle.sn_command_capture.specs.Wording.{Window, Wording}
+use Rattle.sn_command_capture.specs.Wording.{Wording}
 use Rattle.sn_command_search.specs.Certificates.{IsCertificate, IsSpent, SearchedIn, certificate_text}
 use Rattle.sn_command_search.specs.declared.certificate.Certificate.{Certificate}
 use Rattle.sn_command_search.proofs.Verdicts.{one_search}
@@ -39,8 +39,8 @@ use Rattle.sn_command.specs.Refusals.{refusing}
 use Rattle.sn_command.specs.Stages.{Bytes, HasVerdict, Judges, Text, Then, most_text, named, within_limit}
 use Rattle.sn_switch.specs.declared.switch.Switch.{Switch}
 use Rattle.sn_command_training.specs.declared.training.Training.{Training}
-use Rattle.sn_command_training.specs.Training.{JudgedAs, TrainingIn, judged_records, most_records, training_of}
-use Rattle.sn_windows.specs.Blocks.{all_few, is_few}
+use Rattle.sn_command_training.specs.Training.{JudgedAs, TrainingIn, judged_records, training_of}
+use Rattle.sn_windows.specs.Blocks.{all_few, is_few, most_records}
 use Rattle.sn_windows.specs.Windows.{in_window, numbered, windows_of}
 use Rattle.sn_command_live.specs.Headline.{AreAccepted, Headline, KeepsLimits, cost_on, window_block}
 use Rattle.sn_command_live.specs.Captures.{IsCapture, IsHeld}
@@ -49,6 +49,7 @@ use Rattle.sn_command_live.proofs.CaptureLemmas.{capture_once, each_block}
 use Rattle.sn_command_live.proofs.TrainLemmas.{all_within, training_so}
 use Rattle.sn_command_live.proofs.HeadlineLemmas.{Costs, Shows, headline_of}
 use Rattle.sn_command_live.proofs.LiveLemmas.{one_live_run}
+use Rattle.sn_windows.specs.Rising.{Window}
 
 -- ---- one stage after another
 
@@ -180,7 +181,7 @@ module _ {switch queries train capture : List ℕ} {files : ByName (List ℕ)} {
 
 -- ---- one file for both captures
 
-sums_are : {A : Type 0} (f : A → ℕ) (xs : List A) → sum_by f xs ≡ sum (map f xs)
+pub sums_are : {A : Type 0} (f : A → ℕ) (xs : List A) → sum_by f xs ≡ sum (map f xs)
 sums_are f [] = refl
 sums_are f (x ∷ xs) = sum_by-cons f x xs ∙ ap (λ (n : ℕ). f x + n) (sums_are f xs) ∙ sym (sum_by-cons (λ n. n) (f x) (map f xs))
 

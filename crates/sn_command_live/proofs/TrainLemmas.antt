@@ -7,7 +7,7 @@ use Rattle.std.proofs.lemmas.List.{take_all}
 use Rattle.sn_base.proofs.Lists.{by_test}
 use Rattle.sn_base.specs.Groups.{once}
 use Rattle.sn_command_capture.specs.Capture.{packet_tuple, time_of, windows_in}
-use Rattle.sn_command_capture.specs.Wording.{Window}
+use Rattle.sn_windows.specs.Rising.{Window}
 use Rattle.sn_cost.specs.Entries as costs
 use Rattle.sn_pcap.specs.Reading.{within}
 use Rattle.sn_pcap.specs.Capture.{Records, head_of}
@@ -18,13 +18,14 @@ use Rattle.sn_pcap.specs.declared.packet.Packet.{Packet}
 use Rattle.sn_command.specs.declared.fault.Fault.{Fault}
 use Rattle.sn_command.specs.declared.fault.Fault.TheVariants as faults
 use Rattle.sn_command_training.specs.declared.training.Training.{Training}
-use Rattle.sn_command_training.specs.Training.{JudgedAs, JudgedBehind, TrainingIn, judged_records, most_records, training_of}
+use Rattle.sn_command_training.specs.Training.{JudgedAs, JudgedBehind, TrainingIn, judged_records, training_of}
 use Rattle.sn_windows.specs.Numbering.{begun}
 use Rattle.sn_windows.proofs.NumberLemmas.{numbered_is, records_are}
 use Rattle.sn_windows.specs.Windows.{in_window, number_at, numbered, record_at, windows_of}
 use Rattle.sn_command_live.specs.Captures.{IsCapture}
 use Rattle.sn_command_live.specs.Live.{trained_windows}
 use Rattle.sn_command_live.proofs.Inversions.{is_damage}
+use Rattle.sn_windows.specs.Blocks.{most_records}
 
 module _ {X : Type 0} (shown : X → List ℕ) where
   abbrev paired : ℕ × X → ℕ × List ℕ

@@ -13,14 +13,11 @@ use Rattle.sn_command.specs.Refusals.{by_chance, seen_as}
 use Rattle.sn_command.specs.Runs.{Answers, Runs, WorksFrom}
 use Rattle.sn_command.specs.Stages.{Adds, Does, Judges, Text, Then}
 use Rattle.sn_command.specs.Worlds.{World}
-use Rattle.sn_command.proofs.StageLemmas.{runs_judges, runs_stops, runs_then, stage_stops, stage_then}
+use Rattle.sn_command.proofs.StageLemmas.{runs_judges, runs_stops, runs_then, stage_stops, stage_then, err_err}
 use Rattle.sn_switch.specs.declared.switch.Switch.{Switch}
 use Rattle.sn_command_training.specs.declared.training.Training.{Training}
 use Rattle.sn_command_training.specs.Training.{TrainingIn}
 use Rattle.sn_command_live.specs.Live.{Searched, Searches, trained_windows}
-
-err_err : {A B : Type 0} {r s : Refusal} → ◌≡◌ {A = Result A Refusal} (Err r) (Err s) → ◌≡◌ {A = Result B Refusal} (Err r) (Err s)
-err_err e = cc
 
 module _ {A : Type 0} (text : List ℕ) (value : A) where
   keeps_value : (answer : Result (Unit {0}) Refusal) (before now : Option (List ℕ)) → Keeps (record { text = text; end = Ok tt }) answer before now → Keeps (record { text = text; end = Ok value }) (seen_as (λ _. value) answer) before now

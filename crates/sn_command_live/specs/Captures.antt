@@ -3,7 +3,7 @@
 use Rattle.std.specs.Prelude.{◌≡◌, ℕ, ◌≤◌, List, length, Ok, Some}
 use Rattle.std.specs.FinMap.{get}
 use Rattle.sn_command_capture.specs.Capture.{packet_tuple, time_of, windows_in}
-use Rattle.sn_command_capture.specs.Wording.{Window}
+use Rattle.sn_windows.specs.Rising.{Window}
 use Rattle.sn_io.specs.Counts.{ByName}
 use Rattle.sn_pcap.specs.Capture.{head_of, Records}
 use Rattle.sn_pcap.specs.declared.header.Header.{Header}

@@ -5,7 +5,7 @@ use Rattle.std.specs.FinMap.{get}
 use Rattle.std.specs.Io.KnownBytes.{append_known}
 use Rattle.std.specs.List.{AllByRecursion, flat_map}
 use Rattle.sn_command_capture.specs.Capture.{ending_verdict}
-use Rattle.sn_command_capture.specs.Wording.{Window}
+use Rattle.sn_windows.specs.Rising.{Window}
 use Rattle.sn_plan_lists.specs.Chosen.{plan_choices}
 use Rattle.sn_plan_fit.specs.Fits.{Fits}
 use Rattle.sn_io.specs.Counts.{ByName}
@@ -66,29 +66,35 @@ pub record AreAccepted (switch queries train capture : List ℕ) (files : ByName
 
 -- The limits are kept: the first capture has at most 4194304 records, so has each window of the second one, whose records end within 2^40 bytes; and
 -- the tree of the first of the plans that cost least has at most this many nodes that are expanded.
-pub record KeepsLimits {switch queries train capture : List ℕ} {files : ByName (List ℕ)} {ending : Ending} (given : AreAccepted switch queries train capture files ending) (nodes : ℕ) : Type 0 where
+pub record KeepsLimits {switch queries train capture : List ℕ} {files : ByName (List ℕ)} {ending : Ending}
+    (given : AreAccepted switch queries train capture files ending) (nodes : ℕ) : Type 0 where
   pub few_records : length given.is_first.packets ≤ 4194304
   pub few_each : AllByRecursion (λ (w : Window). length w.1 ≤ 4194304) given.second
   pub within_bytes : last_of given.second_file ending ≡ Ended ending
-  pub within_budget : (choices : List ℕ) → IsFirstLeast (trained_plans given.limits given.read.queries given.first) choices → count_expands any_bound (tree_of (trained_plans given.limits given.read.queries given.first) choices) ≤ nodes
+  pub within_budget : (choices : List ℕ) → IsFirstLeast (trained_plans given.limits given.read.queries given.first) choices
+      → count_expands any_bound (tree_of (trained_plans given.limits given.read.queries given.first) choices) ≤ nodes
 
 -- What `live` prints of them.
-pub record Headline {switch queries train capture : List ℕ} {files : ByName (List ℕ)} {ending : Ending} (given : AreAccepted switch queries train capture files ending) (text : List ℕ) : Type 0 where
+pub record Headline {switch queries train capture : List ℕ} {files : ByName (List ℕ)} {ending : Ending}
+    (given : AreAccepted switch queries train capture files ending) (text : List ℕ) : Type 0 where
   -- The plan fits every limit of the switch.
   pub plan : Plan
   pub fits : Fits given.read.queries given.limits plan.entries
   -- No plan that fits costs less on the first capture,
-  pub least : (entries : List Entry) → Fits given.read.queries given.limits entries → cost_on given.first given.read given.limits plan.entries ≤ cost_on given.first given.read given.limits entries
+  pub least : (entries : List Entry) → Fits given.read.queries given.limits entries
+      → cost_on given.first given.read given.limits plan.entries ≤ cost_on given.first given.read given.limits entries
   -- which the tree of bounds shows.
   pub tree : List Node
   pub shown : IsAccepted (trained_plans given.limits given.read.queries given.first) (plan_choices given.limits given.read.queries plan.entries) tree
   -- These are printed, with the plan's cost on the first capture; then for each window of the second one the refined answers along the plan, and how
   -- many items were sent; and then the damage, if there is some, and the total.
   pub printed : text ≡ (plan_text plan ++ tree_text (cost_on given.first given.read given.limits plan.entries) (nodes_text tree))
-      ++ (flat_map (window_block (planned given.read given.limits plan) given.second) given.second ++ plan_lines (planned given.read given.limits plan) given.second ending)
+      ++ (flat_map (window_block (planned given.read given.limits plan) given.second) given.second
+      ++ plan_lines (planned given.read given.limits plan) given.second ending)
 
 -- the headline of these files is written, and the status says how the records of the second capture end
-pub record IsPrinted {switch queries train capture : List ℕ} {files : ByName (List ℕ)} {ending : Ending} (given : AreAccepted switch queries train capture files ending) (status : ℕ) (before now : Option (List ℕ)) : Type 0 where
+pub record IsPrinted {switch queries train capture : List ℕ} {files : ByName (List ℕ)} {ending : Ending}
+    (given : AreAccepted switch queries train capture files ending) (status : ℕ) (before now : Option (List ℕ)) : Type 0 where
   pub text : List ℕ
   pub headline : Headline given text
   pub written : now ≡ append_known before text
@@ -97,7 +103,10 @@ pub record IsPrinted {switch queries train capture : List ℕ} {files : ByName (
 -- What a call with the words of `live` leaves, over files whose contents are known.
 pub record KeepsHeadline (switch queries train capture : List ℕ) (nodes : ℕ) (before : Around) (status : ℕ) (now : Around) : Type 0 where
   -- Of accepted files with limits that are kept the headline is printed, where no count rose, unless memory ran out.
-  pub printed : (files : ByName (List ℕ)) → before.files.told ≡ Some files → (ending : Ending) (given : AreAccepted switch queries train capture files ending) → KeepsLimits given nodes
-      → (AnyRose (queries ∷ switch ∷ train ∷ capture ∷ []) before.files now.files → ⊥) → (OutRose before.out now.out → ⊥) → (status ≡ 1) ⊎ IsPrinted given status before.out.written now.out.written
+  pub printed : (files : ByName (List ℕ)) → before.files.told ≡ Some files → (ending : Ending) (given : AreAccepted switch queries train capture files ending)
+      → KeepsLimits given nodes
+      → (AnyRose (queries ∷ switch ∷ train ∷ capture ∷ []) before.files now.files → ⊥) → (OutRose before.out now.out → ⊥)
+      → (status ≡ 1) ⊎ IsPrinted given status before.out.written now.out.written
   -- Where the status is 0, the files are accepted, and it is printed.
-  pub only : (files : ByName (List ℕ)) → before.files.told ≡ Some files → status ≡ 0 → (given : AreAccepted switch queries train capture files Clean) × IsPrinted given status before.out.written now.out.written
+  pub only : (files : ByName (List ℕ)) → before.files.told ≡ Some files → status ≡ 0
+      → (given : AreAccepted switch queries train capture files Clean) × IsPrinted given status before.out.written now.out.written

@@ -1,7 +1,7 @@
 -- to be believed
 -- What `plan` and `live` do.
 use Rattle.std.specs.Prelude.{ℕ, List, Ok}
-use Rattle.sn_command_capture.specs.Wording.{Window}
+use Rattle.sn_windows.specs.Rising.{Window}
 use Rattle.sn_command_search.specs.Certificates.{SearchedIn, certificate_text}
 use Rattle.sn_command_search.specs.declared.certificate.Certificate.{Certificate}
 use Rattle.sn_cost.specs.Entries.{trained}
@@ -53,8 +53,10 @@ Plan switch queries train nodes = Then (Certifies switch queries train nodes) (�
 -- `live SWITCH QUERIES TRAIN CAPTURE --nodes NODES`: then the capture is read and answered along that plan; the answers are given as a
 -- machine reports them.
 abbrev pub Live : Telling → List ℕ → List ℕ → List ℕ → List ℕ → ℕ → Stage (Unit {0})
-Live told switch queries train capture nodes = Then (Certifies switch queries train nodes) (λ found. AlongPlan told capture found.read found.limits found.certificate.plan)
+Live told switch queries train capture nodes =
+    Then (Certifies switch queries train nodes) (λ found. AlongPlan told capture found.read found.limits found.certificate.plan)
 
 -- The same with `--schedule SCHEDULE --trace`: with the lines of what happens in a machine that is driven by draws that follow this number.
 abbrev pub TracedLive : ℕ → Telling → List ℕ → List ℕ → List ℕ → List ℕ → ℕ → Stage (Unit {0})
-TracedLive schedule told switch queries train capture nodes = Then (Certifies switch queries train nodes) (λ found. TracedAlong schedule told capture found.read found.limits found.certificate.plan)
+TracedLive schedule told switch queries train capture nodes =
+    Then (Certifies switch queries train nodes) (λ found. TracedAlong schedule told capture found.read found.limits found.certificate.plan)

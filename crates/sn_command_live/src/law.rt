@@ -31,7 +31,8 @@ pub fn live_has_one_outcome()
 /// Over each set of files `live` with a trace has exactly one outcome, by each schedule.
 #[tactic(auto, using(crate::proofs::LiveLemmas::one_traced_run))]
 pub fn traced_live_has_one_outcome()
-    ensures { (schedule : ℕ) (told : Telling) (switch queries train capture : List ℕ) (nodes : ℕ) → HasOne (TracedLive schedule told switch queries train capture nodes) }
+    ensures { (schedule : ℕ) (told : Telling) (switch queries train capture : List ℕ) (nodes : ℕ) →
+        HasOne (TracedLive schedule told switch queries train capture nodes) }
 {}
 
 /// Of accepted queries, an accepted switch and two captures `live` prints a plan that fits, a tree that shows that no plan that fits costs less on the
@@ -39,11 +40,14 @@ pub fn traced_live_has_one_outcome()
 /// the machine reports its answers as they are.
 pub fn live_keeps_the_headline()
     // Where the limits are kept, this is the whole text, and the work ends as the records of the second capture do.
-    ensures printed { (switch queries train capture : List ℕ) (files : ByName (List ℕ)) (ending : Ending) (given : AreAccepted switch queries train capture files ending) (nodes : ℕ) (outcome : Outcome (Unit {0})) →
-        KeepsLimits given nodes → Live as_they_are switch queries train capture nodes files outcome → (outcome.end ≡ refusing (ending_verdict ending)) × Headline given outcome.text }
+    ensures printed { (switch queries train capture : List ℕ) (files : ByName (List ℕ)) (ending : Ending)
+        (given : AreAccepted switch queries train capture files ending) (nodes : ℕ) (outcome : Outcome (Unit {0})) →
+        KeepsLimits given nodes → Live as_they_are switch queries train capture nodes files outcome →
+        (outcome.end ≡ refusing (ending_verdict ending)) × Headline given outcome.text }
     // The work ends so in no other case.
     ensures only { (switch queries train capture : List ℕ) (files : ByName (List ℕ)) (ending : Ending) (nodes : ℕ) (outcome : Outcome (Unit {0})) →
-        Live as_they_are switch queries train capture nodes files outcome → outcome.end ≡ refusing (ending_verdict ending) → (given : AreAccepted switch queries train capture files ending) × Headline given outcome.text }
+        Live as_they_are switch queries train capture nodes files outcome → outcome.end ≡ refusing (ending_verdict ending) →
+        (given : AreAccepted switch queries train capture files ending) × Headline given outcome.text }
 {
     typed_queries_and_switches_rise();
     certificates_show_least();
@@ -53,13 +57,15 @@ pub fn live_keeps_the_headline()
 /// A call that is a run of the stages of `live`, by a machine that reports its answers as they are, keeps the headline.
 pub fn runs_of_live_keep_the_headline()
     ensures { (switch queries train capture : List ℕ) (nodes : ℕ) (before : Around) (status : ℕ) (now : Around) →
-        IsCommandRun (queries ∷ switch ∷ train ∷ capture ∷ []) (Live as_they_are switch queries train capture nodes) before status now → KeepsHeadline switch queries train capture nodes before status now }
+        IsCommandRun (queries ∷ switch ∷ train ∷ capture ∷ []) (Live as_they_are switch queries train capture nodes) before status now →
+        KeepsHeadline switch queries train capture nodes before status now }
 {
     live_keeps_the_headline();
 }
 
 /// Where the two captures are one file, the cost that is printed is the number of items that are sent in total.
 pub fn trained_captures_cost_what_they_send()
-    ensures { (switch queries file : List ℕ) (files : ByName (List ℕ)) (ending : Ending) (given : AreAccepted switch queries file file files ending) (plan : AnyPlan) →
+    ensures { (switch queries file : List ℕ) (files : ByName (List ℕ)) (ending : Ending) (given : AreAccepted switch queries file file files ending)
+        (plan : AnyPlan) →
         cost_on given.first given.read given.limits plan.entries ≡ emitted_in (planned given.read given.limits plan) given.second }
 {}

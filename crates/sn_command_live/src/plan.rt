@@ -21,7 +21,8 @@ pub fn plan<I: Inputs, O: Sink>(
     nodes: u32,
     desk: &mut Desk<'_, I, O>,
 ) -> Result<(), Refusal>
-    ensures { WorksFrom 2 (queries.now ∷ switch.now ∷ train.now ∷ []) (Plan switch.now queries.now train.now nodes) (world I.Inputs O.Sink desk.old) result (world I.Inputs O.Sink desk.new) }
+    ensures { WorksFrom 2 (queries.now ∷ switch.now ∷ train.now ∷ []) (Plan switch.now queries.now train.now nodes) (world I.Inputs O.Sink desk.old) result
+        (world I.Inputs O.Sink desk.new) }
 {
     certify(alloc, switch, queries, train, nodes, desk)?;
     Ok(())

@@ -26,7 +26,9 @@ pub fn live_traced<M: Machine, I: Inputs, O: Sink>(
     schedule: u32,
     desk: &mut Desk<'_, I, O>,
 ) -> Result<(), Refusal>
-    ensures { WorksFrom 2 (queries.now ∷ switch.now ∷ train.now ∷ capture.now ∷ []) (TracedLive schedule M.told switch.now queries.now train.now capture.now nodes) (world I.Inputs O.Sink desk.old) result (world I.Inputs O.Sink desk.new) }
+    ensures { WorksFrom 2 (queries.now ∷ switch.now ∷ train.now ∷ capture.now ∷ [])
+        (TracedLive schedule M.told switch.now queries.now train.now capture.now nodes) (world I.Inputs O.Sink desk.old) result
+        (world I.Inputs O.Sink desk.new) }
 {
     let certified = certify(alloc, switch, queries, train, nodes, desk)?;
     let Certified {

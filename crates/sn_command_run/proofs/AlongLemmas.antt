@@ -3,24 +3,15 @@ use Rattle.std.proofs.Common.{◌≡◌, ℕ, ◌+◌, List, [], ◌∷◌, ◌+
 use Rattle.std.proofs.lemmas.List.{map-append}
 use Rattle.std.proofs.lemmas.List.Sums.{sum_by-append, sum_by-cons}
 use Rattle.sn_base.proofs.Lists.{map_both}
-use Rattle.sn_command_capture.specs.Wording.{AreRising, IsAbove, Window}
+use Rattle.sn_windows.specs.Rising.{AreRising, Window}
 use Rattle.sn_engine_lockstep.specs.Sources.{kept_in}
 use Rattle.sn_engine_lockstep.specs.Windows.{answers_from, plan_answers, window_answers}
 use Rattle.sn_engine_lockstep.proofs.Laws.{all_windows}
 use Rattle.sn_plan_fit.specs.Fits.{AreEntriesOf}
-use Rattle.sn_refine.specs.Steps.{IsAbove as IsAboveIt, Rises, windows_of}
+use Rattle.sn_refine.specs.Steps.{windows_of}
 use Rattle.sn_types.specs.declared.answers.Answers.{Answers}
 use Rattle.sn_command_run.specs.Along.{answers_of, last_from, last_of, sent_in, told_of}
 use Rattle.sn_command_run.specs.Planned.{Planned, Telling, answers_at, told_at, told_emitted_in}
-
--- windows rise in either way of saying it
-above_it : (before : Option ℕ) (w : ℕ) → IsAbove before w → IsAboveIt before w
-above_it None w h = tt
-above_it (Some before) w h = h
-
-pub rises_of : (before : Option ℕ) (windows : List Window) → AreRising before windows → Rises before windows
-rises_of before [] r = tt
-rises_of before (w ∷ ws) r = (above_it before w.0 r.0, rises_of (Some w.0) ws r.1)
 
 pub rising_front : (before : Option ℕ) (closed more : List Window) → AreRising before (closed ++ more) → AreRising before closed
 rising_front before [] more r = tt
@@ -81,11 +72,11 @@ module _ (p : Planned) where
       let right : Window → Answers = λ g. plan_answers p.queries p.depth p.entries (windows_of all) g.0 in
       let now : Answers = next_answers closed number tuples in
       let e : answers_of p closed ++ now ∷ [] ≡ map right closed ++ right (number, tuples) ∷ [] =
-      sym (one_more None closed number tuples) ∙ all_windows p.queries p.depth p.entries all h (rises_of None all rising) ∙ map-append right closed ((number, tuples) ∷ []) in
+      sym (one_more None closed number tuples) ∙ all_windows p.queries p.depth p.entries all h rising ∙ map-append right closed ((number, tuples) ∷ []) in
       sym (end_is now (answers_of p closed) now) ∙ ap (end_of now) e ∙ end_is now (map right closed) (right (number, tuples))
 
   pub told_right : (told : Telling) (closed : List Window) → AreEntriesOf p.queries p.entries → AreRising None closed → told_of told p closed ≡ map (λ (w : Window). told_at told p closed w.0) closed
-  told_right told closed h rising = ap (map told) (all_windows p.queries p.depth p.entries closed h (rises_of None closed rising)) ∙ map_both (λ (w : Window). answers_at p closed w.0) told closed
+  told_right told closed h rising = ap (map told) (all_windows p.queries p.depth p.entries closed h rising) ∙ map_both (λ (w : Window). answers_at p closed w.0) told closed
 
   pub sent_right : (told : Telling) (closed : List Window) → AreEntriesOf p.queries p.entries → AreRising None closed → sent_in told p closed ≡ told_emitted_in told p closed
   sent_right told closed h rising =

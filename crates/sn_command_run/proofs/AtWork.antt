@@ -3,7 +3,7 @@ use Rattle.std.proofs.Common.{◌≡◌, ℕ, zero, suc, ◌<◌, ◌&&◌, List
 use Rattle.std.specs.Prelude.{length}
 use Rattle.std.proofs.lemmas.Bool.{lt-ltb}
 use Rattle.sn_command_capture.specs.Gathering.{all_of}
-use Rattle.sn_command_capture.specs.Wording.{AreRising, Closed, Window}
+use Rattle.sn_command_capture.specs.Wording.{Closed}
 use Rattle.sn_core.proofs.StandingKept.{give_keeps_net}
 use Rattle.sn_core.specs.Debt.{work}
 use Rattle.sn_core.specs.Events.{given, window_from}
@@ -31,6 +31,8 @@ use Rattle.sn_command_run.specs.TraceWatching.{IsAtWork, IsIdle, IsWatched}
 use Rattle.sn_command_run.specs.TraceWording.{behind_windows, lines_before, lines_behind, works_of}
 use Rattle.sn_command_run.specs.declared.traced.Traced.{Traced}
 use Rattle.sn_command_run.proofs.WatchLemmas.{all_of_some, before_last, behind_more, front_is, ran}
+use Rattle.sn_windows.specs.Rising.{AreRising, Window}
+use Rattle.sn_core_trace.proofs.TurnLemmas.{still_turns}
 
 used_held : (number : ℕ) (tuples : List (List ℕ)) (s : State) → IsUsed number tuples s → s.held ≡ None
 used_held number [] s h = h.0
@@ -120,10 +122,6 @@ module _ {M : Type 0} (machine : MachineOf M) (a : Traced M) (closed : List Wind
           ∙ ap (λ (windows : List Window). lines_of (watch_on (works_of p) (behind_windows a.schedule p windows) End).since) (all_of_some number closed tuples some)
 
 -- ---- where the records end
-
-still_turns : (w : Works) (n x : ℕ) (s : State) → is_still s ≡ true → turns w n x s ≡ no_turn x s
-still_turns w zero x s still = refl
-still_turns w (suc n) x s still = rw still refl
 
 -- a machine to which nothing was given is done where the end comes
 idle_end : (w : Works) (x : ℕ) (s : State) → s.window ≡ Idle → s.waiting ≡ None → turns_on w x s End ≡ no_turn x (given s End)

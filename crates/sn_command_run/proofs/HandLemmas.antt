@@ -6,7 +6,7 @@ use Rattle.std.specs.Result.{OnOk}
 use Rattle.sn_base.proofs.Lists.{all_append, all_weaker}
 use Rattle.sn_command_capture.proofs.RisingLemmas.{rising_next}
 use Rattle.sn_command_capture.specs.Gathering.{all_of}
-use Rattle.sn_command_capture.specs.Wording.{AreRising, Closed, Window}
+use Rattle.sn_command_capture.specs.Wording.{Closed}
 use Rattle.sn_core.specs.Due.{due}
 use Rattle.sn_core.specs.Needs.{is_done, wants}
 use Rattle.sn_core.specs.Standing.{IsNet, IsNoEarlier}
@@ -30,6 +30,7 @@ use Rattle.sn_command_run.specs.Planned.{Planned, Telling, told_at, told_emitted
 use Rattle.sn_command_run.proofs.AlongLemmas.{next_answers, next_right, rising_again, rising_front, sent_more, sent_right}
 use Rattle.sn_command_run.proofs.MachineLemmas.{end_told, found_is, tuple_owes, tuple_told}
 use Rattle.sn_command_run.proofs.PartLemmas.{parts_fit}
+use Rattle.sn_windows.specs.Rising.{AreRising, Window}
 
 -- ---- windows
 

@@ -2,11 +2,11 @@
 use Rattle.std.proofs.Common.{◌≡◌, ℕ, List, [], ◌∷◌, ◌++◌, map, Option, None, true, refl, ap, sym, subst, ◌∙◌, append_assoc, append-nil}
 use Rattle.std.specs.List.{AllByRecursion}
 use Rattle.sn_command_capture.specs.Gathering.{all_of}
-use Rattle.sn_command_capture.specs.Wording.{AreRising, Window}
+use Rattle.sn_windows.specs.Rising.{AreRising, Window}
 use Rattle.sn_core.specs.Due.{due, due_in, windows_of}
 use Rattle.sn_core.specs.Needs.{is_done}
 use Rattle.sn_core.specs.Numbers.{DontFall}
-use Rattle.sn_core.specs.Workings.{AreLawful, option_list}
+use Rattle.sn_core.specs.Workings.{AreLawful}
 use Rattle.sn_core.specs.declared.supply.Supply.{Supply}
 use Rattle.sn_core.specs.declared.supply.Supply.TheVariants.{Numbered, End}
 use Rattle.sn_core.specs.declared.supply.Window.{Window as At}
@@ -20,6 +20,7 @@ use Rattle.sn_command_run.specs.Along.{IsSound, Owes, answers_for, supplies_of, 
 use Rattle.sn_command_run.specs.Planned.{Planned, Telling}
 use Rattle.sn_command_run.proofs.AlongLemmas.{next_answers, told_more}
 use Rattle.sn_command_run.proofs.SupplyLemmas.{all_answers, given_widths, one_supply, rising_falls}
+use Rattle.std.specs.Option.{option_to_list}
 
 abbrev Supplies : Type 0
 Supplies = List (Supply (List ℕ))
@@ -62,7 +63,7 @@ module _ (w : Works) (told : Telling) (p : Planned) where
 
   due_one : (s : State) (number : ℕ) → s.held ≡ None → s.window ≡ Begun number → s.waiting ≡ None → One s
   due_one s number held window waiting =
-      let made : Option Answers → Option (Supply (List ℕ)) → At → List Answers = λ wait hold at. option_list wait ++ due_in w s (option_list hold ++ End ∷ []) at in
+      let made : Option Answers → Option (Supply (List ℕ)) → At → List Answers = λ wait hold at. option_to_list wait ++ due_in w s (option_to_list hold ++ End ∷ []) at in
       record {
         one = _;
         is = ap (λ (wait : Option Answers). made wait s.held s.window) waiting ∙ ap (λ (hold : Option (Supply (List ℕ))). made None hold s.window) held ∙ ap (made None None) window;

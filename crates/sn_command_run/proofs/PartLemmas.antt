@@ -11,7 +11,7 @@ use Rattle.sn_base.specs.Groups.{Row}
 use Rattle.sn_base.specs.Operators.{through}
 use Rattle.sn_base.specs.Sorted.{put_row, sorted_rows}
 use Rattle.sn_base.proofs.SortLemmas.{sort_bag}
-use Rattle.sn_base.proofs.Lists.{all_append, all_filter, all_map, by_test}
+use Rattle.sn_base.proofs.Lists.{all_append, all_filter, all_map, by_test, all_of}
 use Rattle.sn_core_drive.specs.Telling.{IsSortedPart}
 use Rattle.sn_engine_lockstep.specs.declared.source.Source.{Source}
 use Rattle.sn_engine_lockstep.specs.Sources.{source_at}
@@ -59,10 +59,6 @@ sorted_twice xs = sort_bag (sorted_rows xs) xs (sorted_bag xs)
 at_sorted : (query : TypedQuery) (path : List ℕ) (kept : ℕ → Set) (tuples : List (List ℕ)) (j : ℕ) → sorted_rows (rows_at query path kept tuples j) ≡ rows_at query path kept tuples j
 at_sorted query path kept tuples zero = sorted_twice (query_rows query (slice_index path 0) None tuples)
 at_sorted query path kept tuples (suc j) = sorted_twice (query_rows query (slice_index path (suc j)) None (filter (is_held query.field (slice_index path j) (kept j)) tuples))
-
-all_of : {X : Type 0} (P : X → Type 0) → ((x : X) → P x) → (xs : List X) → AllByRecursion P xs
-all_of P h [] = tt
-all_of P h (x ∷ xs) = (h x, all_of P h xs)
 
 module _ (window : ℕ) (queries : List TypedQuery) (t : ∥ IsTyped window queries ∥₁) where
   ends : (q b level : ℕ) (tuples : List (List ℕ)) → q < length queries → b < length (query_at queries q).branches → AllByRecursion HasWidths tuples → AreOf (end_columns (branch_at queries q b)) (branch_rows (query_at queries q) b level None tuples)

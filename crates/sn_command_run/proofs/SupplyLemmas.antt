@@ -5,9 +5,9 @@ use Rattle.std.specs.List.{AllByRecursion}
 use Rattle.std.proofs.lemmas.Bool.{eq-eqb, ne_eqb}
 use Rattle.std.proofs.lemmas.Grind.{flat_map-append}
 use Rattle.std.proofs.lemmas.List.{map-append}
-use Rattle.sn_base.proofs.Lists.{map_both}
+use Rattle.sn_base.proofs.Lists.{map_both, all_unmap}
 use Rattle.sn_command_capture.specs.Gathering.{all_of}
-use Rattle.sn_command_capture.specs.Wording.{AreRising, Window}
+use Rattle.sn_windows.specs.Rising.{AreRising, Window}
 use Rattle.sn_core.specs.Due.{Tuples, before_windows, windows_of}
 use Rattle.sn_core.specs.Numbers.{DontFall}
 use Rattle.sn_core.specs.declared.supply.Supply.{Supply}
@@ -21,7 +21,6 @@ use Rattle.sn_types.specs.declared.answers.Answers.{Answers}
 use Rattle.sn_types.specs.Typed.{HasWidths}
 use Rattle.sn_command_run.specs.Along.{IsSound, answers_for, answers_of, supplies_in, supplies_of}
 use Rattle.sn_command_run.specs.Planned.{Planned}
-use Rattle.sn_command_run.proofs.AlongLemmas.{rises_of}
 
 abbrev Supplies : Type 0
 Supplies = List (Supply (List ℕ))
@@ -97,10 +96,6 @@ windows_back before ((n, t ∷ ts) ∷ given) r sound =
     ∙ ap (map given_of) (window_front n t ts rest later)
     ∙ ap (λ (ws : List Window). (n, t ∷ ts) ∷ ws) back
 
-all_unmap : {X Y : Type 0} (P : Y → Type 0) (f : X → Y) (xs : List X) → AllByRecursion P (map f xs) → AllByRecursion (λ x. P (f x)) xs
-all_unmap P f [] h = tt
-all_unmap P f (x ∷ xs) h = (h.0, all_unmap P f xs h.1)
-
 all_widths : (given : List Window) → AllByRecursion IsSound given → AllByRecursion (λ (w : Window). AllByRecursion HasWidths w.1) given
 all_widths [] h = tt
 all_widths (w ∷ given) h = (h.0.widths, all_widths given h.1)
@@ -119,4 +114,4 @@ all_answers p given entries r sound =
     let right : List Window → Window → Answers = λ ws g. plan_answers p.queries p.depth p.entries (refine.windows_of ws) g.0 in
     sym (map_both given_of (right (map given_of xs)) xs)
     ∙ ap (λ (ws : List Window). map (right ws) ws) back
-    ∙ sym (all_windows p.queries p.depth p.entries given entries (rises_of None given r))
+    ∙ sym (all_windows p.queries p.depth p.entries given entries r)

@@ -3,7 +3,7 @@
 use Rattle.std.specs.Prelude.{◌≡◌, ℕ, ◌<◌, List, [], ◌∷◌, ◌++◌, map, sum, length, Option, None, Some}
 use Rattle.std.specs.List.{AllByRecursion, flat_map}
 use Rattle.sn_command_capture.specs.Gathering.{all_of}
-use Rattle.sn_command_capture.specs.Wording.{AreRising, Window}
+use Rattle.sn_windows.specs.Rising.{AreRising, Window}
 use Rattle.sn_core.specs.Due.{due}
 use Rattle.sn_core.specs.Due as core
 use Rattle.sn_core.specs.Numbers.{DontFall}

@@ -7,14 +7,14 @@ use Rattle.std.proofs.Common.{refl, ap, ◌∙◌, arith}
 use Rattle.std.proofs.lemmas.Bool.{ne_eqb}
 use Rattle.sn_base.specs.Groups.{Row}
 use Rattle.sn_base.proofs.Lists.{by_test}
-use Rattle.sn_command_capture.specs.Wording.{AreRising, IsCausal, Window}
-use Rattle.sn_engine_lockstep.specs.Windows.{count_of, piece_count, plan_answers, refined_from, seen_at}
+use Rattle.sn_command_capture.specs.Wording.{IsCausal}
+use Rattle.sn_engine_lockstep.specs.Windows.{count_of, piece_count, plan_answers, refined_from}
 use Rattle.sn_emit.specs.Plans.{Placed, pieces_from}
 use Rattle.sn_plan_fit.specs.Paths.{place_in}
 use Rattle.sn_out.specs.Records.{window_records}
 use Rattle.sn_out.specs.Text.{block_text}
 use Rattle.sn_plan_grammar.specs.declared.plan.Entry.{Entry}
-use Rattle.sn_refine.specs.Refined.{Windows, answered, before, level_rows, part_at, refined_parts, refined_rows}
+use Rattle.sn_refine.specs.Refined.{Windows, answered, before, level_rows, part_at, refined_parts, refined_rows, seen_at}
 use Rattle.sn_refine.specs.Steps.{windows_of}
 use Rattle.sn_types.specs.declared.answers.Answers.{Answers}
 use Rattle.sn_types.specs.declared.answers.Part.{Part}
@@ -23,6 +23,7 @@ use Rattle.sn_types.specs.Typed.{query_at}
 use Rattle.sn_command_run.specs.declared.form.Form.{Form}
 use Rattle.sn_command_run.specs.declared.form.Form.TheVariants as forms
 use Rattle.sn_command_run.specs.Planned.{Planned, Telling, answers_at, wording_in}
+use Rattle.sn_windows.specs.Rising.{AreRising, Window}
 
 map_same : {X Y : Type 0} (f g : X → Y) → ((x : X) → f x ≡ g x) → (xs : List X) → map f xs ≡ map g xs
 map_same f g same [] = refl
@@ -42,7 +43,8 @@ module _ (ws vs : Windows) where
   same_rows query path (suc j) w a =
       let earlier : before (refined_rows query ws path j) w ≡ before (refined_rows query vs path j) w =
       before_same (refined_rows query ws path j) (refined_rows query vs path j) w (λ u lt. same_rows query path j u (λ v le. a v (omega arith))) in
-      ap (λ o. level_rows query (slice_index path (suc j)) (option_map (answered query (slice_index path j) (before (refined_rows query ws path j) w)) o)) (a w (omega arith))
+      ap (λ o. level_rows query (slice_index path (suc j)) (option_map (answered query (slice_index path j) (before (refined_rows query ws path j) w)) o))
+      (a w (omega arith))
       ∙ ap (λ (rows : List Row). level_rows query (slice_index path (suc j)) (option_map (answered query (slice_index path j) rows) (vs w))) earlier
 
   same_seen : (query : TypedQuery) (path : List ℕ) (j w : ℕ) → Agree w → seen_at query ws path j w ≡ seen_at query vs path j w
@@ -67,12 +69,14 @@ module _ (ws vs : Windows) where
       ap (λ (ps : List Part). ps ++ refined_from queries ws w (suc q) es) (same_parts q (query_at queries q) e.levels w a)
       ∙ ap (λ (ps : List Part). refined_parts q (query_at queries q) vs e.levels w ++ ps) (same_refined queries w (suc q) es a)
 
-  same_counts : (queries : List TypedQuery) (depth w : ℕ) (xs : List Placed) → Agree w → map (piece_count queries depth ws w) xs ≡ map (piece_count queries depth vs w) xs
+  same_counts : (queries : List TypedQuery) (depth w : ℕ) (xs : List Placed) → Agree w
+      → map (piece_count queries depth ws w) xs ≡ map (piece_count queries depth vs w) xs
   same_counts queries depth w xs a =
       map_same (piece_count queries depth ws w) (piece_count queries depth vs w)
       (λ x. ap (count_of queries depth x) (same_seen (query_at queries x.query) x.path (place_in x.path x.piece.level) w a)) xs
 
-  same_answers : (queries : List TypedQuery) (depth : ℕ) (es : List Entry) (w : ℕ) → Agree w → plan_answers queries depth es ws w ≡ plan_answers queries depth es vs w
+  same_answers : (queries : List TypedQuery) (depth : ℕ) (es : List Entry) (w : ℕ) → Agree w
+      → plan_answers queries depth es ws w ≡ plan_answers queries depth es vs w
   same_answers queries depth es w a =
       ap (λ (ns : List ℕ). made (sum ns) (refined_from queries ws w 0 es)) (same_counts queries depth w (pieces_from 0 es) a)
       ∙ ap (made (sum (map (piece_count queries depth vs w) (pieces_from 0 es)))) (same_refined queries w 0 es a)
@@ -89,17 +93,23 @@ none_above last (w ∷ more) v r le =
     rw no (none_above w.0 more v r.1 (omega arith))
 
 -- up to a window, those after it don't matter
-up_to : (last : Option ℕ) (closed : List Window) (number : ℕ) (tuples : List (List ℕ)) (more : List Window) (v : ℕ) → AreRising last (closed ++ (number, tuples) ∷ more) → v ≤ number
+up_to : (last : Option ℕ) (closed : List Window) (number : ℕ) (tuples : List (List ℕ)) (more : List Window) (v : ℕ)
+    → AreRising last (closed ++ (number, tuples) ∷ more) → v ≤ number
     → windows_of (closed ++ (number, tuples) ∷ more) v ≡ windows_of (closed ++ (number, tuples) ∷ []) v
 up_to last [] number tuples more v r le = by_test (number == v) (λ is. rw is refl) (λ isnt. rw isnt (none_above number more v r.1 le))
-up_to last (w ∷ closed) number tuples more v r le = by_test (w.0 == v) (λ is. rw is refl) (λ isnt. rw isnt (up_to (Some w.0) closed number tuples more v r.1 le))
+up_to last (w ∷ closed) number tuples more v r le =
+    by_test (w.0 == v) (λ is. rw is refl) (λ isnt. rw isnt (up_to (Some w.0) closed number tuples more v r.1 le))
 
 -- nor do they for its answers
-answers_stand : (p : Planned) (closed : List Window) (number : ℕ) (tuples : List (List ℕ)) (more : List Window) → AreRising None (closed ++ (number, tuples) ∷ more)
+answers_stand : (p : Planned) (closed : List Window) (number : ℕ) (tuples : List (List ℕ)) (more : List Window)
+    → AreRising None (closed ++ (number, tuples) ∷ more)
     → answers_at p (closed ++ (number, tuples) ∷ more) number ≡ answers_at p (closed ++ (number, tuples) ∷ []) number
 answers_stand p closed number tuples more rising =
-    same_answers (windows_of (closed ++ (number, tuples) ∷ more)) (windows_of (closed ++ (number, tuples) ∷ [])) p.queries p.depth p.entries number (λ v le. up_to None closed number tuples more v rising le)
+    same_answers (windows_of (closed ++ (number, tuples) ∷ more)) (windows_of (closed ++ (number, tuples) ∷ [])) p.queries p.depth p.entries number
+    (λ v le. up_to None closed number tuples more v rising le)
 
 pub plan_is_causal : (form : Form) (told : Telling) (p : Planned) → IsCausal (wording_in form told p)
-plan_is_causal forms.Blocks told p closed number tuples more rising = ap (λ (a : Answers). block_text p.queries (told a) true) (answers_stand p closed number tuples more rising)
-plan_is_causal forms.Records told p closed number tuples more rising = ap (λ (a : Answers). window_records p.queries (told a)) (answers_stand p closed number tuples more rising)
+plan_is_causal forms.Blocks told p closed number tuples more rising =
+    ap (λ (a : Answers). block_text p.queries (told a) true) (answers_stand p closed number tuples more rising)
+plan_is_causal forms.Records told p closed number tuples more rising =
+    ap (λ (a : Answers). window_records p.queries (told a)) (answers_stand p closed number tuples more rising)

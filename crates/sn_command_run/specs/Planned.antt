@@ -1,7 +1,7 @@
 -- to be believed
 -- What is written of the windows of a capture that is answered along a plan.
 use Rattle.std.specs.Prelude.{ℕ, List, [], ◌++◌, map, sum, length, Bool, true, false, Some}
-use Rattle.sn_command_capture.specs.Wording.{Window, Wording}
+use Rattle.sn_command_capture.specs.Wording.{Wording}
 use Rattle.sn_engine_lockstep.specs.Windows.{plan_answers}
 use Rattle.sn_out.specs.Records.{heading_line, window_records}
 use Rattle.sn_out.specs.Text.{block_text, damage_line, total_line}
@@ -12,6 +12,7 @@ use Rattle.sn_types.specs.declared.answers.Answers.{Answers}
 use Rattle.sn_types.specs.declared.typed_query.TypedQuery.{TypedQuery}
 use Rattle.sn_command_run.specs.declared.form.Form.{Form}
 use Rattle.sn_command_run.specs.declared.form.Form.TheVariants as forms
+use Rattle.sn_windows.specs.Rising.{Window}
 
 -- a plan of queries, on a switch with chains of this depth
 pub record Planned : Type 0 where

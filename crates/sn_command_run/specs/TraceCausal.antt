@@ -3,7 +3,7 @@
 use Rattle.std.specs.Prelude.{◌≡◌, ℕ, ◌<◌, ◌≤◌, List, [], ◌∷◌, ◌++◌, nat_le, true, false, Option, None, Some}
 use Rattle.std.proofs.Common.{refl, ap, ap₂, sym, ◌∙◌, arith}
 use Rattle.std.proofs.lemmas.Bool.{le-leb, lt-leb}
-use Rattle.sn_command_capture.specs.Wording.{AreRising, IsCausal, Window}
+use Rattle.sn_command_capture.specs.Wording.{IsCausal}
 use Rattle.sn_core.specs.declared.supply.Supply.TheVariants.{End}
 use Rattle.sn_command_run.specs.Causal.{plan_is_causal}
 use Rattle.sn_command_run.specs.Planned.{Planned, Telling}
@@ -11,6 +11,7 @@ use Rattle.sn_command_run.specs.declared.form.Form.TheVariants as forms
 use Rattle.sn_core_trace.specs.Lines.{lines_of}
 use Rattle.sn_core_trace.specs.Turns.{up_to_close}
 use Rattle.sn_command_run.specs.TraceWording.{behind_windows, traced_wording, up_to, works_of}
+use Rattle.sn_windows.specs.Rising.{AreRising, Window}
 
 none_above : (number last : ℕ) (more : List Window) → number ≤ last → AreRising (Some last) more → up_to number more ≡ []
 none_above number last [] le r = refl
@@ -19,14 +20,16 @@ none_above number last (w ∷ more) le r =
     let no : nat_le w.0 number ≡ false = lt-leb w.0 number (omega arith) in
     rw no (none_above number w.0 more (omega arith) r.1)
 
-below : (before : ℕ) (closed : List Window) (number : ℕ) (tuples : List (List ℕ)) (more : List Window) → AreRising (Some before) (closed ++ (number, tuples) ∷ more) → before < number
+below : (before : ℕ) (closed : List Window) (number : ℕ) (tuples : List (List ℕ)) (more : List Window)
+    → AreRising (Some before) (closed ++ (number, tuples) ∷ more) → before < number
 below before [] number tuples more r = r.0
 below before (w ∷ closed) number tuples more r =
     let first : before < w.0 = r.0 in
     let rest = below w.0 closed number tuples more r.1 in
     omega arith
 
-pub up_to_front : (last : Option ℕ) (closed : List Window) (number : ℕ) (tuples : List (List ℕ)) (more : List Window) → AreRising last (closed ++ (number, tuples) ∷ more) → up_to number (closed ++ (number, tuples) ∷ more) ≡ closed ++ (number, tuples) ∷ []
+pub up_to_front : (last : Option ℕ) (closed : List Window) (number : ℕ) (tuples : List (List ℕ)) (more : List Window)
+    → AreRising last (closed ++ (number, tuples) ∷ more) → up_to number (closed ++ (number, tuples) ∷ more) ≡ closed ++ (number, tuples) ∷ []
 up_to_front last [] number tuples more r =
     let own : nat_le number number ≡ true = le-leb number number (omega arith) in
     rw own (ap (λ (rest : List Window). (number, tuples) ∷ rest) (none_above number number more (omega arith) r.1))
@@ -35,7 +38,8 @@ up_to_front last (w ∷ closed) number tuples more r =
     let own : nat_le w.0 number ≡ true = le-leb w.0 number (omega arith) in
     rw own (ap (λ (rest : List Window). w ∷ rest) (up_to_front (Some w.0) closed number tuples more r.1))
 
-none_behind : (last : Option ℕ) (closed : List Window) (number : ℕ) (tuples : List (List ℕ)) (more : List Window) → AreRising last (closed ++ (number, tuples) ∷ more) → AreRising last (closed ++ (number, tuples) ∷ [])
+none_behind : (last : Option ℕ) (closed : List Window) (number : ℕ) (tuples : List (List ℕ)) (more : List Window)
+    → AreRising last (closed ++ (number, tuples) ∷ more) → AreRising last (closed ++ (number, tuples) ∷ [])
 none_behind last [] number tuples more r = (r.0, tt)
 none_behind last (w ∷ closed) number tuples more r = (r.0, none_behind (Some w.0) closed number tuples more r.1)
 

@@ -2,7 +2,7 @@
 -- What is kept of a machine that is watched.
 use Rattle.std.specs.Prelude.{◌≡◌, ℕ, List}
 use Rattle.sn_command_capture.specs.Gathering.{all_of}
-use Rattle.sn_command_capture.specs.Wording.{Window}
+use Rattle.sn_windows.specs.Rising.{Window}
 use Rattle.sn_core_drive.specs.declared.machine.Machine.{Ghosts as MachineOf}
 use Rattle.sn_command_run.specs.Along.{IsAtHand, plan_of}
 use Rattle.sn_command_run.specs.Along as run

@@ -3,7 +3,7 @@
 use Rattle.std.specs.Prelude.{ℕ, List, [], ◌++◌, filter, nat_le}
 use Rattle.sn_command_capture.specs.Capture.{Answered}
 use Rattle.sn_command_capture.specs.Gathering.{all_of}
-use Rattle.sn_command_capture.specs.Wording.{Window, Wording}
+use Rattle.sn_command_capture.specs.Wording.{Wording}
 use Rattle.sn_core.specs.declared.supply.Supply.TheVariants.{End}
 use Rattle.sn_core_net.specs.States.{Works}
 use Rattle.sn_core_net.specs.PlanWorkings.{workings}
@@ -17,6 +17,7 @@ use Rattle.sn_switch.specs.declared.switch.Switch.{Switch}
 use Rattle.sn_core_trace.specs.Lanes.{new_state}
 use Rattle.sn_core_trace.specs.Lines.{lines_of}
 use Rattle.sn_core_trace.specs.Turns.{Watch, up_to_close, watch_on, watch_over}
+use Rattle.sn_windows.specs.Rising.{Window}
 
 -- the windows of a capture up to one
 abbrev pub up_to : ℕ → List Window → List Window

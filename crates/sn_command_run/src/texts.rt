@@ -1,7 +1,7 @@
 //! The texts of answers in either form.
 ghost use Rattle.std.specs.Prelude.{◌≡◌, ℕ, List, IfOk, length};
 ghost use Rattle.std.specs.List.{AllByRecursion};
-ghost use Rattle.sn_command_capture.specs.Wording.{Window};
+ghost use Rattle.sn_windows.specs.Rising.{Window};
 ghost use Rattle.sn_out.specs.Text.{IsPartOf};
 ghost use Rattle.sn_command_run.specs.Planned.{Planned, Telling, told_at, told_emitted_in, wording_in};
 
@@ -34,7 +34,8 @@ pub(crate) fn window_text(
     answers: &Answers,
 ) -> Result<Seq<u8>, Memory>
     requires { AllByRecursion (IsPartOf t.now.queries) answers.now.parts }
-    ensures { IfOk result (λ text. (told : Telling) (p : Planned) (windows : List Window) (number : ℕ) (tuples : List (List ℕ)) → p.queries ≡ t.now.queries → answers.now ≡ told_at told p windows number →
+    ensures { IfOk result (λ text. (told : Telling) (p : Planned) (windows : List Window) (number : ℕ) (tuples : List (List ℕ)) → p.queries ≡ t.now.queries →
+        answers.now ≡ told_at told p windows number →
         text ≡ (wording_in form told p).block windows number tuples) }
 {
     match form {
@@ -51,7 +52,8 @@ pub(crate) fn last_text(
     windows: u64,
     emitted: u64,
 ) -> Result<Seq<u8>, Memory>
-    ensures { IfOk result (λ text. (told : Telling) (p : Planned) (closed : List Window) → windows ≡ length closed → emitted ≡ told_emitted_in told p closed → text ≡ (wording_in form told p).last closed ending) }
+    ensures { IfOk result (λ text. (told : Telling) (p : Planned) (closed : List Window) → windows ≡ length closed → emitted ≡ told_emitted_in told p closed →
+        text ≡ (wording_in form told p).last closed ending) }
 {
     match form {
         Form::Blocks => last_lines(alloc, ending, windows, Some(emitted)),

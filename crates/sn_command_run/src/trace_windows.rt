@@ -1,7 +1,7 @@
 //! A plan at work, window by window.
 ghost use Rattle.std.specs.Prelude.{◌≡◌, ◌<◌, ℕ, List, [], ◌∷◌, ◌++◌, length, IfOk, OnOk};
 ghost use Rattle.std.specs.List.{AllByRecursion};
-ghost use Rattle.sn_command_capture.specs.Wording.{Holds, HoldsSome, Window};
+ghost use Rattle.sn_command_capture.specs.Wording.{Holds, HoldsSome};
 ghost use Rattle.sn_plan_fit.specs.Fits.{Fits};
 ghost use Rattle.sn_out.specs.Text.{IsPartOf};
 ghost use Rattle.sn_command_run.specs.Along.{plan_of};
@@ -9,6 +9,7 @@ ghost use Rattle.sn_command_run.specs.Planned.{told_at};
 ghost use Rattle.sn_switch.specs.Texts.{IsSwitch};
 ghost use Rattle.sn_command_run.specs.TraceWatching.{IsAtWork, IsIdle};
 ghost use Rattle.sn_command_run.specs.TraceWording.{lines_before};
+ghost use Rattle.sn_windows.specs.Rising.{Window};
 
 use crate::along::Along;
 use crate::form::Form;
@@ -56,7 +57,8 @@ impl<M: Machine> Traced<M> {
     /// Takes the next tuple of the current window, which has this number.
     pub fn take_tuple(&mut self, number: u64, tuple: &Tuple) -> Result<(), Memory>
         requires { Holds (IsAtWork M.Machine self.old) number }
-        ensures given { OnOk result ((closed : List Window) (tuples : List (List ℕ)) → IsAtWork M.Machine self.old closed number tuples → IsAtWork M.Machine self.new closed number (tuples ++ tuple.now ∷ [])) }
+        ensures given { OnOk result ((closed : List Window) (tuples : List (List ℕ)) → IsAtWork M.Machine self.old closed number tuples →
+            IsAtWork M.Machine self.new closed number (tuples ++ tuple.now ∷ [])) }
         ensures plan { plan_of self.new.along ≡ plan_of self.old.along }
         ensures schedule { self.new.schedule ≡ self.old.schedule }
     {
@@ -83,9 +85,11 @@ impl<M: Machine> Traced<M> {
     ) -> Result<(Vec<u8>, Answers), Memory>
         requires hand { HoldsSome (IsAtWork M.Machine self.old) at_hand }
         requires above { at_hand < number }
-        ensures lines { IfOk result (λ found. (closed : List Window) (tuples : List (List ℕ)) → 0 < length tuples → IsAtWork M.Machine self.old closed at_hand tuples →
+        ensures lines { IfOk result (λ found. (closed : List Window) (tuples : List (List ℕ)) → 0 < length tuples →
+            IsAtWork M.Machine self.old closed at_hand tuples →
             found.0.items ≡ lines_before self.old.schedule (plan_of self.old.along) (closed ++ (at_hand, tuples) ∷ []) at_hand) }
-        ensures answers { IfOk result (λ found. (closed : List Window) (tuples : List (List ℕ)) → 0 < length tuples → IsAtWork M.Machine self.old closed at_hand tuples →
+        ensures answers { IfOk result (λ found. (closed : List Window) (tuples : List (List ℕ)) → 0 < length tuples →
+            IsAtWork M.Machine self.old closed at_hand tuples →
             found.1 ≡ told_at M.told (plan_of self.old.along) (closed ++ (at_hand, tuples) ∷ []) at_hand) }
         ensures fit { IfOk result (λ found. AllByRecursion (IsPartOf self.new.along.typed.queries) found.1.parts) }
         ensures begun { OnOk result ((closed : List Window) (tuples : List (List ℕ)) → 0 < length tuples → IsAtWork M.Machine self.old closed at_hand tuples →
@@ -114,9 +118,11 @@ impl<M: Machine> Traced<M> {
     /// Gives the lines and the answers of the current window, which is the last one.
     pub fn close_window(&mut self, number: u64) -> Result<(Vec<u8>, Answers), Memory>
         requires { HoldsSome (IsAtWork M.Machine self.old) number }
-        ensures lines { IfOk result (λ found. (closed : List Window) (tuples : List (List ℕ)) → 0 < length tuples → IsAtWork M.Machine self.old closed number tuples →
+        ensures lines { IfOk result (λ found. (closed : List Window) (tuples : List (List ℕ)) → 0 < length tuples →
+            IsAtWork M.Machine self.old closed number tuples →
             found.0.items ≡ lines_before self.old.schedule (plan_of self.old.along) (closed ++ (number, tuples) ∷ []) number) }
-        ensures answers { IfOk result (λ found. (closed : List Window) (tuples : List (List ℕ)) → 0 < length tuples → IsAtWork M.Machine self.old closed number tuples →
+        ensures answers { IfOk result (λ found. (closed : List Window) (tuples : List (List ℕ)) → 0 < length tuples →
+            IsAtWork M.Machine self.old closed number tuples →
             found.1 ≡ told_at M.told (plan_of self.old.along) (closed ++ (number, tuples) ∷ []) number) }
         ensures fit { IfOk result (λ found. AllByRecursion (IsPartOf self.new.along.typed.queries) found.1.parts) }
         ensures closed { OnOk result ((closed : List Window) (tuples : List (List ℕ)) → 0 < length tuples → IsAtWork M.Machine self.old closed number tuples →

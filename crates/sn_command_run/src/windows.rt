@@ -1,7 +1,7 @@
 //! A plan at work, window by window.
 ghost use Rattle.std.specs.Prelude.{◌≡◌, ◌<◌, ◌+◌, ℕ, List, [], ◌∷◌, ◌++◌, length, IfOk, OnOk};
 ghost use Rattle.std.specs.List.{AllByRecursion};
-ghost use Rattle.sn_command_capture.specs.Wording.{Holds, HoldsSome, Window};
+ghost use Rattle.sn_command_capture.specs.Wording.{Holds, HoldsSome};
 ghost use Rattle.sn_core.specs.Calls.{made};
 ghost use Rattle.sn_emit.specs.Plans.{pieces_from};
 ghost use Rattle.sn_plan_fit.specs.Fits.{Fits};
@@ -10,6 +10,7 @@ ghost use Rattle.sn_out.specs.Text.{IsPartOf};
 ghost use Rattle.sn_command_run.specs.Along.{IsAtHand, IsIdle, plan_of};
 ghost use Rattle.sn_command_run.specs.Planned.{told_at};
 ghost use Rattle.sn_switch.specs.Texts.{IsSwitch};
+ghost use Rattle.sn_windows.specs.Rising.{Window};
 
 use crate::along::Along;
 use crate::form::Form;
@@ -67,7 +68,8 @@ impl<M: Machine> Along<M> {
     /// Takes the next tuple of the current window, which has this number.
     pub fn take_tuple(&mut self, number: u64, tuple: &Tuple) -> Result<(), Memory>
         requires { Holds (IsAtHand M.Machine self.old) number }
-        ensures given { OnOk result ((closed : List Window) (tuples : List (List ℕ)) → IsAtHand M.Machine self.old closed number tuples → IsAtHand M.Machine self.new closed number (tuples ++ tuple.now ∷ [])) }
+        ensures given { OnOk result ((closed : List Window) (tuples : List (List ℕ)) → IsAtHand M.Machine self.old closed number tuples →
+            IsAtHand M.Machine self.new closed number (tuples ++ tuple.now ∷ [])) }
         ensures plan { plan_of self.new ≡ plan_of self.old }
         ensures form { self.new.form ≡ self.old.form }
     {
@@ -92,7 +94,8 @@ impl<M: Machine> Along<M> {
     ) -> Result<Answers, Memory>
         requires hand { HoldsSome (IsAtHand M.Machine self.old) at_hand }
         requires above { at_hand < number }
-        ensures answers { IfOk result (λ answers. (closed : List Window) (tuples : List (List ℕ)) → 0 < length tuples → IsAtHand M.Machine self.old closed at_hand tuples →
+        ensures answers { IfOk result (λ answers. (closed : List Window) (tuples : List (List ℕ)) → 0 < length tuples →
+            IsAtHand M.Machine self.old closed at_hand tuples →
             answers ≡ told_at M.told (plan_of self.old) (closed ++ (at_hand, tuples) ∷ []) at_hand) }
         ensures fit { IfOk result (λ answers. AllByRecursion (IsPartOf self.new.typed.queries) answers.parts) }
         ensures begun { OnOk result ((closed : List Window) (tuples : List (List ℕ)) → 0 < length tuples → IsAtHand M.Machine self.old closed at_hand tuples →
@@ -119,7 +122,8 @@ impl<M: Machine> Along<M> {
     /// Gives the answers of the current window, which is the last one.
     pub fn close_window(&mut self, number: u64) -> Result<Answers, Memory>
         requires { HoldsSome (IsAtHand M.Machine self.old) number }
-        ensures answers { IfOk result (λ answers. (closed : List Window) (tuples : List (List ℕ)) → 0 < length tuples → IsAtHand M.Machine self.old closed number tuples →
+        ensures answers { IfOk result (λ answers. (closed : List Window) (tuples : List (List ℕ)) → 0 < length tuples →
+            IsAtHand M.Machine self.old closed number tuples →
             answers ≡ told_at M.told (plan_of self.old) (closed ++ (number, tuples) ∷ []) number) }
         ensures fit { IfOk result (λ answers. AllByRecursion (IsPartOf self.new.typed.queries) answers.parts) }
         ensures closed { OnOk result ((closed : List Window) (tuples : List (List ℕ)) → 0 < length tuples → IsAtHand M.Machine self.old closed number tuples →

@@ -13,7 +13,7 @@ use Rattle.sn_plan_space.specs.Reading.{plan_space}
 use Rattle.sn_cost_laws.specs.Priced.{AreCounted}
 use Rattle.sn_cost_laws.specs.Space.{trained_plans}
 use Rattle.sn_cost_laws.proofs.Priced.{counted_alike}
-use Rattle.sn_refine.specs.Steps.{Given}
+use Rattle.sn_windows.specs.Rising.{Window}
 use Rattle.sn_tree_space.specs.Space.{Space, IsFirstLeast}
 use Rattle.sn_tree_space.specs.Searches.{IsBudgetBound, any_bound}
 use Rattle.sn_tree_space.specs.Trees.{count_expands, tree_of}
@@ -37,7 +37,7 @@ never_fall (n ∷ m ∷ ns) h = let rest = never_fall (m ∷ ns) h.1 in ((h.0, a
 
 -- ---- spaces that are alike
 
-module _ (s : Switch) (queries : List TypedQuery) (given : List Given) (nodes : ℕ) (a : Space) (alike : AreAlike a (trained_plans s queries given)) where
+module _ (s : Switch) (queries : List TypedQuery) (given : List Window) (nodes : ℕ) (a : Space) (alike : AreAlike a (trained_plans s queries given)) where
   pub found_is : (c : Certificate) → IsFirstLeast a c.choices → c.tree ≡ tree_of a c.choices → count_expands any_bound c.tree ≤ nodes → c.cost ≡ a.lower c.choices → c.plan.entries ≡ plan_at s queries c.choices → IsCertificate s queries given nodes c
   found_is c first tree within cost plan = record {
     first = first_least_alike a (trained_plans s queries given) alike c.choices first;

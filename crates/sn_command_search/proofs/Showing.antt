@@ -7,7 +7,7 @@ use Rattle.sn_plan_lists.specs.Theorems.{NamesPlan}
 use Rattle.sn_plan_fit.specs.Fits.{Fits}
 use Rattle.sn_plan_grammar.specs.declared.plan.Entry.{Entry}
 use Rattle.sn_cost_laws.specs.Space.{trained_entry, trained_plans}
-use Rattle.sn_refine.specs.Steps.{Given}
+use Rattle.sn_windows.specs.Rising.{Window}
 use Rattle.sn_tree_space.specs.Trees.{IsAccepted}
 use Rattle.sn_tree_space.proofs.PlanAccepted.{plan_tree_accepted}
 use Rattle.sn_switch.specs.declared.switch.Switch.{Switch}
@@ -16,7 +16,7 @@ use Rattle.sn_command_search.specs.declared.certificate.Certificate.{Certificate
 use Rattle.sn_command_search.specs.Certificates.{IsCertificate}
 use Rattle.sn_command_search.specs.Shown.{ShowsLeast}
 
-module _ (s : Switch) (queries : List TypedQuery) (given : List Given) (nodes : ℕ) (c : Certificate) (C : IsCertificate s queries given nodes c) where
+module _ (s : Switch) (queries : List TypedQuery) (given : List Window) (nodes : ℕ) (c : Certificate) (C : IsCertificate s queries given nodes c) where
   abbrev entry : ℕ → ℕ → ℕ → ℕ → ℕ
   entry = trained_entry s queries given
 

@@ -7,7 +7,7 @@ use Rattle.sn_plan_choices.proofs.Easy.{plans_laws}
 use Rattle.sn_plan_lists.specs.Chosen.{plan_at}
 use Rattle.sn_plan_grammar.specs.declared.plan.Entry.{Entry}
 use Rattle.sn_cost_laws.specs.Space.{trained_entry, trained_plans}
-use Rattle.sn_refine.specs.Steps.{Given}
+use Rattle.sn_windows.specs.Rising.{Window}
 use Rattle.sn_tree_space.specs.declared.node.Node.{Node}
 use Rattle.sn_tree_space.specs.Space.{Space, SpaceLaws}
 use Rattle.sn_tree_space.specs.Searches.{any_bound}
@@ -26,7 +26,7 @@ use Rattle.sn_command_search.proofs.Budgets.{bound_once, first_once, past_bound,
 abbrev certificate_of : List Entry → ℕ → List ℕ → List Node → Certificate
 certificate_of entries cost choices tree = record { plan = record { entries = entries }; cost = cost; choices = choices; tree = tree }
 
-module _ (s : Switch) (queries : List TypedQuery) (given : List Given) (nodes : ℕ) where
+module _ (s : Switch) (queries : List TypedQuery) (given : List Window) (nodes : ℕ) where
   abbrev plans : Space
   plans = trained_plans s queries given
 

@@ -4,7 +4,7 @@ use Rattle.std.specs.Prelude.{◌≡◌, ℕ, ◌≤◌, List, ◌++◌, Result,
 use Rattle.sn_plan_lists.specs.Chosen.{plan_at}
 use Rattle.sn_plan.specs.Printing.{plan_text}
 use Rattle.sn_cost_laws.specs.Space.{trained_plans}
-use Rattle.sn_refine.specs.Steps.{Given}
+use Rattle.sn_windows.specs.Rising.{Window}
 use Rattle.sn_tree_space.specs.Space.{IsFirstLeast}
 use Rattle.sn_tree_space.specs.Searches.{IsBudgetBound, any_bound}
 use Rattle.sn_tree_space.specs.Trees.{count_expands, tree_of}
@@ -15,7 +15,7 @@ use Rattle.sn_tree_text.specs.Printing.{nodes_text, tree_text}
 use Rattle.sn_types.specs.declared.typed_query.TypedQuery.{TypedQuery}
 use Rattle.sn_command_search.specs.declared.certificate.Certificate.{Certificate}
 
-module _ (s : Switch) (queries : List TypedQuery) (given : List Given) (nodes : ℕ) where
+module _ (s : Switch) (queries : List TypedQuery) (given : List Window) (nodes : ℕ) where
   -- A certificate of the plans of queries on a switch, each with what it costs over training windows: the choices are those of
   -- the first of the plans that cost least, the plan is the one that they name, the cost is its cost, and the tree is its
   -- tree, in which at most this many nodes are expanded.

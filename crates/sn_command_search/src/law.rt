@@ -3,7 +3,7 @@ ghost use Rattle.std.specs.Prelude.{ℕ, List, Ok};
 ghost use Rattle.sn_command_search.specs.Certificates.{SearchedIn};
 ghost use Rattle.sn_command_search.specs.Shown.{ShowsLeast};
 ghost use Rattle.sn_command_search.specs.declared.certificate.Certificate.{Certificate};
-ghost use Rattle.sn_refine.specs.Steps.{Given};
+ghost use Rattle.sn_windows.specs.Rising.{Window};
 ghost use Rattle.sn_command.specs.Stages.{HasVerdict};
 ghost use Rattle.sn_switch.specs.Texts.{IsSwitch};
 ghost use Rattle.sn_switch.specs.declared.switch.Switch.{Switch};
@@ -16,12 +16,13 @@ use sn_plan_lists::law::{
 
 /// A search answers in exactly one way, whatever the queries, the switch, the training windows and the number of nodes.
 pub fn searches_have_one_verdict()
-    ensures { (s : Switch) (queries : List TypedQuery) (given : List Given) (nodes : ℕ) → HasVerdict (SearchedIn s queries given nodes) }
+    ensures { (s : Switch) (queries : List TypedQuery) (given : List Window) (nodes : ℕ) → HasVerdict (SearchedIn s queries given nodes) }
 {}
 
 /// The plan of a certificate fits, and no plan that fits costs less, which the tree shows.
 pub fn certificates_show_least()
-    ensures { (s : Switch) (window : ℕ) (queries : List TypedQuery) (given : List Given) (nodes : ℕ) (c : Certificate) → ∥ IsTyped window queries ∥₁ → IsSwitch s → SearchedIn s queries given nodes (Ok c) → ShowsLeast s queries given c }
+    ensures { (s : Switch) (window : ℕ) (queries : List TypedQuery) (given : List Window) (nodes : ℕ) (c : Certificate) → ∥ IsTyped window queries ∥₁ →
+        IsSwitch s → SearchedIn s queries given nodes (Ok c) → ShowsLeast s queries given c }
 {
     typed_queries_and_switches_rise();
     lists_name_fitting_plans();

@@ -45,7 +45,8 @@ pub fn read_queries<I: Inputs, O: Sink>(
     desk: &mut Desk<'_, I, O>,
     name: &str,
 ) -> Result<Typed, Refusal>
-    ensures { WorksFrom 2 (name.now ∷ []) (Text name.now QueriesIn) (world I.Inputs O.Sink desk.old) (seen_as queries_of result) (world I.Inputs O.Sink desk.new) }
+    ensures { WorksFrom 2 (name.now ∷ []) (Text name.now QueriesIn) (world I.Inputs O.Sink desk.old) (seen_as queries_of result)
+        (world I.Inputs O.Sink desk.new) }
 {
     let text = read_file(alloc, desk, name, MOST_TEXT)?;
     seeded_queries(alloc, desk.files.seed(), text.as_slice())

@@ -16,8 +16,9 @@ use Rattle.sn_command_training.specs.declared.training.Training.{Training}
 use Rattle.sn_command_capture.specs.Capture.{packet_tuple, time_of}
 use Rattle.sn_command_training.specs.Training.{tuples_of}
 use Rattle.sn_windows.specs.Windows.{number_at, numbered}
-use Rattle.sn_command_training.specs.Training.{IsInOrder, JudgedAs, TrainingIn, judged_records, most_records, training_of}
+use Rattle.sn_command_training.specs.Training.{IsInOrder, JudgedAs, TrainingIn, judged_records, training_of}
 use Rattle.sn_command_training.proofs.NumberLemmas.{as_many_numbers, numbers_never_fall}
+use Rattle.sn_windows.specs.Blocks.{most_records}
 
 module _ (window : ℕ) (file : List ℕ) where
   judged_once : (head : Result Header HeadFault) (first second : Result Training Fault) → JudgedAs window file head first → JudgedAs window file head second → first ≡ second

@@ -12,10 +12,7 @@ use Rattle.sn_command.specs.declared.fault.Fault.TheVariants as faults
 use Rattle.sn_windows.specs.Windows.{number_at, numbered}
 use Rattle.sn_command_capture.specs.Capture.{packet_tuple, time_of}
 use Rattle.sn_command_training.specs.declared.training.Training.{Training}
-
--- the most records of a training capture
-abbrev pub most_records : ℕ
-most_records = 4194304
+use Rattle.sn_windows.specs.Blocks.{most_records}
 
 -- the tuples of packets, in their order
 abbrev pub tuples_of : Link → List ℕ → List Packet → List (List ℕ)

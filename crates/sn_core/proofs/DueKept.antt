@@ -14,16 +14,17 @@ use Rattle.sn_core.specs.Needs.{first_full, first_need_that_fails, first_open, h
 use Rattle.sn_core.specs.Events.{after_event, all_started, change_at, emptied, given, kept_for, delivered, with_next, with_tuple}
 use Rattle.sn_core.specs.Due.{all_items, and_later, answers_of, behind_window, due, fresh, items_from_start, of_window, windows_of}
 use Rattle.sn_core.specs.Standing.{IsAtWork, IsNet, Stands}
-use Rattle.sn_core.specs.Workings.{AreLawful, Workings, option_list}
+use Rattle.sn_core.specs.Workings.{AreLawful, Workings}
 use Rattle.sn_core.proofs.Items.{closed_items, ended_lane, first_items, next_items, started_items, tuple_items}
 use Rattle.sn_core.proofs.Starts.{blank, blank_first, blank_next, blank_started, blank_tuple, same_answers}
 use Rattle.sn_core.proofs.Tests.{all_hold, change_same, map_same, need_holds, none_passes, some_not_none}
 use Rattle.sn_core.proofs.Windows.{first_window}
+use Rattle.std.specs.Option.{option_to_list}
 
 module _ {Tuple : Type 0} where
   -- where a window is over, nothing more comes of it
   pub none_of : (window : ℕ) (held : Option (Supply Tuple)) (following : List (Supply Tuple)) → is_over window held ≡ true →
-      (of_window window (option_list held ++ following) ≡ []) × (behind_window window (option_list held ++ following) ≡ option_list held ++ following)
+      (of_window window (option_to_list held ++ following) ≡ []) × (behind_window window (option_to_list held ++ following) ≡ option_to_list held ++ following)
   none_of window None following over = absurd (false≢true over)
   none_of window (Some End) following over = (refl, refl)
   none_of window (Some (Numbered number tuple)) following over =
@@ -54,7 +55,7 @@ module _ {Pipe Tuple Item Kept Answers : Type 0} (w : Workings Pipe Tuple Item K
     packet (Some End) (Begun number) following may = some_not_none NoInput may
     packet (Some (Numbered n tuple)) (Begun number) following may =
         let same : nat_eq n number ≡ true = (need_holds (nat_eq n number) Reading (needs_of_all (first_full room lanes) Full None) may).0 in
-        ap (λ ys. option_list waiting ++ ys) (same_later (map (with_tuple w tuple) lanes) lanes number following (Numbered n tuple ∷ following)
+        ap (λ ys. option_to_list waiting ++ ys) (same_later (map (with_tuple w tuple) lanes) lanes number following (Numbered n tuple ∷ following)
         (map (all_items w (of_window number following)) (map (with_tuple w tuple) lanes)) (map (all_items w (of_window number (Numbered n tuple ∷ following))) lanes)
         (map_same (with_tuple w tuple) (blank w) (blank w) (blank_tuple w law tuple) lanes)
         (sym (ap (λ b. cond b (behind_window number following) (Numbered n tuple ∷ following)) same))
@@ -67,8 +68,8 @@ module _ {Pipe Tuple Item Kept Answers : Type 0} (w : Workings Pipe Tuple Item K
     read_out lane held (Begun number) following may =
         let over : is_over number held ≡ true = (need_holds (is_over number held) NotReading (needs (passes (λ x. not x.ended) lanes lane) (Ended lane) (needs (passes (has_room room) lanes lane) (Full lane) None)) may).0 in
         let none = none_of number held following over in
-        let supplies : List (Supply Tuple) = option_list held ++ following in
-        ap (λ ys. option_list waiting ++ ys) (same_later (change_at (with_next w) lanes lane) lanes number supplies supplies
+        let supplies : List (Supply Tuple) = option_to_list held ++ following in
+        ap (λ ys. option_to_list waiting ++ ys) (same_later (change_at (with_next w) lanes lane) lanes number supplies supplies
         (map (all_items w (of_window number supplies)) (change_at (with_next w) lanes lane)) (map (all_items w (of_window number supplies)) lanes)
         (change_same (with_next w) (blank w) (blank_next w law) lanes lane) refl
         (ap (λ ts. map (all_items w ts) (change_at (with_next w) lanes lane)) none.0
@@ -77,12 +78,12 @@ module _ {Pipe Tuple Item Kept Answers : Type 0} (w : Workings Pipe Tuple Item K
 
     deliver : (lane : ℕ) (held : Option (Supply Tuple)) (window : Window) (following : List (Supply Tuple)) → Keeps (Deliver lane) held window following
     deliver lane held Idle following =
-        ap (λ ys. option_list waiting ++ ys) (same_answers w law (change_at delivered lanes lane) lanes None (windows_of (option_list held ++ following)) (change_same delivered (blank w) (blank_first w law) lanes lane))
+        ap (λ ys. option_to_list waiting ++ ys) (same_answers w law (change_at delivered lanes lane) lanes None (windows_of (option_to_list held ++ following)) (change_same delivered (blank w) (blank_first w law) lanes lane))
     deliver lane held (Closed number) following =
-        ap (λ ys. option_list waiting ++ ys) (same_answers w law (change_at delivered lanes lane) lanes (Some (number, installs)) (windows_of (option_list held ++ following)) (change_same delivered (blank w) (blank_first w law) lanes lane))
+        ap (λ ys. option_to_list waiting ++ ys) (same_answers w law (change_at delivered lanes lane) lanes (Some (number, installs)) (windows_of (option_to_list held ++ following)) (change_same delivered (blank w) (blank_first w law) lanes lane))
     deliver lane held (Begun number) following =
-        let supplies : List (Supply Tuple) = option_list held ++ following in
-        ap (λ ys. option_list waiting ++ ys) (same_later (change_at delivered lanes lane) lanes number supplies supplies
+        let supplies : List (Supply Tuple) = option_to_list held ++ following in
+        ap (λ ys. option_to_list waiting ++ ys) (same_later (change_at delivered lanes lane) lanes number supplies supplies
         (map (all_items w (of_window number supplies)) (change_at delivered lanes lane)) (map (all_items w (of_window number supplies)) lanes)
         (change_same delivered (blank w) (blank_first w law) lanes lane) refl
         (change_same delivered (all_items w (of_window number supplies)) (first_items w law (of_window number supplies)) lanes lane))
@@ -96,7 +97,7 @@ module _ {Pipe Tuple Item Kept Answers : Type 0} (w : Workings Pipe Tuple Item K
         let sets : List Kept = kept_for number installs n in
         let supplies : List (Supply Tuple) = Numbered n tuple ∷ following in
         let own : nat_eq n n ≡ true = eq-eqb n n refl in
-        ap (λ ys. option_list waiting ++ ys) (same_later (all_started w lanes sets) lanes n supplies following
+        ap (λ ys. option_to_list waiting ++ ys) (same_later (all_started w lanes sets) lanes n supplies following
         (map (all_items w (of_window n supplies)) (all_started w lanes sets)) (items_from_start w (tuple ∷ of_window n following) lanes sets)
         (blank_started w law lanes sets) (ap (λ b. cond b (behind_window n following) supplies) own)
         (started_items w law (of_window n supplies) lanes sets stands.1
@@ -117,7 +118,7 @@ module _ {Pipe Tuple Item Kept Answers : Type 0} (w : Workings Pipe Tuple Item K
     close None held (Begun number) following some stands may =
         let closed = none_passes (λ (lane : Lane Pipe Item). not lane.closed) lanes (all_hold (first_open lanes) Unfinished None may).0 in
         let none = none_of number held following (is_late (is_over number held) lanes some closed stands.1) in
-        let supplies : List (Supply Tuple) = option_list held ++ following in
+        let supplies : List (Supply Tuple) = option_to_list held ++ following in
         let items : map (all_items w (of_window number supplies)) lanes ≡ map (λ lane. lane.taken) lanes = ap (λ ts. map (all_items w ts) lanes) none.0 ∙ closed_items w law (is_over number held) lanes closed stands.1 in
         let answers : Answers = w.answers number (map (λ lane. lane.taken) lanes) in
         ap (λ ys. answers ∷ ys) (same_answers w law (map emptied lanes) lanes (Some (number, w.kept_of answers)) (windows_of supplies) (map_same emptied (blank w) (blank w) (λ lane. refl) lanes)
@@ -135,7 +136,7 @@ module _ {Pipe Tuple Item Kept Answers : Type 0} (w : Workings Pipe Tuple Item K
     give (Numbered n tuple) Idle following stands =
         let supplies : List (Supply Tuple) = Numbered n tuple ∷ following in
         let own : nat_eq n n ≡ true = eq-eqb n n refl in
-        ap (λ ys. option_list waiting ++ ys) (same_later lanes lanes n supplies following
+        ap (λ ys. option_to_list waiting ++ ys) (same_later lanes lanes n supplies following
         (map (all_items w (of_window n supplies)) lanes) (items_from_start w (tuple ∷ of_window n following) lanes [])
         refl (ap (λ b. cond b (behind_window n following) supplies) own)
         (fresh_items (of_window n supplies) lanes stands.1 ∙ ap (λ b. items_from_start w (cond b (tuple ∷ of_window n following) []) lanes []) own)

@@ -16,12 +16,13 @@ use Rattle.sn_core.specs.Events.{after_event, all_started, change_at, emptied, g
 use Rattle.sn_core.specs.Due.{behind_window, windows_of}
 use Rattle.sn_core.specs.Debt.{debt, debt_of_lanes, tuples_in, windows_in, work}
 use Rattle.sn_core.specs.Standing.{IsNet, Stands}
-use Rattle.sn_core.specs.Workings.{AreLawful, Workings, option_list}
+use Rattle.sn_core.specs.Workings.{AreLawful, Workings}
 use Rattle.sn_core.proofs.DueKept.{is_late, none_of}
 use Rattle.sn_core.proofs.StandingKept.{length_started}
 use Rattle.sn_core.proofs.Sums.{begun_debt, changed_one, emptied_debt, first_debt, mapped_none, mapped_two, next_debt, started_debt, stopped_debt, tuple_debt}
 use Rattle.sn_core.proofs.Tests.{all_hold, length_changed, need_holds, none_passes, some_not_none}
 use Rattle.sn_core.proofs.Windows.{first_window}
+use Rattle.std.specs.Option.{option_to_list}
 
 -- a step that lowers the debt, or that uses up a tuple or a window
 lower : (d e a b : ℕ) → suc d ≤ e → suc (d + a + b) ≤ e + a + b
@@ -72,8 +73,8 @@ module _ {Pipe Tuple Item Kept Answers : Type 0} (w : Workings Pipe Tuple Item K
         let over = need_holds (is_over number held) NotReading (needs (passes (λ x. not x.ended) lanes lane) (Ended lane) (needs (passes (has_room room) lanes lane) (Full lane) None)) may in
         let is_open = need_holds (passes (λ x. not x.ended) lanes lane) (Ended lane) (needs (passes (has_room room) lanes lane) (Full lane) None) over.1 in
         let l : ℕ = length lanes in
-        let t : ℕ = tuples_in (option_list held ++ following) in
-        let k : ℕ = windows_in (Begun number) (option_list held ++ following) in
+        let t : ℕ = tuples_in (option_to_list held ++ following) in
+        let k : ℕ = windows_in (Begun number) (option_to_list held ++ following) in
         let less = changed_one w law (Begun number) (with_next w) (λ x. not x.ended) (next_debt w law number) lanes lane is_open.0 in
         subst (λ (m : ℕ). suc (whole (debt_of_lanes w (Begun number) (change_at (with_next w) lanes lane) + 2) m t k) ≤ whole (debt_of_lanes w (Begun number) lanes + 2) l t k) (sym (length_changed (with_next w) lanes lane))
         (lower (debt_of_lanes w (Begun number) (change_at (with_next w) lanes lane) + 2) (debt_of_lanes w (Begun number) lanes + 2) ((2 * l + 1) * t) ((2 * l + 2) * k) (omega (arith, less)))
@@ -88,11 +89,11 @@ module _ {Pipe Tuple Item Kept Answers : Type 0} (w : Workings Pipe Tuple Item K
 
     deliver : (lane : ℕ) (held : Option (Supply Tuple)) (window : Window) (following : List (Supply Tuple)) → Works (Deliver lane) held window following
     deliver lane held Idle following stands may =
-        delivers lane Idle 0 (tuples_in (option_list held ++ following)) (windows_in Idle (option_list held ++ following)) (need_holds (passes (λ x. not (is_empty x)) lanes lane) (Empty lane) None may).0
+        delivers lane Idle 0 (tuples_in (option_to_list held ++ following)) (windows_in Idle (option_to_list held ++ following)) (need_holds (passes (λ x. not (is_empty x)) lanes lane) (Empty lane) None may).0
     deliver lane held (Begun number) following stands may =
-        delivers lane (Begun number) 2 (tuples_in (option_list held ++ following)) (windows_in (Begun number) (option_list held ++ following)) (need_holds (passes (λ x. not (is_empty x)) lanes lane) (Empty lane) None may).0
+        delivers lane (Begun number) 2 (tuples_in (option_to_list held ++ following)) (windows_in (Begun number) (option_to_list held ++ following)) (need_holds (passes (λ x. not (is_empty x)) lanes lane) (Empty lane) None may).0
     deliver lane held (Closed number) following stands may =
-        delivers lane (Closed number) 1 (tuples_in (option_list held ++ following)) (windows_in (Closed number) (option_list held ++ following)) (need_holds (passes (λ x. not (is_empty x)) lanes lane) (Empty lane) None may).0
+        delivers lane (Closed number) 1 (tuples_in (option_to_list held ++ following)) (windows_in (Closed number) (option_to_list held ++ following)) (need_holds (passes (λ x. not (is_empty x)) lanes lane) (Empty lane) None may).0
 
     close : (held : Option (Supply Tuple)) (window : Window) (following : List (Supply Tuple)) → 0 < length lanes → Works CloseWindow held window following
     close held Idle following some stands may = some_not_none NotReading may
@@ -100,7 +101,7 @@ module _ {Pipe Tuple Item Kept Answers : Type 0} (w : Workings Pipe Tuple Item K
     close held (Begun number) following some stands may =
         let closed = none_passes (λ (lane : Lane Pipe Item). not lane.closed) lanes (all_hold (first_open lanes) Unfinished _ may).0 in
         let none = none_of number held following (is_late w law (is_over number held) lanes some closed stands.1) in
-        let supplies : List (Supply Tuple) = option_list held ++ following in
+        let supplies : List (Supply Tuple) = option_to_list held ++ following in
         let l : ℕ = length lanes in
         let t : ℕ = tuples_in supplies in
         let d : ℕ = debt_of_lanes w (Closed number) (map emptied lanes) + 1 in

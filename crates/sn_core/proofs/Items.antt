@@ -8,7 +8,8 @@ use Rattle.sn_core.specs.declared.supply.Frame.TheVariants.{Row, Last}
 use Rattle.sn_core.specs.Events.{all_started, row_frames, delivered, delivered_of, with_next, with_next_of, with_start, with_tuple}
 use Rattle.sn_core.specs.Due.{all_items, items_from_start, items_in}
 use Rattle.sn_core.specs.Standing.{HasEndLast, IsAtRest, IsAtWork}
-use Rattle.sn_core.specs.Workings.{AreLawful, Workings, after_all, gives, items_of, option_list}
+use Rattle.sn_core.specs.Workings.{AreLawful, Workings, after_all, gives, items_of}
+use Rattle.std.specs.Option.{option_to_list}
 
 module _ {Item : Type 0} where
   pub items_append : (xs ys : List (Frame Item)) → items_in (xs ++ ys) ≡ items_in xs ++ items_in ys
@@ -16,7 +17,7 @@ module _ {Item : Type 0} where
   items_append (Row item ∷ xs) ys = ap (λ zs. item ∷ zs) (items_append xs ys)
   items_append (Last ∷ xs) ys = items_append xs ys
 
-  row_items : (o : Option Item) → items_in (row_frames o) ≡ option_list o
+  row_items : (o : Option Item) → items_in (row_frames o) ≡ option_to_list o
   row_items None = refl
   row_items (Some item) = refl
 
@@ -29,7 +30,7 @@ module _ {Pipe Tuple Item Kept Answers : Type 0} (w : Workings Pipe Tuple Item K
   tuple_items tuple tuples lane =
       let next : Pipe = w.after lane.pipe tuple in
       ap (λ xs. lane.taken ++ xs ++ items_of w next tuples) (items_append lane.ring (row_frames (w.item_of lane.pipe tuple)) ∙ ap (λ xs. items_in lane.ring ++ xs) (row_items (w.item_of lane.pipe tuple)))
-      ∙ moved lane.taken (items_in lane.ring) (option_list (w.item_of lane.pipe tuple)) (gives w next tuples) (w.left (after_all w next tuples))
+      ∙ moved lane.taken (items_in lane.ring) (option_to_list (w.item_of lane.pipe tuple)) (gives w next tuples) (w.left (after_all w next tuples))
 
   next_items_of : (lane : Lane Pipe Item) (items : List Item) → w.left lane.pipe ≡ items → all_items w [] (with_next_of w lane items) ≡ all_items w [] lane
   next_items_of lane [] e = ap (λ xs. lane.taken ++ xs ++ w.left lane.pipe) (items_append lane.ring (Last ∷ []) ∙ append-nil (items_in lane.ring))

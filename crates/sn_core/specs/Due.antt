@@ -9,7 +9,8 @@ use Rattle.sn_core.specs.declared.supply.Supply.TheVariants.{Numbered, End}
 use Rattle.sn_core.specs.declared.supply.Frame.TheVariants.{Row, Last}
 use Rattle.sn_core.specs.declared.supply.Window.TheVariants.{Idle, Begun, Closed}
 use Rattle.sn_core.specs.Events.{kept_for}
-use Rattle.sn_core.specs.Workings.{Workings, items_of, option_list}
+use Rattle.sn_core.specs.Workings.{Workings, items_of}
+use Rattle.std.specs.Option.{option_to_list}
 
 -- ---- supplies by windows
 
@@ -56,7 +57,7 @@ items_in (Last ∷ frames) = items_in frames
 module _ {Pipe Tuple Item Kept Answers : Type 0} where
   -- what is held and what follows it
   abbrev pub coming : Net Pipe Tuple Item Kept Answers → List (Supply Tuple) → List (Supply Tuple)
-  coming net following = option_list net.held ++ following
+  coming net following = option_to_list net.held ++ following
 
 module _ {Pipe Tuple Item Kept Answers : Type 0} (w : Workings Pipe Tuple Item Kept Answers) where
   -- ---- the answers of later windows
@@ -96,4 +97,4 @@ module _ {Pipe Tuple Item Kept Answers : Type 0} (w : Workings Pipe Tuple Item K
   due_in net supplies (Closed number) = answers_of net.lanes (Some (number, net.installs)) (windows_of supplies)
 
   abbrev pub due : Net Pipe Tuple Item Kept Answers → List (Supply Tuple) → List Answers
-  due net following = option_list net.waiting ++ due_in net (coming net following) net.window
+  due net following = option_to_list net.waiting ++ due_in net (coming net following) net.window

@@ -20,7 +20,7 @@ use Rattle.sn_core_net.specs.States.{State}
 use Rattle.sn_core_drive.specs.Schedules.{events_of, may_happen}
 use Rattle.sn_core_drive.specs.Picking.{AreCounted}
 use Rattle.sn_core_drive.specs.declared.picking.Enabled.{Enabled}
-use Rattle.sn_core_drive.proofs.Owing.{is_none_none}
+use Rattle.sn_base.proofs.Lists.{none_is as is_none_none}
 
 module _ {X : Type 0} (events : List X) (event : X) (count over : ℕ) (next : List X) (is : count ≡ length events) (kept : take (count - over) next ≡ take 8 (drop over events)) (eight : length next ≡ 8) where
   both : length (events ++ event ∷ []) ≡ length events + 1

@@ -1,6 +1,6 @@
 mod Owing
 mod Listing
-mod Running
+pub mod Running
 mod Behind
 mod Counting
 mod Counted

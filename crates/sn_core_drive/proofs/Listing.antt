@@ -2,7 +2,7 @@
 use Rattle.std.proofs.Common.{◌≡◌, ℕ, zero, suc, ◌+◌, ◌*◌, ◌<◌, ◌≤◌, List, [], ◌∷◌, ◌++◌, filter, map, length, slice_get, Bool, true, false, cond, Some, refl, ap, sym, ◌∙◌, arith}
 use Rattle.std.specs.List.{AllByRecursion, range_with_len}
 use Rattle.std.proofs.lemmas.List.FromFn.{length-map-range_with_len}
-use Rattle.sn_base.proofs.Lists.{none_some, some_same}
+use Rattle.sn_base.proofs.Lists.{none_some, some_same, all_append}
 use Rattle.sn_core.specs.declared.event.Event.{Event}
 use Rattle.sn_core.specs.declared.event.Event.TheVariants.{Packet, ReadOut, Deliver, CloseWindow, Install}
 use Rattle.sn_engine_lockstep.proofs.Changes.{all_get}
@@ -85,11 +85,6 @@ module _ (lanes : ℕ) where
   place_of CloseWindow h = record { at = 2 * lanes + 1; is = close_at (2 * lanes + 1) refl }
   place_of Install h = record { at = 2 * lanes + 2; is = install_at (2 * lanes + 2) refl }
 
--- and names a lane that there is
-all_front : {X : Type 0} (P : X → Type 0) (xs ys : List X) → AllByRecursion P xs → AllByRecursion P ys → AllByRecursion P (xs ++ ys)
-all_front P [] ys h k = k
-all_front P (x ∷ xs) ys h k = (h.0, all_front P xs ys h.1 k)
-
 all_range : {X : Type 0} (P : X → Type 0) (f : ℕ → X) (top a n : ℕ) → ((k : ℕ) → k < top → P (f k)) → a + n ≤ top → AllByRecursion P (map f (range_with_len a n))
 all_range P f top a zero each le = tt
 all_range P f top a (suc n) each le = (each a (omega (arith, le)), all_range P f top (a + 1) n each (omega (arith, le)))
@@ -97,8 +92,8 @@ all_range P f top a (suc n) each le = (each a (omega (arith, le)), all_range P f
 events_known : (lanes : ℕ) → AllByRecursion (IsOneOf lanes) (events_of lanes)
 events_known lanes = (
   tt,
-  all_front (IsOneOf lanes) (map ReadOut (range_with_len 0 lanes)) (map Deliver (range_with_len 0 lanes) ++ (CloseWindow ∷ Install ∷ [])) (all_range (IsOneOf lanes) ReadOut lanes 0 lanes (λ k lt. lt) (omega arith))
-      (all_front (IsOneOf lanes) (map Deliver (range_with_len 0 lanes)) (CloseWindow ∷ Install ∷ []) (all_range (IsOneOf lanes) Deliver lanes 0 lanes (λ k lt. lt) (omega arith)) (tt, (tt, tt))),
+  all_append (IsOneOf lanes) (map ReadOut (range_with_len 0 lanes)) (map Deliver (range_with_len 0 lanes) ++ (CloseWindow ∷ Install ∷ [])) (all_range (IsOneOf lanes) ReadOut lanes 0 lanes (λ k lt. lt) (omega arith))
+      (all_append (IsOneOf lanes) (map Deliver (range_with_len 0 lanes)) (CloseWindow ∷ Install ∷ []) (all_range (IsOneOf lanes) Deliver lanes 0 lanes (λ k lt. lt) (omega arith)) (tt, (tt, tt))),
 )
 
 -- ---- those that pass a test

@@ -3,7 +3,7 @@ use Rattle.std.proofs.Common.{◌≡◌, ℕ, suc, ◌<◌, ◌||◌, List, [], 
 use Rattle.std.specs.Option.{option_map_or}
 use Rattle.std.proofs.lemmas.Bool.{false≢true}
 use Rattle.std.proofs.lemmas.List.{length-map}
-use Rattle.sn_base.proofs.Lists.{or_none}
+use Rattle.sn_base.proofs.Lists.{or_none, none_is}
 use Rattle.sn_core.proofs.Falls.{step_works}
 use Rattle.sn_core.proofs.GoesOn.{can_go_on}
 use Rattle.sn_core.proofs.StandingKept.{event_keeps_net, give_keeps_net, length_started, take_keeps_net}
@@ -97,13 +97,9 @@ goes_on {G} w law s lanes many net going taken none = by (can_go_on w s net part
 
 -- ---- supplies
 
-pub is_none_none : {X : Type 0} (o : Option X) → is_none o ≡ true → o ≡ None
-is_none_none None e = refl
-is_none_none (Some x) e = absurd (false≢true e)
-
 pub same_work : (w v : Works) (s t : State) → w ≡ v → work v t [] < work v s [] → work w t [] < work v s []
 same_work w v s t works h = subst (λ (x : Works). work x t [] < work v s []) (sym works) h
 
 pub given_net : (w v : Works) (law : AreLawful w) (s one : State) (next : Supply (List ℕ)) → v ≡ w → one ≡ given s next → IsNet w s → wants s ≡ true → IsNoEarlier next s.window → IsNet v one
 given_net w v law s one next works is net want rises =
-    subst (λ (x : Works). IsNet x one) (sym works) (subst (IsNet w) (sym is) (give_keeps_net w law s next net (is_none_none s.held want) rises))
+    subst (λ (x : Works). IsNet x one) (sym works) (subst (IsNet w) (sym is) (give_keeps_net w law s next net (none_is s.held want) rises))

@@ -1,7 +1,7 @@
 -- Runs: what they note, and what is due after them.
 use Rattle.std.proofs.Common.{◌≡◌, ℕ, List, [], ◌∷◌, ◌++◌, map, true, false, Option, None, Some, refl, ap, sym, ◌∙◌, subst, append_assoc, append-nil}
 use Rattle.std.specs.Option.{option_map}
-use Rattle.sn_base.proofs.Lists.{none_some, some_same}
+use Rattle.sn_base.proofs.Lists.{none_some, some_same, none_is as is_none_none}
 use Rattle.sn_core.proofs.DueKept.{event_keeps_due, give_keeps_due}
 use Rattle.sn_core.proofs.StandingKept.{event_keeps_net, take_keeps_net}
 use Rattle.sn_core.specs.Due.{due}
@@ -18,7 +18,6 @@ use Rattle.sn_core_drive.specs.Schedules.{IsRun, Leads, answers_in, events_of, i
 use Rattle.sn_core_drive.specs.declared.note.Note.{Note}
 use Rattle.sn_core_drive.specs.declared.note.Note.TheVariants.{Happened, Told}
 use Rattle.sn_core_drive.proofs.Listing.{got_passes}
-use Rattle.sn_core_drive.proofs.Owing.{is_none_none}
 
 pub picked_may : (s : State) (draw : ℕ) (event : Event) → picked s draw ≡ Some event → first_need_that_fails s event ≡ None
 picked_may s draw event e = is_none_none (first_need_that_fails s event) (got_passes (may_happen s) (events_of _) _ event e)

@@ -42,8 +42,10 @@ is_still s = wants s || is_done s
 -- last. Answers are reported as soon as they wait; else a number is drawn, and the event that it picks happens.
 abbrev pub IsRun : Works → (Answers → Answers) → ℕ → State → List Note → ℕ → State → Type 0
 IsRun w told x s [] y t = (s.waiting ≡ None) × (is_still s ≡ true) × (y ≡ x) × (t ≡ s)
-IsRun w told x s (Happened event ∷ notes) y t = (s.waiting ≡ None) × (is_still s ≡ false) × (picked s (drawn (next_number x)) ≡ Some event) × IsRun w told (next_number x) (after_event w s event) notes y t
-IsRun w told x s (Told answers ∷ notes) y t = ((found : Answers) × (s.waiting ≡ Some found) × (answers ≡ told found)) × IsRun w told x (without_answers s) notes y t
+IsRun w told x s (Happened event ∷ notes) y t =
+    (s.waiting ≡ None) × (is_still s ≡ false) × (picked s (drawn (next_number x)) ≡ Some event) × IsRun w told (next_number x) (after_event w s event) notes y t
+IsRun w told x s (Told answers ∷ notes) y t =
+    ((found : Answers) × (s.waiting ≡ Some found) × (answers ≡ told found)) × IsRun w told x (without_answers s) notes y t
 
 -- the answers that were reported
 abbrev pub answers_in : List Note → List Answers

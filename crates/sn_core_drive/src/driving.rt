@@ -49,15 +49,14 @@ fn happen<M: Machine>(machine: &mut M, event: Event, notes: &mut Notes) -> Resul
     ensures notes { OnOk result (notes.new ≡ notes.old ++ Note.Happened event ∷ []) }
     ensures works { M.works machine.new ≡ M.works machine.old }
 {
-    match machine.step(event) {
-        Ok(()) => notes.happened(event),
-        Err(_) => Err(Memory),
-    }
+    machine.happen(event)?;
+    notes.happened(event)
 }
 
 /// Takes the answers that wait, if any do, and notes them.
 fn gather<M: Machine>(machine: &mut M, notes: &mut Notes) -> Result<(), Memory>
-    ensures notes { OnOk result ((x y : ℕ) (s : State) → Leads (M.works machine.old) M.told x s notes.old y (M.state machine.old) → Leads (M.works machine.old) M.told x s notes.new y (M.state machine.new)) }
+    ensures notes { OnOk result ((x y : ℕ) (s : State) → Leads (M.works machine.old) M.told x s notes.old y (M.state machine.old) →
+        Leads (M.works machine.old) M.told x s notes.new y (M.state machine.new)) }
     ensures rest { M.state machine.new ≡ without_answers (M.state machine.old) }
     ensures works { M.works machine.new ≡ M.works machine.old }
 {
@@ -78,7 +77,8 @@ fn turn<M: Machine>(
     requires stands { IsNet (M.works machine.old) (M.state machine.old) }
     requires going { is_still (M.state machine.old) ≡ false }
     requires taken { (M.state machine.old).waiting ≡ None }
-    ensures notes { OnOk result ((x : ℕ) (s : State) → Leads (M.works machine.old) M.told x s notes.old draws.old.number (M.state machine.old) → Leads (M.works machine.old) M.told x s notes.new draws.new.number (M.state machine.new)) }
+    ensures notes { OnOk result ((x : ℕ) (s : State) → Leads (M.works machine.old) M.told x s notes.old draws.old.number (M.state machine.old) →
+        Leads (M.works machine.old) M.told x s notes.new draws.new.number (M.state machine.new)) }
     ensures work { OnOk result (work (M.works machine.old) (M.state machine.new) [] < work (M.works machine.old) (M.state machine.old) []) }
     ensures stands { OnOk result (IsNet (M.works machine.old) (M.state machine.new)) }
     ensures taken { OnOk result ((M.state machine.new).waiting ≡ None) }
@@ -101,7 +101,8 @@ fn settle<M: Machine>(
     requires lanes { lanes ≡ length (M.state machine.old).lanes }
     requires stands { IsNet (M.works machine.old) (M.state machine.old) }
     requires taken { (M.state machine.old).waiting ≡ None }
-    ensures run { IfOk result (λ notes. IsRun (M.works machine.old) M.told draws.old.number (M.state machine.old) notes draws.new.number (M.state machine.new)) }
+    ensures run { IfOk result (λ notes. IsRun (M.works machine.old) M.told draws.old.number (M.state machine.old) notes draws.new.number
+        (M.state machine.new)) }
     ensures stands { OnOk result (IsNet (M.works machine.old) (M.state machine.new)) }
     ensures still { OnOk result (is_still (M.state machine.new) ≡ true) }
     ensures taken { OnOk result ((M.state machine.new).waiting ≡ None) }
@@ -133,9 +134,11 @@ pub fn advance<M: Machine>(
     requires wants { wants (M.state machine.old) ≡ true }
     requires rises { IsNoEarlier next (M.state machine.old).window }
     requires taken { (M.state machine.old).waiting ≡ None }
-    ensures run { IfOk result (λ notes. IsRun (M.works machine.old) M.told draws.old.number (given (M.state machine.old) next) notes draws.new.number (M.state machine.new)) }
+    ensures run { IfOk result (λ notes. IsRun (M.works machine.old) M.told draws.old.number (given (M.state machine.old) next) notes draws.new.number
+        (M.state machine.new)) }
     ensures due { IfOk result (λ notes. (following : List (Given (List ℕ))) →
-        map M.told (due (M.works machine.old) (M.state machine.old) (next ∷ following)) ≡ answers_in notes ++ map M.told (due (M.works machine.old) (M.state machine.new) following)) }
+        map M.told (due (M.works machine.old) (M.state machine.old) (next ∷ following)) ≡ answers_in notes ++ map M.told
+        (due (M.works machine.old) (M.state machine.new) following)) }
     ensures stands { OnOk result (IsNet (M.works machine.old) (M.state machine.new)) }
     ensures behind { OnOk result (IsBehind next (M.state machine.new)) }
     ensures taken { OnOk result ((M.state machine.new).waiting ≡ None) }
@@ -172,7 +175,8 @@ pub fn start<M: Machine>(t: &Typed, s: &Switch, plan: &Plan, room: u32) -> Resul
     ensures new { IfOk result (λ found. M.state found.0 ≡ made (M.works found.0) room (M.state found.0).lanes) }
     // Whatever follows, what is due are the answers of the plan for each window that is given.
     ensures due { IfOk result (λ found. (following : List (Given (List ℕ))) → let windows = windows_of following in DontFall 0 following → HaveWidths windows →
-        due (M.works found.0) (M.state found.0) following ≡ map (λ x. plan_answers t.now.queries s.now.chain plan.now.entries (given_windows (map given_of windows)) x.number) windows) }
+        due (M.works found.0) (M.state found.0) following ≡ map
+        (λ x. plan_answers t.now.queries s.now.chain plan.now.entries (given_windows (map given_of windows)) x.number) windows) }
 {
     let machine = M::make(t, s, plan, room)?;
     Ok((machine, lane_count(plan)))

@@ -3,7 +3,6 @@ use crate::machine::Machine;
 use sn_base::memory::Memory;
 use sn_core::event::Event;
 use sn_core::supply::Supply;
-use sn_core_net::fault::StepFault;
 use sn_core_net::net::Net;
 use sn_fields::tuple::Tuple;
 use sn_plan_grammar::plan::Plan;
@@ -37,8 +36,8 @@ impl Machine for Net {
         self.enabled(event)
     }
 
-    fn step(&mut self, event: Event) -> Result<(), StepFault> {
-        self.step(event)
+    fn happen(&mut self, event: Event) -> Result<(), Memory> {
+        self.happen(event)
     }
 
     fn take_answers(&mut self) -> Option<Answers> {

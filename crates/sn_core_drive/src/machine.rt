@@ -1,9 +1,9 @@
 //! What answers windows: any machine whose state is that of a net.
-ghost use Rattle.std.specs.Prelude.{◌≡◌, ◌<◌, ◌≤◌, ℕ, List, IfOk, is_none, length, map, true};
+ghost use Rattle.std.specs.Prelude.{◌≡◌, ◌<◌, ◌≤◌, ℕ, List, IfOk, None, OnErr, OnOk, is_none, length, map, true};
 ghost use Rattle.std.specs.Option.{option_map};
 ghost use Rattle.sn_core.specs.Calls.{made};
 ghost use Rattle.sn_core.specs.Due.{due, windows_of};
-ghost use Rattle.sn_core.specs.Events.{given, without_answers};
+ghost use Rattle.sn_core.specs.Events.{after_event, given, without_answers};
 ghost use Rattle.sn_core.specs.Needs.{first_need_that_fails, is_done, wants};
 ghost use Rattle.sn_core.specs.Numbers.{DontFall};
 ghost use Rattle.sn_core.specs.Standing.{IsNet, IsNoEarlier};
@@ -14,7 +14,7 @@ ghost use Rattle.sn_engine_lockstep.specs.Windows.{plan_answers};
 ghost use Rattle.sn_emit.specs.Plans.{pieces_from};
 ghost use Rattle.sn_plan_fit.specs.Fits.{Fits};
 ghost use Rattle.sn_core_net.specs.States.{State, Works};
-ghost use Rattle.sn_core_net.specs.Steps.{IsOneOf, Steps};
+ghost use Rattle.sn_core_net.specs.Steps.{IsOneOf, takes_memory};
 ghost use Rattle.sn_core_net.specs.PlanWorkings.{AreLanesFor, HaveWidths, given_of, workings};
 ghost use Rattle.sn_refine.specs.Steps.{windows_of as given_windows};
 ghost use Rattle.sn_switch.specs.Texts.{IsSwitch};
@@ -24,7 +24,6 @@ ghost use Rattle.sn_types.specs.declared.typed_query.TypedQuery.{TypedQuery};
 use sn_base::memory::Memory;
 use sn_core::event::Event;
 use sn_core::supply::Supply;
-use sn_core_net::fault::StepFault;
 use sn_fields::tuple::Tuple;
 use sn_plan_grammar::plan::Plan;
 use sn_switch::switch::Switch;
@@ -53,8 +52,10 @@ pub trait Machine: Sized + Drop {
         ensures some_lane { IfOk result (λ machine. 0 < length (state machine).lanes) }
         ensures stands { IfOk result (λ machine. IsNet (works machine) (state machine)) }
         // Whatever follows, what is due are the answers of the plan for each window that is given.
-        ensures due { IfOk result (λ machine. (following : List (Given (List ℕ))) → let windows = windows_of following in DontFall 0 following → HaveWidths windows →
-            due (works machine) (state machine) following ≡ map (λ x. plan_answers t.now.queries s.now.chain plan.now.entries (given_windows (map given_of windows)) x.number) windows) };
+        ensures due { IfOk result (λ machine. (following : List (Given (List ℕ))) → let windows = windows_of following in DontFall 0 following →
+            HaveWidths windows →
+            due (works machine) (state machine) following ≡ map
+            (λ x. plan_answers t.now.queries s.now.chain plan.now.entries (given_windows (map given_of windows)) x.number) windows) };
 
     /// Whether it is to be given a tuple or the end. Takes no memory.
     fn wants(&self) -> bool
@@ -72,10 +73,13 @@ pub trait Machine: Sized + Drop {
         requires { IsOneOf (length (state self.now).lanes) event }
         ensures { result ≡ is_none (first_need_that_fails (state self.now) event) };
 
-    /// Does an event where its needs hold. A lane that it names must be one of the machine's. After an `Err` the state is as it was.
-    fn step(&mut self, event: Event) -> Result<(), StepFault>
-        requires { IsOneOf (length (state self.old).lanes) event }
-        ensures steps { Steps (works self.old) (state self.old) event (state self.new) result }
+    /// Does an event whose needs hold. A lane that it names must be one of the machine's. After an `Err` the state is as it was.
+    fn happen(&mut self, event: Event) -> Result<(), Memory>
+        requires lane { IsOneOf (length (state self.old).lanes) event }
+        requires may { first_need_that_fails (state self.old) event ≡ None }
+        ensures ok { OnOk result (state self.new ≡ after_event (works self.old) (state self.old) event) }
+        ensures err { OnErr result (state self.new ≡ state self.old) }
+        ensures memory { OnErr result (takes_memory event ≡ true) }
         ensures works { works self.new ≡ works self.old };
 
     /// Takes the answers that wait, as they are reported. `None` exactly where none do. Takes no memory.

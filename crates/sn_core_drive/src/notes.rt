@@ -1,6 +1,6 @@
 //! Notes of a machine that is driven.
 ghost use Rattle.std.specs.Prelude.{◌≡◌, ◌++◌, ◌∷◌, [], IfOk, None, OnOk, map};
-ghost use Rattle.sn_core.specs.Workings.{option_list};
+ghost use Rattle.std.specs.Option.{option_to_list};
 ghost use Rattle.sn_core_drive.specs.Schedules.{answers_in};
 ghost use Rattle.sn_core_drive.specs.declared.note.Note.TheVariants as Note;
 
@@ -26,13 +26,13 @@ pub struct Notes {
 
 impl Model for Notes {
     ghost use Rattle.std.specs.Prelude.{◌++◌, List, map};
-    ghost use Rattle.sn_core.specs.Workings.{option_list};
+    ghost use Rattle.std.specs.Option.{option_to_list};
     ghost use Rattle.sn_core_drive.specs.declared.note.Note.{Note};
     ghost use Rattle.sn_core_drive.specs.declared.note.Note.TheVariants.{Happened};
 
     ghost Value = { List Note };
 
-    ghost view = { λ a. a.front ++ map Happened (a.events ++ option_list a.last) };
+    ghost view = { λ a. a.front ++ map Happened (a.events ++ option_to_list a.last) };
 }
 
 /// Puts events after notes.
@@ -49,7 +49,7 @@ fn move_events(notes: &mut Seq<Note>, events: &mut Seq<Event>) -> Result<(), Mem
 
 /// Puts the last event, if there is one, after the others.
 fn put_last(events: &mut Seq<Event>, last: &mut Option<Event>) -> Result<(), Memory>
-    ensures events { OnOk result (events.new ≡ events.old ++ option_list last.old) }
+    ensures events { OnOk result (events.new ≡ events.old ++ option_to_list last.old) }
     ensures none { OnOk result (last.new ≡ None) }
 {
     match last.take() {

@@ -41,7 +41,8 @@ fn count_in(found: &mut Enabled, event: Event)
 fn look_at<M: Machine>(machine: &M, event: Event, found: &mut Enabled)
     requires event { IsOneOf (length (M.state machine.now).lanes) event }
     requires few { found.old.count < 2 ^ 40 }
-    ensures counted { (events : List Counted) → AreCounted events found.old → AreCounted (events ++ filter (may_happen (M.state machine.now)) (event ∷ [])) found.new }
+    ensures counted { (events : List Counted) → AreCounted events found.old →
+        AreCounted (events ++ filter (may_happen (M.state machine.now)) (event ∷ [])) found.new }
     ensures few { found.new.count ≤ found.old.count + 1 }
     ensures passed_over { found.new.passed_over ≡ found.old.passed_over }
 {
@@ -54,7 +55,8 @@ fn look_at<M: Machine>(machine: &M, event: Event, found: &mut Enabled)
 fn look_at_read_outs<M: Machine>(machine: &M, lanes: u32, found: &mut Enabled)
     requires lanes { lanes ≡ length (M.state machine.now).lanes }
     requires few { found.old.count ≤ 2 ^ 34 }
-    ensures counted { (events : List Counted) → AreCounted events found.old → AreCounted (events ++ filter (may_happen (M.state machine.now)) (map Event.ReadOut (range_with_len 0 lanes))) found.new }
+    ensures counted { (events : List Counted) → AreCounted events found.old →
+        AreCounted (events ++ filter (may_happen (M.state machine.now)) (map Event.ReadOut (range_with_len 0 lanes))) found.new }
     ensures few { found.new.count ≤ found.old.count + lanes }
     ensures passed_over { found.new.passed_over ≡ found.old.passed_over }
 {
@@ -67,7 +69,8 @@ fn look_at_read_outs<M: Machine>(machine: &M, lanes: u32, found: &mut Enabled)
 fn look_at_deliveries<M: Machine>(machine: &M, lanes: u32, found: &mut Enabled)
     requires lanes { lanes ≡ length (M.state machine.now).lanes }
     requires few { found.old.count ≤ 2 ^ 34 }
-    ensures counted { (events : List Counted) → AreCounted events found.old → AreCounted (events ++ filter (may_happen (M.state machine.now)) (map Event.Deliver (range_with_len 0 lanes))) found.new }
+    ensures counted { (events : List Counted) → AreCounted events found.old →
+        AreCounted (events ++ filter (may_happen (M.state machine.now)) (map Event.Deliver (range_with_len 0 lanes))) found.new }
     ensures few { found.new.count ≤ found.old.count + lanes }
     ensures passed_over { found.new.passed_over ≡ found.old.passed_over }
 {
@@ -80,7 +83,8 @@ fn look_at_deliveries<M: Machine>(machine: &M, lanes: u32, found: &mut Enabled)
 fn look_at_switch<M: Machine>(machine: &M, lanes: u32, found: &mut Enabled)
     requires lanes { lanes ≡ length (M.state machine.now).lanes }
     requires few { found.old.count ≤ 2 ^ 34 }
-    ensures counted { (events : List Counted) → AreCounted events found.old → AreCounted (events ++ filter (may_happen (M.state machine.now)) (Event.Packet ∷ map Event.ReadOut (range_with_len 0 lanes))) found.new }
+    ensures counted { (events : List Counted) → AreCounted events found.old →
+        AreCounted (events ++ filter (may_happen (M.state machine.now)) (Event.Packet ∷ map Event.ReadOut (range_with_len 0 lanes))) found.new }
     ensures few { found.new.count ≤ found.old.count + lanes + 1 }
     ensures passed_over { found.new.passed_over ≡ found.old.passed_over }
 {

@@ -1,5 +1,6 @@
 -- What each event does to the state.
-use Rattle.std.proofs.Common.{◌≡◌, ℕ, ◌<◌, List, [], map, drop, length, Bool, true, not, is_none, nat_lt, get_or, set, slice_get, Option, None, Some, refl, ap, sym, ◌∙◌, subst}
+use Rattle.std.proofs.Common.{◌≡◌, ℕ, ◌<◌, List, [], map, drop, length, true, not, is_none, nat_lt, get_or, set, slice_get, Option, None, Some, refl, ap, sym, ◌∙◌, subst}
+use Rattle.std.proofs.lemmas.List.{length-map}
 use Rattle.sn_core.proofs.Tests.{all_hold, need_holds, none_passes}
 use Rattle.sn_core.specs.Events as core
 use Rattle.sn_core.specs.Events.{after_close, after_event, after_install, after_packet, all_started, closes_with, kept_for_held, window_of_held, delivered, with_next, with_tuple}
@@ -7,7 +8,6 @@ use Rattle.sn_core.specs.Needs.{first_full, first_need_that_fails, first_open, h
 use Rattle.sn_core.specs.Nets.{Lane}
 use Rattle.sn_core.specs.declared.event.Event.TheVariants as event
 use Rattle.sn_core.specs.declared.event.Why.TheVariants.{Ended, Full, NoInput, NotReading, Reading, Unfinished, Waiting}
-use Rattle.sn_core.specs.declared.supply.Frame.{Frame}
 use Rattle.sn_core.specs.declared.supply.Supply.{Supply}
 use Rattle.sn_core.specs.declared.supply.Supply.TheVariants.{Numbered}
 use Rattle.sn_core.specs.declared.supply.Window.{Window}
@@ -15,12 +15,14 @@ use Rattle.sn_core.specs.declared.supply.Window.TheVariants.{Begun, Closed}
 use Rattle.sn_engine_lockstep.specs.declared.source.Source.{Source}
 use Rattle.sn_engine_lockstep.specs.Sources.{prefixes_in}
 use Rattle.sn_engine_lockstep.specs.Work.{taken}
+use Rattle.sn_emit.specs.declared.sender.Sender.{Sender}
 use Rattle.sn_engine.specs.Answers.{answers_of}
 use Rattle.sn_engine.specs.Intakes.{emptied}
 use Rattle.sn_engine.specs.declared.intake.Intake.{Intake}
 use Rattle.sn_core_net.specs.PlanWorkings.{all_ended}
 use Rattle.sn_core_net.specs.Settled.{settled}
 use Rattle.sn_pipe.specs.Pipes.{PipeState}
+use Rattle.sn_report.specs.declared.frame.Frame.{Frame as Report}
 use Rattle.sn_report.specs.declared.frame.Item.{Item}
 use Rattle.sn_types.specs.declared.answers.Answers.{Answers}
 use Rattle.sn_types.specs.declared.typed_query.TypedQuery.{TypedQuery}
@@ -28,7 +30,7 @@ use Rattle.sn_core_net.specs.declared.holder.Holder.{Holder}
 use Rattle.sn_core_net.specs.Facts.{are_roomy, are_unread, ends_agree}
 use Rattle.sn_core_net.specs.Holders.{all_begun, all_took}
 use Rattle.sn_core_net.specs.States.{State, Works, lane_of, lanes_of, state_of, works_of}
-use Rattle.sn_core_net.specs.Reports.{report_of}
+use Rattle.sn_core_net.specs.Reports.{frame_of, report_of}
 use Rattle.sn_core_net.proofs.Both.{Set, begun_lanes, emptied_lanes, ended_again, took_lanes}
 use Rattle.sn_core_net.proofs.Zips.{change_both, change_left, first_moves, passes_left}
 
@@ -58,14 +60,15 @@ module _ (queries : List TypedQuery) (intakes : List Intake) (sources : List Sou
 
     module _ (held : Option (Supply (List ℕ))) (window : Window) (n : ℕ) (within : n < length hs) (h : Holder) (own : h ≡ get_or hs n h) where
       -- what holds where a lane may be read out
-      pub read_out_may : first_need_that_fails (at held window) (event.ReadOut n) ≡ None → (is_begun_with (λ number. is_over number held) window ≡ true) × (nat_lt (length h.ring.items) room ≡ true)
+      pub read_out_may : first_need_that_fails (at held window) (event.ReadOut n) ≡ None → (is_begun_with (λ number. is_over number held) window ≡ true) × (nat_lt (length h.ring.items) room ≡ true) × (not h.sender.ended ≡ true)
       read_out_may may =
           let full = needs (passes (has_room room) (lanes_of hs xs) n) (Full n) None in
           let reading = need_holds (is_begun_with (λ number. is_over number held) window) NotReading (needs (passes (λ x. not x.ended) (lanes_of hs xs) n) (Ended n) full) may in
           let running = need_holds (passes (λ x. not x.ended) (lanes_of hs xs) n) (Ended n) full reading.1 in
           let less = need_holds (passes (has_room room) (lanes_of hs xs) n) (Full n) None running.1 in (
             reading.0,
-            ap (λ (x : Holder). nat_lt (length x.ring.items) room) own ∙ sym (passes_left (λ x. nat_lt (length x.ring.items) room) (has_room room) (λ x y. refl) hs xs n h matched within) ∙ less.0,
+            ap (λ (x : Holder). nat_lt (length x.ring.items) room) own ∙ sym (passes_left (λ x. nat_lt (length x.ring.items) room) (has_room room) (λ x y. ap (λ m. nat_lt m room) (length-map x.ring.items frame_of)) hs xs n h matched within) ∙ less.0,
+            ap (λ (x : Holder). not x.sender.ended) own ∙ sym (passes_left (λ x. not x.sender.ended) (λ x. not x.ended) (λ x y. refl) hs xs n h matched within) ∙ running.0,
           )
 
       pub read_out_changes : (next : Holder) → ((x : Intake) → lane_of next x ≡ with_next works (lane_of h x)) → state_of room held window (set hs n next) xs installs waiting ≡ after_event works (at held window) (event.ReadOut n)
@@ -73,15 +76,15 @@ module _ (queries : List TypedQuery) (intakes : List Intake) (sources : List Sou
           ap (λ (lanes : List (Lane PipeState Item)). record (at held window) { lanes = lanes })
           (change_left (with_next works) hs xs n h next matched within (λ x. ap (λ (k : Holder). with_next works (lane_of k x)) (sym own) ∙ sym (is x)))
 
-      pub deliver_changes : (next : Holder) (number : ℕ) (frame : Frame Item) → slice_get h.ring.items 0 ≡ Some frame → next.pipe ≡ h.pipe → next.ended ≡ h.ended → next.ring.items ≡ drop 1 h.ring.items →
-          state_of room held window (set hs n next) (core.change_at (λ x. taken x (report_of h.name number frame)) xs n) installs waiting ≡ after_event works (at held window) (event.Deliver n)
-      deliver_changes next number frame first pipe end ring =
+      pub deliver_changes : (next : Holder) (number : ℕ) (frame : Report) → slice_get h.ring.items 0 ≡ Some frame → next.sender ≡ h.sender → next.ring.items ≡ drop 1 h.ring.items →
+          state_of room held window (set hs n next) (core.change_at (λ x. taken x (report_of h.sender.lane number (frame_of frame))) xs n) installs waiting ≡ after_event works (at held window) (event.Deliver n)
+      deliver_changes next number frame first sender ring =
+          let change : Intake → Intake = λ x. taken x (report_of h.sender.lane number (frame_of frame)) in
           ap (λ (lanes : List (Lane PipeState Item)). record (at held window) { lanes = lanes })
-          (change_both delivered (λ x. taken x (report_of h.name number frame)) hs xs n h next matched within (λ x.
-          ap (λ (k : Holder). delivered (lane_of k x)) (sym own) ∙ first_moves h.name number h x frame h.ring.items first
-          ∙ ap (λ (p : PipeState). record (lane_of next (taken x (report_of h.name number frame))) { pipe = settled p; ended = h.ended; ring = drop 1 h.ring.items }) (sym pipe)
-          ∙ ap (λ (b : Bool). record (lane_of next (taken x (report_of h.name number frame))) { ended = b; ring = drop 1 h.ring.items }) (sym end)
-          ∙ ap (λ (frames : List (Frame Item)). record (lane_of next (taken x (report_of h.name number frame))) { ring = frames }) (sym ring)))
+          (change_both delivered change hs xs n h next matched within (λ x.
+          ap (λ (k : Holder). delivered (lane_of k x)) (sym own) ∙ first_moves h.sender.lane number h x frame h.ring.items first
+          ∙ ap (λ (s : Sender). record (lane_of next (change x)) { pipe = settled s.pipe; ended = s.ended; ring = map frame_of (drop 1 h.ring.items) }) (sym sender)
+          ∙ ap (λ (frames : List Report). record (lane_of next (change x)) { ring = map frame_of frames }) (sym ring)))
 
     -- the answers are those of the items that the lanes have
     pub close_changes : (held : Option (Supply (List ℕ))) (window : Window) (number : ℕ) (answers : Answers) (sets : List Set) → intakes ≡ xs → window ≡ Begun number → first_need_that_fails (at held window) event.CloseWindow ≡ None → ends_agree window xs ≡ true →

@@ -22,15 +22,14 @@ use Rattle.sn_engine.specs.declared.intake.Intake.{Intake}
 use Rattle.sn_core_net.proofs.Lawful.{lawful_of}
 use Rattle.sn_core_net.specs.PlanWorkings.{workings_of}
 use Rattle.sn_pipe.specs.Pipes.{PipeState}
+use Rattle.sn_report.specs.declared.frame.Frame.{Frame as Report}
 use Rattle.sn_report.specs.declared.frame.Item.{Item}
 use Rattle.sn_types.specs.declared.typed_query.TypedQuery.{TypedQuery}
 use Rattle.sn_core_net.specs.declared.holder.Holder.{Holder}
-use Rattle.sn_core_net.specs.Facts.{ends_agree, may_be_read}
+use Rattle.sn_core_net.specs.Facts.{are_own, ends_agree, may_be_read}
+use Rattle.sn_core_net.specs.Reports.{frame_of, is_own, window_number}
 use Rattle.sn_core_net.specs.States.{State, Works, lanes_of, works_of}
-
-pub right_true : (a b : Bool) → b ≡ true → (a || b) ≡ true
-right_true true b e = refl
-right_true false b e = e
+use Rattle.sn_base.proofs.Lists.{and_both, or_right}
 
 -- ---- the state stands
 
@@ -66,15 +65,11 @@ none_agrees : (n : ℕ) (o : Option ℕ) → is_some o ≡ false → option_map_
 none_agrees n None e = refl
 none_agrees n (Some end) e = absurd (false≢true (sym e))
 
-pub both : (a b : Bool) → a ≡ true → b ≡ true → (a && b) ≡ true
-both true b e f = f
-both false b e f = e
-
 open_agree : (n : ℕ) (hs : List Holder) (xs : List Intake) → length hs ≡ length xs → AllByRecursion (λ lane. lane.closed ≡ false) (lanes_of hs xs) → list_all (agrees n) xs ≡ true
 open_agree n [] [] e opens = refl
 open_agree n [] (x ∷ xs) e opens = absurd (omega (arith, e))
 open_agree n (h ∷ hs) [] e opens = absurd (omega (arith, e))
-open_agree n (h ∷ hs) (x ∷ xs) e opens = both (agrees n x) (list_all (agrees n) xs) (none_agrees n x.end opens.0) (open_agree n hs xs (omega (arith, e)) opens.1)
+open_agree n (h ∷ hs) (x ∷ xs) e opens = and_both (agrees n x) (list_all (agrees n) xs) (none_agrees n x.end opens.0) (open_agree n hs xs (omega (arith, e)) opens.1)
 
 module _ (w : Works) (hs : List Holder) (xs : List Intake) (matched : length hs ≡ length xs) where
   open_ends : (window : Window) → AllByRecursion (λ lane. lane.closed ≡ false) (lanes_of hs xs) → ends_agree window xs ≡ true
@@ -94,6 +89,30 @@ module _ (w : Works) (hs : List Holder) (xs : List Intake) (matched : length hs 
   given_ends held (Begun n) supply stands agreed = agreed
   given_ends held (Closed n) supply stands agreed = refl
 
+-- ---- each frame is one of its lane's own in this window
+
+no_frames : (frames : List Report) → map frame_of frames ≡ [] → frames ≡ []
+no_frames [] e = refl
+no_frames (frame ∷ frames) e = cc
+
+empty_own : (n : ℕ) (hs : List Holder) (xs : List Intake) → length hs ≡ length xs → AllByRecursion (λ lane. lane.ring ≡ []) (lanes_of hs xs) → are_own n hs ≡ true
+empty_own n [] xs e empty = refl
+empty_own n (h ∷ hs) [] e empty = absurd (omega (arith, e))
+empty_own n (h ∷ hs) (x ∷ xs) e empty = and_both (list_all (is_own h.sender.lane n) h.ring.items) (are_own n hs) (ap (list_all (is_own h.sender.lane n)) (no_frames h.ring.items empty.0)) (empty_own n hs xs (omega (arith, e)) empty.1)
+
+module _ (w : Works) (hs : List Holder) (xs : List Intake) (matched : length hs ≡ length xs) where
+  pub closed_own : (held : Option (Supply (List ℕ))) (window : Window) (n closed : ℕ) → window ≡ Closed closed → Stands w held (lanes_of hs xs) window → are_own n hs ≡ true
+  closed_own held window n closed is stands =
+      let rest : AllByRecursion IsAtRest (lanes_of hs xs) = (subst (Stands w held (lanes_of hs xs)) is stands).1 in
+      empty_own n hs xs matched (all_same IsAtRest (λ (lane : Lane PipeState Item). lane.ring ≡ []) (λ lane h. h.ring) (lanes_of hs xs) rest)
+
+  pub given_own : (held : Option (Supply (List ℕ))) (window : Window) (supply : Supply (List ℕ)) → Stands w held (lanes_of hs xs) window → are_own (window_number window) hs ≡ true → are_own (window_number (window_from window supply)) hs ≡ true
+  given_own held Idle End stands own = own
+  given_own held Idle (Numbered n tuple) stands own =
+      empty_own n hs xs matched (all_same (λ (lane : Lane PipeState Item). fresh w w.nothing lane ≡ lane) (λ (lane : Lane PipeState Item). lane.ring ≡ []) (λ lane e. sym (ap (λ (x : Lane PipeState Item). x.ring) e)) (lanes_of hs xs) stands.1)
+  given_own held (Begun n) supply stands own = own
+  given_own held (Closed n) supply stands own = own
+
 -- ---- no lane was read out
 
 pub packet_unread : (window : Window) (held : Option (Supply (List ℕ))) (b : Bool) → is_begun_with (λ number. is_of number held) window ≡ true → (may_be_read window held || b) ≡ true → b ≡ true
@@ -107,8 +126,8 @@ packet_unread (Begun n) (Some (Numbered m tuple)) b of_it unread =
 
 pub given_unread : (window : Window) (held : Option (Supply (List ℕ))) (supply : Supply (List ℕ)) (b : Bool) → is_none held ≡ true → (may_be_read window held || b) ≡ true → (may_be_read (window_from window supply) (Some supply) || b) ≡ true
 given_unread window (Some s) supply b none unread = absurd (false≢true none)
-given_unread Idle None supply b none unread = right_true (may_be_read (window_from Idle supply) (Some supply)) b unread
-given_unread (Begun n) None supply b none unread = right_true (is_over n (Some supply)) b unread
+given_unread Idle None supply b none unread = or_right (may_be_read (window_from Idle supply) (Some supply)) b unread
+given_unread (Begun n) None supply b none unread = or_right (is_over n (Some supply)) b unread
 given_unread (Closed n) None supply b none unread = refl
 
 -- once a lane may be read out, none need be unread

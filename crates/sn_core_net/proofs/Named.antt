@@ -1,11 +1,10 @@
 -- A frame is taken by the engine's lane of its own place.
-use Rattle.std.proofs.Common.{◌≡◌, ℕ, zero, suc, ◌<◌, ◌||◌, List, [], ◌∷◌, map, length, Bool, true, false, not, cond, get_or, set, Option, None, Some, refl, ap, sym, ◌∙◌, arith}
+use Rattle.std.proofs.Common.{◌≡◌, ℕ, zero, suc, ◌<◌, ◌||◌, ◌==◌, List, [], ◌∷◌, map, length, Bool, true, false, not, cond, get_or, set, refl, ap, sym, ◌∙◌, arith}
 use Rattle.std.specs.List.{list_all}
 use Rattle.std.proofs.lemmas.Bool.{false≢true}
 use Rattle.std.proofs.lemmas.List.{length-map}
 use Rattle.sn_base.specs.declared.lane.Lane.{Lane}
-use Rattle.std.specs.Option.{option_map}
-use Rattle.sn_base.proofs.Lists.{nat_self, none_some, some_same, and_parts, and_both}
+use Rattle.sn_base.proofs.Lists.{nat_same, nat_self, and_parts, and_both}
 use Rattle.sn_core.specs.Events.{change_at}
 use Rattle.sn_core.specs.declared.supply.Frame.{Frame}
 use Rattle.sn_core.specs.declared.supply.Frame.TheVariants.{Row, Last}
@@ -13,22 +12,23 @@ use Rattle.sn_core.specs.declared.supply.Window.{Window}
 use Rattle.sn_core.specs.declared.supply.Window.TheVariants.{Idle, Begun, Closed}
 use Rattle.sn_core.proofs.Tests.{change_same}
 use Rattle.sn_engine_lockstep.specs.Work.{taken}
-use Rattle.sn_engine.specs.Intakes.{after_frame, agrees, emptied, is_lane}
+use Rattle.sn_engine.specs.Intakes.{after_frame, agrees, emptied, is_lane, lane_at}
 use Rattle.sn_base.specs.Changed.{with_first}
 use Rattle.sn_engine.specs.declared.intake.Intake.{Intake}
-use Rattle.sn_engine.proofs.Firsts.{three_parts}
 use Rattle.sn_report.specs.declared.frame.Frame.{Frame as Report}
+use Rattle.sn_report.specs.declared.frame.Frame.TheVariants.{Row as Sent, End}
 use Rattle.sn_report.specs.declared.frame.Item.{Item}
 use Rattle.sn_core_net.specs.declared.holder.Holder.{Holder}
 use Rattle.sn_core_net.specs.Facts.{are_named, ends_agree, names_of}
-use Rattle.sn_core_net.specs.Reports.{report_of, window_number}
+use Rattle.sn_core_net.specs.Reports.{are_same, frame_of, is_own, report_of, window_number}
 use Rattle.sn_core_net.proofs.Zips.{all_at}
+use Rattle.sn_base.proofs.Tests.{three_parts}
 
-no_more : (b : Bool) → not b ≡ true → b ≡ false
+pub no_more : (b : Bool) → not b ≡ true → b ≡ false
 no_more true e = sym e
 no_more false e = refl
 
-get_name : (hs : List Holder) (n : ℕ) (d : Lane) (h : Holder) → n < length hs → get_or (names_of hs) n d ≡ (get_or hs n h).name
+get_name : (hs : List Holder) (n : ℕ) (d : Lane) (h : Holder) → n < length hs → get_or (names_of hs) n d ≡ (get_or hs n h).sender.lane
 get_name [] n d h within = absurd (omega arith)
 get_name (k ∷ hs) zero d h within = refl
 get_name (k ∷ hs) (suc n) d h within = get_name hs n d h (omega arith)
@@ -52,12 +52,12 @@ told xs name window Last = refl
 
 -- the engine's lanes after a frame of the lane of this number
 pub frame_taken : (hs : List Holder) (xs : List Intake) (n window : ℕ) (h : Holder) (frame : Frame Item) → are_named (names_of hs) (map emptied xs) ≡ true → n < length hs → h ≡ get_or hs n h →
-    after_frame xs (report_of h.name window frame) ≡ change_at (λ x. taken x (report_of h.name window frame)) xs n
+    after_frame xs (report_of h.sender.lane window frame) ≡ change_at (λ x. taken x (report_of h.sender.lane window frame)) xs n
 frame_taken hs xs n window h frame named within own =
-    let change : Intake → Intake = λ x. taken x (report_of h.name window frame) in
-    told xs h.name window frame
-    ∙ ap (λ name. with_first (is_lane name) change xs) (ap (λ (k : Holder). k.name) own ∙ sym (get_name hs n h.name h within))
-    ∙ first_named change (names_of hs) xs n h.name named (omega (arith, within, length-map hs (λ (k : Holder). k.name)))
+    let change : Intake → Intake = λ x. taken x (report_of h.sender.lane window frame) in
+    told xs h.sender.lane window frame
+    ∙ ap (λ name. with_first (is_lane name) change xs) (ap (λ (k : Holder). k.sender.lane) own ∙ sym (get_name hs n h.sender.lane h within))
+    ∙ first_named change (names_of hs) xs n h.sender.lane named (omega (arith, within, length-map hs (λ (k : Holder). k.sender.lane)))
 
 -- ---- what a frame leaves
 
@@ -87,20 +87,25 @@ taken_agrees (Begun number) name frame xs n e = all_change (agrees number) (λ x
 taken_agrees (Closed number) name frame xs n e = refl
 
 -- a lane of the switch is changed, and keeps its name
-pub names_set : (hs : List Holder) (n : ℕ) (d h : Holder) → n < length hs → h.name ≡ (get_or hs n d).name → names_of (set hs n h) ≡ names_of hs
+pub names_set : (hs : List Holder) (n : ℕ) (d h : Holder) → n < length hs → h.sender.lane ≡ (get_or hs n d).sender.lane → names_of (set hs n h) ≡ names_of hs
 names_set [] n d h within e = absurd (omega arith)
 names_set (k ∷ hs) zero d h within e = ap (λ name. name ∷ names_of hs) e
-names_set (k ∷ hs) (suc n) d h within e = ap (λ names. k.name ∷ names) (names_set hs n d h (omega arith) e)
+names_set (k ∷ hs) (suc n) d h within e = ap (λ names. k.sender.lane ∷ names) (names_set hs n d h (omega arith) e)
 
 pub or_kept : (a b c : Bool) → (a || b) ≡ true → (b ≡ true → c ≡ true) → (a || c) ≡ true
 or_kept true b c e f = refl
 or_kept false b c e f = f e
 
--- what is reported is a frame
-pub mapped : (report : Frame Item → Report) (o : Option (Frame Item)) (r : Report) → Some r ≡ option_map report o → (frame : Frame Item) × (o ≡ Some frame) × (r ≡ report frame)
-mapped report None r e = absurd (none_some (sym e))
-mapped report (Some frame) r e = (frame, refl, some_same r (report frame) e)
+-- ---- frames of a lane
 
-pub none_mapped : (report : Frame Item → Report) (o : Option (Frame Item)) → None ≡ option_map report o → o ≡ None
-none_mapped report None e = refl
-none_mapped report (Some frame) e = absurd (none_some e)
+same_name : (a b : Lane) → are_same a b ≡ true → a ≡ b
+same_name a b e =
+    let parts = three_parts (a.query == b.query) (a.level == b.level) (a.branch == b.branch) e in
+    ap (λ q. lane_at q a.level a.branch) (nat_same a.query b.query parts.0) ∙ ap (λ l. lane_at b.query l a.branch) (nat_same a.level b.level parts.1) ∙ ap (lane_at b.query b.level) (nat_same a.branch b.branch parts.2)
+
+-- what the engine takes is what it learns from the frame
+pub own_frame : (name : Lane) (window : ℕ) (frame : Report) → is_own name window frame ≡ true → frame ≡ report_of name window (frame_of frame)
+own_frame name window (Sent other item) e = ap (λ (n : Lane). Sent n item) (same_name other name e)
+own_frame name window (End other number) e =
+    let parts = and_parts (are_same other name) (number == window) e in
+    ap (λ (n : Lane). End n number) (same_name other name parts.0) ∙ ap (End name) (nat_same number window parts.1)

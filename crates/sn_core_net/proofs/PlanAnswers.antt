@@ -5,7 +5,7 @@ use Rattle.std.specs.List.{AllByRecursion}
 use Rattle.sn_base.proofs.Lists.{by_test, map_both, nat_same, nat_self, not_true}
 use Rattle.sn_core.specs.Due.{Tuples, answers_in, answers_of, items_from_start, kept_from}
 use Rattle.sn_core.specs.Nets.{Lane}
-use Rattle.sn_core.specs.Workings.{after_all, gives, items_of, option_list}
+use Rattle.sn_core.specs.Workings.{after_all, gives, items_of}
 use Rattle.sn_emit.specs.Making.{CanMake}
 use Rattle.sn_emit.specs.Plans.{IsNewPipeOf, Placed, items_of as piece_items, level_before, pieces_from}
 use Rattle.sn_engine.specs.Answers.{answers_of as engine_answers, window_of}
@@ -26,6 +26,7 @@ use Rattle.sn_engine_lockstep.specs.Sources.{kept_in, prefixes_in, source_of}
 use Rattle.sn_engine_lockstep.specs.Windows.{answers_from, window_answers}
 use Rattle.sn_engine_lockstep.specs.Work.{done, intake_of}
 use Rattle.sn_core_net.specs.PlanWorkings.{AreLanesFor, HaveWidths, all_ended, given_of, workings}
+use Rattle.std.specs.Option.{option_to_list}
 
 -- a number is the next one: the same test, said twice
 next_test : (last number : ℕ) → nat_eq number (suc last) ≡ (last + 1 == number)
@@ -54,7 +55,7 @@ some_window queries depth window kept tuples (x ∷ xs) (lane ∷ lanes) are som
 module _ (typed_for depth : ℕ) (queries : List TypedQuery) (entries : List Entry) (t : ∥ IsTyped typed_for queries ∥₁) where
   gives_are : (pipe : PipeState) (tuples : List (List ℕ)) → gives (workings queries entries) pipe tuples ≡ packets_give pipe tuples
   gives_are pipe [] = refl
-  gives_are pipe (tuple ∷ tuples) = ap (λ xs. option_list (item_of pipe tuple) ++ xs) (gives_are (after_packet pipe tuple) tuples)
+  gives_are pipe (tuple ∷ tuples) = ap (λ xs. option_to_list (item_of pipe tuple) ++ xs) (gives_are (after_packet pipe tuple) tuples)
 
   after_are : (pipe : PipeState) (tuples : List (List ℕ)) → after_all (workings queries entries) pipe tuples ≡ after_packets pipe tuples
   after_are pipe [] = refl

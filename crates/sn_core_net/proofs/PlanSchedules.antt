@@ -13,7 +13,7 @@ use Rattle.sn_emit.specs.Plans.{pieces_from}
 use Rattle.sn_plan_fit.specs.Fits.{Fits}
 use Rattle.sn_pipe.specs.Pipes.{PipeState}
 use Rattle.sn_plan_grammar.specs.declared.plan.Entry.{Entry}
-use Rattle.sn_refine.specs.Steps.{Given, Rises, windows_of as given_windows}
+use Rattle.sn_refine.specs.Steps.{windows_of as given_windows}
 use Rattle.sn_report.specs.declared.frame.Item.{Item}
 use Rattle.sn_switch.specs.declared.switch.Switch.{Switch}
 use Rattle.sn_switch.specs.Texts.{IsSwitch}
@@ -24,13 +24,14 @@ use Rattle.sn_engine_lockstep.specs.Windows.{plan_answers}
 use Rattle.sn_core_net.proofs.Lawful.{lawful}
 use Rattle.sn_core_net.proofs.PlanAnswers.{plan_windows}
 use Rattle.sn_core_net.specs.PlanWorkings.{AreLanesFor, HaveWidths, given_of, workings}
+use Rattle.sn_windows.specs.Rising.{AreRising, Window}
 
-rise_behind : (held : ℕ → Option (List (List ℕ))) (last : ℕ) (windows : List (Tuples (List ℕ))) → HoldWindows held (suc last) windows → Rises (Some last) (map given_of windows)
+rise_behind : (held : ℕ → Option (List (List ℕ))) (last : ℕ) (windows : List (Tuples (List ℕ))) → HoldWindows held (suc last) windows → AreRising (Some last) (map given_of windows)
 rise_behind held last [] h = tt
 rise_behind held last (x ∷ xs) h = (omega (arith, h.0), rise_behind held x.number xs h.3)
 
 -- windows by their numbers rise
-rise : (held : ℕ → Option (List (List ℕ))) (windows : List (Tuples (List ℕ))) → HoldWindows held 0 windows → Rises None (map given_of windows)
+rise : (held : ℕ → Option (List (List ℕ))) (windows : List (Tuples (List ℕ))) → HoldWindows held 0 windows → AreRising None (map given_of windows)
 rise held [] h = tt
 rise held (x ∷ xs) h = (tt, rise_behind held x.number xs h.3)
 
@@ -45,7 +46,7 @@ plan_schedules typed_for room queries s entries lanes calls t is fits are some_r
     taken_when_done (workings queries entries) (lawful queries entries) room lanes calls some_room some_lane allowed done
     ∙ plan_windows typed_for s.chain queries entries t fits.paths (plan_made typed_for queries s entries t is fits) lanes are some_lane windows widths
     ∙ all_windows queries s.chain entries (map given_of windows) fits.paths (rise (look_up windows) windows (windows_hold (supplies_of calls) dont_fall))
-    ∙ map_both given_of (λ (g : Given). plan_answers queries s.chain entries (given_windows (map given_of windows)) g.0) windows
+    ∙ map_both given_of (λ (g : Window). plan_answers queries s.chain entries (given_windows (map given_of windows)) g.0) windows
 
 -- what is due from a net as it is made: the answers of the plan for what follows
 pub plan_due : (typed_for room : ℕ) (queries : List TypedQuery) (s : Switch) (entries : List Entry) (lanes : List (Lane PipeState Item)) (following : List (Supply (List ℕ))) →
@@ -56,4 +57,4 @@ plan_due typed_for room queries s entries lanes following t is fits are some_roo
     taken_and_due (workings queries entries) (lawful queries entries) room lanes [] following some_room some_lane tt
     ∙ plan_windows typed_for s.chain queries entries t fits.paths (plan_made typed_for queries s entries t is fits) lanes are some_lane windows widths
     ∙ all_windows queries s.chain entries (map given_of windows) fits.paths (rise (look_up windows) windows (windows_hold following dont_fall))
-    ∙ map_both given_of (λ (g : Given). plan_answers queries s.chain entries (given_windows (map given_of windows)) g.0) windows
+    ∙ map_both given_of (λ (g : Window). plan_answers queries s.chain entries (given_windows (map given_of windows)) g.0) windows

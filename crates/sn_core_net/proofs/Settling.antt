@@ -17,6 +17,7 @@ use Rattle.sn_pipe.proofs.ReadOuts.{left_up_is}
 use Rattle.sn_types.specs.declared.typed_op.TReduce.{TReduce}
 use Rattle.sn_core_net.specs.ReadOut.{after_read_out, place_behind, walked}
 use Rattle.sn_core_net.specs.Settled.{least_place, settled, settled_place, ups}
+use Rattle.sn_base.proofs.Tests.{zero_plus}
 
 -- ---- cells
 
@@ -31,9 +32,6 @@ length_if_most x xs false = omega arith
 same_if_few : {X : Type 0} (x : X) (xs : List X) (b : Bool) → length (cond b (x ∷ xs) xs) ≤ length xs → cond b (x ∷ xs) xs ≡ xs
 same_if_few x xs true few = absurd (omega (arith, few))
 same_if_few x xs false few = refl
-
-from_zero : (n : ℕ) → 0 + n ≡ n
-from_zero n = omega arith
 
 from_next : (n m : ℕ) → suc (n + m) ≡ suc n + m
 from_next n m = omega arith
@@ -99,8 +97,8 @@ module _ (up : Row → Bool) where
       by_test (nat_le (count (c ∷ cells)) k)
       (λ few. let is : k ≡ count (c ∷ cells) = omega (arith, le, leb-true (count (c ∷ cells)) k few) in
       least_suc (k - 1) c cells (omega (arith, some, is))
-      ∙ first_walked k c cells is (λ all. next_place k cells some (omega (arith, all)) ∙ ap (λ n. n + walked up (drop n cells)) (least_zero k cells (omega (arith, all))) ∙ from_zero (walked up cells))
-      ∙ sym (from_zero (walked up (c ∷ cells))) ∙ ap (λ n. n + walked up (drop n (c ∷ cells))) (sym (least_zero k (c ∷ cells) (omega (arith, is)))))
+      ∙ first_walked k c cells is (λ all. next_place k cells some (omega (arith, all)) ∙ ap (λ n. n + walked up (drop n cells)) (least_zero k cells (omega (arith, all))) ∙ zero_plus (walked up cells))
+      ∙ sym (zero_plus (walked up (c ∷ cells))) ∙ ap (λ n. n + walked up (drop n (c ∷ cells))) (sym (least_zero k (c ∷ cells) (omega (arith, is)))))
       (λ many. let lt = leb-false (count (c ∷ cells)) k many in
       least_suc (k - 1) c cells (omega (arith, lt)) ∙ ap suc (next_place k cells some (omega (arith, lt, most)))
       ∙ from_next (least_place up k cells) (walked up (drop (least_place up k cells) cells))

@@ -1,9 +1,9 @@
 -- A test of one side of the lanes.
-use Rattle.std.proofs.Common.{◌≡◌, ℕ, zero, suc, ◌+◌, ◌<◌, List, [], ◌∷◌, length, Bool, true, not, cond, nat_lt, slice_get, is_some, position, get_or, set, drop, ◌==◌, ◌&&◌, ◌++◌, ◌-◌, OnOk, subst, unwrap_or, Result, Ok, Err, None, Some, refl, ap, ap₂, sym, ◌∙◌, arith}
+use Rattle.std.proofs.Common.{◌≡◌, ℕ, zero, suc, ◌+◌, ◌<◌, List, [], ◌∷◌, map, length, Bool, true, not, cond, nat_lt, slice_get, is_some, position, get_or, set, drop, ◌==◌, ◌&&◌, ◌++◌, ◌-◌, OnOk, subst, unwrap_or, Result, Ok, Err, None, Some, refl, ap, ap₂, sym, ◌∙◌, arith}
 use Rattle.std.specs.List.{list_all, position_or_len}
 use Rattle.std.proofs.lemmas.Bool.{eqb-true, ltb-true}
 use Rattle.std.proofs.lemmas.List.{length-append}
-use Rattle.sn_base.proofs.Lists.{and_parts}
+use Rattle.sn_base.proofs.Lists.{and_both, and_parts}
 use Rattle.sn_base.specs.declared.lane.Lane.{Lane as Name}
 use Rattle.sn_core.specs.Nets.{Lane}
 use Rattle.sn_core.proofs.Tests.{some_not_none}
@@ -15,10 +15,12 @@ use Rattle.sn_engine_lockstep.specs.Work.{taken}
 use Rattle.sn_engine.specs.declared.intake.Intake.{Intake}
 use Rattle.sn_core_net.specs.Settled.{settled}
 use Rattle.sn_pipe.specs.Pipes.{PipeState}
+use Rattle.sn_report.specs.declared.frame.Frame.{Frame as Report}
+use Rattle.sn_report.specs.declared.frame.Frame.TheVariants.{Row as Sent, End}
 use Rattle.sn_report.specs.declared.frame.Item.{Item}
 use Rattle.sn_core_net.specs.declared.holder.Holder.{Holder}
 use Rattle.sn_core_net.specs.States.{lane_of, lanes_of}
-use Rattle.sn_core_net.specs.Reports.{report_of}
+use Rattle.sn_core_net.specs.Reports.{frame_of, report_of}
 
 pub length_lanes : (hs : List Holder) (xs : List Intake) → length hs ≡ length xs → length (lanes_of hs xs) ≡ length hs
 length_lanes [] xs e = refl
@@ -87,6 +89,21 @@ all_set test [] n y e passes = refl
 all_set test (x ∷ xs) zero y e passes = ap₂ (λ a b. a && b) passes (and_parts (test x) (list_all test xs) e).1
 all_set test (x ∷ xs) (suc n) y e passes = ap₂ (λ a b. a && b) (and_parts (test x) (list_all test xs) e).0 (all_set test xs n y (and_parts (test x) (list_all test xs) e).1 passes)
 
+pub all_appended : {X : Type 0} (test : X → Bool) (xs ys : List X) → list_all test xs ≡ true → list_all test ys ≡ true → list_all test (xs ++ ys) ≡ true
+all_appended test [] ys e f = f
+all_appended test (x ∷ xs) ys e f =
+    let parts = and_parts (test x) (list_all test xs) e in
+    and_both (test x) (list_all test (xs ++ ys)) parts.0 (all_appended test xs ys parts.1 f)
+
+pub all_dropped : {X : Type 0} (test : X → Bool) (n : ℕ) (xs : List X) → list_all test xs ≡ true → list_all test (drop n xs) ≡ true
+all_dropped test zero xs e = e
+all_dropped test (suc n) [] e = e
+all_dropped test (suc n) (x ∷ xs) e = all_dropped test n xs (and_parts (test x) (list_all test xs) e).1
+
+pub all_first : {X : Type 0} (test : X → Bool) (xs : List X) (x : X) → list_all test xs ≡ true → slice_get xs 0 ≡ Some x → test x ≡ true
+all_first test [] x e first = some_not_none x (sym first)
+all_first test (y ∷ xs) x e first = ap test (ap (λ o. unwrap_or o x) (sym first)) ∙ (and_parts (test y) (list_all test xs) e).0
+
 pub fits : (len room capacity : ℕ) → nat_lt len room ≡ true → (capacity == room) ≡ true → len < capacity
 fits len room capacity less same = omega (arith, ltb-true len room less, eqb-true capacity room same)
 
@@ -97,7 +114,7 @@ get_same [] n d e within = absurd (omega arith)
 get_same (x ∷ xs) zero d e within = refl
 get_same (x ∷ xs) (suc n) d e within = get_same xs n d e (omega arith)
 
-none_moves : (lane : Lane PipeState Item) (frames : List (Frame Item)) → slice_get frames 0 ≡ None → delivered_of lane frames ≡ lane
+none_moves : (lane : Lane PipeState Item) (frames : List Report) → slice_get frames 0 ≡ None → delivered_of lane (map frame_of frames) ≡ lane
 none_moves lane [] e = refl
 none_moves lane (frame ∷ frames) e = some_not_none frame e
 
@@ -108,10 +125,12 @@ nothing_moves (h ∷ hs) (x ∷ xs) zero d e within none = ap (λ lane. lane ∷
 nothing_moves (h ∷ hs) (x ∷ xs) (suc n) d e within none = ap (λ lanes. lane_of h x ∷ lanes) (nothing_moves hs xs n d (omega (arith, e)) (omega arith) none)
 
 abbrev lane_with : Holder → List (Frame Item) → Intake → Lane PipeState Item
-lane_with h frames x = record { pipe = settled h.pipe; ended = h.ended; ring = frames; taken = x.items; closed = is_some x.end }
+lane_with h frames x = record { pipe = settled h.sender.pipe; ended = h.sender.ended; ring = frames; taken = x.items; closed = is_some x.end }
 
 module _ (name : Name) (window : ℕ) (h : Holder) (x : Intake) where
-  pub first_moves : (frame : Frame Item) (frames : List (Frame Item)) → slice_get frames 0 ≡ Some frame → delivered_of (lane_of h x) frames ≡ lane_with h (drop 1 frames) (taken x (report_of name window frame))
+  pub first_moves : (frame : Report) (frames : List Report) → slice_get frames 0 ≡ Some frame → delivered_of (lane_of h x) (map frame_of frames) ≡ lane_with h (map frame_of (drop 1 frames)) (taken x (report_of name window (frame_of frame)))
   first_moves frame [] e = some_not_none frame (sym e)
-  first_moves frame (Row item ∷ frames) e = subst (λ (f : Frame Item). delivered_of (lane_of h x) (Row item ∷ frames) ≡ lane_with h frames (taken x (report_of name window f))) (ap (λ o. unwrap_or o frame) e) refl
-  first_moves frame (Last ∷ frames) e = subst (λ (f : Frame Item). delivered_of (lane_of h x) (Last ∷ frames) ≡ lane_with h frames (taken x (report_of name window f))) (ap (λ o. unwrap_or o frame) e) refl
+  first_moves frame (Sent other item ∷ frames) e =
+      subst (λ (f : Report). delivered_of (lane_of h x) (Row item ∷ map frame_of frames) ≡ lane_with h (map frame_of frames) (taken x (report_of name window (frame_of f)))) (ap (λ o. unwrap_or o frame) e) refl
+  first_moves frame (End other number ∷ frames) e =
+      subst (λ (f : Report). delivered_of (lane_of h x) (Last ∷ map frame_of frames) ≡ lane_with h (map frame_of frames) (taken x (report_of name window (frame_of f)))) (ap (λ o. unwrap_or o frame) e) refl

@@ -12,6 +12,7 @@ use Rattle.sn_engine_lockstep.specs.declared.source.Source.{Source}
 use Rattle.sn_engine.specs.Intakes.{agrees, is_lane}
 use Rattle.sn_engine.specs.declared.intake.Intake.{Intake}
 use Rattle.sn_types.specs.declared.typed_query.TypedQuery.{TypedQuery}
+use Rattle.sn_core_net.specs.Reports.{is_own}
 use Rattle.sn_core_net.specs.declared.holder.Holder.{Holder}
 
 -- each name is that of the engine's lane at its place, and of no lane before it
@@ -22,7 +23,7 @@ are_named (name ∷ names) [] = false
 are_named (name ∷ names) (x ∷ xs) = is_lane name x && list_all (λ other. not (is_lane other x)) names && are_named names xs
 
 abbrev pub names_of : List Holder → List Lane
-names_of hs = map (λ h. h.name) hs
+names_of hs = map (λ h. h.sender.lane) hs
 
 -- lanes may have been read out: a window is closed, or nothing more comes of it
 abbrev pub may_be_read : Window → Option (Supply (List ℕ)) → Bool
@@ -32,7 +33,7 @@ may_be_read (Closed number) held = true
 
 -- no lane was read out in this window
 abbrev pub are_unread : List Holder → Bool
-are_unread hs = list_all (λ h. h.pipe.prefix.place == 0) hs
+are_unread hs = list_all (λ h. h.sender.pipe.prefix.place == 0) hs
 
 -- the engine's lanes have ended no window but this one
 abbrev pub ends_agree : Window → List Intake → Bool
@@ -43,6 +44,10 @@ ends_agree (Closed number) xs = true
 -- each ring holds this many frames at most
 abbrev pub are_roomy : ℕ → List Holder → Bool
 are_roomy room hs = list_all (λ h. h.ring.capacity == room) hs
+
+-- each frame that a lane holds is one of its own in this window
+abbrev pub are_own : ℕ → List Holder → Bool
+are_own window hs = list_all (λ h. list_all (is_own h.sender.lane window) h.ring.items) hs
 
 -- each source is of a query that is there
 abbrev pub AreKnown : List TypedQuery → List Source → Type 0

@@ -1,26 +1,28 @@
 -- serves proofs
 -- What happens to the lanes of the switch.
-use Rattle.std.specs.Prelude.{ℕ, List, [], ◌∷◌, ◌++◌, false, Option, None, Some}
+use Rattle.std.specs.Prelude.{ℕ, List, [], ◌∷◌, ◌++◌, Option, None, Some}
 use Rattle.std.specs.FinSet as set
+use Rattle.std.specs.Option.{option_map}
 use Rattle.std.specs.Ordering.{nat_cmp}
 use Rattle.circular_buffer.specs.Buffer.{Buffer, buffer, keep_last}
-use Rattle.sn_core.specs.declared.supply.Frame.{Frame}
-use Rattle.sn_core.specs.declared.supply.Frame.TheVariants.{Row}
-use Rattle.sn_pipe.specs.Pipes.{after_packet, at_start, item_of}
-use Rattle.sn_report.specs.declared.frame.Item.{Item}
+use Rattle.sn_emit.specs.declared.sender.Sender.{Sender}
+use Rattle.sn_emit.specs.Senders.{row_frame, sender_next, sender_start}
+use Rattle.sn_pipe.specs.Pipes.{item_of}
+use Rattle.sn_report.specs.declared.frame.Frame.{Frame}
 use Rattle.sn_core_net.specs.declared.holder.Holder.{Holder}
 
--- a ring with one more frame: a full one loses its first
-abbrev pub appended : Buffer (Frame Item) → Frame Item → Buffer (Frame Item)
-appended ring frame = buffer (keep_last ring.capacity (ring.items ++ frame ∷ [])) ring.capacity
+-- a lane with an empty ring of this capacity
+abbrev pub with_ring : ℕ → Sender → Holder
+with_ring room s = record { sender = s; ring = buffer [] room }
 
-abbrev pub with_row : Buffer (Frame Item) → Option Item → Buffer (Frame Item)
-with_row ring None = ring
-with_row ring (Some item) = appended ring (Row item)
+-- a ring with one more frame, if there is one: a full one loses its first
+abbrev pub appended : Buffer Frame → Option Frame → Buffer Frame
+appended ring None = ring
+appended ring (Some frame) = buffer (keep_last ring.capacity (ring.items ++ frame ∷ [])) ring.capacity
 
 -- a lane that took a tuple
 abbrev pub took : List ℕ → Holder → Holder
-took tuple h = record h { pipe = after_packet h.pipe tuple; ring = with_row h.ring (item_of h.pipe tuple) }
+took tuple h = record h { sender = sender_next h.sender tuple; ring = appended h.ring (option_map (row_frame h.sender.lane) (item_of h.sender.pipe tuple)) }
 
 abbrev pub all_took : List ℕ → List Holder → List Holder
 all_took tuple [] = []
@@ -28,7 +30,7 @@ all_took tuple (h ∷ hs) = took tuple h ∷ all_took tuple hs
 
 -- a lane that began a window with these prefixes
 abbrev pub begun : set.FinSet nat_cmp → Holder → Holder
-begun kept h = record h { pipe = at_start h.pipe kept; ended = false }
+begun kept h = record h { sender = sender_start h.sender kept }
 
 -- each with its prefixes, and with none where there are none for it
 abbrev pub all_begun : List Holder → List (set.FinSet nat_cmp) → List Holder

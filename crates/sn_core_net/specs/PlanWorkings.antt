@@ -13,7 +13,7 @@ use Rattle.sn_engine.specs.declared.intake.Intake.{Intake}
 use Rattle.sn_pipe.specs.Pipes.{PipeState, after_packet, at_start, item_of}
 use Rattle.sn_pipe.specs.Prefixes.{left_in}
 use Rattle.sn_plan_grammar.specs.declared.plan.Entry.{Entry}
-use Rattle.sn_refine.specs.Steps.{Given}
+use Rattle.sn_windows.specs.Rising.{Window}
 use Rattle.sn_report.specs.declared.frame.Item.{Item}
 use Rattle.sn_types.specs.declared.answers.Answers.{Answers}
 use Rattle.sn_types.specs.declared.typed_query.TypedQuery.{TypedQuery}
@@ -63,7 +63,7 @@ AreLanesFor queries depth (x ∷ xs) [] = ⊥
 AreLanesFor queries depth (x ∷ xs) (lane ∷ lanes) = IsNewPipeOf queries depth x (at_start lane.pipe set.empty) × AreLanesFor queries depth xs lanes
 
 -- a window that is given, with its number
-abbrev pub given_of : Tuples (List ℕ) → Given
+abbrev pub given_of : Tuples (List ℕ) → Window
 given_of x = (x.number, x.tuples)
 
 -- the tuples of windows are those of packets: their numbers have the widths of their fields

@@ -16,6 +16,7 @@ use Rattle.sn_pipe.specs.Pipes.{PipeState}
 use Rattle.sn_report.specs.declared.frame.Item.{Item}
 use Rattle.sn_types.specs.declared.answers.Answers.{Answers}
 use Rattle.sn_types.specs.declared.typed_query.TypedQuery.{TypedQuery}
+use Rattle.sn_core_net.specs.Reports.{frame_of}
 use Rattle.sn_core_net.specs.declared.holder.Holder.{Holder}
 
 abbrev pub State : Type 0
@@ -31,7 +32,7 @@ works_of queries intakes sources = workings_of queries (map emptied intakes) sou
 
 -- a lane of the switch, beside what the engine has of it
 abbrev pub lane_of : Holder → Intake → Lane PipeState Item
-lane_of h x = record { pipe = settled h.pipe; ended = h.ended; ring = h.ring.items; taken = x.items; closed = is_some x.end }
+lane_of h x = record { pipe = settled h.sender.pipe; ended = h.sender.ended; ring = map frame_of h.ring.items; taken = x.items; closed = is_some x.end }
 
 abbrev pub lanes_of : List Holder → List Intake → List (Lane PipeState Item)
 lanes_of [] xs = []
@@ -39,4 +40,5 @@ lanes_of (h ∷ hs) [] = []
 lanes_of (h ∷ hs) (x ∷ xs) = lane_of h x ∷ lanes_of hs xs
 
 abbrev pub state_of : ℕ → Option (Supply (List ℕ)) → Window → List Holder → List Intake → List (set.FinSet nat_cmp) → Option Answers → State
-state_of room held window hs xs installs waiting = record { room = room; held = held; window = window; lanes = lanes_of hs xs; installs = installs; waiting = waiting }
+state_of room held window hs xs installs waiting =
+    record { room = room; held = held; window = window; lanes = lanes_of hs xs; installs = installs; waiting = waiting }

@@ -49,7 +49,7 @@ impl Net {
         requires { lane < length self.now.lanes.items }
         ensures { result ≡ passes (λ x. not x.ended) (state self.now).lanes lane }
     {
-        !self.lanes[lane as usize].ended
+        !self.lanes[lane as usize].sender.ended
     }
 
     /// Whether a lane has room for one more frame.

@@ -2,7 +2,8 @@
 ghost use Rattle.std.specs.Prelude.{◌≡◌, ◌<◌, ◌^◌, ◌||◌, length, map, true};
 ghost use Rattle.sn_core.specs.Standing.{IsNet};
 ghost use Rattle.sn_engine.specs.Intakes.{emptied};
-ghost use Rattle.sn_core_net.specs.Facts.{AreKnown, are_known_prop, are_named, are_roomy, are_unread, ends_agree, may_be_read, names_of};
+ghost use Rattle.sn_core_net.specs.Facts.{AreKnown, are_known_prop, are_named, are_own, are_roomy, are_unread, ends_agree, may_be_read, names_of};
+ghost use Rattle.sn_core_net.specs.Reports.{window_number};
 ghost use Rattle.sn_core_net.specs.States.{state_of, works_of};
 
 use crate::holder::Holder;
@@ -38,7 +39,9 @@ pub struct Net {
     ghost roomy: { are_roomy room lanes.items ≡ true },
     ghost named: { are_named (names_of lanes.items) (map emptied engine.lanes.items) ≡ true },
     ghost unread: { (may_be_read window held || are_unread lanes.items) ≡ true },
+    ghost own: { are_own (window_number window) lanes.items ≡ true },
     ghost agreed: { ends_agree window engine.lanes.items ≡ true },
     ghost known: { AreKnown engine.t.queries sources } by { are_known_prop engine.t.queries sources },
-    ghost standing: { ∥ IsNet (works_of engine.t.queries engine.lanes.items sources) (state_of room held window lanes.items engine.lanes.items installs.items waiting) ∥₁ },
+    ghost standing: { ∥ IsNet (works_of engine.t.queries engine.lanes.items sources)
+        (state_of room held window lanes.items engine.lanes.items installs.items waiting) ∥₁ },
 }

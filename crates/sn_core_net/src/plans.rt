@@ -30,7 +30,8 @@ pub fn plans_have_lawful_workings()
 /// prefixes that the window before answered: whatever the cuts, chains and sizes.
 pub fn nets_answer_each_window()
     ensures { (typed_for depth : ℕ) (queries : List TypedQuery) (entries : List Entry) (lanes : List (Lane PipeState Item)) (windows : List (Tuples (List ℕ))) →
-        ∥ IsTyped typed_for queries ∥₁ → AreEntriesOf queries entries → AllByRecursion (CanMake queries) (pieces_from 0 entries) → AreLanesFor queries depth (pieces_from 0 entries) lanes → 0 < length lanes → HaveWidths windows →
+        ∥ IsTyped typed_for queries ∥₁ → AreEntriesOf queries entries → AllByRecursion (CanMake queries) (pieces_from 0 entries) →
+        AreLanesFor queries depth (pieces_from 0 entries) lanes → 0 < length lanes → HaveWidths windows →
         answers_of (workings queries entries) lanes None windows ≡ answers_from queries depth entries None (map given_of windows) }
 {}
 
@@ -38,10 +39,13 @@ pub fn nets_answer_each_window()
 /// whose windows don't fall, and its events come in any order. Where it is done, the answers that were taken are those of the
 /// plan for each window that was given: the refined answers, and the number of the items that its pieces send.
 pub fn schedules_give_the_answers_of_the_plan()
-    ensures { (typed_for room : ℕ) (queries : List TypedQuery) (s : Switch) (entries : List Entry) (lanes : List (Lane PipeState Item)) (calls : List (Call (List ℕ))) →
+    ensures { (typed_for room : ℕ) (queries : List TypedQuery) (s : Switch) (entries : List Entry) (lanes : List (Lane PipeState Item))
+        (calls : List (Call (List ℕ))) →
         let w = workings queries entries in
         let windows = windows_of (supplies_of calls) in
-        ∥ IsTyped typed_for queries ∥₁ → IsSwitch s → Fits queries s entries → AreLanesFor queries s.chain (pieces_from 0 entries) lanes → 0 < room → 0 < length lanes →
-        AreAllowed w (made w room lanes) calls → DontFall 0 (supplies_of calls) → HaveWidths windows → is_done (after_calls w (made w room lanes) calls) ≡ true →
+        ∥ IsTyped typed_for queries ∥₁ → IsSwitch s → Fits queries s entries → AreLanesFor queries s.chain (pieces_from 0 entries) lanes → 0 < room →
+        0 < length lanes →
+        AreAllowed w (made w room lanes) calls → DontFall 0 (supplies_of calls) → HaveWidths windows →
+        is_done (after_calls w (made w room lanes) calls) ≡ true →
         answers_taken w (made w room lanes) calls ≡ map (λ x. plan_answers queries s.chain entries (given_windows (map given_of windows)) x.number) windows }
 {}

@@ -11,7 +11,7 @@ ghost use Rattle.sn_engine.specs.Intakes.{after_frame, has_ended};
 ghost use Rattle.sn_core_net.specs.Holders.{all_begun};
 ghost use Rattle.sn_core_net.specs.Nets.{state, works};
 ghost use Rattle.sn_core_net.specs.Reports.{window_number};
-ghost use Rattle.sn_core_net.specs.Steps.{IsOneOf, Steps};
+ghost use Rattle.sn_core_net.specs.Steps.{IsOneOf, Steps, takes_memory};
 
 use crate::fault::StepFault;
 use crate::holder::Holder;
@@ -24,7 +24,7 @@ use sn_core::event::Event;
 use sn_core::supply::{Supply, Window};
 use sn_engine::engine::Engine;
 use sn_fields::tuple::Tuple;
-use sn_report::frame::Frame as Report;
+use sn_report::frame::Frame;
 use sn_types::answers::Answers;
 use std::alloc::Global;
 
@@ -82,7 +82,7 @@ fn window_number(window: &Window) -> u64
 }
 
 /// The engine takes a frame.
-fn take(engine: &mut Engine, frame: &Report) -> Result<(), Memory>
+fn take(engine: &mut Engine, frame: &Frame) -> Result<(), Memory>
     ensures ok { OnOk result (engine.new.lanes.items ≡ after_frame engine.old.lanes.items frame.now) }
     ensures err { OnErr result (engine.new.lanes.items ≡ engine.old.lanes.items) }
     ensures queries { engine.new.t.queries ≡ engine.old.t.queries }
@@ -126,7 +126,8 @@ impl Net {
         ensures state { state self.new ≡ after_event (works self.old) (state self.old) (Event.ReadOut lane) }
         ensures works { works self.new ≡ works self.old }
     {
-        self.lanes[lane as usize].append_next();
+        let window = window_number(&self.window);
+        self.lanes[lane as usize].append_next(window);
     }
 
     /// The engine takes the first frame of a lane. The frame stays where memory runs out.
@@ -137,12 +138,11 @@ impl Net {
         ensures err { OnErr result (state self.new ≡ state self.old) }
         ensures works { works self.new ≡ works self.old }
     {
-        let window = window_number(&self.window);
-        let report = match self.lanes[lane as usize].first_report(window) {
-            Some(report) => report,
+        let frame = match self.lanes[lane as usize].first() {
+            Some(frame) => frame,
             None => return Ok(()),
         };
-        take(&mut self.engine, &report)?;
+        take(&mut self.engine, &frame)?;
         self.lanes[lane as usize].ring.pop_front();
         Ok(())
     }
@@ -210,17 +210,17 @@ impl Net {
         }
     }
 
-    /// Does an event where its needs hold. A lane that it names must be one of the net's. After an `Err` the net is as it was.
+    /// Does an event whose needs hold. A lane that it names must be one of the net's. After an `Err` the net is as it was.
     /// Only `Deliver` and `CloseWindow` take memory.
-    pub fn step(&mut self, event: Event) -> Result<(), StepFault>
-        requires { IsOneOf (length self.old.lanes.items) event }
-        ensures steps { Steps (works self.old) (state self.old) event (state self.new) result }
+    pub fn happen(&mut self, event: Event) -> Result<(), Memory>
+        requires lane { IsOneOf (length self.old.lanes.items) event }
+        requires may { first_need_that_fails (state self.old) event ≡ None }
+        ensures ok { OnOk result (state self.new ≡ after_event (works self.old) (state self.old) event) }
+        ensures err { OnErr result (state self.new ≡ state self.old) }
+        ensures memory { OnErr result (takes_memory event ≡ true) }
         ensures works { works self.new ≡ works self.old }
     {
-        if let Some(why) = self.first_need(event) {
-            return Err(StepFault::NotEnabled(why));
-        }
-        let done = match event {
+        match event {
             Event::Packet => {
                 self.packet();
                 Ok(())
@@ -235,8 +235,20 @@ impl Net {
                 self.install();
                 Ok(())
             }
-        };
-        match done {
+        }
+    }
+
+    /// Does an event where its needs hold, which it asks. A lane that it names must be one of the net's. After an `Err` the net is as
+    /// it was. Only `Deliver` and `CloseWindow` take memory.
+    pub fn step(&mut self, event: Event) -> Result<(), StepFault>
+        requires { IsOneOf (length self.old.lanes.items) event }
+        ensures steps { Steps (works self.old) (state self.old) event (state self.new) result }
+        ensures works { works self.new ≡ works self.old }
+    {
+        if let Some(why) = self.first_need(event) {
+            return Err(StepFault::NotEnabled(why));
+        }
+        match self.happen(event) {
             Ok(()) => Ok(()),
             Err(_) => Err(StepFault::Memory),
         }

@@ -22,12 +22,9 @@ use Rattle.sn_core_drive.specs.Schedules.{events_of, is_still, may_happen, picke
 use Rattle.sn_gen.specs.Generated.{drawn, next_number}
 use Rattle.sn_core_net.specs.States.{State, Works}
 use Rattle.sn_core_trace.specs.Turns.{Turns, behind, no_turn, parted, turns, turns_on}
-use Rattle.sn_core_trace.proofs.PickLemmas.{picked_may}
 use Rattle.sn_core_trace.proofs.TurnLemmas.{one_turn}
-
-filter_same : {X : Type 0} (f g : X → Bool) → ((x : X) → f x ≡ g x) → (xs : List X) → filter f xs ≡ filter g xs
-filter_same f g same [] = refl
-filter_same f g same (x ∷ xs) = rw (same x, filter_same f g same xs) refl
+use Rattle.sn_base.proofs.Lists.{filter_same}
+use Rattle.sn_core_drive.proofs.Running.{picked_may}
 
 none_turned : (w : Works) (n x : ℕ) (s : State) → picked s (drawn (next_number x)) ≡ None → is_still s ≡ false → turns w (suc n) x s ≡ no_turn x s
 none_turned w n x s none going = rw going (ap (λ (o : Option Event). option_map_or (λ event. behind event (turns w n (next_number x) (without_answers (after_event w s event)))) o (no_turn x s)) none)

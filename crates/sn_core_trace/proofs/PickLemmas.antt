@@ -1,7 +1,7 @@
 -- What a draw picks may happen.
 use Rattle.std.proofs.Common.{◌≡◌, ℕ, zero, suc, List, [], ◌∷◌, filter, slice_get, Bool, true, false, cond, is_none, Option, None, Some, refl, ap, sym, ◌∙◌}
 use Rattle.std.proofs.lemmas.Bool.{false≢true}
-use Rattle.sn_base.proofs.Lists.{none_some, some_same}
+use Rattle.sn_base.proofs.Lists.{none_some, some_same, none_is}
 use Rattle.sn_core.specs.Needs.{first_need_that_fails}
 use Rattle.sn_core.specs.declared.event.Event.{Event}
 use Rattle.sn_core_drive.specs.Schedules.{events_of, may_happen, picked}
@@ -16,10 +16,3 @@ module _ {X : Type 0} (p : X → Bool) where
   got_passes : (xs : List X) (k : ℕ) (y : X) → slice_get (filter p xs) k ≡ Some y → p y ≡ true
   got_passes [] k y e = absurd (none_some e)
   got_passes (x ∷ xs) k y e = passes_if x xs k y (p x) refl (λ n f. got_passes xs n y f) e
-
-is_none_none : {X : Type 0} (o : Option X) → is_none o ≡ true → o ≡ None
-is_none_none None e = refl
-is_none_none (Some x) e = absurd (false≢true e)
-
-pub picked_may : (s : State) (draw : ℕ) (event : Event) → picked s draw ≡ Some event → first_need_that_fails s event ≡ None
-picked_may s draw event e = is_none_none (first_need_that_fails s event) (got_passes (may_happen s) (events_of _) _ event e)

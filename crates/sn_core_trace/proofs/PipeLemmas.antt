@@ -18,10 +18,7 @@ use Rattle.sn_report.specs.declared.frame.Item.{Item}
 use Rattle.sn_report.specs.declared.frame.Tag.TheVariants.{At, Partial}
 use Rattle.sn_types.specs.Values.{holds}
 use Rattle.sn_core_trace.specs.Plain.{plain_pipe, plain_stage, plain_stages}
-
-pub filter_same : {X : Type 0} (f g : X → Bool) → ((x : X) → f x ≡ g x) → (xs : List X) → filter f xs ≡ filter g xs
-filter_same f g same [] = refl
-filter_same f g same (x ∷ xs) = rw (same x, filter_same f g same xs) refl
+use Rattle.sn_base.proofs.Lists.{filter_same}
 
 then_same : {X Y : Type 0} (f g : X → Option Y) → ((x : X) → f x ≡ g x) → (o : Option X) → option_and_then f o ≡ option_and_then g o
 then_same f g same None = refl

@@ -5,7 +5,7 @@ use Rattle.std.specs.List.{position_or_len}
 use Rattle.std.specs.Option.{option_map_or}
 use Rattle.std.specs.Ordering.{nat_cmp}
 use Rattle.std.proofs.lemmas.List.{length-map}
-use Rattle.sn_base.proofs.Lists.{map_both}
+use Rattle.sn_base.proofs.Lists.{map_both, filter_same}
 use Rattle.sn_core.specs.Debt.{debt_of_lanes, end_debt, tuples_in, window_debt, windows_in, work}
 use Rattle.sn_core.specs.Due.{coming}
 use Rattle.sn_core.specs.Events.{after_close, after_event, after_install, after_packet, all_started, change_at, emptied, given, kept_for_held, row_frames, delivered, delivered_of, with_next, with_next_of, with_start, with_tuple, without_answers}
@@ -32,7 +32,7 @@ use Rattle.sn_report.specs.declared.frame.Item.{Item}
 use Rattle.sn_types.specs.declared.typed_query.TypedQuery.{TypedQuery}
 use Rattle.sn_core_trace.specs.Plain.{plain_lane, plain_state, plain_turns}
 use Rattle.sn_core_trace.specs.Turns.{Turns, behind, no_turn, turns, turns_on}
-use Rattle.sn_core_trace.proofs.PipeLemmas.{filter_same, plain_item, plain_left, plain_packet, plain_read, plain_start, plain_unwalked}
+use Rattle.sn_core_trace.proofs.PipeLemmas.{plain_item, plain_left, plain_packet, plain_read, plain_start, plain_unwalked}
 
 abbrev One : Type 0
 One = Lane PipeState Item

@@ -16,7 +16,7 @@ use Rattle.sn_gen.specs.Generated.{drawn, next_number}
 use Rattle.sn_core_net.specs.States.{State, Works}
 use Rattle.sn_types.specs.declared.answers.Answers.{Answers}
 use Rattle.sn_core_trace.specs.Turns.{Turns, behind, events_in, no_turn, turns, turns_on}
-use Rattle.sn_core_trace.proofs.PickLemmas.{picked_may}
+use Rattle.sn_core_drive.proofs.Running.{picked_may}
 
 none_taken : (s : State) → s.waiting ≡ None → without_answers s ≡ s
 none_taken s e = ap (λ (o : Option Answers). record s { waiting = o }) (sym e)
@@ -28,7 +28,7 @@ pub one_turn : (w : Works) (n x : ℕ) (s : State) (event : Event) → is_still 
     → turns w (suc n) x s ≡ behind event (turns w n (next_number x) (without_answers (after_event w s event)))
 one_turn w n x s event going pick = rw going (ap (λ (o : Option Event). option_map_or (λ event. behind event (turns w n (next_number x) (without_answers (after_event w s event)))) o (no_turn x s)) pick)
 
-still_turns : (w : Works) (n x : ℕ) (s : State) → is_still s ≡ true → turns w n x s ≡ no_turn x s
+pub still_turns : (w : Works) (n x : ℕ) (s : State) → is_still s ≡ true → turns w n x s ≡ no_turn x s
 still_turns w zero x s still = refl
 still_turns w (suc n) x s still = rw still refl
 

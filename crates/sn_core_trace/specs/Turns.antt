@@ -33,7 +33,8 @@ abbrev pub turns : Works → ℕ → ℕ → State → Turns
 turns w zero x s = no_turn x s
 turns w (suc n) x s =
     if is_still s then no_turn x s
-    else option_map_or (λ event. behind event (turns w n (next_number x) (without_answers (after_event w s event)))) (picked s (drawn (next_number x))) (no_turn x s)
+    else option_map_or (λ event. behind event (turns w n (next_number x) (without_answers (after_event w s event)))) (picked s (drawn (next_number x)))
+    (no_turn x s)
 
 -- The same once a supply is given. Each event does some of the work, so no more of them are to come.
 abbrev pub turns_on : Works → ℕ → State → Supply (List ℕ) → Turns

@@ -27,14 +27,16 @@ ghost use Rattle.sn_types.specs.declared.typed_query.TypedQuery.{TypedQuery};
 /// that was drawn at last and the state that it leaves are those of the turns.
 #[tactic(auto, using(crate::proofs::TurnLemmas::run_turns_on))]
 pub fn runs_are_turns()
-    ensures { (w : Works) → AreLawful w → (told : Answers → Answers) (x : ℕ) (s : State) (next : Supply (List ℕ)) (notes : List Note) (y : ℕ) (t : State) → s.waiting ≡ None → IsNet w (given s next) →
+    ensures { (w : Works) → AreLawful w → (told : Answers → Answers) (x : ℕ) (s : State) (next : Supply (List ℕ)) (notes : List Note) (y : ℕ) (t : State) →
+        s.waiting ≡ None → IsNet w (given s next) →
         IsRun w told x (given s next) notes y t → turns_on w x s next ≡ record { events = events_in notes; number = y; state = t } }
 {}
 
 /// What happens up to the close of a window is the same, whichever tuple of a later window is given or the end.
 #[tactic(auto, using(crate::proofs::CloseLemmas::same_front))]
 pub fn closes_depend_on_no_later_supply()
-    ensures { (w : Works) → AreLawful w → (since : List Event) (x : ℕ) (s : State) (next : Supply (List ℕ)) (number : ℕ) → s.window ≡ Window.Begun number → is_over number (Some next) ≡ true → IsNet w (given s next) → IsNet w (given s Supply.End) →
+    ensures { (w : Works) → AreLawful w → (since : List Event) (x : ℕ) (s : State) (next : Supply (List ℕ)) (number : ℕ) → s.window ≡ Window.Begun number →
+        is_over number (Some next) ≡ true → IsNet w (given s next) → IsNet w (given s Supply.End) →
         (parted since (turns_on w x s next).events).0 ≡ (parted since (turns_on w x s Supply.End).events).0 }
 {}
 
@@ -47,6 +49,7 @@ pub fn only_keys_of_a_distinct_count()
 
 /// But for these folds, there is one machine of a plan to which nothing was given.
 pub fn machines_of_a_plan_are_made_alike()
-    ensures { (room : ℕ) (queries : List TypedQuery) (depth : ℕ) (entries : List Entry) (w : Works) (s : State) → w ≡ workings queries entries → s ≡ made w room s.lanes → AreLanesFor queries depth (pieces_from 0 entries) s.lanes →
+    ensures { (room : ℕ) (queries : List TypedQuery) (depth : ℕ) (entries : List Entry) (w : Works) (s : State) → w ≡ workings queries entries →
+        s ≡ made w room s.lanes → AreLanesFor queries depth (pieces_from 0 entries) s.lanes →
         plain_state s ≡ new_state room queries depth entries }
 {}

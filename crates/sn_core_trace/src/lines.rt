@@ -107,7 +107,8 @@ fn closes(note: &Note) -> bool
 
 /// Adds the lines of what happened. Where a window closed, gives all lines up to its close, and keeps those after it.
 pub fn follow(alloc: Global, lines: &mut Vec<u8>, notes: &[Note]) -> Result<Vec<u8>, Memory>
-    ensures { IfOk result (λ front. (since : List Happening) → lines.old.items ≡ lines_of since → let both = parted since (events_in notes.now) in (front.items ≡ lines_of both.0) × (lines.new.items ≡ lines_of both.1)) }
+    ensures { IfOk result (λ front. (since : List Happening) → lines.old.items ≡ lines_of since →
+        let both = parted since (events_in notes.now) in (front.items ≡ lines_of both.0) × (lines.new.items ≡ lines_of both.1)) }
 {
     let mut rest = notes;
     'notes: loop {

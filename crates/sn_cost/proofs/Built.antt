@@ -20,13 +20,15 @@ use Rattle.sn_plan_choices.proofs.Narrow.{typed_narrow}
 use Rattle.sn_plan_choices.proofs.OptionLists.{of_cut, one_size, pair, two_sizes}
 use Rattle.sn_cost_counts.specs.Counts.{setting_count}
 use Rattle.sn_ops.specs.Packets.{packet_rows}
-use Rattle.sn_refine.specs.Refined.{Windows}
-use Rattle.sn_refine.specs.Steps.{Given, windows_of}
+use Rattle.sn_refine.specs.Refined.{Windows, seen_at}
+use Rattle.sn_refine.specs.Steps.{windows_of}
 use Rattle.sn_cost.specs.Adding.{Adds, where_so}
-use Rattle.sn_cost.specs.Entries.{IsPiece, entry_count, front_of, seen_at, sent_in, sent_of}
+use Rattle.sn_cost.specs.Entries.{IsPiece, entry_count, front_of, sent_in, sent_of}
 use Rattle.sn_cost.specs.Training.{IsFresh, added, at_prefix, counts_in, of_fronts, of_queries, window_counts}
 use Rattle.sn_cost.proofs.Fronts.{few_fronts, four_levels}
-use Rattle.sn_cost.proofs.Growing.{next_where, none_where, not_less}
+use Rattle.sn_cost.proofs.Growing.{next_where, none_where}
+use Rattle.sn_windows.specs.Rising.{Window}
+use Rattle.sn_base.proofs.Tests.{not_less}
 
 -- ---- a piece has few options
 
@@ -67,7 +69,7 @@ mapped_at f d [] n lt = absurd (omega (arith, lt))
 mapped_at f d (x ∷ xs) zero lt = refl
 mapped_at f d (x ∷ xs) (suc n) lt = mapped_at f d xs n (omega (arith, lt))
 
-sums_same : {X : Type 0} (f g : X → ℕ) → ((x : X) → f x ≡ g x) → (xs : List X) → sum_by f xs ≡ sum_by g xs
+pub sums_same : {X : Type 0} (f g : X → ℕ) → ((x : X) → f x ≡ g x) → (xs : List X) → sum_by f xs ≡ sum_by g xs
 sums_same f g e [] = refl
 sums_same f g e (x ∷ xs) = sum_by-cons f x xs ∙ ap (λ n. n + sum_by f xs) (e x) ∙ ap (λ n. g x + n) (sums_same f g e xs) ∙ sym (sum_by-cons g x xs)
 
@@ -77,18 +79,18 @@ sent_seen s query b level n None lt = refl
 sent_seen s query b level n (Some seen) lt =
     mapped_at (setting_count (branch_of query b) level s.chain (packet_rows query b level None seen)) (0, []) (options s (branch_of query b)) n lt
 
-counted_sent : (s : Switch) (query : TypedQuery) (given : List Given) (prefix b n : ℕ) → n < length (options s (branch_of query b))
+counted_sent : (s : Switch) (query : TypedQuery) (given : List Window) (prefix b n : ℕ) → n < length (options s (branch_of query b))
     → added s query (windows_of given) (front_of prefix query.levels) b n given ≡ entry_count s.chain query given prefix b (option_at s (branch_of query b) n)
 counted_sent s query given prefix b n lt =
     let windows : Windows = windows_of given in
     let front : List ℕ = front_of prefix query.levels in
     let last : ℕ = length front - 1 in
-    sums_same (λ (g : Given). slice_index (window_counts s query windows front b g.0) n) (λ (g : Given). sent_in query windows front b s.chain (option_at s (branch_of query b) n) g.0)
+    sums_same (λ (g : Window). slice_index (window_counts s query windows front b g.0) n) (λ (g : Window). sent_in query windows front b s.chain (option_at s (branch_of query b) n) g.0)
     (λ g. sent_seen s query b (slice_index front last) n (seen_at query windows front last g.0) lt) given
 
 -- ---- query by query
 
-module _ (s : Switch) (queries : List TypedQuery) (given : List Given) where
+module _ (s : Switch) (queries : List TypedQuery) (given : List Window) where
   -- the entries of a table where this many queries are counted
   pub record BuiltTo (n : ℕ) (table : CostTable) : Type 0 where
     pub places : HasPlaces table (length queries)

@@ -18,11 +18,13 @@ use Rattle.sn_types.proofs.RefinedLemmas.{refined_alike}
 use Rattle.sn_types.proofs.Sources.{source_of}
 use Rattle.sn_plan_choices.specs.declared.costs.CostTable.{CostTable}
 use Rattle.sn_plan_choices.specs.Costs.{HasPlaces, IsPlace}
-use Rattle.sn_refine.specs.Steps.{Given, IsPathOf, windows_of}
+use Rattle.sn_refine.specs.Steps.{IsPathOf, windows_of}
 use Rattle.sn_cost.specs.Adding.{Adds, Entries, where_so}
 use Rattle.sn_cost.specs.Entries.{front_of}
 use Rattle.sn_cost.specs.Training.{IsFresh, added, at_prefix, of_front, of_fronts}
-use Rattle.sn_cost.proofs.Growing.{adds_none, adds_same, adds_then, both_where, next_where, none_where, not_less, zeros}
+use Rattle.sn_cost.proofs.Growing.{adds_none, adds_same, adds_then, both_where, next_where, none_where, zeros}
+use Rattle.sn_windows.specs.Rising.{Window}
+use Rattle.sn_base.proofs.Tests.{not_less}
 
 -- ---- levels
 
@@ -91,7 +93,7 @@ front_path window queries q m t lt =
 
 -- ---- the entries of fronts
 
-module _ (s : Switch) (q : ℕ) (query : TypedQuery) (given : List Given) where
+module _ (s : Switch) (q : ℕ) (query : TypedQuery) (given : List Window) where
   -- what the windows add at one front of the query
   abbrev pub one_front : ℕ → Entries
   one_front i q' prefix b option = where_so (nat_eq q q') (where_so (nat_eq i prefix) (at_prefix s query given i b option))

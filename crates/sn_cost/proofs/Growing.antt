@@ -9,23 +9,18 @@ use Rattle.sn_types.specs.declared.typed_query.TypedQuery.{TypedQuery}
 use Rattle.sn_types.specs.Typed.{branch_of, packet_row}
 use Rattle.std.proofs.lemmas.Bool.{false≢true, lt-ltb, ltb-false, ltb-true}
 use Rattle.sn_cost.specs.Entries.{front_of}
-use Rattle.sn_base.proofs.Lists.{by_test, nat_same, nat_self, not_true}
+use Rattle.sn_base.proofs.Lists.{by_test, nat_same, nat_self, not_true, filter_short}
 use Rattle.sn_plan_choices.specs.declared.costs.CostTable.{CostTable}
 use Rattle.sn_plan_choices.specs.Costs.{HasPlaces, IsPlace, OthersStay, entry_in}
 use Rattle.sn_cost_counts.specs.Fitting.{most_rows}
 use Rattle.sn_cost.specs.Adding.{Adds, AreSmall, Entries, HasRoom, of_branches, of_counts, where_so}
+use Rattle.sn_base.proofs.Tests.{not_less}
 
 -- ---- numbers where a test holds
 
 pub both_where : (c : Bool) (m n : ℕ) → where_so c m + where_so c n ≡ where_so c (m + n)
 both_where true m n = refl
 both_where false m n = zero-add 0
-
-nat_apart : (a b : ℕ) → (a ≡ b → ⊥) → nat_eq a b ≡ false
-nat_apart a b other = not_true (nat_eq a b) (λ is. absurd (other (nat_same a b is)))
-
-pub not_less : (a b : ℕ) → b ≤ a → nat_lt a b ≡ false
-not_less a b le = not_true (nat_lt a b) (λ is. let lt = ltb-true a b is in absurd (omega (arith, le, lt)))
 
 -- a number below the next one is below this one, or is it
 pub next_where : (f : ℕ → ℕ) (x i : ℕ) → where_so (nat_lt x i) (f x) + where_so (nat_eq i x) (f i) ≡ where_so (nat_lt x (i + 1)) (f x)
@@ -228,14 +223,8 @@ level_more levels i left front more b lt is grown =
 
 -- ---- packet rows
 
-fewer : {X : Type 0} (t : X → Bool) (xs : List X) → length (filter t xs) ≤ length xs
-fewer t [] = omega arith
-fewer t (x ∷ xs) =
-    let rest = fewer t xs in
-    (elim (t x) as (λ b. length (cond b (x ∷ filter t xs) (filter t xs)) ≤ suc (length xs)) [ true ↦ omega (arith, rest) | false ↦ omega (arith, rest) ])
-
 pub packets_few : (query : TypedQuery) (b level : ℕ) (kept : Option Kept) (tuples : List (List ℕ)) → length (packet_rows query b level kept tuples) ≤ length tuples
 packets_few query b level kept tuples =
-    let a = fewer (is_kept query.field kept) tuples in
+    let a = filter_short (is_kept query.field kept) tuples in
     let e = length-map (filter (is_kept query.field kept) tuples) (packet_row query.field level (branch_of query b).fields) in
     omega (arith, a, e)

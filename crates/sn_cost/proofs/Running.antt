@@ -6,7 +6,7 @@ use Rattle.std.proofs.Math.Seq.{drop-cons}
 use Rattle.std.proofs.lemmas.Bool.{eq-eqb, ne_eqb}
 use Rattle.std.proofs.lemmas.List.{drop-drop, drop_all, length-drop}
 use Rattle.sn_base.proofs.Lists.{all_filter, by_test}
-use Rattle.sn_refine.specs.Steps.{IsAbove, Rises}
+use Rattle.sn_windows.specs.Rising.{AreRising, IsAbove}
 use Rattle.sn_windows.specs.Windows.{in_window, record_at, run_of, windows_of}
 use Rattle.sn_windows.proofs.RunLemmas as runs
 use Rattle.sn_cost.specs.Entries.{records, windows_in}
@@ -147,7 +147,7 @@ strict_windows (p ∷ ps) r =
     let rest : List (ℕ × List ℕ) = drop (run_of p.0 ps) ps in
     (subst (AllByRecursion (λ n. p.0 < n)) (sym (runs.once_run p.0 ps r.0 r.1)) (runs.once_above p.0 rest (runs.run_above p.0 ps r.0 r.1)), strict_filter (λ m. not (p.0 == m)) (windows_of ps) (strict_windows ps r.1))
 
-given_rises : (f : ℕ → List (List ℕ)) (last : Option ℕ) (vs : List ℕ) → AllByRecursion (IsAbove last) vs → Strict vs → Rises last (map (λ w. (w, f w)) vs)
+given_rises : (f : ℕ → List (List ℕ)) (last : Option ℕ) (vs : List ℕ) → AllByRecursion (IsAbove last) vs → Strict vs → AreRising last (map (λ w. (w, f w)) vs)
 given_rises f last [] a h = tt
 given_rises f last (v ∷ vs) a h = (a.0, given_rises f (Some v) vs h.0 h.1)
 
@@ -155,7 +155,7 @@ all_above_none : (vs : List ℕ) → AllByRecursion (IsAbove None) vs
 all_above_none [] = tt
 all_above_none (v ∷ vs) = (tt, all_above_none vs)
 
-pub windows_rise : (ns : List ℕ) (ts : List (List ℕ)) → NeverFall ns → Rises None (windows_in (records ns ts))
+pub windows_rise : (ns : List ℕ) (ts : List (List ℕ)) → NeverFall ns → AreRising None (windows_in (records ns ts))
 windows_rise ns ts never =
     let xs : List (ℕ × List ℕ) = records ns ts in
     given_rises (λ w. in_window w xs) None (windows_of xs) (all_above_none (windows_of xs)) (strict_windows xs (records_rise ns ts never))

@@ -7,29 +7,29 @@ use Rattle.sn_types.specs.Typed.{branch_of}
 use Rattle.sn_cost_counts.specs.Counts.{counts_of}
 use Rattle.sn_ops.specs.Packets.{packet_rows}
 use Rattle.sn_ops.specs.declared.packets.Kept.{Kept}
-use Rattle.sn_refine.specs.Refined.{Windows, answered, before, refined_rows}
-use Rattle.sn_refine.specs.Steps.{Given, IsAbove, Rises, Set, is_held, kept_at, kept_of, parts_in, windows_of}
+use Rattle.sn_refine.specs.Refined.{Windows, answered, before, refined_rows, seen_at}
+use Rattle.sn_refine.specs.Steps.{Set, is_held, kept_at, kept_of, parts_in, windows_of}
 use Rattle.sn_refine.proofs.Held.{held_answered, packets_held}
 use Rattle.sn_refine.proofs.Windows.{NoneBetween, Remembers, above_last, earlier, here, later, parts_refined, remembered, seen_from}
 use Rattle.sn_cost.specs.Adding.{kept_counts}
-use Rattle.sn_cost.specs.Entries.{seen_at}
 use Rattle.sn_cost.specs.Training.{IsKept, counts_in}
+use Rattle.sn_windows.specs.Rising.{AreRising, IsAbove, Window}
 
 module _ (s : Switch) (q : ℕ) (query : TypedQuery) (windows : Windows) (front : List ℕ) where
   -- these windows are still to come, after the last one, of which these prefixes were kept
-  pub record Going (last : Option ℕ) (kept : List Set) (rest : List Given) : Type 0 where
-    pub rises : Rises last rest
+  pub record Going (last : Option ℕ) (kept : List Set) (rest : List Window) : Type 0 where
+    pub rises : AreRising last rest
     pub agrees : (v : ℕ) → IsAbove last v → windows v ≡ windows_of rest v
     pub remembers : 1 < length front → Remembers query windows front last kept
 
-  none_between : (last : Option ℕ) (kept : List Set) (g : Given) (rest : List Given) → Going last kept (g ∷ rest) → NoneBetween windows last g.0
+  none_between : (last : Option ℕ) (kept : List Set) (g : Window) (rest : List Window) → Going last kept (g ∷ rest) → NoneBetween windows last g.0
   none_between last kept g rest going = λ v above lt. going.agrees v above ∙ earlier g rest v going.rises.1 lt
 
-  pub holds_next : (last : Option ℕ) (kept : List Set) (g : Given) (rest : List Given) → Going last kept (g ∷ rest) → windows g.0 ≡ Some g.1
+  pub holds_next : (last : Option ℕ) (kept : List Set) (g : Window) (rest : List Window) → Going last kept (g ∷ rest) → windows g.0 ≡ Some g.1
   holds_next last kept g rest going = going.agrees g.0 going.rises.0 ∙ here g rest
 
   -- the kept tuples are those that the level sees
-  pub same_counts : (last : Option ℕ) (kept : List Set) (g : Given) (rest : List Given) (level b place : ℕ) (o : Option Kept) → Going last kept (g ∷ rest) → place < length front → IsKept front last kept g.0 place o
+  pub same_counts : (last : Option ℕ) (kept : List Set) (g : Window) (rest : List Window) (level b place : ℕ) (o : Option Kept) → Going last kept (g ∷ rest) → place < length front → IsKept front last kept g.0 place o
       → counts_in s query b level (seen_at query windows front place g.0) ≡ kept_counts s query level o g.1 b
   same_counts last kept g rest level b zero o going lt is =
       ap (counts_in s query b level) (holds_next last kept g rest going)
@@ -45,7 +45,7 @@ module _ (s : Switch) (q : ℕ) (query : TypedQuery) (windows : Windows) (front 
       ∙ ap (counts_of (branch_of query b) level s.chain s.slots) (sym (packets_held query b level k g.1))
 
   -- the next window, where the answers of this one were kept
-  pub going_on : (last : Option ℕ) (kept kept' : List Set) (g : Given) (rest : List Given) → Going last kept (g ∷ rest) → kept' ≡ kept_of query front (parts_in q query front (kept_at last kept g.0) g.1) → Going (Some g.0) kept' rest
+  pub going_on : (last : Option ℕ) (kept kept' : List Set) (g : Window) (rest : List Window) → Going last kept (g ∷ rest) → kept' ≡ kept_of query front (parts_in q query front (kept_at last kept g.0) g.1) → Going (Some g.0) kept' rest
   going_on last kept kept' g rest going is = record {
     rises = going.rises.1;
     agrees = λ v lt. going.agrees v (above_last last g.0 v going.rises.0 lt) ∙ later g rest v lt;

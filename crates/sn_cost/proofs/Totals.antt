@@ -9,18 +9,18 @@ use Rattle.sn_plan_choices.specs.declared.costs.CostTable.{CostTable}
 use Rattle.sn_plan_choices.specs.Costs.{HasPlaces, IsPlace, entry_in}
 use Rattle.sn_cost_counts.specs.Fitting.{most_rows}
 use Rattle.sn_refine.specs.Refined.{Windows}
-use Rattle.sn_refine.specs.Steps.{Given}
+use Rattle.sn_windows.specs.Rising.{Window}
 use Rattle.sn_cost.specs.Adding.{Adds, AreSmall, of_branches, where_so}
 use Rattle.sn_cost.specs.Training.{added, window_counts}
 use Rattle.sn_cost.proofs.Growing.{place_on, small_at, three, zeros}
 
 module _ (s : Switch) (q : ℕ) (query : TypedQuery) (windows : Windows) (prefix : ℕ) (front : List ℕ) where
   -- what these windows add
-  abbrev pub more : List Given → ℕ → ℕ → ℕ → ℕ → ℕ
+  abbrev pub more : List Window → ℕ → ℕ → ℕ → ℕ → ℕ
   more given q' prefix' b option = where_so (nat_eq q q') (where_so (nat_eq prefix prefix') (where_so (nat_lt b (length query.branches)) (added s query windows front b option given)))
 
   -- after this many tuples: with what these windows add, the entries are those of all windows, and they are small
-  pub record Counted (first : CostTable) (all rest : List Given) (done : ℕ) (table : CostTable) : Type 0 where
+  pub record Counted (first : CostTable) (all rest : List Window) (done : ℕ) (table : CostTable) : Type 0 where
     pub left : (q' prefix' b option : ℕ) → IsPlace first q' prefix' b option → entry_in table q' prefix' b option + more rest q' prefix' b option ≡ entry_in first q' prefix' b option + more all q' prefix' b option
     pub places : (queries : ℕ) → HasPlaces first queries → HasPlaces table queries
     pub small : (b option : ℕ) → IsPlace first q prefix b option → entry_in table q prefix b option ≤ done * (13 * most_rows)
@@ -31,7 +31,7 @@ module _ (s : Switch) (q : ℕ) (query : TypedQuery) (windows : Windows) (prefix
   where_most true false e n m le = omega arith
   where_most false d e n m le = omega arith
 
-  pub next_window : (first table new : CostTable) (all rest : List Given) (g : Given) (done end : ℕ) (counts : ℕ → List ℕ) → Counted first all (g ∷ rest) done table → done < end → ((b : ℕ) → counts b ≡ window_counts s query windows front b g.0)
+  pub next_window : (first table new : CostTable) (all rest : List Window) (g : Window) (done end : ℕ) (counts : ℕ → List ℕ) → Counted first all (g ∷ rest) done table → done < end → ((b : ℕ) → counts b ≡ window_counts s query windows front b g.0)
       → ((b : ℕ) → b < length query.branches → AreSmall (counts b)) → Adds table new (of_branches q prefix (length query.branches) counts) → Counted first all rest end new
   next_window first table new all rest g done end counts so_far lt same small adds = record {
     left = λ q' prefix' b option p.
@@ -39,7 +39,7 @@ module _ (s : Switch) (q : ℕ) (query : TypedQuery) (windows : Windows) (prefix
         let grown = adds.grown q' prefix' b option (place_on first table q' prefix' b option so_far.places p) in
         let here : ℕ = slice_index (counts b) option in
         let behind : ℕ = added s query windows front b option rest in
-        let sum : here + behind ≡ added s query windows front b option (g ∷ rest) = ap (λ xs. slice_index xs option + behind) (same b) ∙ sym (sum_by-cons (λ (x : Given). slice_index (window_counts s query windows front b x.0) option) g rest) in
+        let sum : here + behind ≡ added s query windows front b option (g ∷ rest) = ap (λ xs. slice_index xs option + behind) (same b) ∙ sym (sum_by-cons (λ (x : Window). slice_index (window_counts s query windows front b x.0) option) g rest) in
         let both = three (nat_eq q q') (nat_eq prefix prefix') (nat_lt b (length query.branches)) here behind (added s query windows front b option (g ∷ rest)) sum in
         omega (arith, now, grown, both);
     places = λ queries has. adds.places queries (so_far.places queries has);

@@ -6,7 +6,7 @@ use Rattle.sn_types.specs.declared.typed_query.TypedQuery.{TypedQuery}
 use Rattle.sn_plan_choices.specs.declared.costs.CostTable.{CostTable}
 use Rattle.sn_plan_choices.specs.Costs.{HasPlaces}
 use Rattle.sn_cost_counts.specs.Fitting.{most_rows}
-use Rattle.sn_refine.specs.Steps.{Given, IsAbove, Set, kept_at, kept_of, parts_in, windows_of}
+use Rattle.sn_refine.specs.Steps.{Set, kept_at, kept_of, parts_in, windows_of}
 use Rattle.sn_refine.specs.declared.refined.Refined.{Refined}
 use Rattle.sn_cost.specs.Adding.{Adds, HasRoom, kept_counts, of_branches}
 use Rattle.sn_cost.specs.Entries.{records, trained, windows_in}
@@ -16,12 +16,13 @@ use Rattle.sn_cost.proofs.Running.{step_at, windows_rise}
 use Rattle.sn_cost.proofs.Seeing.{Going, going_on, same_counts}
 use Rattle.sn_cost.proofs.Growing.{zeros}
 use Rattle.sn_cost.proofs.Totals.{Counted, more, next_window}
+use Rattle.sn_windows.specs.Rising.{IsAbove, Window}
 
 module _ (s : Switch) (q : ℕ) (query : TypedQuery) (prefix : ℕ) (front numbers : List ℕ) (tuples : List (List ℕ)) (first : CostTable) where
-  abbrev pub all : List Given
+  abbrev pub all : List Window
   all = trained numbers tuples
 
-  abbrev pub rest_at : ℕ → List Given
+  abbrev pub rest_at : ℕ → List Window
   rest_at done = windows_in (records (drop done numbers) (drop done tuples))
 
   pub record TrainedTo (done : ℕ) (last : Option ℕ) (kept : List Set) (table : CostTable) : Type 0 where
@@ -41,7 +42,7 @@ module _ (s : Switch) (q : ℕ) (query : TypedQuery) (prefix : ℕ) (front numbe
       → refined.query ≡ q → kept' ≡ kept_of query front (parts_in q query front (kept_at refined.last refined.kept (get_or numbers done 0)) (take count (drop done tuples))) → TrainedTo end (Some (get_or numbers done 0)) kept' new
   next_trained table new done count end refined kept' lt same never run some is within path long so_far adds asked kept_is =
       let w : ℕ = get_or numbers done 0 in
-      let g : Given = (w, take count (drop done tuples)) in
+      let g : Window = (w, take count (drop done tuples)) in
       let step : rest_at done ≡ g ∷ rest_at (done + count) = step_at numbers tuples done count lt same never run in
       let on : Going s q query (windows_of all) front refined.last refined.kept (g ∷ rest_at (done + count)) = subst (Going s q query (windows_of all) front refined.last refined.kept) step so_far.going in
       let sums : Counted s q query (windows_of all) prefix front first all (g ∷ rest_at (done + count)) done table = subst (λ gs. Counted s q query (windows_of all) prefix front first all gs done table) step so_far.counted in

@@ -33,7 +33,8 @@ AreSmall counts = AllByRecursion (λ n. n ≤ 13 * most_rows) counts
 
 -- the counts of one branch, at a front
 abbrev pub of_counts : ℕ → ℕ → ℕ → List ℕ → Entries
-of_counts q prefix b counts q' prefix' b' option = where_so (nat_eq q q') (where_so (nat_eq prefix prefix') (where_so (nat_eq b b') (slice_index counts option)))
+of_counts q prefix b counts q' prefix' b' option =
+    where_so (nat_eq q q') (where_so (nat_eq prefix prefix') (where_so (nat_eq b b') (slice_index counts option)))
 
 -- the counts of a branch in a window, of which these tuples are kept
 abbrev pub kept_counts : Switch → TypedQuery → ℕ → Option Kept → List (List ℕ) → ℕ → List ℕ
@@ -41,4 +42,5 @@ kept_counts s query level kept tuples b = counts_of (branch_of query b) level s.
 
 -- the counts of the first n branches
 abbrev pub of_branches : ℕ → ℕ → ℕ → (ℕ → List ℕ) → Entries
-of_branches q prefix n counts q' prefix' b option = where_so (nat_eq q q') (where_so (nat_eq prefix prefix') (where_so (nat_lt b n) (slice_index (counts b) option)))
+of_branches q prefix n counts q' prefix' b option =
+    where_so (nat_eq q q') (where_so (nat_eq prefix prefix') (where_so (nat_lt b n) (slice_index (counts b) option)))

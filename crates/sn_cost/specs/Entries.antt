@@ -7,10 +7,11 @@ use Rattle.sn_switch.specs.declared.switch.Switch.{Switch}
 use Rattle.sn_types.specs.declared.typed_query.TypedQuery.{TypedQuery}
 use Rattle.sn_types.specs.Typed.{branch_at, query_at}
 use Rattle.sn_plan_choices.specs.Options.{Setting, options}
-use Rattle.sn_refine.specs.Refined.{Windows, answered, before, refined_rows}
-use Rattle.sn_refine.specs.Steps.{Given, windows_of}
+use Rattle.sn_refine.specs.Refined.{Windows, before, seen_at}
+use Rattle.sn_refine.specs.Steps.{windows_of}
 use Rattle.sn_engine_split.specs.Branches.{branch_items}
 use Rattle.sn_windows.specs.Windows as numbered
+use Rattle.sn_windows.specs.Rising.{Window}
 
 -- ---- training windows
 
@@ -21,10 +22,10 @@ records (n ∷ ns) [] = []
 records (n ∷ ns) (tuple ∷ tuples) = (n, tuple) ∷ records ns tuples
 
 -- the windows that hold a record, by number, each with its tuples
-abbrev pub windows_in : List (ℕ × List ℕ) → List Given
+abbrev pub windows_in : List (ℕ × List ℕ) → List Window
 windows_in found = map (λ w. (w, numbered.in_window w found)) (numbered.windows_of found)
 
-abbrev pub trained : List ℕ → List (List ℕ) → List Given
+abbrev pub trained : List ℕ → List (List ℕ) → List Window
 trained numbers tuples = windows_in (records numbers tuples)
 
 -- ---- the front of a path
@@ -33,12 +34,6 @@ trained numbers tuples = windows_in (records numbers tuples)
 abbrev pub front_of : ℕ → List ℕ → List ℕ
 front_of m [] = []
 front_of m (level ∷ levels) = if m % 2 == 1 then level ∷ front_of (m / 2) levels else front_of (m / 2) levels
-
--- the tuples of a window that the level at a place of a front sees: all where it is the first, or else those whose prefix the
--- level before it answered in the window before
-abbrev pub seen_at : TypedQuery → Windows → List ℕ → ℕ → ℕ → Option (List (List ℕ))
-seen_at query windows front zero w = windows w
-seen_at query windows front (suc j) w = option_map (answered query (slice_index front j) (before (refined_rows query windows front j) w)) (windows w)
 
 -- how many items a piece of an option sends of the tuples that its level sees
 abbrev pub sent_of : TypedQuery → ℕ → ℕ → ℕ → Setting → Option (List (List ℕ)) → ℕ
@@ -53,7 +48,7 @@ sent_in query windows front b depth o w = sent_of query b (slice_index front (le
 
 -- The entry of a query, a front of a path, a branch and an option: the sum over the training windows of the number of items that
 -- the piece sends, on the tuples that the level before on the front admits.
-abbrev pub entry_count : ℕ → TypedQuery → List Given → ℕ → ℕ → Setting → ℕ
+abbrev pub entry_count : ℕ → TypedQuery → List Window → ℕ → ℕ → Setting → ℕ
 entry_count depth query given prefix b o = sum_by (λ g. sent_in query (windows_of given) (front_of prefix query.levels) b depth o g.0) given
 
 -- a query, the front of a path with at least one level, a branch and an option of it

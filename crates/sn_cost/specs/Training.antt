@@ -8,13 +8,14 @@ use Rattle.sn_types.specs.Typed.{branch_of, query_at}
 use Rattle.sn_cost_counts.specs.Counts.{counts_of}
 use Rattle.sn_ops.specs.Packets.{packet_rows}
 use Rattle.sn_ops.specs.declared.packets.Kept.{Kept}
-use Rattle.sn_refine.specs.Refined.{Windows}
+use Rattle.sn_refine.specs.Refined.{Windows, seen_at}
 use Rattle.sn_refine.specs.declared.refined.Refined.{Refined}
-use Rattle.sn_refine.specs.Steps.{Given, Set, kept_at, windows_of}
+use Rattle.sn_refine.specs.Steps.{Set, kept_at, windows_of}
 use Rattle.sn_plan_choices.specs.declared.costs.CostTable.{CostTable}
 use Rattle.sn_plan_choices.specs.Costs.{IsPlace, entry_in}
 use Rattle.sn_cost.specs.Adding.{Adds, AreSmall, Entries, kept_counts, of_branches, where_so}
-use Rattle.sn_cost.specs.Entries.{front_of, seen_at}
+use Rattle.sn_cost.specs.Entries.{front_of}
+use Rattle.sn_windows.specs.Rising.{Window}
 
 -- the prefixes that the level before a place answered in the window before; the first level admits all
 abbrev pub IsKept : List ℕ → Option ℕ → List Set → ℕ → ℕ → Option Kept → Type 0
@@ -31,29 +32,31 @@ abbrev pub window_counts : Switch → TypedQuery → Windows → List ℕ → �
 window_counts s query windows front b w = counts_in s query b (slice_index front (length front - 1)) (seen_at query windows front (length front - 1) w)
 
 -- what windows add to an option's entry, where all windows are these
-abbrev pub added : Switch → TypedQuery → Windows → List ℕ → ℕ → ℕ → List Given → ℕ
+abbrev pub added : Switch → TypedQuery → Windows → List ℕ → ℕ → ℕ → List Window → ℕ
 added s query windows front b option given = sum_by (λ g. slice_index (window_counts s query windows front b g.0) option) given
 
 -- what all windows add at a front
-abbrev pub of_front : Switch → ℕ → TypedQuery → ℕ → List ℕ → List Given → Entries
+abbrev pub of_front : Switch → ℕ → TypedQuery → ℕ → List ℕ → List Window → Entries
 of_front s q query prefix front given q' prefix' b option =
-    where_so (nat_eq q q') (where_so (nat_eq prefix prefix') (where_so (nat_lt b (length query.branches)) (added s query (windows_of given) front b option given)))
+    where_so (nat_eq q q') (where_so (nat_eq prefix prefix')
+    (where_so (nat_lt b (length query.branches)) (added s query (windows_of given) front b option given)))
 
 -- the entries of a front are 0
 abbrev pub IsFresh : CostTable → ℕ → ℕ → Type 0
 IsFresh table q prefix = (b option : ℕ) → IsPlace table q prefix b option → entry_in table q prefix b option ≡ 0
 
 -- what they add at a front with at least one level
-abbrev pub at_prefix : Switch → TypedQuery → List Given → ℕ → ℕ → ℕ → ℕ
+abbrev pub at_prefix : Switch → TypedQuery → List Window → ℕ → ℕ → ℕ → ℕ
 at_prefix s query given prefix b option =
-    where_so (nat_lt 0 (length (front_of prefix query.levels))) (where_so (nat_lt b (length query.branches)) (added s query (windows_of given) (front_of prefix query.levels) b option given))
+    where_so (nat_lt 0 (length (front_of prefix query.levels)))
+    (where_so (nat_lt b (length query.branches)) (added s query (windows_of given) (front_of prefix query.levels) b option given))
 
 -- what they add at the fronts of a query below a number
-abbrev pub of_fronts : Switch → ℕ → TypedQuery → ℕ → List Given → Entries
+abbrev pub of_fronts : Switch → ℕ → TypedQuery → ℕ → List Window → Entries
 of_fronts s q query n given q' prefix b option = where_so (nat_eq q q') (where_so (nat_lt prefix n) (at_prefix s query given prefix b option))
 
 -- what they add at all fronts of the queries below a number
-abbrev pub of_queries : Switch → List TypedQuery → ℕ → List Given → Entries
+abbrev pub of_queries : Switch → List TypedQuery → ℕ → List Window → Entries
 of_queries s queries n given q prefix b option =
     where_so (nat_lt q n) (where_so (nat_lt prefix (2 ^ length (query_at queries q).levels)) (at_prefix s (query_at queries q) given prefix b option))
 
@@ -67,4 +70,5 @@ pub record AddsWindow (s : Switch) (query : TypedQuery) (prefix : ℕ) (refined 
   pub kept : Option Kept
   pub by_before : IsKept refined.path refined.last refined.kept w (length refined.path - 1) kept
   pub small : (b : ℕ) → b < length query.branches → AreSmall (kept_counts s query (slice_index refined.path (length refined.path - 1)) kept tuples b)
-  pub adds : Adds old new (of_branches refined.query prefix (length query.branches) (kept_counts s query (slice_index refined.path (length refined.path - 1)) kept tuples))
+  pub adds : Adds old new (of_branches refined.query prefix (length query.branches)
+      (kept_counts s query (slice_index refined.path (length refined.path - 1)) kept tuples))

@@ -37,8 +37,10 @@ pub(crate) fn add_branches(
     requires places { HasPlaces table.old (q + 1) }
     requires prefix { prefix < 16 }
     requires room { (b : ℕ) → b < 2 → HasRoom table.old q prefix b }
-    ensures small { let query = query_at t.now.queries q in OnOk result ((b : ℕ) → b < length query.branches → AreSmall (kept_counts s.now query level kept.entry tuples.now b)) }
-    ensures adds { let query = query_at t.now.queries q in OnOk result (Adds table.old table.new (of_branches q prefix (length query.branches) (kept_counts s.now query level kept.entry tuples.now))) }
+    ensures small { let query = query_at t.now.queries q in OnOk result ((b : ℕ) → b < length query.branches →
+        AreSmall (kept_counts s.now query level kept.entry tuples.now b)) }
+    ensures adds { let query = query_at t.now.queries q in OnOk result
+        (Adds table.old table.new (of_branches q prefix (length query.branches) (kept_counts s.now query level kept.entry tuples.now))) }
 {
     let alloc = t.alloc;
     for b in 0..t.branches(q) {

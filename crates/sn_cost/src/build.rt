@@ -32,7 +32,8 @@ fn add_query(
     requires never_fall { NeverFall numbers.now }
     requires places { HasPlaces table.old (q + 1) }
     requires fresh { (prefix : ℕ) → IsFresh table.old q prefix }
-    ensures { let query = query_at t.now.queries q in OnOk result (Adds table.old table.new (of_fronts s.now q query (2 ^ length query.levels) (trained numbers.now tuples.now))) }
+    ensures { let query = query_at t.now.queries q in OnOk result
+        (Adds table.old table.new (of_fronts s.now q query (2 ^ length query.levels) (trained numbers.now tuples.now))) }
 {
     let levels = t.levels(q);
     for prefix in 0..1u32 << levels.len() {
@@ -57,7 +58,9 @@ pub fn build(t: &Typed, s: &Switch, tuples: &[Tuple], numbers: &[u64]) -> Result
     requires few { length numbers.now ≤ 4194304 }
     requires never_fall { NeverFall numbers.now }
     ensures places { IfOk result (λ table. HasPlaces table (length t.now.queries)) }
-    ensures entries { IfOk result (λ table. (q prefix b n : ℕ) → IsPiece s.now t.now.queries q prefix b n → entry_in table q prefix b n ≡ entry_count s.now.chain (query_at t.now.queries q) (trained numbers.now tuples.now) prefix b (option_at s.now (branch_at t.now.queries q b) n)) }
+    ensures entries { IfOk result (λ table. (q prefix b n : ℕ) → IsPiece s.now t.now.queries q prefix b n →
+        entry_in table q prefix b n ≡ entry_count s.now.chain (query_at t.now.queries q) (trained numbers.now tuples.now) prefix b
+        (option_at s.now (branch_at t.now.queries q b) n)) }
 {
     let mut table = CostTable::make(t, s)?;
     for q in 0..t.queries() {

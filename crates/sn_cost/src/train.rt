@@ -7,9 +7,10 @@ ghost use Rattle.sn_cost.specs.Adding.{Adds, HasRoom, kept_counts, of_branches};
 ghost use Rattle.sn_cost.specs.Entries.{trained};
 ghost use Rattle.sn_cost.specs.Training.{AddsWindow, IsFresh, IsKept, NeverFall, of_front};
 ghost use Rattle.sn_cost_counts.specs.Fitting.{most_rows};
-ghost use Rattle.sn_refine.specs.Steps.{IsAbove, IsPathOf, kept_at, kept_of, parts_in};
+ghost use Rattle.sn_refine.specs.Steps.{IsPathOf, kept_at, kept_of, parts_in};
 ghost use Rattle.sn_switch.specs.Texts.{IsSwitch};
 ghost use Rattle.sn_types.specs.Typed.{query_at};
+ghost use Rattle.sn_windows.specs.Rising.{IsAbove};
 
 use crate::branches::add_branches;
 use crate::run::first_run;
@@ -63,7 +64,8 @@ fn add_window(
     requires room { (b : ℕ) → b < 2 → HasRoom table.old refined.old.query prefix b }
     ensures adds { OnOk result (AddsWindow s.now (query_at t.now.queries refined.old.query) prefix refined.old w tuples.now table.old table.new) }
     ensures last { OnOk result (refined.new.last ≡ Some w) }
-    ensures kept { let r = refined.old in let query = query_at t.now.queries r.query in OnOk result (refined.new.kept ≡ kept_of query r.path (parts_in r.query query r.path (kept_at r.last r.kept w) tuples.now)) }
+    ensures kept { let r = refined.old in let query = query_at t.now.queries r.query in OnOk result
+        (refined.new.kept ≡ kept_of query r.path (parts_in r.query query r.path (kept_at r.last r.kept w) tuples.now)) }
     ensures query { refined.new.query ≡ refined.old.query }
     ensures path { refined.new.path ≡ refined.old.path }
 {

@@ -8,7 +8,7 @@ use Rattle.sn_base.specs.Columns.{IsOf}
 use Rattle.sn_base.specs.Groups.{Row}
 use Rattle.sn_base.specs.Operators.{key_of}
 use Rattle.sn_base.specs.declared.column.Column.{Column}
-use Rattle.sn_base.proofs.Lists.{all_append, all_map, all_weaker, map_agree, map_both}
+use Rattle.sn_base.proofs.Lists.{all_append, all_map, all_weaker, map_agree, map_both, all_front}
 use Rattle.sn_query_grammar.specs.declared.ast.Op.{Op}
 use Rattle.sn_query_grammar.specs.declared.ast.What.{What}
 use Rattle.sn_query_grammar.specs.declared.ast.What.TheVariants as what
@@ -21,15 +21,14 @@ use Rattle.sn_types.specs.Cuts.{greatest_cut, stateful}
 use Rattle.sn_types.specs.Typed.{IsTyped, branch_at, first_columns, query_at}
 use Rattle.sn_types.specs.Typing.{typed_op, typed_ops}
 use Rattle.sn_types.proofs.Facts.{branch_source_of, few_packet_fields}
-use Rattle.sn_types.proofs.Known.{IsKnown, all_front}
+use Rattle.sn_types.proofs.Known.{IsKnown}
 use Rattle.sn_types.proofs.RowsAfter.{AreOf, named_of, rows_after}
 use Rattle.sn_types.proofs.Schemas.{IsSchema, packet_schema, schema_after}
 use Rattle.sn_types.proofs.Sound.{AreSound, IsSound, sound_branch}
 use Rattle.sn_types.proofs.TypedRows.{first_along}
 use Rattle.sn_ops.specs.Flow.{AllFit, Fits}
-use Rattle.sn_ops.proofs.Fitting.{all_fit_prop, fit_along}
+use Rattle.sn_ops.proofs.Fitting.{all_fit_prop, fit_along, fits_prop, has_prop}
 use Rattle.sn_engine_split.proofs.Cuts.{cut_within}
-use Rattle.sn_engine_split.proofs.Typed.{has_prop}
 use Rattle.sn_engine_split.proofs.TypedItems.{grouping, with_fold}
 use Rattle.sn_cost_counts.specs.declared.flow.Flow.{Flow}
 use Rattle.sn_cost_counts.specs.Counts.{counts_of, setting_count}
@@ -57,15 +56,12 @@ takes_along level columns (op ∷ os) row h s of =
     takes_before level columns op.what (typed_ops (columns_after columns op.what) os) row h s.0 of ((fit_along level columns (op ∷ []) (row ∷ []) h (s.0, tt) (of, tt)).0)
     (λ next is. takes_along level (columns_after columns op.what) os next (schema_after columns op.what h s.0) s.1 is)
 
-one_fits_prop : (op : TOp) (rows : List Row) → IsProp (Fits op rows)
-one_fits_prop op rows = λ x y. ap (λ (p : Fits op rows × Unit {0}). p.0) (all_fit_prop 0 (op ∷ []) rows (x, tt) (y, tt))
-
 takes_prop : (level : ℕ) (os : List TOp) (row : Row) → IsProp (Takes level os row)
 takes_prop level [] row = hlevel le_prop
-takes_prop level (ops.Filter conds ∷ os) row = hlevel (one_fits_prop (ops.Filter conds), takes_prop level os)
-takes_prop level (ops.Map exprs ∷ os) row = hlevel (one_fits_prop (ops.Map exprs), takes_prop level os)
+takes_prop level (ops.Filter conds ∷ os) row = hlevel (fits_prop (ops.Filter conds), takes_prop level os)
+takes_prop level (ops.Map exprs ∷ os) row = hlevel (fits_prop (ops.Map exprs), takes_prop level os)
 takes_prop level (ops.Distinct ∷ os) row = takes_prop level os row
-takes_prop level (ops.Reduce r ∷ os) row = hlevel (one_fits_prop (ops.Reduce r), has_prop, takes_prop level os)
+takes_prop level (ops.Reduce r ∷ os) row = hlevel (fits_prop (ops.Reduce r), has_prop, takes_prop level os)
 
 takes_front : (level cut : ℕ) (os : List TOp) (row : Row) → Takes level os row → Takes level (take cut os) row
 takes_front level zero os row h = tt

@@ -9,7 +9,7 @@ use Rattle.sn_base.specs.AnyFold.{any_has}
 use Rattle.sn_base.specs.Groups.{Row, once, same_row}
 use Rattle.sn_base.specs.Operators.{Grouping, key_of, pair_of, row_for}
 use Rattle.sn_base.proofs.GroupLemmas.{total, total_had}
-use Rattle.sn_base.proofs.Lists.{all_append, all_filter, all_map, all_weaker}
+use Rattle.sn_base.proofs.Lists.{all_append, all_filter, all_map, all_weaker, filter_short}
 use Rattle.sn_base.proofs.OnceLemmas.{all_once}
 use Rattle.sn_chain.specs.Chain.{has_home, homes_of, places_of}
 use Rattle.sn_chain.specs.Homes.{by_place, homes_by_place, put_by_place}
@@ -28,15 +28,9 @@ use Rattle.sn_cost_counts.specs.Flows.{counted, counts_from, held_rows, over_dis
 
 -- ---- lengths
 
-fewer : {X : Type 0} (t : X → Bool) (xs : List X) → length (filter t xs) ≤ length xs
-fewer t [] = omega arith
-fewer t (x ∷ xs) =
-    let rest = fewer t xs in
-    (elim (t x) as (λ b. length (cond b (x ∷ filter t xs) (filter t xs)) ≤ suc (length xs)) [ true ↦ omega (arith, rest) | false ↦ omega (arith, rest) ])
-
 once_fewer : {K : Type 0} (same : K → K → Bool) (ks : List K) → length (once same ks) ≤ length ks
 once_fewer same [] = omega arith
-once_fewer same (k ∷ ks) = let rest = once_fewer same ks in let less = fewer (λ x. not (same k x)) (once same ks) in omega (arith, rest, less)
+once_fewer same (k ∷ ks) = let rest = once_fewer same ks in let less = filter_short (λ x. not (same k x)) (once same ks) in omega (arith, rest, less)
 
 put_long : {K : Type 0} (h : ℕ × K) (hs : List (ℕ × K)) → length (put_by_place h hs) ≡ suc (length hs)
 put_long h [] = refl
@@ -144,7 +138,7 @@ step_goes level passed depth slots (ops.Filter conds) os f h =
     let on : AllByRecursion (Takes level os) f.rows = all_weaker (Takes level (ops.Filter conds ∷ os)) (Takes level os) (λ row x. x.1) f.rows h.takes in
     (elim f.whole as (λ b. CanGo level (suc passed) os (cond b f (record f { rows = filter t f.rows }))) [
       | true ↦ record { sent = no_more_sent passed f.sent h.sent; few = h.few; takes = on }
-      | false ↦ record { sent = no_more_sent passed f.sent h.sent; few = let a = h.few in let b = fewer t f.rows in omega (arith, a, b); takes = all_filter (Takes level os) t f.rows on }
+      | false ↦ record { sent = no_more_sent passed f.sent h.sent; few = let a = h.few in let b = filter_short t f.rows in omega (arith, a, b); takes = all_filter (Takes level os) t f.rows on }
     ])
 step_goes level passed depth slots (ops.Map exprs) os f h =
     let m : Row → Row = λ row. map (λ e. value_of e row) exprs in
@@ -156,14 +150,14 @@ step_goes level passed depth slots (ops.Map exprs) os f h =
 step_goes level passed depth slots ops.Distinct os f h =
     let home : Row → Bool = λ row. has_home depth slots f.rows row in
     record {
-      sent = more_sent passed f.sent (length (over_distinct depth slots f.rows)) (length f.rows) h.sent (fewer (λ row. not (home row)) f.rows) h.few;
-      few = let a = h.few in let b = fewer home f.rows in let c = once_fewer same_row (filter home f.rows) in omega (arith, a, b, c);
+      sent = more_sent passed f.sent (length (over_distinct depth slots f.rows)) (length f.rows) h.sent (filter_short (λ row. not (home row)) f.rows) h.few;
+      few = let a = h.few in let b = filter_short home f.rows in let c = once_fewer same_row (filter home f.rows) in omega (arith, a, b, c);
       takes = all_once same_row (Takes level os) (filter home f.rows) (all_filter (Takes level os) home f.rows h.takes);
     }
 step_goes level passed depth slots (ops.Reduce r) os f h =
     let g : Grouping = grouping_of r in
     record {
-      sent = more_sent passed f.sent (length (over_reduce depth slots g f.rows)) (length f.rows) h.sent (fewer (λ row. not (has_home depth slots (map (key_of g) f.rows) (key_of g row))) f.rows) h.few;
+      sent = more_sent passed f.sent (length (over_reduce depth slots g f.rows)) (length f.rows) h.sent (filter_short (λ row. not (has_home depth slots (map (key_of g) f.rows) (key_of g row))) f.rows) h.few;
       few = let a = h.few in let b = held_few depth slots g f.rows in omega (arith, a, b);
       takes = held_takes level depth slots r os f.rows h.takes;
     }

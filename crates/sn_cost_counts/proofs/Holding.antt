@@ -1,7 +1,7 @@
 -- What the registers of a reduce hold.
 use Rattle.std.proofs.Common.{◌≡◌, ℕ, ◌+◌, ◌<◌, ◌≤◌, List, [], ◌∷◌, ◌++◌, map, length, Option, Some, None, ap, sym, subst, ◌∙◌, arith, append_assoc, zero, suc}
 use Rattle.std.specs.List.{AllByRecursion}
-use Rattle.std.specs.Option.{option_map}
+use Rattle.std.specs.Option.{option_map, option_to_list}
 use Rattle.std.proofs.lemmas.List.Elements.{All-from_recursion}
 use Rattle.std.proofs.lemmas.List.{append-nil}
 use Rattle.sn_base.specs.AnyFold.{any_has, any_laws, any_step, any_unit}
@@ -19,7 +19,7 @@ use Rattle.sn_pipe_items.proofs.Homes.{all_members}
 use Rattle.sn_types.specs.declared.typed_op.TReduce.{TReduce}
 use Rattle.sn_cost_counts.specs.Flows.{held_rows}
 use Rattle.sn_ops.specs.Flow.{grouping_of}
-use Rattle.sn_pipe.specs.Windows.{held_row, option_list, rows_left}
+use Rattle.sn_pipe.specs.Windows.{held_row, rows_left}
 use Rattle.sn_pipe.proofs.ReadOuts.{rows_more, rows_past}
 use Rattle.sn_cost_counts.proofs.Offering.{pairs_in}
 use Rattle.sn_cost_counts.specs.Overs.{value_in}
@@ -36,12 +36,12 @@ abbrev pub Read : ChainState AnyFold → ℕ → List Row → Type 0
 Read chain at out = out ++ rows_left chain at ≡ rows_left chain 0
 
 pub none_more : (chain : ChainState AnyFold) (at : ℕ) (out : List Row) → at < length chain.cells → cell chain.cells at ≡ None → Read chain at out → Read chain (at + 1) out
-none_more chain at out lt none so_far = ap (λ rs. out ++ rs) (sym (rows_more chain at lt ∙ ap (λ o. option_list (option_map held_row o) ++ rows_left chain (at + 1)) none)) ∙ so_far
+none_more chain at out lt none so_far = ap (λ rs. out ++ rs) (sym (rows_more chain at lt ∙ ap (λ o. option_to_list (option_map held_row o) ++ rows_left chain (at + 1)) none)) ∙ so_far
 
 pub one_more : (chain : ChainState AnyFold) (at : ℕ) (out : List Row) (e : Row × ℕ) → at < length chain.cells → cell chain.cells at ≡ Some e → Read chain at out → Read chain (at + 1) (out ++ held_row e ∷ [])
 one_more chain at out e lt some so_far =
     append_assoc out (held_row e ∷ []) (rows_left chain (at + 1))
-    ∙ ap (λ rs. out ++ rs) (sym (rows_more chain at lt ∙ ap (λ o. option_list (option_map held_row o) ++ rows_left chain (at + 1)) some)) ∙ so_far
+    ∙ ap (λ rs. out ++ rs) (sym (rows_more chain at lt ∙ ap (λ o. option_to_list (option_map held_row o) ++ rows_left chain (at + 1)) some)) ∙ so_far
 
 pub all_read : (chain : ChainState AnyFold) (at : ℕ) (out : List Row) → length chain.cells ≤ at → Read chain at out → out ≡ rows_left chain 0
 all_read chain at out le so_far = sym (append-nil out) ∙ ap (λ rs. out ++ rs) (sym (rows_past chain at le)) ∙ so_far

@@ -54,7 +54,8 @@ stepped depth slots (Reduce g) f = record {
 abbrev pub run : ℕ → ℕ → List TOp → List ℕ → Flow → Flow
 run depth level [] sizes f = f
 run depth level (op ∷ ops) sizes f =
-    if is_stateful op then run depth level ops (drop 1 sizes) (stepped depth (slice_index sizes 0) (op_at level op) f) else run depth level ops sizes (stepped depth 0 (op_at level op) f)
+    if is_stateful op then run depth level ops (drop 1 sizes) (stepped depth (slice_index sizes 0) (op_at level op) f)
+    else run depth level ops sizes (stepped depth 0 (op_at level op) f)
 
 -- the rows of a window before the first operator
 abbrev pub starting : List Row → Flow

@@ -61,10 +61,7 @@ fn at_start(alloc: Global, rows: Seq<Row>) -> Result<Vec<Flow>, Memory>
         spilled: false,
         whole: false,
     };
-    match Vec::from_array(alloc, [flow]) {
-        Ok(flows) => Ok(flows),
-        Err(_) => Err(Memory),
-    }
+    Ok(Vec::from_array(alloc, [flow])?)
 }
 
 /// How many items a prefix of these operators sends of these rows, for each cut and all sizes of its registers.

@@ -4,30 +4,15 @@ use Rattle.std.specs.Prelude.{◌/◌, ◌%◌, ◌==◌, nat_le, if◌then◌el
 use Rattle.std.specs.List.{AllByRecursion, list_any}
 use Rattle.std.proofs.Math.Nat.{pow-suc}
 use Rattle.std.proofs.lemmas.Bool.Decides.{nat_tests}
-use Rattle.sn_base.proofs.Lists.{all_weaker, by_test, nat_same}
-use Rattle.sn_plan_lists.proofs.PathNumbers.{all_two, among_head, among_rest, not_among}
+use Rattle.sn_base.proofs.Lists.{all_weaker, by_test, nat_same, all_two, all_at as all_index}
+use Rattle.sn_plan_lists.proofs.PathNumbers.{among_head, among_rest, not_among, among_all, known_rest}
 use Rattle.sn_plan_lists.specs.Costs.{bits_of, is_upto}
 use Rattle.sn_cost.specs.Entries.{front_of}
-use Rattle.sn_engine_lockstep.proofs.Apart.{all_index}
 use Rattle.sn_plan_fit.specs.Paths.{is_among}
 use Rattle.sn_base.specs.Rising.{IsRising}
+use Rattle.sn_base.proofs.Tests.{zero_plus, at_most, even, odd, half_even, half_odd, not_at_most}
 
 -- ---- levels by their bits
-
-even : (n : ℕ) → (2 * n) % 2 ≡ 0
-even n = omega arith
-
-odd : (n : ℕ) → (1 + 2 * n) % 2 ≡ 1
-odd n = omega arith
-
-half_even : (n : ℕ) → (2 * n) / 2 ≡ n
-half_even n = omega arith
-
-half_odd : (n : ℕ) → (1 + 2 * n) / 2 ≡ n
-half_odd n = omega arith
-
-zero_plus : (n : ℕ) → 0 + n ≡ n
-zero_plus n = omega arith
 
 front_bits : (test : ℕ → Bool) (levels : List ℕ) → front_of (bits_of test levels) levels ≡ filter test levels
 front_bits test [] = refl
@@ -65,14 +50,6 @@ filter_agree : (p q : ℕ → Bool) (xs : List ℕ) → AllByRecursion (λ x. p 
 filter_agree p q [] h = refl
 filter_agree p q (x ∷ xs) h = ap (λ b. cond b (x ∷ filter p xs) (filter p xs)) h.0 ∙ ap (λ ys. cond (q x) (x ∷ ys) ys) (filter_agree p q xs h.1)
 
-among_all : (P : ℕ → Type 0) (x : ℕ) (levels : List ℕ) → is_among levels x ≡ true → AllByRecursion P levels → P x
-among_all P x [] e h = cc
-among_all P x (l ∷ levels) e h =
-    by_test (nat_eq x l) (λ is. subst P (sym (nat_same x l is)) h.0) (λ isnt. among_all P x levels (sym (ap (λ b. b || list_any (nat_eq x) levels) isnt) ∙ e) h.1)
-
-known_behind : (l : ℕ) (levels path : List ℕ) → AllByRecursion (λ x. l < x) path → AllByRecursion (λ x. is_among (l ∷ levels) x ≡ true) path → AllByRecursion (λ x. is_among levels x ≡ true) path
-known_behind l levels path = all_two (λ x. l < x) (λ x. is_among (l ∷ levels) x ≡ true) (λ x. is_among levels x ≡ true) (λ x a b. sym (among_rest l x levels a) ∙ b) path
-
 -- the levels of a path, among all levels
 path_among : (levels path : List ℕ) → IsRising levels → IsRising path → AllByRecursion (λ l. is_among levels l ≡ true) path → filter (is_among path) levels ≡ path
 path_among [] [] r s k = refl
@@ -86,7 +63,7 @@ path_among (l ∷ levels) (x ∷ path) r s k = by_test (nat_eq x l) (λ is. here
         subst (λ (y : ℕ). filter (is_among (y ∷ path)) (l ∷ levels) ≡ y ∷ path) (sym e)
         (ap (λ b. cond b (l ∷ filter (is_among (l ∷ path)) levels) (filter (is_among (l ∷ path)) levels)) (among_head l path)
         ∙ ap (λ ys. l ∷ ys) (filter_agree (is_among (l ∷ path)) (is_among path) levels (all_weaker (λ y. l < y) (λ y. is_among (l ∷ path) y ≡ is_among path y) (λ y lt. among_rest l y path lt) levels r.0))
-        ∙ ap (λ ys. l ∷ ys) (rest (known_behind l levels path above k.1)))
+        ∙ ap (λ ys. l ∷ ys) (rest (known_rest l levels path above k.1)))
 
     behind : nat_eq x l ≡ false → (AllByRecursion (λ y. is_among levels y ≡ true) (x ∷ path) → filter (is_among (x ∷ path)) levels ≡ x ∷ path) → filter (is_among (x ∷ path)) (l ∷ levels) ≡ x ∷ path
     behind isnt rest =
@@ -94,19 +71,13 @@ path_among (l ∷ levels) (x ∷ path) r s k = by_test (nat_eq x l) (λ is. here
         let lt : l < x = among_all (λ y. l < y) x levels later r.0 in
         let above : AllByRecursion (λ y. l < y) (x ∷ path) = (lt, all_weaker (λ y. x < y) (λ y. l < y) (λ y more. omega (arith, lt, more)) path s.0) in
         ap (λ b. cond b (l ∷ filter (is_among (x ∷ path)) levels) (filter (is_among (x ∷ path)) levels)) (not_among l (x ∷ path) above)
-        ∙ rest (known_behind l levels (x ∷ path) above k)
+        ∙ rest (known_rest l levels (x ∷ path) above k)
 
 -- ---- levels up to one
 
-at_most : (a b : ℕ) → a ≤ b → nat_le a b ≡ true
-at_most a b h = grind (arith, nat_tests)
-
-too_high : (a b : ℕ) → b < a → nat_le a b ≡ false
-too_high a b h = grind (arith, nat_tests)
-
 none_upto : (level : ℕ) (path : List ℕ) → AllByRecursion (λ l. level < l) path → filter (λ l. nat_le l level) path ≡ []
 none_upto level [] h = refl
-none_upto level (l ∷ path) h = ap (λ b. cond b (l ∷ filter (λ x. nat_le x level) path) (filter (λ x. nat_le x level) path)) (too_high l level h.0) ∙ none_upto level path h.1
+none_upto level (l ∷ path) h = ap (λ b. cond b (l ∷ filter (λ x. nat_le x level) path) (filter (λ x. nat_le x level) path)) (not_at_most l level h.0) ∙ none_upto level path h.1
 
 path_upto : (path : List ℕ) (level j : ℕ) → IsRising path → j < length path → slice_index path j ≡ level → filter (λ l. nat_le l level) path ≡ take (suc j) path
 path_upto [] level j r lt is = absurd (omega (arith, lt))

@@ -4,7 +4,7 @@ use Rattle.std.specs.Prelude.{◌/◌, ◌%◌, ◌==◌, if◌then◌else◌}
 use Rattle.std.specs.List.{AllByRecursion}
 use Rattle.std.proofs.Math.Nat.{pow-suc}
 use Rattle.std.proofs.Math.Pow.{pow_mono}
-use Rattle.sn_base.proofs.Lists.{all_append, by_test}
+use Rattle.sn_base.proofs.Lists.{all_append, by_test, index_within}
 use Rattle.sn_types.specs.declared.typed_query.TypedBranch.{TypedBranch}
 use Rattle.sn_types.specs.declared.typed_query.TypedQuery.{TypedQuery}
 use Rattle.sn_types.specs.Typed.{blank_branch, branch_of}
@@ -12,11 +12,6 @@ use Rattle.sn_plan_choices.specs.Planning.{PieceTask, level_pieces, path_pieces,
 use Rattle.sn_cost.specs.Entries.{front_of}
 
 -- ---- places
-
-pub index_within : {X : Type 0} (xs : List X) (i : ℕ) (x : X) → slice_get xs i ≡ Some x → i < length xs
-index_within [] i x e = cc
-index_within (y ∷ xs) zero x e = omega arith
-index_within (y ∷ xs) (suc i) x e = let rest = index_within xs i x e in omega (arith, rest)
 
 pub get_ahead : {X : Type 0} (xs : List X) (n : ℕ) (x : X) (rest : List X) → drop n xs ≡ x ∷ rest → slice_get xs n ≡ Some x
 get_ahead [] zero x rest e = cc

@@ -24,30 +24,27 @@ use Rattle.sn_plan_grammar.specs.declared.plan.Piece.{Piece}
 use Rattle.sn_cost_laws.specs.Sent.{sent_over}
 use Rattle.sn_cost_laws.specs.Priced.{AreCounted}
 use Rattle.sn_cost_laws.specs.Space.{trained_entry}
-use Rattle.sn_cost_laws.proofs.Pieces.{drop_more, get_ahead, index_within}
+use Rattle.sn_cost_laws.proofs.Pieces.{drop_more, get_ahead}
 use Rattle.sn_cost_laws.proofs.Fronts.{bits_below, front_is}
 use Rattle.sn_cost_laws.proofs.Seeing.{piece_sent}
 use Rattle.sn_refine.specs.Refined.{Windows}
-use Rattle.sn_refine.specs.Steps.{Given, windows_of}
+use Rattle.sn_refine.specs.Steps.{windows_of}
 use Rattle.sn_switch.specs.declared.switch.Switch.{Switch}
 use Rattle.sn_types.specs.declared.typed_query.TypedBranch.{TypedBranch}
 use Rattle.sn_types.specs.declared.typed_query.TypedQuery.{TypedQuery}
 use Rattle.sn_types.specs.Typed.{blank_query, branch_of, query_at}
+use Rattle.sn_windows.specs.Rising.{Window}
+use Rattle.sn_base.proofs.Lists.{index_within}
+use Rattle.sn_cost.proofs.Built.{sums_same}
+use Rattle.sn_emit.proofs.CountLaw.{sum-cons}
 
 -- ---- sums
 
 abbrev same : ℕ → ℕ
 same n = n
 
-sum_more : (n : ℕ) (ns : List ℕ) → sum (n ∷ ns) ≡ n + sum ns
-sum_more n ns = sum_by-cons same n ns
-
 sum_both : (ms ns : List ℕ) → sum (ms ++ ns) ≡ sum ms + sum ns
 sum_both ms ns = sum_by-append same ms ns
-
-sums_same : {X : Type 0} (f g : X → ℕ) → ((x : X) → f x ≡ g x) → (xs : List X) → sum_by f xs ≡ sum_by g xs
-sums_same f g e [] = refl
-sums_same f g e (x ∷ xs) = sum_by-cons f x xs ∙ ap (λ n. n + sum_by f xs) (e x) ∙ ap (λ n. g x + n) (sums_same f g e xs) ∙ sym (sum_by-cons g x xs)
 
 sums_none : {X : Type 0} (xs : List X) → sum_by (λ x. 0) xs ≡ 0
 sums_none [] = refl
@@ -65,7 +62,7 @@ sums_two f g h e (x ∷ xs) =
 
 -- ---- a plan
 
-module _ (s : Switch) (queries : List TypedQuery) (given : List Given) (entry : ℕ → ℕ → ℕ → ℕ → ℕ) (counted : AreCounted s queries given entry) where
+module _ (s : Switch) (queries : List TypedQuery) (given : List Window) (entry : ℕ → ℕ → ℕ → ℕ → ℕ) (counted : AreCounted s queries given entry) where
   abbrev windows : Windows
   windows = windows_of given
 
@@ -73,7 +70,7 @@ module _ (s : Switch) (queries : List TypedQuery) (given : List Given) (entry : 
   sent xs w = sum (map (piece_count queries s.chain windows w) xs)
 
   piece_priced : (n : ℕ) (e : Entry) (p : Piece) → n < length queries → IsRising (query_at queries n).levels → IsEntryOf (query_at queries n) e → GoodPiece s (query_at queries n) e.levels p → is_among e.levels p.level ≡ true
-      → piece_cost s entry n (query_at queries n) e.levels p ≡ sum_by (λ (g : Given). piece_count queries s.chain windows g.0 (placed n e.levels p)) given
+      → piece_cost s entry n (query_at queries n) e.levels p ≡ sum_by (λ (g : Window). piece_count queries s.chain windows g.0 (placed n e.levels p)) given
   piece_priced n e p lt rising is good among =
       let query : TypedQuery = query_at queries n in
       let branch : TypedBranch = branch_of query p.branch in
@@ -93,31 +90,31 @@ module _ (s : Switch) (queries : List TypedQuery) (given : List Given) (entry : 
       } in
       counted n prefix p.branch (option_of s query p) piece
       ∙ ap (λ (x : Setting). entry_count s.chain query given prefix p.branch x) option.1
-      ∙ sums_same (λ (g : Given). cost.sent_in query windows (cost.front_of prefix query.levels) p.branch s.chain o g.0) (λ (g : Given). piece_count queries s.chain windows g.0 (placed n e.levels p))
+      ∙ sums_same (λ (g : Window). cost.sent_in query windows (cost.front_of prefix query.levels) p.branch s.chain o g.0) (λ (g : Window). piece_count queries s.chain windows g.0 (placed n e.levels p))
       (λ g. piece_sent queries s.chain n windows e.levels (cost.front_of prefix query.levels) p g.0 among front) given
 
   pieces_priced : (n : ℕ) (e : Entry) (ps : List Piece) → n < length queries → IsRising (query_at queries n).levels → IsEntryOf (query_at queries n) e → AllByRecursion (GoodPiece s (query_at queries n) e.levels) ps
-      → AllByRecursion (λ p. is_among e.levels p.level ≡ true) ps → sum_by (piece_cost s entry n (query_at queries n) e.levels) ps ≡ sum_by (λ (g : Given). sent (map (placed n e.levels) ps) g.0) given
+      → AllByRecursion (λ p. is_among e.levels p.level ≡ true) ps → sum_by (piece_cost s entry n (query_at queries n) e.levels) ps ≡ sum_by (λ (g : Window). sent (map (placed n e.levels) ps) g.0) given
   pieces_priced n e [] lt rising is good among = sym (sums_none given)
   pieces_priced n e (p ∷ ps) lt rising is good among =
       let query : TypedQuery = query_at queries n in
       let one = sum_by-cons (piece_cost s entry n query e.levels) p ps in
       let here = piece_priced n e p lt rising is good.0 among.0 in
       let rest = pieces_priced n e ps lt rising is good.1 among.1 in
-      let both = sums_two (λ (g : Given). piece_count queries s.chain windows g.0 (placed n e.levels p)) (λ (g : Given). sent (map (placed n e.levels) ps) g.0) (λ (g : Given). sent (map (placed n e.levels) (p ∷ ps)) g.0)
-      (λ g. sum_more (piece_count queries s.chain windows g.0 (placed n e.levels p)) (map (piece_count queries s.chain windows g.0) (map (placed n e.levels) ps))) given in
+      let both = sums_two (λ (g : Window). piece_count queries s.chain windows g.0 (placed n e.levels p)) (λ (g : Window). sent (map (placed n e.levels) ps) g.0) (λ (g : Window). sent (map (placed n e.levels) (p ∷ ps)) g.0)
+      (λ g. sum-cons (piece_count queries s.chain windows g.0 (placed n e.levels p)) (map (piece_count queries s.chain windows g.0) (map (placed n e.levels) ps))) given in
       one ∙ ap (λ (m : ℕ). m + sum_by (piece_cost s entry n query e.levels) ps) here
-      ∙ ap (λ (m : ℕ). sum_by (λ (g : Given). piece_count queries s.chain windows g.0 (placed n e.levels p)) given + m) rest ∙ both
+      ∙ ap (λ (m : ℕ). sum_by (λ (g : Window). piece_count queries s.chain windows g.0 (placed n e.levels p)) given + m) rest ∙ both
 
   entry_priced : (n : ℕ) (q : TypedQuery) (e : Entry) → query_at queries n ≡ q → n < length queries → IsRising q.levels → IsEntryOf q e → AllByRecursion (λ p. OnBranch (λ b. PieceFits s e.levels b p) (piece_branch q p)) e.pieces
-      → entry_cost s entry n q e ≡ sum_by (λ (g : Given). sent (map (placed n e.levels) e.pieces) g.0) given
+      → entry_cost s entry n q e ≡ sum_by (λ (g : Window). sent (map (placed n e.levels) e.pieces) g.0) given
   entry_priced n q e at lt =
       subst (λ (x : TypedQuery). IsRising x.levels → IsEntryOf x e → AllByRecursion (λ p. OnBranch (λ b. PieceFits s e.levels b p) (piece_branch x p)) e.pieces
-      → entry_cost s entry n x e ≡ sum_by (λ (g : Given). sent (map (placed n e.levels) e.pieces) g.0) given) at
+      → entry_cost s entry n x e ≡ sum_by (λ (g : Window). sent (map (placed n e.levels) e.pieces) g.0) given) at
       (λ rising is fits. pieces_priced n e e.pieces lt rising is (good_entry s (query_at queries n) e is fits).good (levels_known (query_at queries n) e is))
 
   entries_priced : (n : ℕ) (qs : List TypedQuery) (es : List Entry) → drop n queries ≡ qs → AllByRecursion HasLevels qs → AreEntriesOf qs es → PiecesFit (PieceFits s) qs es
-      → plan_cost s entry n qs es ≡ sum_by (λ (g : Given). sent (pieces_from n es) g.0) given
+      → plan_cost s entry n qs es ≡ sum_by (λ (g : Window). sent (pieces_from n es) g.0) given
   entries_priced n [] [] at levels are fit = sym (sums_none given)
   entries_priced n [] (e ∷ es) at levels are fit = absurd are
   entries_priced n (q ∷ qs) [] at levels are fit = absurd are
@@ -126,21 +123,21 @@ module _ (s : Switch) (queries : List TypedQuery) (given : List Given) (entry : 
       let lt : n < length queries = index_within queries n q here in
       let next : suc n ≡ n + 1 = omega arith in
       let one = entry_priced n q e (ap (λ (x : Option TypedQuery). unwrap_or x blank_query) here) lt levels.0.rising are.0 fit.0 in
-      let rest : plan_cost s entry (n + 1) qs es ≡ sum_by (λ (g : Given). sent (pieces_from (suc n) es) g.0) given =
+      let rest : plan_cost s entry (n + 1) qs es ≡ sum_by (λ (g : Window). sent (pieces_from (suc n) es) g.0) given =
       ap (λ (m : ℕ). plan_cost s entry m qs es) (sym next) ∙ entries_priced (suc n) qs es (drop_more queries n q qs at) levels.1 are.1 fit.1 in
       let own : List Placed = map (placed n e.levels) e.pieces in
-      let both = sums_two (λ (g : Given). sent own g.0) (λ (g : Given). sent (pieces_from (suc n) es) g.0) (λ (g : Given). sent (pieces_from n (e ∷ es)) g.0)
+      let both = sums_two (λ (g : Window). sent own g.0) (λ (g : Window). sent (pieces_from (suc n) es) g.0) (λ (g : Window). sent (pieces_from n (e ∷ es)) g.0)
       (λ g. ap sum (map-append (piece_count queries s.chain windows g.0) own (pieces_from (suc n) es))
       ∙ sum_both (map (piece_count queries s.chain windows g.0) own) (map (piece_count queries s.chain windows g.0) (pieces_from (suc n) es))) given in
       ap (λ (m : ℕ). m + plan_cost s entry (n + 1) qs es) one
-      ∙ ap (λ (m : ℕ). sum_by (λ (g : Given). sent own g.0) given + m) rest ∙ both
+      ∙ ap (λ (m : ℕ). sum_by (λ (g : Window). sent own g.0) given + m) rest ∙ both
 
 -- the cost of a plan that fits is the number of items that its pieces send over the windows
-pub plan_priced : (s : Switch) (queries : List TypedQuery) (given : List Given) (entry : ℕ → ℕ → ℕ → ℕ → ℕ) (entries : List Entry) → HaveRisingNumbers s queries → AreCounted s queries given entry
+pub plan_priced : (s : Switch) (queries : List TypedQuery) (given : List Window) (entry : ℕ → ℕ → ℕ → ℕ → ℕ) (entries : List Entry) → HaveRisingNumbers s queries → AreCounted s queries given entry
     → Fits queries s entries → plan_cost s entry 0 queries entries ≡ sent_over s.chain queries entries given
 plan_priced s queries given entry entries rising counted fits = entries_priced s queries given entry counted 0 queries entries refl rising.levels fits.paths fits.pieces
 
 -- over the windows themselves
-pub trained_priced : (s : Switch) (queries : List TypedQuery) (given : List Given) (entries : List Entry) → HaveRisingNumbers s queries → Fits queries s entries
+pub trained_priced : (s : Switch) (queries : List TypedQuery) (given : List Window) (entries : List Entry) → HaveRisingNumbers s queries → Fits queries s entries
     → plan_cost s (trained_entry s queries given) 0 queries entries ≡ sent_over s.chain queries entries given
 trained_priced s queries given entries rising fits = plan_priced s queries given (trained_entry s queries given) entries rising (λ q prefix b n is. refl) fits

@@ -2,7 +2,7 @@
 use Rattle.std.proofs.Common.{◌≡◌, ℕ, suc, ◌+◌, ◌<◌, List, [], ◌∷◌, drop, length, unwrap_or, Option, refl, ap, sym, ◌∙◌, subst, arith}
 use Rattle.std.specs.List.{AllByRecursion}
 use Rattle.sn_tree.specs.Alike.{AreAlike}
-use Rattle.sn_base.proofs.Lists.{all_weaker}
+use Rattle.sn_base.proofs.Lists.{all_weaker, index_within}
 use Rattle.sn_switch.specs.declared.switch.Switch.{Switch}
 use Rattle.sn_types.specs.declared.typed_query.TypedBranch.{TypedBranch}
 use Rattle.sn_types.specs.declared.typed_query.TypedQuery.{TypedQuery}
@@ -10,14 +10,14 @@ use Rattle.sn_types.specs.Typed.{blank_query, branch_at, query_at}
 use Rattle.sn_plan_choices.specs.Options.{options}
 use Rattle.sn_plan_choices.specs.Planning.{PieceTask, first_tasks}
 use Rattle.sn_plan_lists.specs.Theorems.{plans_of}
-use Rattle.sn_refine.specs.Steps.{Given}
+use Rattle.sn_windows.specs.Rising.{Window}
 use Rattle.sn_cost.specs.Entries.{IsPiece}
 use Rattle.sn_cost_laws.specs.Priced.{AreCounted}
 use Rattle.sn_cost_laws.specs.Space.{trained_entry, trained_plans}
 use Rattle.sn_cost_laws.proofs.Entries.{Same, SamePath, SamePiece, tables_alike}
-use Rattle.sn_cost_laws.proofs.Pieces.{IsPieceOf, drop_more, front_some, get_ahead, index_within, pieces_are}
+use Rattle.sn_cost_laws.proofs.Pieces.{IsPieceOf, drop_more, front_some, get_ahead, pieces_are}
 
-module _ (s : Switch) (queries : List TypedQuery) (given : List Given) (entry : ℕ → ℕ → ℕ → ℕ → ℕ) (counted : AreCounted s queries given entry) where
+module _ (s : Switch) (queries : List TypedQuery) (given : List Window) (entry : ℕ → ℕ → ℕ → ℕ → ℕ) (counted : AreCounted s queries given entry) where
   abbrev counts : ℕ → ℕ → ℕ → ℕ → ℕ
   counts = trained_entry s queries given
 

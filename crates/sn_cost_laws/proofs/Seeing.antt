@@ -4,12 +4,12 @@ use Rattle.std.specs.Option.{option_map}
 use Rattle.std.proofs.lemmas.List.{length-take-le}
 use Rattle.sn_base.specs.Groups.{Row}
 use Rattle.sn_cost.specs.Entries as cost
-use Rattle.sn_engine_lockstep.specs.Windows.{count_of, piece_count, seen_at}
+use Rattle.sn_engine_lockstep.specs.Windows.{count_of, piece_count}
 use Rattle.sn_engine_lockstep.proofs.Apart.{place_is}
 use Rattle.sn_emit.specs.Plans.{placed}
 use Rattle.sn_plan_fit.specs.Paths.{is_among, place_in}
 use Rattle.sn_plan_grammar.specs.declared.plan.Piece.{Piece}
-use Rattle.sn_refine.specs.Refined.{Windows, answered, before, level_rows, refined_rows}
+use Rattle.sn_refine.specs.Refined.{Windows, answered, before, level_rows, refined_rows, seen_at}
 use Rattle.sn_types.specs.declared.typed_query.TypedQuery.{TypedQuery}
 use Rattle.sn_types.specs.Typed.{query_at}
 
@@ -33,7 +33,7 @@ module _ (query : TypedQuery) (windows : Windows) (path : List ℕ) (k : ℕ) wh
       ∙ ap (λ (rows : List Row). level_rows query (slice_index path (suc j)) (option_map (answered query (slice_index path j) rows) (windows w)))
       (before_same (refined_rows query windows (take k path) j) (refined_rows query windows path j) (refined_same j less) w)
 
-  seen_same : (j : ℕ) → j < k → (w : ℕ) → cost.seen_at query windows (take k path) j w ≡ seen_at query windows path j w
+  seen_same : (j : ℕ) → j < k → (w : ℕ) → seen_at query windows (take k path) j w ≡ seen_at query windows path j w
   seen_same zero lt w = refl
   seen_same (suc j) lt w =
       let less : j < k = omega (arith, lt) in
@@ -58,7 +58,7 @@ piece_sent queries depth n windows path front p w among is =
     let last : length (take (suc j) path) - 1 ≡ j = omega (arith, long) in
     let less : j < suc j = omega arith in
     ap (λ (xs : List ℕ). cost.sent_in query windows xs p.branch depth (p.cut, p.slots) w) is
-    ∙ ap (λ (m : ℕ). cost.sent_of query p.branch (slice_index (take (suc j) path) m) depth (p.cut, p.slots) (cost.seen_at query windows (take (suc j) path) m w)) last
-    ∙ ap (λ (level : ℕ). cost.sent_of query p.branch level depth (p.cut, p.slots) (cost.seen_at query windows (take (suc j) path) j w)) (take_index path (suc j) j less ∙ at.is)
+    ∙ ap (λ (m : ℕ). cost.sent_of query p.branch (slice_index (take (suc j) path) m) depth (p.cut, p.slots) (seen_at query windows (take (suc j) path) m w)) last
+    ∙ ap (λ (level : ℕ). cost.sent_of query p.branch level depth (p.cut, p.slots) (seen_at query windows (take (suc j) path) j w)) (take_index path (suc j) j less ∙ at.is)
     ∙ ap (cost.sent_of query p.branch p.level depth (p.cut, p.slots)) (seen_same query windows path (suc j) j less w)
     ∙ sent_same queries depth n path p (seen_at query windows path j w)

@@ -3,9 +3,9 @@ use Rattle.std.proofs.Common.{◌≡◌, ℕ, ◌+◌, ◌-◌, ◌^◌, List, [
 use Rattle.std.proofs.lemmas.List.Sums.{sum_by-cons}
 use Rattle.sn_emit.specs.declared.sender.Sender.{Sender}
 use Rattle.sn_emit.specs.Lanes.{emitted_by}
-use Rattle.sn_emit.specs.Senders.{capped}
+use Rattle.sn_plan_fit.specs.Capped.{capped}
 
-sum-cons : (n : ℕ) (ns : List ℕ) → sum (n ∷ ns) ≡ n + sum ns
+pub sum-cons : (n : ℕ) (ns : List ℕ) → sum (n ∷ ns) ≡ n + sum ns
 sum-cons n ns = sum_by-cons (λ x. x) n ns
 
 min_sum : (m n a b : ℕ) → min a m ≡ min b m → min (min n m + a) m ≡ min (n + b) m

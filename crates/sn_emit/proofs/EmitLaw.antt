@@ -15,8 +15,9 @@ use Rattle.sn_types.specs.Typed.{HasWidths, IsTyped, branch_at, query_at}
 use Rattle.sn_emit.specs.declared.sender.Sender.{Sender}
 use Rattle.sn_emit.specs.Plans.{IsLaneOf, Placed, items_of, level_before}
 use Rattle.sn_emit.specs.Runs.{ReadsOut}
-use Rattle.sn_emit.specs.Senders.{capped, packet_frames, row_frame, sender_after, sender_start}
+use Rattle.sn_emit.specs.Senders.{packet_frames, row_frame, sender_after, sender_start}
 use Rattle.sn_emit.proofs.LaneLaw.{window_count, window_frames}
+use Rattle.sn_plan_fit.specs.Capped.{capped}
 
 module _ (window depth number : ℕ) (queries : List TypedQuery) (x : Placed) (s t : Sender) (kept : set.FinSet nat_cmp) (tuples : List (List ℕ)) (frames : List Frame)
     (typed : ∥ IsTyped window queries ∥₁) (lt : x.query < length queries) (within : x.piece.branch < length (query_at queries x.query).branches)

@@ -1,6 +1,6 @@
 -- What a lane gives over a window.
 use Rattle.std.proofs.Common.{◌≡◌, ℕ, ◌+◌, List, [], ◌∷◌, ◌++◌, map, drop, length, false, cond, Option, Some, None, slice_get, refl, ap, sym, ◌∙◌, append_assoc, arith}
-use Rattle.std.specs.Option.{option_map}
+use Rattle.std.specs.Option.{option_map, option_to_list}
 use Rattle.std.proofs.lemmas.List.{length-append, map-append}
 use Rattle.sn_base.specs.declared.lane.Lane.{Lane}
 use Rattle.sn_report.specs.declared.frame.Frame.{Frame}
@@ -8,30 +8,30 @@ use Rattle.sn_report.specs.declared.frame.Frame.TheVariants.{End}
 use Rattle.sn_report.specs.declared.frame.Item.{Item}
 use Rattle.sn_pipe.specs.Pipes.{PipeState, after_packet, after_packets, item_of, packets_give}
 use Rattle.sn_pipe.specs.Prefixes.{left_in}
-use Rattle.sn_pipe.specs.Windows.{option_list}
+use Rattle.sn_plan_fit.specs.Capped.{capped}
 use Rattle.sn_emit.specs.declared.sender.Sender.{Sender}
 use Rattle.sn_emit.specs.Runs.{ReadsOut}
-use Rattle.sn_emit.specs.Senders.{capped, counted, frames_left, packet_frames, row_frame, sender_after, sender_next}
+use Rattle.sn_emit.specs.Senders.{counted, frames_left, packet_frames, row_frame, sender_after, sender_next}
 
-one_frame : (lane : Lane) (o : Option Item) (items : List Item) → option_list (option_map (row_frame lane) o) ++ map (row_frame lane) items ≡ map (row_frame lane) (option_list o ++ items)
+one_frame : (lane : Lane) (o : Option Item) (items : List Item) → option_to_list (option_map (row_frame lane) o) ++ map (row_frame lane) items ≡ map (row_frame lane) (option_to_list o ++ items)
 one_frame lane None items = refl
 one_frame lane (Some item) items = refl
 
 frames_are : (s : Sender) (tuples : List (List ℕ)) → packet_frames s tuples ≡ map (row_frame s.lane) (packets_give s.pipe tuples)
 frames_are s [] = refl
 frames_are s (tuple ∷ tuples) =
-    ap (λ xs. option_list (option_map (row_frame s.lane) (item_of s.pipe tuple)) ++ xs) (frames_are (sender_next s tuple) tuples)
+    ap (λ xs. option_to_list (option_map (row_frame s.lane) (item_of s.pipe tuple)) ++ xs) (frames_are (sender_next s tuple) tuples)
     ∙ one_frame s.lane (item_of s.pipe tuple) (packets_give (after_packet s.pipe tuple) tuples)
 
-same_lane : (s : Sender) (tuples : List (List ℕ)) → (sender_after s tuples).lane ≡ s.lane
+pub same_lane : (s : Sender) (tuples : List (List ℕ)) → (sender_after s tuples).lane ≡ s.lane
 same_lane s [] = refl
 same_lane s (tuple ∷ tuples) = same_lane (sender_next s tuple) tuples
 
-same_end : (s : Sender) (tuples : List (List ℕ)) → (sender_after s tuples).ended ≡ s.ended
+pub same_end : (s : Sender) (tuples : List (List ℕ)) → (sender_after s tuples).ended ≡ s.ended
 same_end s [] = refl
 same_end s (tuple ∷ tuples) = same_end (sender_next s tuple) tuples
 
-pipe_after : (s : Sender) (tuples : List (List ℕ)) → (sender_after s tuples).pipe ≡ after_packets s.pipe tuples
+pub pipe_after : (s : Sender) (tuples : List (List ℕ)) → (sender_after s tuples).pipe ≡ after_packets s.pipe tuples
 pipe_after s [] = refl
 pipe_after s (tuple ∷ tuples) = pipe_after (sender_next s tuple) tuples
 
@@ -72,14 +72,14 @@ window_frames window s t tuples frames open_end h =
 -- ---- counts
 
 -- one more, or none
-more : (given n : ℕ) (o : Option Item) → given ≡ capped n → counted given o ≡ capped (n + length (option_list o))
+more : (given n : ℕ) (o : Option Item) → given ≡ capped n → counted given o ≡ capped (n + length (option_to_list o))
 more given n None h = h ∙ ap capped (omega arith)
 more given n (Some item) h = omega (arith, h)
 
 count_after : (s : Sender) (n : ℕ) (tuples : List (List ℕ)) → s.given ≡ capped n → (sender_after s tuples).given ≡ capped (n + length (packets_give s.pipe tuples))
 count_after s n [] h = h ∙ ap capped (omega arith)
 count_after s n (tuple ∷ tuples) h =
-    let first = option_list (item_of s.pipe tuple) in
+    let first = option_to_list (item_of s.pipe tuple) in
     let rest = packets_give (after_packet s.pipe tuple) tuples in
     let both = length-append first rest in
     count_after (sender_next s tuple) (n + length first) tuples (more s.given n (item_of s.pipe tuple) h) ∙ ap capped (omega (arith, both))
@@ -97,12 +97,12 @@ count_read window s t n [] h e =
     no_row (x ∷ xs) is = cc
 count_read window s t n (frame ∷ frames) h e =
     let items : List Item = left_in s.pipe.prefix in
-    let step : h.0.given ≡ capped (n + length (option_list (slice_get items 0))) = h.1.counts ∙ more s.given n (slice_get items 0) e in
-    count_read window h.0 t (n + length (option_list (slice_get items 0))) frames h.2 step
-    ∙ ap (λ (xs : List Item). capped (n + length (option_list (slice_get items 0)) + length xs)) h.1.rows
+    let step : h.0.given ≡ capped (n + length (option_to_list (slice_get items 0))) = h.1.counts ∙ more s.given n (slice_get items 0) e in
+    count_read window h.0 t (n + length (option_to_list (slice_get items 0))) frames h.2 step
+    ∙ ap (λ (xs : List Item). capped (n + length (option_to_list (slice_get items 0)) + length xs)) h.1.rows
     ∙ ap capped (one_less items)
   where
-    one_less : (xs : List Item) → n + length (option_list (slice_get xs 0)) + length (drop 1 xs) ≡ n + length xs
+    one_less : (xs : List Item) → n + length (option_to_list (slice_get xs 0)) + length (drop 1 xs) ≡ n + length xs
     one_less [] = omega arith
     one_less (x ∷ xs) = omega arith
 

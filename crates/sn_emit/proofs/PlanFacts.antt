@@ -6,7 +6,7 @@ use Rattle.std.proofs.Math.Logic.{∥∥₁_elim}
 use Rattle.std.proofs.lemmas.Bool.{ltb-true}
 use Rattle.std.proofs.lemmas.List.{length-append, length-map}
 use Rattle.std.proofs.lemmas.List.Elements.{All-from_recursion}
-use Rattle.sn_base.proofs.Lists.{all_append, all_filter, all_map, all_weaker, by_test, nat_same, nat_self, or_right}
+use Rattle.sn_base.proofs.Lists.{all_append, all_filter, all_map, all_weaker, by_test, nat_same, nat_self, or_right, all_two, all_unmap, all_at}
 use Rattle.sn_fields.specs.declared.field.Field.{Field}
 use Rattle.sn_query_grammar.specs.declared.ast.Refine.{Refine}
 use Rattle.sn_query_grammar.specs.Limits.{RefineLimits}
@@ -29,6 +29,7 @@ use Rattle.sn_types.proofs.RefinedLemmas.{refined_alike}
 use Rattle.sn_types.proofs.Sources.{source_of}
 use Rattle.sn_emit.specs.Making.{CanMake}
 use Rattle.sn_emit.specs.Plans.{Placed, pieces_from, placed}
+use Rattle.sn_plan_fit.proofs.Bounds.{level_length, places_length}
 
 -- ---- places in a path
 
@@ -118,12 +119,7 @@ all_among P (m ∷ ls) l h e =
     (λ is. subst P (sym (nat_same l m is)) h.0)
     (λ isnt. all_among P ls l h.1 (sym (ap (λ b. b || list_any (nat_eq l) ls) isnt) ∙ e))
 
-all_at : (P : ℕ → Type 0) (ls : List ℕ) (i : ℕ) → AllByRecursion P ls → i < length ls → P (slice_index ls i)
-all_at P [] i h lt = absurd (omega (arith, lt))
-all_at P (l ∷ ls) zero h lt = h.0
-all_at P (l ∷ ls) (suc i) h lt = all_at P ls i h.1 (omega (arith, lt))
-
-self_known : (path : List ℕ) → AllByRecursion (λ l. is_among path l ≡ true) path
+pub self_known : (path : List ℕ) → AllByRecursion (λ l. is_among path l ≡ true) path
 self_known [] = tt
 self_known (l ∷ path) = (
   ap (λ b. b || list_any (nat_eq l) path) (nat_self l),
@@ -170,26 +166,6 @@ places_placed : (whole : List ℕ) (bs : List TypedBranch) (path : List ℕ) →
 places_placed whole bs [] h = tt
 places_placed whole bs (level ∷ path) h =
     all_append (IsPlaced whole (length bs)) (level_places level 0 bs) (places bs path) (level_placed whole level 0 (length bs) bs h.0 (omega arith)) (places_placed whole bs path h.1)
-
-level_count : (level n : ℕ) (bs : List TypedBranch) → length (level_places level n bs) ≡ length bs
-level_count level n [] = refl
-level_count level n (b ∷ bs) = ap suc (level_count level (n + 1) bs)
-
-places_few : (bs : List TypedBranch) (path : List ℕ) → length bs ≤ 2 → length (places bs path) ≤ 2 * length path
-places_few bs [] h = omega arith
-places_few bs (l ∷ path) h =
-    let rest = places_few bs path h in
-    let here = level_count l 0 bs in
-    let whole = length-append (level_places l 0 bs) (places bs path) in
-    omega (arith, rest, here, whole, h)
-
-unmapped : {X Y : Type 0} (P : Y → Type 0) (f : X → Y) (xs : List X) → AllByRecursion P (map f xs) → AllByRecursion (λ x. P (f x)) xs
-unmapped P f [] h = tt
-unmapped P f (x ∷ xs) h = (h.0, unmapped P f xs h.1)
-
-both : {X : Type 0} (P Q R : X → Type 0) → ((x : X) → P x → Q x → R x) → (xs : List X) → AllByRecursion P xs → AllByRecursion Q xs → AllByRecursion R xs
-both P Q R f [] h k = tt
-both P Q R f (x ∷ xs) h k = (f x h.0 k.0, both P Q R f xs h.1 k.1)
 
 on_branch_at : (P : TypedBranch → Type 0) (bs : List TypedBranch) (i : ℕ) → i < length bs → OnBranch P (slice_get bs i) → P (unwrap_or (slice_get bs i) blank_branch)
 on_branch_at P [] i lt h = absurd (omega (arith, lt))
@@ -241,13 +217,13 @@ module _ (window : ℕ) (queries : List TypedQuery) (s : Switch) (t : ∥ IsType
   entry_can q e lt entry fits =
       let count = length (query_at queries q).branches in
       let at : AllByRecursion (IsPlaced e.levels count) (map piece_place e.pieces) = subst (AllByRecursion (IsPlaced e.levels count)) (sym entry.pieces) (places_placed e.levels (query_at queries q).branches e.levels (self_known e.levels)) in
-      both (λ (p : Piece). IsPlaced e.levels count (piece_place p)) (λ (p : Piece). OnBranch (λ b. PieceFits s e.levels b p) (piece_branch (query_at queries q) p)) (λ (p : Piece). CanMake queries (placed q e.levels p))
-      (λ p at fits. piece_can q e p lt entry at fits) e.pieces (unmapped (IsPlaced e.levels count) piece_place e.pieces at) fits
+      all_two (λ (p : Piece). IsPlaced e.levels count (piece_place p)) (λ (p : Piece). OnBranch (λ b. PieceFits s e.levels b p) (piece_branch (query_at queries q) p)) (λ (p : Piece). CanMake queries (placed q e.levels p))
+      (λ p at fits. piece_can q e p lt entry at fits) e.pieces (all_unmap (IsPlaced e.levels count) piece_place e.pieces at) fits
 
   entry_few : (q : ℕ) (e : Entry) → q < length queries → IsEntryOf (query_at queries q) e → length e.pieces ≤ 8
   entry_few q e lt entry =
       let query = query_at queries q in
-      let most = places_few query.branches e.levels (few_branches window queries q t lt) in
+      let most = places_length query.branches e.levels (few_branches window queries q t lt) in
       let within = path_few query.levels e.levels entry.path.rising entry.path.known in
       let few = levels_few window queries q t lt in
       let four = four_at_most (is_some query.field) in

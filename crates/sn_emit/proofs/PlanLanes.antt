@@ -76,7 +76,7 @@ module _ (queries : List TypedQuery) (depth : ℕ) where
       ∙ ap (λ (n : ℕ). record p { members = set.empty; prefix = record p.prefix { place = n } }) (sym new.unread)
       ∙ ap (λ (m : set.FinSet nat_cmp). record p { members = m }) (sym new.no_member)
 
-  pipe_start : (x : Placed) (s : Sender) → IsNewLane queries depth x s → at_start s.pipe set.empty ≡ s.pipe
+  pub pipe_start : (x : Placed) (s : Sender) → IsNewLane queries depth x s → at_start s.pipe set.empty ≡ s.pipe
   pipe_start x s new = start_of_new _ _ _ _ _ _ s.pipe new.pipe
 
   lane_of_new : (x : Placed) (s : Sender) → IsNewLane queries depth x s → IsLaneOf queries depth x s

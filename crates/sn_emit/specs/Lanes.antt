@@ -4,7 +4,7 @@ use Rattle.std.specs.Prelude.{ℕ, ◌≤◌, List, map, length, sum}
 use Rattle.std.specs.List.{AllByRecursion}
 use Rattle.sn_emit.specs.Making.{InRange}
 use Rattle.sn_emit.specs.declared.sender.Sender.{Sender}
-use Rattle.sn_emit.specs.Senders.{capped}
+use Rattle.sn_plan_fit.specs.Capped.{capped}
 
 -- the sum of what the lanes gave, or the greatest number of 64 bits where the sum is above it
 abbrev pub emitted_by : List Sender → ℕ

@@ -41,7 +41,8 @@ level_before path level = if place_in path level == 0 then None else Some (slice
 -- a pipe is that of a piece, as it was made
 abbrev pub IsNewPipeOf : List TypedQuery → ℕ → Placed → PipeState → Type 0
 IsNewPipeOf queries depth x pipe =
-    IsNewPipe (query_at queries x.query) x.piece.branch x.piece.level (level_before x.path x.piece.level) (take x.piece.cut (branch_at queries x.query x.piece.branch).ops) depth x.piece.slots pipe
+    IsNewPipe (query_at queries x.query) x.piece.branch x.piece.level (level_before x.path x.piece.level)
+    (take x.piece.cut (branch_at queries x.query x.piece.branch).ops) depth x.piece.slots pipe
 
 -- a lane is that of a piece: it has its name, and at the start of a window its pipe is as it was made, but for the prefix set
 pub record IsLaneOf (queries : List TypedQuery) (depth : ℕ) (x : Placed) (s : Sender) : Type 0 where

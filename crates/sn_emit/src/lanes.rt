@@ -11,11 +11,10 @@ ghost use Rattle.sn_pipe.specs.Pipes.{item_of};
 ghost use Rattle.sn_switch.specs.Texts.{IsSwitch};
 ghost use Rattle.sn_types.specs.declared.typed_query.TypedQuery.{TypedQuery};
 
-use crate::making::push_senders;
+use crate::making::senders;
 use crate::sender::Sender;
 use sn_base::members::Members;
 use sn_base::memory::Memory;
-use sn_base::seq::Seq;
 use sn_fields::tuple::Tuple;
 use sn_plan_grammar::plan::Plan;
 use sn_report::frame::Frame;
@@ -65,16 +64,8 @@ impl Emitter {
         requires fits { Fits t.now.queries s.now plan.now.entries }
         ensures { IfOk result (λ lanes. AreNewLanes t.now.queries s.now.chain (pieces_from 0 plan.now.entries) lanes) }
     {
-        let mut lanes = Seq::new(t.alloc);
-        let mut q = 0;
-        for entry in plan.entries.as_slice() {
-            let path = entry.levels.as_slice();
-            push_senders(&mut lanes, t, s.chain, q, path, entry.pieces.as_slice())?;
-            q += 1;
-        }
-        Ok(Emitter {
-            lanes: lanes.into_vec(),
-        })
+        let lanes = senders(t, s, plan)?;
+        Ok(Emitter { lanes })
     }
 
     /// How many lanes there are: one for each piece, at most 64.
@@ -90,7 +81,8 @@ impl Emitter {
         requires unread { IfSome (slice_get self.old lane) (λ s. s.pipe.prefix.place ≡ 0) }
         ensures frame { IfSome (slice_get self.old lane) (λ s. result ≡ option_map (row_frame s.lane) (item_of s.pipe tuple.now)) }
         ensures after { IfSome (slice_get self.old lane) (λ s. self.new ≡ slice_set self.old lane (sender_next s tuple.now)) }
-        ensures lanes { (queries : List TypedQuery) (depth : ℕ) (pieces : List Placed) → AreLanesOf queries depth pieces self.old → AreLanesOf queries depth pieces self.new }
+        ensures lanes { (queries : List TypedQuery) (depth : ℕ) (pieces : List Placed) → AreLanesOf queries depth pieces self.old →
+            AreLanesOf queries depth pieces self.new }
         ensures range { IfSome result CanEncode }
     {
         self.lanes[lane as usize].packet(tuple)
@@ -102,7 +94,8 @@ impl Emitter {
         ensures frame { IfSome (slice_get self.old lane) (λ s. IfSome (slice_get self.new lane) (λ t. IsReadOut window s result t)) }
         ensures count { length self.new ≡ length self.old }
         ensures others { (other : ℕ) → other ≢ lane → slice_get self.new other ≡ slice_get self.old other }
-        ensures lanes { (queries : List TypedQuery) (depth : ℕ) (pieces : List Placed) → AreLanesOf queries depth pieces self.old → AreLanesOf queries depth pieces self.new }
+        ensures lanes { (queries : List TypedQuery) (depth : ℕ) (pieces : List Placed) → AreLanesOf queries depth pieces self.old →
+            AreLanesOf queries depth pieces self.new }
         ensures range { IfSome result CanEncode }
     {
         self.lanes[lane as usize].read_out(window)
@@ -112,7 +105,8 @@ impl Emitter {
     pub fn next_window(&mut self, lane: u32, kept: Members)
         requires { lane < length self.old }
         ensures after { IfSome (slice_get self.old lane) (λ s. self.new ≡ slice_set self.old lane (sender_start s kept)) }
-        ensures lanes { (queries : List TypedQuery) (depth : ℕ) (pieces : List Placed) → AreLanesOf queries depth pieces self.old → AreLanesOf queries depth pieces self.new }
+        ensures lanes { (queries : List TypedQuery) (depth : ℕ) (pieces : List Placed) → AreLanesOf queries depth pieces self.old →
+            AreLanesOf queries depth pieces self.new }
     {
         self.lanes[lane as usize].next_window(kept);
     }

@@ -2,7 +2,9 @@
 ghost use Rattle.std.specs.Prelude.{◌≡◌, ◌≤◌, ◌++◌, ℕ, List, length, map, IfOk, OnOk};
 ghost use Rattle.std.specs.List.{AllByRecursion};
 ghost use Rattle.sn_emit.specs.Making.{CanMake, InRange};
-ghost use Rattle.sn_emit.specs.Plans.{AreNewLanes, IsNewLane, Placed, lane_of, level_before, placed};
+ghost use Rattle.sn_emit.specs.Plans.{AreNewLanes, IsNewLane, Placed, lane_of, level_before, pieces_from, placed};
+ghost use Rattle.sn_plan_fit.specs.Fits.{Fits};
+ghost use Rattle.sn_switch.specs.Texts.{IsSwitch};
 
 use crate::sender::Sender;
 use sn_base::lane::Lane;
@@ -10,7 +12,8 @@ use sn_base::memory::Memory;
 use sn_base::seq::Seq;
 use sn_pipe::pipe::Pipe;
 use sn_plan_fit::place_in;
-use sn_plan_grammar::plan::Piece;
+use sn_plan_grammar::plan::{Piece, Plan};
+use sn_switch::switch::Switch;
 use sn_types::typed::Typed;
 
 /// The level before a level on a path. `None` exactly where it is the first.
@@ -69,7 +72,7 @@ fn sender(t: &Typed, chain: u32, q: u32, path: &[u32], piece: &Piece) -> Result<
 }
 
 /// Adds a lane for each of these pieces of an entry.
-pub(crate) fn push_senders(
+fn push_senders(
     lanes: &mut Seq<Sender>,
     t: &Typed,
     chain: u32,
@@ -81,10 +84,27 @@ pub(crate) fn push_senders(
     requires most_depth { chain ≤ 4 }
     requires path { length path.now ≤ 8 }
     requires can { AllByRecursion (λ piece. CanMake t.now.queries (placed q path.now piece)) pieces.now }
-    ensures { OnOk result ((done : List Placed) → AreNewLanes t.now.queries chain done lanes.old → AreNewLanes t.now.queries chain (done ++ map (placed q path.now) pieces.now) lanes.new) }
+    ensures { OnOk result ((done : List Placed) → AreNewLanes t.now.queries chain done lanes.old →
+        AreNewLanes t.now.queries chain (done ++ map (placed q path.now) pieces.now) lanes.new) }
 {
     for piece in pieces {
         lanes.push(sender(t, chain, q, path, piece)?)?;
     }
     Ok(())
+}
+
+/// The lanes of a plan that fits, one for each piece in the plan's order, each at the start of a window, with an empty prefix set.
+pub fn senders(t: &Typed, s: &Switch, plan: &Plan) -> Result<Vec<Sender>, Memory>
+    requires switch { IsSwitch s.now }
+    requires fits { Fits t.now.queries s.now plan.now.entries }
+    ensures { IfOk result (λ lanes. AreNewLanes t.now.queries s.now.chain (pieces_from 0 plan.now.entries) lanes.items) }
+{
+    let mut lanes = Seq::new(t.alloc);
+    let mut q = 0;
+    for entry in plan.entries.as_slice() {
+        let path = entry.levels.as_slice();
+        push_senders(&mut lanes, t, s.chain, q, path, entry.pieces.as_slice())?;
+        q += 1;
+    }
+    Ok(lanes.into_vec())
 }

@@ -5,8 +5,9 @@ ghost use Rattle.std.specs.Option.{option_map};
 ghost use Rattle.std.specs.Ordering.{nat_cmp};
 ghost use Rattle.sn_emit.specs.Making.{CanEncode, InRange};
 ghost use Rattle.sn_emit.specs.Runs.{IsReadOut};
-ghost use Rattle.sn_emit.specs.Senders.{counted, row_frame, sender_next, sender_start};
+ghost use Rattle.sn_emit.specs.Senders.{ended_after, row_frame, sender_next, sender_start};
 ghost use Rattle.sn_pipe.specs.Pipes.{at_start, item_of};
+ghost use Rattle.sn_pipe.specs.Prefixes.{left_in};
 
 use sn_base::lane::Lane;
 use sn_base::members::Members;
@@ -29,6 +30,7 @@ pub struct Sender {
 
 impl Sender {
     /// Takes a tuple, before any read-out. `Some` exactly where the pipe gives an item. Takes no memory.
+    #[inline(always)]
     pub fn packet(&mut self, tuple: &Tuple) -> Option<Frame>
         requires { self.old.pipe.prefix.place ≡ 0 }
         ensures frame { result ≡ option_map (row_frame self.old.lane) (item_of self.old.pipe tuple.now) }
@@ -49,6 +51,8 @@ impl Sender {
         ensures frame { IsReadOut window self.old result self.new }
         ensures lane { self.new.lane ≡ self.old.lane }
         ensures pipe { (kept : set.FinSet nat_cmp) → at_start self.new.pipe kept ≡ at_start self.old.pipe kept }
+        ensures rest { self.new.pipe ≡ record self.old.pipe { prefix = record self.old.pipe.prefix { place = self.new.pipe.prefix.place } } }
+        ensures ended { self.new.ended ≡ ended_after self.old.ended (slice_get (left_in self.old.pipe.prefix) 0) }
         ensures range { InRange self.old.lane → IfSome result CanEncode }
     {
         if let Some(item) = self.pipe.read_out_next() {

@@ -3,7 +3,7 @@ use Rattle.std.proofs.Common.{◌≡◌, ℕ, ◌+◌, ◌==◌, List, [], ◌�
 use Rattle.std.specs.List.{AllByRecursion, find, list_all, list_any}
 use Rattle.std.specs.Option.{option_map_or}
 use Rattle.std.proofs.lemmas.Bool.{and_parts, false≢true}
-use Rattle.sn_base.proofs.Lists.{by_test, nat_same, all_append}
+use Rattle.sn_base.proofs.Lists.{by_test, nat_same, all_append, and_both}
 use Rattle.sn_base.specs.declared.lane.Lane.{Lane}
 use Rattle.sn_plan_grammar.specs.declared.plan.Entry.{Entry}
 use Rattle.sn_plan_grammar.specs.declared.plan.Piece.{Piece}
@@ -35,9 +35,6 @@ some_where (Some n) e = refl
 
 or_true : (a b : Bool) → (a || b) ≡ true → a ≡ false → b ≡ true
 or_true a b h isnt = sym (ap (λ x. x || b) isnt) ∙ h
-
-and_true : (a b : Bool) → a ≡ true → b ≡ true → (a && b) ≡ true
-and_true a b h k = ap (λ x. x && b) h ∙ k
 
 -- ---- lanes without an End
 
@@ -104,8 +101,8 @@ all_ended_so test window [] all = refl
 all_ended_so test window (x ∷ lanes) all =
     let parts = and_parts (agrees window x) (list_all (agrees window) lanes) all in
     elim (test x) as (λ b. list_all (agrees window) (cond b (with_end window x ∷ lanes) (x ∷ with_first test (with_end window) lanes)) ≡ true) [
-      | true ↦ and_true (window == window) (list_all (agrees window) lanes) (eq-eqb window window refl) parts.1
-      | false ↦ and_true (agrees window x) (list_all (agrees window) (with_first test (with_end window) lanes)) parts.0 (all_ended_so test window lanes parts.1)
+      | true ↦ and_both (window == window) (list_all (agrees window) lanes) (eq-eqb window window refl) parts.1
+      | false ↦ and_both (agrees window x) (list_all (agrees window) (with_first test (with_end window) lanes)) parts.0 (all_ended_so test window lanes parts.1)
     ]
 
 pub end_agrees : (test : Intake → Bool) (window : ℕ) (lanes : List Intake) → list_all (agrees window) lanes ≡ true → EndsAgree (with_first test (with_end window) lanes)
@@ -114,7 +111,7 @@ end_agrees test window lanes all = λ other any.
     let same = one_window window other (with_first test (with_end window) lanes) now any in
     subst (λ (w : ℕ). list_all (agrees w) (with_first test (with_end window) lanes) ≡ true) (sym same) now
 
-none_some : {f : TakeFault} → Some f ≡ None → ⊥
+pub none_some : {f : TakeFault} → Some f ≡ None → ⊥
 none_some e = cc
 
 all_of : (a b c : Bool) → cond a (Some AfterEnd) (cond (not (b && c)) (Some Window) None) ≡ None → c ≡ true
@@ -139,7 +136,7 @@ all_some (x ∷ lanes) none =
     let open_at : Intake → Bool = λ (y : Intake). is_none y.end in
     by_test (is_none x.end)
     (λ is. absurd (no_some (sym (ap (λ b. cond b (Some x) (find open_at lanes)) is) ∙ none)))
-    (λ isnt. and_true (is_some x.end) (list_all (λ (y : Intake). is_some y.end) lanes) (some_where x.end isnt) (all_some lanes (sym (ap (λ b. cond b (Some x) (find open_at lanes)) isnt) ∙ none)))
+    (λ isnt. and_both (is_some x.end) (list_all (λ (y : Intake). is_some y.end) lanes) (some_where x.end isnt) (all_some lanes (sym (ap (λ b. cond b (Some x) (find open_at lanes)) isnt) ∙ none)))
   where
     no_some : {y : Intake} → Some y ≡ None → ⊥
     no_some e = cc
@@ -149,7 +146,7 @@ all_in window [] some all = refl
 all_in window (x ∷ lanes) some all =
     let s = and_parts (is_some x.end) (list_all (λ (y : Intake). is_some y.end) lanes) some in
     let a = and_parts (agrees window x) (list_all (agrees window) lanes) all in
-    and_true (has_ended window x) (list_all (has_ended window) lanes) (sym (where_some window x.end s.0) ∙ a.0) (all_in window lanes s.1 a.1)
+    and_both (has_ended window x) (list_all (has_ended window) lanes) (sym (where_some window x.end s.0) ∙ a.0) (all_in window lanes s.1 a.1)
 
 first_in : (o : Option ℕ) → is_some o ≡ true → option_map_or (λ end. end == unwrap_or o 0) o false ≡ true
 first_in None some = absurd (false≢true some)

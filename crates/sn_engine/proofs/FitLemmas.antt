@@ -10,7 +10,7 @@ use Rattle.sn_base.specs.Columns.{IsOf}
 use Rattle.sn_base.specs.Groups.{Row, once, same_row}
 use Rattle.sn_base.specs.Operators.{Grouping, key_of, pair_of, parted, row_for}
 use Rattle.sn_base.specs.declared.column.Column.{Column}
-use Rattle.sn_base.proofs.Lists.{all_append, all_map, all_weaker}
+use Rattle.sn_base.proofs.Lists.{all_append, all_map, all_weaker, all_front}
 use Rattle.sn_base.proofs.GroupLemmas.{AllHad, keys, total, total_had}
 use Rattle.sn_base.proofs.OnceLemmas.{all_once}
 use Rattle.sn_query_grammar.specs.declared.ast.Op.{Op}
@@ -25,20 +25,20 @@ use Rattle.sn_types.specs.Typed.{IsTyped, query_at, branch_at, schema_at, end_co
 use Rattle.sn_types.specs.Typing.{schemas_along, typed_op, typed_ops}
 use Rattle.sn_types.specs.Values.{op_at}
 use Rattle.sn_types.proofs.Facts.{branch_source_of, few_packet_fields}
-use Rattle.sn_types.proofs.Known.{IsKnown, all_front}
+use Rattle.sn_types.proofs.Known.{IsKnown}
 use Rattle.sn_types.proofs.RowsAfter.{AreOf, named_of, rows_after, value_had}
 use Rattle.sn_types.proofs.Schemas.{IsSchema, columns_along, packet_schema, reduced_whole, schema_after}
 use Rattle.sn_types.proofs.Sound.{IsSound, AreSound, sound_branch}
-use Rattle.sn_types.proofs.TypedRows.{end_along}
+use Rattle.sn_types.proofs.TypedRows.{end_along, first_along as first_schema}
 use Rattle.sn_ops.specs.Flow.{Fits}
 use Rattle.sn_ops.proofs.Branches.{are_of_prop}
-use Rattle.sn_ops.proofs.Fitting.{fit_along, all_fit_prop}
+use Rattle.sn_ops.proofs.Fitting.{fit_along, all_fit_prop, fits_prop, has_prop}
 use Rattle.sn_report.specs.declared.frame.Item.{Item}
 use Rattle.sn_pipe_items.specs.Value.{is_at, is_partial, rows_with, taken, finish}
 use Rattle.sn_pipe_items.proofs.ValueBag.{IsHeld, PartialHad}
 use Rattle.sn_engine_split.specs.Branches.{branch_value, tag_columns, IsItemOf}
-use Rattle.sn_engine_split.proofs.Typed.{has_prop, rows_at, rows_partial}
-use Rattle.sn_engine_split.proofs.TypedItems.{RowsFrom, first_schema, grouping, of_front, partial_had, parts_here, rows_later, rows_next, with_fold}
+use Rattle.sn_engine_split.proofs.Typed.{rows_at, rows_partial}
+use Rattle.sn_engine_split.proofs.TypedItems.{RowsFrom, grouping, of_front, partial_had, parts_here, rows_later, rows_next, with_fold}
 use Rattle.sn_engine.specs.Fitting.{PartsFit, ItemsFit}
 
 -- ---- Partial rows
@@ -105,10 +105,6 @@ finishes level i columns (op ∷ ops) found into h s rows of =
 
 -- ---- the items of a typed branch
 
--- these are propositions
-one_fits_prop : (op : TOp) (rows : List Row) → IsProp (Fits op rows)
-one_fits_prop op rows = λ x y. ap (λ (p : Fits op rows × Unit {0}). p.0) (all_fit_prop 0 (op ∷ []) rows (x, tt) (y, tt))
-
 parts_prop : (op : TOp) (parts : List Row) → IsProp (PartsFit op parts)
 parts_prop (ops.Filter conds) parts = hlevel le_prop
 parts_prop (ops.Map cols) parts = hlevel le_prop
@@ -118,7 +114,7 @@ parts_prop (ops.Reduce r) parts = hlevel (le_prop, has_prop)
 items_prop : (level i : ℕ) (os : List TOp) (found : List Item) (into : List Row) → IsProp (ItemsFit level i os found into)
 items_prop level i [] found into = hlevel le_prop
 items_prop level i (op ∷ os) found into =
-    hlevel (one_fits_prop op into, parts_prop op (rows_with (is_partial i) found), items_prop level (suc i) os found (taken (op_at level op) into (rows_with (is_partial i) found) ++ rows_with (is_at (suc i)) found))
+    hlevel (fits_prop op into, parts_prop op (rows_with (is_partial i) found), items_prop level (suc i) os found (taken (op_at level op) into (rows_with (is_partial i) found) ++ rows_with (is_at (suc i)) found))
 
 abbrev first_rows : List Item → List Row
 first_rows found = rows_with (is_at 0) found

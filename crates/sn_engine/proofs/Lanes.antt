@@ -4,7 +4,7 @@ use Rattle.std.specs.List.{AllByRecursion, find}
 use Rattle.std.specs.Option.{option_map_or}
 use Rattle.std.proofs.lemmas.List.{length-map, drop_all, take_all}
 use Rattle.std.proofs.lemmas.List.Sums.{sum_by-cons}
-use Rattle.sn_base.proofs.Lists.{all_append, all_map, all_weaker, nat_same}
+use Rattle.sn_base.proofs.Lists.{all_append, all_map, all_weaker, nat_same, all_unmap, find_is as found_passes}
 use Rattle.sn_base.specs.declared.lane.Lane.{Lane}
 use Rattle.sn_plan_grammar.specs.declared.plan.Entry.{Entry}
 use Rattle.sn_plan_grammar.specs.declared.plan.Piece.{Piece}
@@ -19,12 +19,14 @@ use Rattle.sn_plan_fit.specs.Paths.{Place, piece_place, level_places, places}
 use Rattle.sn_engine.specs.declared.intake.Intake.{Intake}
 use Rattle.sn_engine.specs.Intakes.{intake_for, intakes_of, is_lane, items_at, with_item, with_end, emptied, total, IsIntake, AreIntakes}
 use Rattle.sn_base.specs.Changed.{with_first}
-use Rattle.sn_engine.proofs.Firsts.{all_changed, all_found, all_kept, found_passes, sum_changed, sum_cons, three_parts}
+use Rattle.sn_engine.proofs.Firsts.{all_changed, all_found, all_kept, sum_changed, sum_cons}
 use Rattle.sn_engine.proofs.Columns.{columns_of}
 use Rattle.sn_engine.specs.Taking.{has_columns, row_fault, take_fault}
 use Rattle.sn_engine.specs.declared.fault.TakeFault.{TakeFault}
 use Rattle.sn_engine.specs.declared.fault.TakeFault.TheVariants.{Stranger, Width, AfterEnd}
 use Rattle.sn_report.specs.declared.frame.Frame.TheVariants as frames
+use Rattle.sn_base.proofs.Tests.{three_parts}
+use Rattle.sn_engine.proofs.Ends.{none_some}
 
 -- ---- items of a side
 
@@ -55,12 +57,8 @@ places_within branches [] = tt
 places_within branches (level ∷ path) =
     all_append (Within (length branches)) (level_places level 0 branches) (places branches path) (level_within level 0 (length branches) branches (omega arith)) (places_within branches path)
 
-unmapped : {X Y : Type 0} (P : Y → Type 0) (f : X → Y) (xs : List X) → AllByRecursion P (map f xs) → AllByRecursion (λ x. P (f x)) xs
-unmapped P f [] h = tt
-unmapped P f (x ∷ xs) h = (h.0, unmapped P f xs h.1)
-
 pieces_within : (q : TypedQuery) (e : Entry) → IsEntryOf q e → AllByRecursion (λ (p : Piece). p.branch < length q.branches) e.pieces
-pieces_within q e h = unmapped (Within (length q.branches)) piece_place e.pieces (subst (AllByRecursion (Within (length q.branches))) (sym h.pieces) (places_within q.branches e.levels))
+pieces_within q e h = all_unmap (Within (length q.branches)) piece_place e.pieces (subst (AllByRecursion (Within (length q.branches))) (sym h.pieces) (places_within q.branches e.levels))
 
 -- ---- the lanes of a plan
 
@@ -153,9 +151,6 @@ whole_again change lanes n count =
     ∙ ap (take n) (append-nil (map change lanes)) ∙ take_all n (map change lanes) most
 
 -- ---- lanes after a frame that is taken
-
-none_some : {f : TakeFault} → Some f ≡ None → ⊥
-none_some e = cc
 
 width_of : (a b : Bool) (rest : Option TakeFault) → cond (not a) (Some Stranger) (cond (not b) (Some Width) rest) ≡ None → b ≡ true
 width_of true true rest e = refl

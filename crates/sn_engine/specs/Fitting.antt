@@ -20,4 +20,5 @@ PartsFit (ops.Reduce r) parts = ArePartsOf r parts
 abbrev pub ItemsFit : ℕ → ℕ → List TOp → List Item → List Row → Type 0
 ItemsFit level i [] found into = Unit {0}
 ItemsFit level i (op ∷ ops) found into =
-    Fits op into × PartsFit op (rows_with (is_partial i) found) × ItemsFit level (suc i) ops found (taken (op_at level op) into (rows_with (is_partial i) found) ++ rows_with (is_at (suc i)) found)
+    Fits op into × PartsFit op (rows_with (is_partial i) found)
+    × ItemsFit level (suc i) ops found (taken (op_at level op) into (rows_with (is_partial i) found) ++ rows_with (is_at (suc i)) found)

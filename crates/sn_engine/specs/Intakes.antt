@@ -1,6 +1,7 @@
 -- to be believed
 -- What came of the lanes of a plan.
-use Rattle.std.specs.Prelude.{◌≡◌, ℕ, ◌+◌, ◌<◌, List, [], ◌∷◌, ◌++◌, map, length, sum_by, Bool, true, false, not, ◌&&◌, ◌||◌, ◌==◌, position, Option, None, Some, is_none, is_some, if◌then◌else◌}
+use Rattle.std.specs.Prelude.{◌≡◌, ℕ, ◌+◌, ◌<◌, List, [], ◌∷◌, ◌++◌, map, length, sum_by, Bool, true, false, not, ◌&&◌, ◌||◌, ◌==◌, position, Option, None}
+use Rattle.std.specs.Prelude.{Some, is_none, is_some, if◌then◌else◌}
 use Rattle.std.specs.List.{AllByRecursion, AllByRecursion-prop, find, list_all, list_any}
 use Rattle.std.proofs.Math.Bool.{Bool-set}
 use Rattle.std.proofs.Math.Bridge.{le_prop}
@@ -109,7 +110,11 @@ AreIntakes queries lanes = AllByRecursion (IsIntake queries) lanes
 -- this is a proposition
 intake_prop : (queries : List TypedQuery) (x : Intake) → IsProp (IsIntake queries x)
 intake_prop queries x =
-    hlevel (le_prop, AllByRecursion-prop (IsItemOf (branch_at queries x.query x.branch)) (λ (item : Item). of_prop (tag_columns (branch_at queries x.query x.branch).schemas item.tag) item.row) x.items)
+    hlevel (
+      le_prop,
+      AllByRecursion-prop (IsItemOf (branch_at queries x.query x.branch))
+          (λ (item : Item). of_prop (tag_columns (branch_at queries x.query x.branch).schemas item.tag) item.row) x.items,
+    )
 
 pub are_intakes_prop : (queries : List TypedQuery) (lanes : List Intake) → IsProp (AreIntakes queries lanes)
 are_intakes_prop queries lanes = AllByRecursion-prop (IsIntake queries) (intake_prop queries) lanes

@@ -32,7 +32,8 @@ pub fn items_are_counted()
 pub fn the_order_of_frames_is_free()
     ensures { (window : ℕ) (queries : List TypedQuery) (lanes : List Intake) (frames others : List Frame) → ∥ IsTyped window queries ∥₁ →
         AreIntakes queries (fold after_frame lanes frames) → SameBag frames others →
-        (parts_of queries (fold after_frame lanes frames) ≡ parts_of queries (fold after_frame lanes others)) × (total (fold after_frame lanes frames) ≡ total (fold after_frame lanes others)) }
+        (parts_of queries (fold after_frame lanes frames) ≡ parts_of queries (fold after_frame lanes others)) ×
+        (total (fold after_frame lanes frames) ≡ total (fold after_frame lanes others)) }
 {}
 
 /// Where the items of a lane are those of its prefix, and so are those of the lane of the other branch, on the same

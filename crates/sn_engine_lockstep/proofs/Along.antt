@@ -13,7 +13,7 @@ use Rattle.sn_plan_fit.specs.Paths.{is_among, place_in}
 use Rattle.sn_base.specs.Rising.{IsRising}
 use Rattle.sn_plan_grammar.specs.declared.plan.Entry.{Entry}
 use Rattle.sn_plan_grammar.specs.declared.plan.Piece.{Piece}
-use Rattle.sn_refine.specs.Refined.{Windows, answered, before, level_rows, part_at, refined_parts, refined_rows}
+use Rattle.sn_refine.specs.Refined.{Windows, answered, before, level_rows, part_at, refined_parts, refined_rows, seen_at}
 use Rattle.sn_refine.specs.Steps.{Set, parts_in, prefixes_of, rows_at}
 use Rattle.sn_refine.proofs.Held.{held_answered}
 use Rattle.sn_refine.proofs.Levels.{next_sees, no_rows}
@@ -24,21 +24,15 @@ use Rattle.sn_types.specs.declared.typed_query.TypedQuery.{TypedQuery}
 use Rattle.sn_types.specs.Typed.{query_at}
 use Rattle.sn_engine_lockstep.specs.declared.source.Source.{Source}
 use Rattle.sn_engine_lockstep.specs.Sources.{is_part, kept_in, rows_found, source_at, source_of}
-use Rattle.sn_engine_lockstep.specs.Windows.{Follows, Remembers, count_of, parts_from, piece_count, plan_answers, refined_from, seen_at, window_answers}
+use Rattle.sn_engine_lockstep.specs.Windows.{Follows, Remembers, count_of, parts_from, piece_count, plan_answers, refined_from, window_answers}
 use Rattle.sn_engine_lockstep.proofs.Apart.{levels_known, place_is, rising_index}
 use Rattle.sn_engine_lockstep.proofs.Changes.{all_get}
-use Rattle.sn_engine_lockstep.proofs.Giving.{by_order}
 use Rattle.sn_engine_lockstep.proofs.Finding.{find_behind, find_front, find_number}
 use Rattle.sn_engine_lockstep.proofs.Seeing.{items_seen, seen_by}
+use Rattle.sn_base.proofs.Tests.{and_false_left, and_false_right, by_order}
+use Rattle.sn_refine.proofs.Windows.{no_prefixes}
 
 -- ---- the answers of a query at a level are found
-
-and_false : (a b : Bool) → a ≡ false → (a && b) ≡ false
-and_false a b e = ap (λ c. c && b) e
-
-and_false_right : (a b : Bool) → b ≡ false → (a && b) ≡ false
-and_false_right true b e = e
-and_false_right false b e = refl
 
 module _ (queries : List TypedQuery) (windows : Windows) (v : ℕ) where
   rows_of : ℕ → List ℕ → ℕ → List Row
@@ -46,7 +40,7 @@ module _ (queries : List TypedQuery) (windows : Windows) (v : ℕ) where
 
   others_fail : (q n level : ℕ) (path : List ℕ) (rows : ℕ → List Row) → (n ≡ q → ⊥) → (numbers : List ℕ) → AllByRecursion (λ (p : Part). is_part q level p ≡ false) (map (part_at n path rows) numbers)
   others_fail q n level path rows other [] = tt
-  others_fail q n level path rows other (j ∷ js) = (and_false (n == q) (slice_index path j == level) (not_true (n == q) (λ is. other (nat_same n q is))), others_fail q n level path rows other js)
+  others_fail q n level path rows other (j ∷ js) = (and_false_left (n == q) (slice_index path j == level) (not_true (n == q) (λ is. other (nat_same n q is))), others_fail q n level path rows other js)
 
   found_along : (q : ℕ) (path : List ℕ) (rows : ℕ → List Row) (j : ℕ) → IsRising path → j < length path → find (is_part q (slice_index path j)) (map (part_at q path rows) (range_with_len 0 (length path))) ≡ Some (part_at q path rows j)
   found_along q path rows j rising lt =
@@ -81,9 +75,6 @@ module _ (queries : List TypedQuery) (windows : Windows) (v : ℕ) where
   rows_are_found q es e j at rising lt = ap (λ (o : Option Part). option_map_or (λ (part : Part). part.rows) o []) (found_part q 0 q es e j (omega arith) at rising lt)
 
 -- ---- the prefixes of the window before
-
-no_prefixes : (query : TypedQuery) (rows : List Row) → rows ≡ [] → set.empty ≡ prefixes_of query rows
-no_prefixes query rows none = sym (ap (prefixes_of query) none)
 
 module _ (queries : List TypedQuery) (windows : Windows) (es : List Entry) (q : ℕ) (e : Entry) (at : slice_get es q ≡ Some e) (rising : IsRising e.levels) where
   abbrev query : TypedQuery

@@ -2,7 +2,7 @@
 use Rattle.std.proofs.Common.{◌≡◌, ℕ, zero, suc, ◌+◌, ◌<◌, ◌≤◌, List, [], ◌∷◌, ◌++◌, ◌&&◌, ◌||◌, ◌==◌, map, length, true, false, cond, not, nat_lt, nat_eq, Some, None, unwrap_or, slice_index, refl, ap, sym, ◌∙◌, subst, arith}
 use Rattle.std.specs.List.{AllByRecursion, list_any, position_or_len}
 use Rattle.std.proofs.lemmas.Bool.{and_parts, ltb-true, ltb-false, lt-ltb}
-use Rattle.sn_base.proofs.Lists.{all_append, all_map, all_weaker, by_test, nat_same, nat_self, not_true, or_right}
+use Rattle.sn_base.proofs.Lists.{all_append, all_map, all_weaker, by_test, nat_same, nat_self, not_true, or_right, all_two, all_unmap, all_at}
 use Rattle.sn_emit.specs.Plans.{Placed, lane_of, pieces_from, placed}
 use Rattle.sn_engine.specs.Intakes.{intake_for, is_lane}
 use Rattle.sn_plan_fit.specs.Fits.{AreEntriesOf, IsEntryOf}
@@ -13,6 +13,7 @@ use Rattle.sn_plan_grammar.specs.declared.plan.Piece.{Piece}
 use Rattle.sn_types.specs.declared.typed_query.TypedBranch.{TypedBranch}
 use Rattle.sn_types.specs.declared.typed_query.TypedQuery.{TypedQuery}
 use Rattle.sn_engine_lockstep.specs.Work.{AreApart, intake_of, name_of}
+use Rattle.sn_emit.proofs.PlanFacts.{self_known}
 
 -- ---- places in a path
 
@@ -43,16 +44,10 @@ place_is path level e =
 pub place_level : (path : List ℕ) (level : ℕ) → is_among path level ≡ true → slice_index path (place_in path level) ≡ level
 place_level path level e = (place_is path level e).is
 
--- levels of a rising path
-pub all_index : (P : ℕ → Type 0) (path : List ℕ) (n : ℕ) → AllByRecursion P path → n < length path → P (slice_index path n)
-all_index P [] n h lt = absurd (omega (arith, lt))
-all_index P (l ∷ path) zero h lt = h.0
-all_index P (l ∷ path) (suc n) h lt = all_index P path n h.1 (omega (arith, lt))
-
 pub rising_index : (path : List ℕ) (a b : ℕ) → IsRising path → a < b → b < length path → slice_index path a < slice_index path b
 rising_index [] a b h lt within = absurd (omega (arith, within))
 rising_index (l ∷ path) a zero h lt within = absurd (omega (arith, lt))
-rising_index (l ∷ path) zero (suc b) h lt within = all_index (λ q. l < q) path b h.0 (omega (arith, within))
+rising_index (l ∷ path) zero (suc b) h lt within = all_at (λ q. l < q) path b h.0 (omega (arith, within))
 rising_index (l ∷ path) (suc a) (suc b) h lt within = rising_index path a b h.1 (omega (arith, lt)) (omega (arith, within))
 
 order : {G : Type 0} (a b : ℕ) → (a < b → G) → (b < a → G) → (a ≡ b → G) → G
@@ -75,13 +70,6 @@ index_place path n h lt =
     (λ less. let below = rising_index path p n h less lt in absurd (omega (arith, is, below)))
     (λ more. let above = rising_index path n p h more at.within in absurd (omega (arith, is, above)))
     (λ same. same)
-
-pub self_among : (path : List ℕ) → AllByRecursion (λ l. is_among path l ≡ true) path
-self_among [] = tt
-self_among (l ∷ path) = (
-  ap (λ b. b || list_any (nat_eq l) path) (nat_self l),
-  all_weaker (λ m. is_among path m ≡ true) (λ m. is_among (l ∷ path) m ≡ true) (λ m e. or_right (nat_eq m l) (is_among path m) e) path (self_among path),
-)
 
 -- ---- places of pieces
 
@@ -123,14 +111,6 @@ places_distinct bs (level ∷ path) h =
     (λ p same. all_weaker (λ (r : Place). level < r.0) (Differ p) (λ r above e f. absurd (omega (arith, above, e, same))) (places bs path) (places_all (λ l. level < l) bs path h.0))
     (level_places level 0 bs) (levels_all (λ l. l ≡ level) level 0 bs refl))
 
-pub unmapped : {X Y : Type 0} (P : Y → Type 0) (f : X → Y) (xs : List X) → AllByRecursion P (map f xs) → AllByRecursion (λ x. P (f x)) xs
-unmapped P f [] h = tt
-unmapped P f (x ∷ xs) h = (h.0, unmapped P f xs h.1)
-
-both : {X : Type 0} (P Q R : X → Type 0) → ((x : X) → P x → Q x → R x) → (xs : List X) → AllByRecursion P xs → AllByRecursion Q xs → AllByRecursion R xs
-both P Q R f [] h k = tt
-both P Q R f (x ∷ xs) h k = (f x h.0 k.0, both P Q R f xs h.1 k.1)
-
 -- ---- names
 
 -- two pieces of an entry at different places have different names
@@ -146,8 +126,8 @@ entry_apart : (q : ℕ) (path : List ℕ) (ps : List Piece) → AreDistinct (map
 entry_apart q path [] h known = tt
 entry_apart q path (p ∷ ps) h known = (
   all_map (λ (y : Placed). is_lane (name_of y) (intake_of (placed q path p)) ≡ false) (placed q path) ps
-      (both (λ (r : Piece). Differ (piece_place p) (piece_place r)) (λ (r : Piece). is_among path r.level ≡ true) (λ (r : Piece). is_lane (lane_of q path r) (intake_for q path p) ≡ false)
-      (λ r differ also. names_differ q path p r known.0 also differ) ps (unmapped (Differ (piece_place p)) piece_place ps h.0) known.1),
+      (all_two (λ (r : Piece). Differ (piece_place p) (piece_place r)) (λ (r : Piece). is_among path r.level ≡ true) (λ (r : Piece). is_lane (lane_of q path r) (intake_for q path p) ≡ false)
+      (λ r differ also. names_differ q path p r known.0 also differ) ps (all_unmap (Differ (piece_place p)) piece_place ps h.0) known.1),
   entry_apart q path ps h.1 known.1,
 )
 
@@ -175,8 +155,8 @@ other_query x y differ =
 -- the pieces of an entry have levels of its path
 pub levels_known : (query : TypedQuery) (e : Entry) → IsEntryOf query e → AllByRecursion (λ (p : Piece). is_among e.levels p.level ≡ true) e.pieces
 levels_known query e h =
-    unmapped (λ (p : Place). is_among e.levels p.0 ≡ true) piece_place e.pieces
-    (subst (AllByRecursion (λ (p : Place). is_among e.levels p.0 ≡ true)) (sym h.pieces) (places_all (λ l. is_among e.levels l ≡ true) query.branches e.levels (self_among e.levels)))
+    all_unmap (λ (p : Place). is_among e.levels p.0 ≡ true) piece_place e.pieces
+    (subst (AllByRecursion (λ (p : Place). is_among e.levels p.0 ≡ true)) (sym h.pieces) (places_all (λ l. is_among e.levels l ≡ true) query.branches e.levels (self_known e.levels)))
 
 pub pieces_apart : (queries : List TypedQuery) (q : ℕ) (es : List Entry) → AreEntriesOf queries es → AreApart (pieces_from q es)
 pieces_apart [] q [] h = tt

@@ -2,7 +2,7 @@
 use Rattle.std.proofs.Common.{◌≡◌, ℕ, zero, suc, ◌+◌, ◌<◌, ◌≤◌, List, [], ◌∷◌, ◌++◌, map, length, Option, Some, None, IfSome, slice_get, slice_set, refl, ap, sym, ◌∙◌, subst, arith}
 use Rattle.std.specs.List.{AllByRecursion}
 use Rattle.std.proofs.lemmas.List.{map-append}
-use Rattle.sn_base.proofs.Lists.{all_weaker, map_both, some_same, none_some}
+use Rattle.sn_base.proofs.Lists.{all_weaker, map_both, some_same, none_some, index_within as within}
 use Rattle.sn_emit.specs.declared.sender.Sender.{Sender}
 use Rattle.sn_emit.specs.Plans.{AreLanesOf, IsLaneOf, Placed, pieces_from, placed}
 use Rattle.sn_emit.specs.Senders.{sender_next, sender_start}
@@ -22,7 +22,8 @@ use Rattle.sn_engine_lockstep.specs.Work.{AreAtWork, AreIdle, AreUnread, Begins,
 use Rattle.sn_engine_lockstep.proofs.Changes.{all_get, set_here, set_length, set_there}
 use Rattle.sn_engine_lockstep.proofs.Draining.{Holds, holds}
 use Rattle.sn_engine_lockstep.proofs.Finding.{get_map}
-use Rattle.sn_engine_lockstep.proofs.Giving.{by_order, by_same, of_some, within}
+use Rattle.sn_engine_lockstep.proofs.Giving.{by_same, of_some}
+use Rattle.sn_base.proofs.Tests.{by_order}
 
 -- ---- one lane more
 

@@ -11,6 +11,7 @@ use Rattle.sn_report.specs.Frames.{lane_of as lane_in}
 use Rattle.sn_report.specs.declared.frame.Frame.{Frame}
 use Rattle.sn_report.specs.declared.frame.Frame.TheVariants.{Row, End}
 use Rattle.sn_engine_lockstep.specs.Work.{AreApart, intake_of, name_of, taken}
+use Rattle.sn_engine.proofs.Frames.{here, later}
 
 -- ---- one place changed
 
@@ -71,12 +72,6 @@ same_name n l (End lane window) = refl
 pub same_names : (n : Lane) (l : Intake) (fs : List Frame) → is_lane n (fold taken l fs) ≡ is_lane n l
 same_names n l [] = refl
 same_names n l (f ∷ fs) = same_names n (taken l f) fs ∙ same_name n l f
-
-here : (t : Intake → Bool) (c : Intake → Intake) (x : Intake) (xs : List Intake) → t x ≡ true → with_first t c (x ∷ xs) ≡ c x ∷ xs
-here t c x xs is = ap (λ b. cond b (c x ∷ xs) (x ∷ with_first t c xs)) is
-
-later : (t : Intake → Bool) (c : Intake → Intake) (x : Intake) (xs : List Intake) → t x ≡ false → with_first t c (x ∷ xs) ≡ x ∷ with_first t c xs
-later t c x xs isnt = ap (λ b. cond b (c x ∷ xs) (x ∷ with_first t c xs)) isnt
 
 -- the lane of a piece is the first that has its name
 first_is : (c : Intake → Intake) (xs : List Placed) (ls : List Intake) (i : ℕ) (x : Placed) (l : Intake) → AreApart xs → AreNamed xs ls → slice_get xs i ≡ Some x → slice_get ls i ≡ Some l

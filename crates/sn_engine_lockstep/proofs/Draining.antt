@@ -8,6 +8,7 @@ use Rattle.sn_engine.specs.declared.intake.Intake.{Intake}
 use Rattle.sn_engine.specs.Intakes.{after_frame}
 use Rattle.sn_report.specs.declared.frame.Frame.{Frame}
 use Rattle.sn_engine_lockstep.specs.Work.{IsReadInto}
+use Rattle.sn_base.proofs.Lists.{none_some}
 
 -- these frames have been read out, and the engine took them
 pub record HasRead (window lane : ℕ) (before now : List Sender) (lanes_before lanes_now : List Intake) : Type 0 where
@@ -21,9 +22,6 @@ pub record HasRead (window lane : ℕ) (before now : List Sender) (lanes_before 
 
 some_same : {X : Type 0} {a b : X} → Some a ≡ Some b → a ≡ b
 some_same e = cc
-
-none_some : {X : Type 0} {x : X} → None ≡ Some x → ⊥
-none_some e = cc
 
 fold_end : (lanes : List Intake) (frames : List Frame) (frame : Frame) → fold after_frame lanes (frames ++ frame ∷ []) ≡ after_frame (fold after_frame lanes frames) frame
 fold_end lanes [] frame = refl

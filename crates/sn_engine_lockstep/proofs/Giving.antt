@@ -1,9 +1,9 @@
 -- All lanes of a window, one of them after a tuple or at its end.
 use Rattle.std.proofs.Common.{◌≡◌, ◌≢◌, ℕ, zero, suc, ◌+◌, ◌<◌, ◌≤◌, List, [], ◌∷◌, ◌++◌, ◌==◌, map, fold, length, Option, Some, IfSome, slice_get, slice_set, nat_lt, refl, ap, sym, ◌∙◌, subst, arith, eq-eqb}
 use Rattle.std.specs.List.{AllByRecursion}
-use Rattle.std.specs.Option.{option_map}
+use Rattle.std.specs.Option.{option_map, option_to_list}
 use Rattle.std.proofs.lemmas.Bool.{false≢true, ltb-true, ltb-false}
-use Rattle.sn_base.proofs.Lists.{by_test, nat_same, some_same, none_some}
+use Rattle.sn_base.proofs.Lists.{by_test, nat_same, some_same, none_some, index_within}
 use Rattle.sn_base.specs.declared.lane.Lane.{Lane}
 use Rattle.sn_emit.specs.declared.sender.Sender.{Sender}
 use Rattle.sn_emit.specs.Making.{CanMake}
@@ -12,7 +12,6 @@ use Rattle.sn_emit.specs.Senders.{packet_frames, row_frame, sender_next, sender_
 use Rattle.sn_engine.specs.declared.intake.Intake.{Intake}
 use Rattle.sn_engine.specs.Intakes.{after_frame, is_lane}
 use Rattle.sn_pipe.specs.Pipes.{item_of}
-use Rattle.sn_pipe.specs.Windows.{option_list}
 use Rattle.sn_types.specs.declared.typed_query.TypedQuery.{TypedQuery}
 use Rattle.sn_types.specs.Typed.{HasWidths, IsTyped}
 use Rattle.sn_engine_lockstep.specs.declared.source.Source.{Source}
@@ -22,6 +21,7 @@ use Rattle.sn_engine_lockstep.specs.Work.{Each, IsAtWork, IsReadInto, done, inta
 use Rattle.sn_engine_lockstep.proofs.Changes.{AreNamed, all_get, frames_at, same_names, set_here, set_length, set_there}
 use Rattle.sn_engine_lockstep.proofs.Draining.{Holds, holds, of_both}
 use Rattle.sn_engine_lockstep.proofs.OneLane.{more_own, read_own, work_done, work_more}
+use Rattle.sn_base.proofs.Tests.{by_order}
 
 abbrev pub AtWork : List TypedQuery → ℕ → (Source → Prefixes) → List (List ℕ) → Placed → Sender → Intake → Type 0
 AtWork queries depth kept tuples x s l = IsAtWork queries depth x (kept (source_of x)) tuples s l
@@ -62,9 +62,6 @@ work_named : (queries : List TypedQuery) (depth : ℕ) (kept : Source → Prefix
 work_named queries depth kept tuples x s l w n =
     ap (is_lane n) w.intake ∙ same_names n (intake_of x) (packet_frames (sender_start w.base (kept (source_of x))) tuples)
 
-pub by_order : {G : Type 0} (j i : ℕ) → (j < i → G) → (i ≤ j → G) → G
-by_order j i less more = by_test (nat_lt j i) (λ is. less (ltb-true j i is)) (λ isnt. more (ltb-false j i isnt))
-
 given_named : (queries : List TypedQuery) (depth : ℕ) (kept : Source → Prefixes) (tuples : List (List ℕ)) (tuple : List ℕ) (i j : ℕ) (x : Placed) (s : Sender) (l : Intake) → Given queries depth kept tuples tuple i j x s l
     → (n : Lane) → is_lane n l ≡ is_lane n (intake_of x)
 given_named queries depth kept tuples tuple i j x s l g n =
@@ -84,7 +81,7 @@ of_some P o x e h = subst (λ y. IfSome y P) e h
 -- a tuple is given to one lane more
 pub give_one : (queries : List TypedQuery) (depth : ℕ) (pieces : List Placed) (kept : Source → Prefixes) (tuples : List (List ℕ)) (tuple : List ℕ) (i : ℕ) (ss ts : List Sender) (ls ms : List Intake) → i < length ss
     → IfSome (slice_get ss i) (λ s. ts ≡ slice_set ss i (sender_next s tuple))
-    → IfSome (slice_get ss i) (λ s. ms ≡ fold after_frame ls (option_list (option_map (row_frame s.lane) (item_of s.pipe tuple))))
+    → IfSome (slice_get ss i) (λ s. ms ≡ fold after_frame ls (option_to_list (option_map (row_frame s.lane) (item_of s.pipe tuple))))
     → Each (Given queries depth kept tuples tuple i) pieces ss ls → Each (Given queries depth kept tuples tuple (i + 1)) pieces ts ms
 give_one queries depth pieces kept tuples tuple i ss ts ls ms lt sent came e =
     let hs : Holds ss i = holds ss i lt in
@@ -93,12 +90,12 @@ give_one queries depth pieces kept tuples tuple i ss ts ls ms lt sent came e =
     let s = hs.at in
     let x = hx.at in
     let l = hl.at in
-    let frames = option_list (option_map (row_frame s.lane) (item_of s.pipe tuple)) in
+    let frames = option_to_list (option_map (row_frame s.lane) (item_of s.pipe tuple)) in
     let work : AtWork queries depth kept tuples x s l = (e.each i x s l hx.is hs.is hl.is).1 (omega arith) in
     let named = each_named (Given queries depth kept tuples tuple i) pieces ss ls e (given_named queries depth kept tuples tuple i) in
     let ts_are : ts ≡ slice_set ss i (sender_next s tuple) = of_some (λ r. ts ≡ slice_set ss i (sender_next r tuple)) (slice_get ss i) s hs.is sent in
     let ms_are : ms ≡ slice_set ls i (fold taken l frames) =
-    of_some (λ r. ms ≡ fold after_frame ls (option_list (option_map (row_frame r.lane) (item_of r.pipe tuple)))) (slice_get ss i) s hs.is came
+    of_some (λ r. ms ≡ fold after_frame ls (option_to_list (option_map (row_frame r.lane) (item_of r.pipe tuple)))) (slice_get ss i) s hs.is came
     ∙ frames_at pieces ls i x l frames e.apart named hx.is hl.is (more_own queries depth x (kept (source_of x)) tuples s l work tuple) in
     let here : AtWork queries depth kept (tuples ++ tuple ∷ []) x (sender_next s tuple) (fold taken l frames) = work_more queries depth x (kept (source_of x)) tuples s l work tuple in
     record {
@@ -174,15 +171,10 @@ all_done f (x ∷ xs) (s ∷ ss) (l ∷ ls) a b each =
     ap (λ m. m ∷ ls) (each 0 x s l refl refl refl)
     ∙ ap (λ ms. f x ∷ ms) (all_done f xs ss ls (omega (arith, a)) (omega (arith, b)) (λ j y t m p q r. each (suc j) y t m p q r))
 
-pub within : {X : Type 0} (xs : List X) (j : ℕ) (x : X) → slice_get xs j ≡ Some x → j < length xs
-within [] j x e = absurd (none_some e)
-within (y ∷ xs) zero x e = omega arith
-within (y ∷ xs) (suc j) x e = let rest = within xs j x e in omega (arith, rest)
-
 pub ended_all : (queries : List TypedQuery) (depth window : ℕ) (pieces : List Placed) (kept : Source → Prefixes) (tuples : List (List ℕ)) (i : ℕ) (ss : List Sender) (ls : List Intake) → length ss ≤ i
     → Each (Ended queries depth kept tuples window i) pieces ss ls → ls ≡ map (done queries depth kept tuples window) pieces
 ended_all queries depth window pieces kept tuples i ss ls all e =
-    all_done (done queries depth kept tuples window) pieces ss ls e.given e.taken (λ j x s l p q r. (e.each j x s l p q r).0 (let w = within ss j s q in omega (arith, w, all)))
+    all_done (done queries depth kept tuples window) pieces ss ls e.given e.taken (λ j x s l p q r. (e.each j x s l p q r).0 (let w = index_within ss j s q in omega (arith, w, all)))
 
 pub given_all : (queries : List TypedQuery) (depth : ℕ) (pieces : List Placed) (kept : Source → Prefixes) (tuples : List (List ℕ)) (tuple : List ℕ) (i : ℕ) (ss : List Sender) (ls : List Intake) → length ss ≤ i
     → Each (Given queries depth kept tuples tuple i) pieces ss ls → Each (λ j. AtWork queries depth kept (tuples ++ tuple ∷ [])) pieces ss ls
@@ -190,7 +182,7 @@ given_all queries depth pieces kept tuples tuple i ss ls all e = record {
   apart = e.apart;
   given = e.given;
   taken = e.taken;
-  each = λ j x s l p q r. (e.each j x s l p q r).0 (let w = within ss j s q in omega (arith, w, all));
+  each = λ j x s l p q r. (e.each j x s l p q r).0 (let w = index_within ss j s q in omega (arith, w, all));
 }
 
 pub given_none : (queries : List TypedQuery) (depth : ℕ) (pieces : List Placed) (kept : Source → Prefixes) (tuples : List (List ℕ)) (tuple : List ℕ) (ss : List Sender) (ls : List Intake)

@@ -1,5 +1,5 @@
 -- What the laws say.
-use Rattle.std.proofs.Common.{◌≡◌, ℕ, suc, ◌+◌, ◌<◌, List, [], ◌∷◌, ◌++◌, map, Option, Some, None, Result, Ok, Err, IfOk, length, subst, refl, ap, sym, ◌∙◌, arith}
+use Rattle.std.proofs.Common.{◌≡◌, ℕ, suc, ◌+◌, ◌<◌, List, [], ◌∷◌, ◌++◌, map, Option, Some, None, length, subst, refl, ap, sym, ◌∙◌, arith}
 use Rattle.std.specs.List.{AllByRecursion}
 use Rattle.std.proofs.lemmas.List.{map-append}
 use Rattle.sn_base.proofs.Lists.{all_map, all_weaker, map_both}
@@ -14,7 +14,7 @@ use Rattle.sn_engine.specs.Intakes.{intakes_of, total}
 use Rattle.sn_plan_fit.specs.Fits.{AreEntriesOf, Fits}
 use Rattle.sn_plan_grammar.specs.declared.plan.Entry.{Entry}
 use Rattle.sn_refine.specs.Refined.{Windows}
-use Rattle.sn_refine.specs.Steps.{Given, IsAbove, Rises, Set, windows_of}
+use Rattle.sn_refine.specs.Steps.{Set, windows_of}
 use Rattle.sn_refine.proofs.Windows.{above_last, earlier, here, later}
 use Rattle.sn_switch.specs.declared.switch.Switch.{Switch}
 use Rattle.sn_switch.specs.Texts.{IsSwitch}
@@ -30,10 +30,11 @@ use Rattle.sn_engine_lockstep.proofs.Along.{window_right}
 use Rattle.sn_engine_lockstep.proofs.Apart.{pieces_apart}
 use Rattle.sn_engine_lockstep.proofs.Beginning.{map_length, sources_are}
 use Rattle.sn_engine_lockstep.proofs.Parts.{all_parts, all_sent}
+use Rattle.sn_windows.specs.Rising.{AreRising, IsAbove, Window}
 
 -- ---- a plan as it is made
 
-intakes_are : (q : ℕ) (es : List Entry) → intakes_of q es ≡ map intake_of (pieces_from q es)
+pub intakes_are : (q : ℕ) (es : List Entry) → intakes_of q es ≡ map intake_of (pieces_from q es)
 intakes_are q [] = refl
 intakes_are q (e ∷ es) =
     ap (λ ls. ls ++ intakes_of (q + 1) es) (sym (map_both (placed q e.levels) intake_of e.pieces))
@@ -80,7 +81,7 @@ answered_count typed_for depth window queries es kept tuples t h can widths =
 
 -- ---- all windows
 
-from : (queries : List TypedQuery) (depth : ℕ) (es : List Entry) (windows : Windows) → AreEntriesOf queries es → (last : Option Answers) (given : List Given) → Rises (window_of last) given
+from : (queries : List TypedQuery) (depth : ℕ) (es : List Entry) (windows : Windows) → AreEntriesOf queries es → (last : Option Answers) (given : List Window) → AreRising (window_of last) given
     → ((v : ℕ) → IsAbove (window_of last) v → windows v ≡ windows_of given v) → Remembers queries es windows last
     → answers_from queries depth es last given ≡ map (λ g. plan_answers queries depth es windows g.0) given
 from queries depth es windows h last [] rises agrees remembers = refl
@@ -92,15 +93,11 @@ from queries depth es windows h last (g ∷ rest) rises agrees remembers =
     ∙ ap (λ others. plan_answers queries depth es windows g.0 ∷ others)
     (from queries depth es windows h (Some now) rest rises.1 (λ v lt. agrees v (above_last (window_of last) g.0 v rises.0 lt) ∙ later g rest v lt) (ap (λ (a : Answers). a.parts) e))
 
-pub all_windows : (queries : List TypedQuery) (depth : ℕ) (es : List Entry) (given : List Given) → AreEntriesOf queries es → Rises None given
+pub all_windows : (queries : List TypedQuery) (depth : ℕ) (es : List Entry) (given : List Window) → AreEntriesOf queries es → AreRising None given
     → answers_from queries depth es None given ≡ map (λ g. plan_answers queries depth es (windows_of given) g.0) given
 all_windows queries depth es given h rises = from queries depth es (windows_of given) h None given rises (λ v above. refl) tt
 
 -- ---- one window, from its calls
-
-pub ok_both : {X Y : Type 0} (P Q R : X → Type 0) (r : Result X Y) → ((x : X) → P x → Q x → R x) → IfOk r P → IfOk r Q → IfOk r R
-ok_both P Q R (Ok x) f h k = f x h k
-ok_both P Q R (Err e) f h k = tt
 
 -- what a close answers
 abbrev pub Closed : List TypedQuery → ℕ → List Sender → List Intake → Answers → Type 0

@@ -2,6 +2,7 @@ pub mod Draining
 pub mod Changes
 pub mod OneLane
 pub mod Giving
+pub mod Sending
 pub mod Apart
 pub mod Finding
 pub mod Seeing

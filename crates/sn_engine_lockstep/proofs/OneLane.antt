@@ -1,7 +1,7 @@
 -- One lane of a window after a tuple, and at its end.
 use Rattle.std.proofs.Common.{◌≡◌, ℕ, List, [], ◌∷◌, ◌++◌, map, fold, Option, Some, None, refl, ap, sym, ◌∙◌, subst, append_assoc, append-nil}
 use Rattle.std.specs.List.{AllByRecursion}
-use Rattle.std.specs.Option.{option_map}
+use Rattle.std.specs.Option.{option_map, option_to_list}
 use Rattle.sn_base.specs.declared.lane.Lane.{Lane}
 use Rattle.sn_emit.specs.declared.sender.Sender.{Sender}
 use Rattle.sn_emit.specs.Making.{CanMake}
@@ -11,7 +11,6 @@ use Rattle.sn_emit.specs.Senders.{packet_frames, row_frame, sender_after, sender
 use Rattle.sn_emit.proofs.EmitLaw.{lane_gives}
 use Rattle.sn_engine.specs.declared.intake.Intake.{Intake}
 use Rattle.sn_pipe.specs.Pipes.{item_of}
-use Rattle.sn_pipe.specs.Windows.{option_list}
 use Rattle.sn_refine.specs.Steps.{Set}
 use Rattle.sn_report.specs.Frames.{lane_of as lane_in}
 use Rattle.sn_report.specs.declared.frame.Frame.{Frame}
@@ -22,6 +21,8 @@ use Rattle.sn_types.specs.Typed.{HasWidths, IsTyped}
 use Rattle.sn_engine_lockstep.specs.declared.source.Source.{Source}
 use Rattle.sn_engine_lockstep.specs.Sources.{source_of}
 use Rattle.sn_engine_lockstep.specs.Work.{IsAtWork, done, intake_of, name_of, taken}
+use Rattle.sn_base.proofs.Lists.{all_rest}
+use Rattle.sn_emit.proofs.LaneLaw.{same_lane}
 
 fold_append : {S X : Type 0} (f : S → X → S) (s : S) (xs ys : List X) → fold f s (xs ++ ys) ≡ fold f (fold f s xs) ys
 fold_append f s [] ys = refl
@@ -30,23 +31,19 @@ fold_append f s (x ∷ xs) ys = fold_append f (f s x) xs ys
 -- ---- tuples
 
 frames_more : (s : Sender) (tuples : List (List ℕ)) (tuple : List ℕ)
-    → packet_frames s (tuples ++ tuple ∷ []) ≡ packet_frames s tuples ++ option_list (option_map (row_frame (sender_after s tuples).lane) (item_of (sender_after s tuples).pipe tuple))
-frames_more s [] tuple = append-nil (option_list (option_map (row_frame s.lane) (item_of s.pipe tuple)))
+    → packet_frames s (tuples ++ tuple ∷ []) ≡ packet_frames s tuples ++ option_to_list (option_map (row_frame (sender_after s tuples).lane) (item_of (sender_after s tuples).pipe tuple))
+frames_more s [] tuple = append-nil (option_to_list (option_map (row_frame s.lane) (item_of s.pipe tuple)))
 frames_more s (t ∷ tuples) tuple =
-    let one = option_list (option_map (row_frame s.lane) (item_of s.pipe t)) in
+    let one = option_to_list (option_map (row_frame s.lane) (item_of s.pipe t)) in
     ap (λ fs. one ++ fs) (frames_more (sender_next s t) tuples tuple)
-    ∙ sym (append_assoc one (packet_frames (sender_next s t) tuples) (option_list (option_map (row_frame (sender_after s (t ∷ tuples)).lane) (item_of (sender_after s (t ∷ tuples)).pipe tuple))))
-
-same_lane : (s : Sender) (tuples : List (List ℕ)) → (sender_after s tuples).lane ≡ s.lane
-same_lane s [] = refl
-same_lane s (tuple ∷ tuples) = same_lane (sender_next s tuple) tuples
+    ∙ sym (append_assoc one (packet_frames (sender_next s t) tuples) (option_to_list (option_map (row_frame (sender_after s (t ∷ tuples)).lane) (item_of (sender_after s (t ∷ tuples)).pipe tuple))))
 
 same_place : (s : Sender) (tuples : List (List ℕ)) → (sender_after s tuples).pipe.prefix.place ≡ s.pipe.prefix.place
 same_place s [] = refl
 same_place s (tuple ∷ tuples) = same_place (sender_next s tuple) tuples
 
 -- frames that a tuple gives are of the lane
-given_own : (n : Lane) (o : Option Item) → AllByRecursion (λ f. lane_in f ≡ n) (option_list (option_map (row_frame n) o))
+given_own : (n : Lane) (o : Option Item) → AllByRecursion (λ f. lane_in f ≡ n) (option_to_list (option_map (row_frame n) o))
 given_own n None = tt
 given_own n (Some item) = (refl, tt)
 
@@ -54,14 +51,14 @@ module _ (queries : List TypedQuery) (depth : ℕ) (x : Placed) (kept : Set) (tu
   lane_is : s.lane ≡ name_of x
   lane_is = ap (λ (r : Sender). r.lane) w.sender ∙ same_lane (sender_start w.base kept) tuples ∙ w.lane.lane
 
-  pub more_own : (tuple : List ℕ) → AllByRecursion (λ f. lane_in f ≡ name_of x) (option_list (option_map (row_frame s.lane) (item_of s.pipe tuple)))
-  more_own tuple = subst (λ n. AllByRecursion (λ f. lane_in f ≡ n) (option_list (option_map (row_frame s.lane) (item_of s.pipe tuple)))) lane_is (given_own s.lane (item_of s.pipe tuple))
+  pub more_own : (tuple : List ℕ) → AllByRecursion (λ f. lane_in f ≡ name_of x) (option_to_list (option_map (row_frame s.lane) (item_of s.pipe tuple)))
+  more_own tuple = subst (λ n. AllByRecursion (λ f. lane_in f ≡ n) (option_to_list (option_map (row_frame s.lane) (item_of s.pipe tuple)))) lane_is (given_own s.lane (item_of s.pipe tuple))
 
   -- one tuple more
-  pub work_more : (tuple : List ℕ) → IsAtWork queries depth x kept (tuples ++ tuple ∷ []) (sender_next s tuple) (fold taken l (option_list (option_map (row_frame s.lane) (item_of s.pipe tuple))))
+  pub work_more : (tuple : List ℕ) → IsAtWork queries depth x kept (tuples ++ tuple ∷ []) (sender_next s tuple) (fold taken l (option_to_list (option_map (row_frame s.lane) (item_of s.pipe tuple))))
   work_more tuple =
       let start = sender_start w.base kept in
-      let last : Sender → List Frame = λ r. option_list (option_map (row_frame r.lane) (item_of r.pipe tuple)) in
+      let last : Sender → List Frame = λ r. option_to_list (option_map (row_frame r.lane) (item_of r.pipe tuple)) in
       record {
         base = w.base;
         lane = w.lane;
@@ -80,10 +77,6 @@ rows_taken l n (item ∷ items) =
     rows_taken (record l { items = l.items ++ item ∷ [] }) n items
     ∙ ap (λ (is : List Item). record l { items = is }) (append_assoc l.items (item ∷ []) items)
 
-all_behind : {X : Type 0} (P : X → Type 0) (xs ys : List X) → AllByRecursion P (xs ++ ys) → AllByRecursion P ys
-all_behind P [] ys h = h
-all_behind P (x ∷ xs) ys h = all_behind P xs ys h.1
-
 rows_own : (n : Lane) (items : List Item) (window : ℕ) → AllByRecursion (λ f. lane_in f ≡ n) (map (row_frame n) items ++ End n window ∷ [])
 rows_own n [] window = (refl, tt)
 rows_own n (item ∷ items) window = (refl, rows_own n items window)
@@ -99,7 +92,7 @@ module _ (typed_for window depth : ℕ) (queries : List TypedQuery) (x : Placed)
   -- the frames that are read out are of the lane
   pub read_own : AllByRecursion (λ f. lane_in f ≡ name_of x) frames
   read_own =
-      all_behind (λ f. lane_in f ≡ name_of x) (packet_frames (sender_start w.base (kept (source_of x))) tuples) frames
+      all_rest (λ f. lane_in f ≡ name_of x) (packet_frames (sender_start w.base (kept (source_of x))) tuples) frames
       (subst (AllByRecursion (λ f. lane_in f ≡ name_of x)) (sym all_frames)
       (subst (λ n. AllByRecursion (λ f. lane_in f ≡ n) (map (row_frame w.base.lane) (items_of queries depth x (kept (source_of x)) tuples) ++ End w.base.lane window ∷ [])) w.lane.lane
       (rows_own w.base.lane (items_of queries depth x (kept (source_of x)) tuples) window)))

@@ -18,6 +18,7 @@ use Rattle.sn_types.specs.Typed.{branch_of, packet_row, query_at}
 use Rattle.sn_types.specs.Values.{op_at}
 use Rattle.sn_engine_lockstep.specs.declared.source.Source.{Source}
 use Rattle.sn_engine_lockstep.specs.Sources.{source_at}
+use Rattle.sn_pipe.proofs.KeptLaw.{same_filter}
 
 -- the tuples that a place of a path sees, with these prefixes of the places before
 abbrev pub seen_by : TypedQuery → List ℕ → (ℕ → Set) → List (List ℕ) → ℕ → List (List ℕ)
@@ -27,10 +28,6 @@ seen_by query path kept tuples (suc j) = filter (is_held query.field (slice_inde
 pub rows_seen : (query : TypedQuery) (path : List ℕ) (kept : ℕ → Set) (tuples : List (List ℕ)) (place : ℕ) → rows_at query path kept tuples place ≡ level_rows query (slice_index path place) (Some (seen_by query path kept tuples place))
 rows_seen query path kept tuples zero = refl
 rows_seen query path kept tuples (suc j) = refl
-
-filter_same : (p q : List ℕ → Bool) → ((x : List ℕ) → p x ≡ q x) → (xs : List (List ℕ)) → filter p xs ≡ filter q xs
-filter_same p q same [] = refl
-filter_same p q same (x ∷ xs) = ap (λ b. cond b (x ∷ filter p xs) (filter p xs)) (same x) ∙ ap (λ ys. cond (q x) (x ∷ ys) ys) (filter_same p q same xs)
 
 all_in : (p : List ℕ → Bool) → ((x : List ℕ) → p x ≡ true) → (xs : List (List ℕ)) → filter p xs ≡ xs
 all_in p all [] = refl
@@ -63,7 +60,7 @@ module _ (query : TypedQuery) (q : ℕ) (path : List ℕ) (kept : Source → Set
   by_place level (suc j) e =
       ap let_in (ap (λ n. cond (n == 0) None (Some (slice_index path (n - 1)))) e ∙ ap (λ b. cond b None (Some (slice_index path (suc j - 1)))) some)
       ∙ ap (λ n. let_in (Some (slice_index path n))) back
-      ∙ filter_same (is_let_in query.field (Some (slice_index path j)) (kept_at_place j)) (is_held query.field (slice_index path j) (kept_at_place j)) (let_in_held query.field (slice_index path j) (kept_at_place j)) tuples
+      ∙ same_filter (is_let_in query.field (Some (slice_index path j)) (kept_at_place j)) (is_held query.field (slice_index path j) (kept_at_place j)) (let_in_held query.field (slice_index path j) (kept_at_place j)) tuples
     where
       back : suc j - 1 ≡ j
       back = omega arith

@@ -5,8 +5,8 @@ use Rattle.std.specs.Option.{option_map}
 use Rattle.sn_emit.specs.Plans.{Placed, items_of, pieces_from}
 use Rattle.sn_plan_fit.specs.Paths.{place_in}
 use Rattle.sn_plan_grammar.specs.declared.plan.Entry.{Entry}
-use Rattle.sn_refine.specs.Refined.{Windows, answered, before, refined_parts, refined_rows}
-use Rattle.sn_refine.specs.Steps.{Given, IsAbove, Set, parts_in}
+use Rattle.sn_refine.specs.Refined.{Windows, answered, before, refined_parts, seen_at}
+use Rattle.sn_refine.specs.Steps.{Set, parts_in}
 use Rattle.sn_engine_split.specs.Branches.{branch_items}
 use Rattle.sn_types.specs.declared.answers.Answers.{Answers}
 use Rattle.sn_types.specs.declared.answers.Part.{Part}
@@ -14,6 +14,7 @@ use Rattle.sn_types.specs.declared.typed_query.TypedQuery.{TypedQuery}
 use Rattle.sn_types.specs.Typed.{query_at}
 use Rattle.sn_engine_lockstep.specs.declared.source.Source.{Source}
 use Rattle.sn_engine_lockstep.specs.Sources.{kept_in, source_at, source_of}
+use Rattle.sn_windows.specs.Rising.{IsAbove, Window}
 
 -- ---- with the prefixes that each lane admits
 
@@ -40,12 +41,6 @@ window_answers queries depth entries kept w tuples = record {
 abbrev pub refined_from : List TypedQuery → Windows → ℕ → ℕ → List Entry → List Part
 refined_from queries windows w q [] = []
 refined_from queries windows w q (e ∷ es) = refined_parts q (query_at queries q) windows e.levels w ++ refined_from queries windows w (suc q) es
-
--- the tuples of a window that the level at a place of a path sees: all, or those whose prefix the level before it answered in
--- the window before
-abbrev pub seen_at : TypedQuery → Windows → List ℕ → ℕ → ℕ → Option (List (List ℕ))
-seen_at query windows path zero w = windows w
-seen_at query windows path (suc j) w = option_map (answered query (slice_index path j) (before (refined_rows query windows path j) w)) (windows w)
 
 -- how many items a piece sends of the tuples that its level sees
 abbrev pub count_of : List TypedQuery → ℕ → Placed → Option (List (List ℕ)) → ℕ
@@ -81,7 +76,7 @@ Remembers queries entries windows None = Unit {0}
 Remembers queries entries windows (Some answers) = answers.parts ≡ refined_from queries windows answers.window 0 entries
 
 -- what windows that are given one after another are answered, where the last one before them was answered so
-abbrev pub answers_from : List TypedQuery → ℕ → List Entry → Option Answers → List Given → List Answers
+abbrev pub answers_from : List TypedQuery → ℕ → List Entry → Option Answers → List Window → List Answers
 answers_from queries depth entries last [] = []
 answers_from queries depth entries last (given ∷ rest) =
     window_answers queries depth entries (kept_in queries last given.0) given.0 given.1

@@ -2,13 +2,15 @@
 -- The lanes of a plan at work, in the switch and in the engine.
 use Rattle.std.specs.Prelude.{◌≡◌, ℕ, ◌<◌, ◌≤◌, List, [], ◌∷◌, map, fold, length, false, Some, slice_get}
 use Rattle.std.specs.List.{AllByRecursion}
+use Rattle.std.specs.Option.{option_map, option_to_list}
 use Rattle.sn_base.specs.declared.lane.Lane.{Lane}
 use Rattle.sn_emit.specs.declared.sender.Sender.{Sender}
 use Rattle.sn_emit.specs.Plans.{AreLanesOf, IsLaneOf, Placed, items_of, lane_of}
 use Rattle.sn_emit.specs.Runs.{ReadsOut}
-use Rattle.sn_emit.specs.Senders.{packet_frames, sender_after, sender_start}
+use Rattle.sn_emit.specs.Senders.{packet_frames, row_frame, sender_after, sender_start}
 use Rattle.sn_engine.specs.declared.intake.Intake.{Intake}
 use Rattle.sn_engine.specs.Intakes.{after_frame, intake_for, is_lane, with_end, with_item}
+use Rattle.sn_pipe.specs.Pipes.{item_of}
 use Rattle.sn_refine.specs.Steps.{Set}
 use Rattle.sn_report.specs.declared.frame.Frame.{Frame}
 use Rattle.sn_report.specs.declared.frame.Frame.TheVariants.{Row, End}
@@ -29,6 +31,10 @@ abbrev pub taken : Intake → Frame → Intake
 taken x (Row lane item) = with_item item x
 taken x (End lane window) = with_end window x
 
+-- the frame of the item that a lane gives at a tuple, if it gives one
+abbrev pub frames_given : List ℕ → Sender → List Frame
+frames_given tuple s = option_to_list (option_map (row_frame s.lane) (item_of s.pipe tuple))
+
 -- no piece has the name of one before it
 abbrev pub AreApart : List Placed → Type 0
 AreApart [] = Unit {0}
@@ -46,7 +52,8 @@ pub record Each (P : ℕ → Placed → Sender → Intake → Type 0) (pieces : 
   pub apart : AreApart pieces
   pub given : length senders ≡ length pieces
   pub taken : length intakes ≡ length pieces
-  pub each : (j : ℕ) (x : Placed) (s : Sender) (l : Intake) → slice_get pieces j ≡ Some x → slice_get senders j ≡ Some s → slice_get intakes j ≡ Some l → P j x s l
+  pub each : (j : ℕ) (x : Placed) (s : Sender) (l : Intake) → slice_get pieces j ≡ Some x → slice_get senders j ≡ Some s
+      → slice_get intakes j ≡ Some l → P j x s l
 
 -- all lanes, once these tuples of a window came, where the lanes admit these prefixes
 abbrev pub AreAtWork : List TypedQuery → ℕ → List Placed → (Source → Set) → List (List ℕ) → List Sender → List Intake → Type 0
@@ -75,5 +82,6 @@ AreUnread senders = AllByRecursion (λ (s : Sender). s.pipe.prefix.place ≡ 0) 
 -- the lanes before this number have begun a window with the prefixes of their sources, and the others are as they were
 pub record Begins (kept : Source → Set) (sources : List Source) (i : ℕ) (before now : List Sender) : Type 0 where
   pub count : length now ≡ length before
-  pub begun : (j : ℕ) (source : Source) (s : Sender) → j < i → slice_get sources j ≡ Some source → slice_get before j ≡ Some s → slice_get now j ≡ Some (sender_start s (kept source))
+  pub begun : (j : ℕ) (source : Source) (s : Sender) → j < i → slice_get sources j ≡ Some source → slice_get before j ≡ Some s
+      → slice_get now j ≡ Some (sender_start s (kept source))
   pub left : (j : ℕ) → i ≤ j → slice_get now j ≡ slice_get before j

@@ -1,11 +1,12 @@
 //! A plan at work, window by window.
 ghost use Rattle.std.specs.Prelude.{◌≡◌, ◌<◌, ◌≤◌, ◌++◌, ◌∷◌, [], ℕ, List, length, map, IfOk, OnOk};
-ghost use Rattle.std.specs.List.{AllByRecursion};
+ghost use Rattle.std.specs.List.{AllByRecursion, flat_map};
 ghost use Rattle.sn_engine_lockstep.specs.declared.source.Source.{Source};
 ghost use Rattle.sn_engine_lockstep.specs.Sources.{kept_in, source_of, sources_of};
-ghost use Rattle.sn_engine_lockstep.specs.Work.{AreAtWork, AreIdle, AreUnread, done};
+ghost use Rattle.sn_engine_lockstep.specs.Work.{AreAtWork, AreIdle, AreUnread, done, frames_given};
 ghost use Rattle.sn_emit.specs.Making.{CanMake};
 ghost use Rattle.sn_emit.specs.Plans.{AreLanesOf, AreNewLanes, Placed, pieces_from};
+ghost use Rattle.sn_emit.specs.Senders.{frames_left};
 ghost use Rattle.sn_engine.specs.Answers.{parts_of};
 ghost use Rattle.sn_engine.specs.Intakes.{intakes_of, total};
 ghost use Rattle.sn_plan_fit.specs.Fits.{Fits};
@@ -16,6 +17,7 @@ ghost use Rattle.sn_types.specs.declared.typed_query.TypedQuery.{TypedQuery};
 
 use crate::lanes::{begin_lanes, close, drain_lanes, give_lanes};
 use crate::source::{Source, sources};
+use crate::wire::Wire;
 use sn_base::memory::Memory;
 use sn_base::seq::Seq;
 use sn_emit::lanes::Emitter;
@@ -67,10 +69,13 @@ impl Driver {
     pub fn begin(&mut self, last: &Option<Answers>, window: u64) -> Result<(), Memory>
         requires many { length self.old.sources ≡ length self.old.emitter }
         requires known { AllByRecursion (λ source. source.query < length self.old.engine.t.queries) self.old.sources }
-        ensures work { OnOk result ((depth : ℕ) (pieces : List Placed) → self.old.sources ≡ map source_of pieces → AreIdle self.old.engine.t.queries depth pieces self.old.emitter self.old.engine.lanes.items →
-            AreAtWork self.old.engine.t.queries depth pieces (kept_in self.old.engine.t.queries last.now window) [] self.new.emitter self.new.engine.lanes.items) }
+        ensures work { OnOk result ((depth : ℕ) (pieces : List Placed) → self.old.sources ≡ map source_of pieces →
+            AreIdle self.old.engine.t.queries depth pieces self.old.emitter self.old.engine.lanes.items →
+            AreAtWork self.old.engine.t.queries depth pieces
+            (kept_in self.old.engine.t.queries last.now window) [] self.new.emitter self.new.engine.lanes.items) }
         ensures unread { OnOk result (AreUnread self.new.emitter) }
-        ensures lanes { OnOk result ((queries : List TypedQuery) (depth : ℕ) (pieces : List Placed) → AreLanesOf queries depth pieces self.old.emitter → AreLanesOf queries depth pieces self.new.emitter) }
+        ensures lanes { OnOk result ((queries : List TypedQuery) (depth : ℕ) (pieces : List Placed) → AreLanesOf queries depth pieces self.old.emitter →
+            AreLanesOf queries depth pieces self.new.emitter) }
         ensures count { OnOk result (length self.new.emitter ≡ length self.old.emitter) }
         ensures queries { self.new.engine.t.queries ≡ self.old.engine.t.queries }
         ensures sources { self.new.sources ≡ self.old.sources }
@@ -86,34 +91,43 @@ impl Driver {
         )
     }
 
-    /// Gives a tuple of the window to all lanes, and what they send to the engine.
-    pub fn packet(&mut self, tuple: &Tuple) -> Result<(), Memory>
+    /// Gives a tuple of the window to all lanes. The engine takes what they send, and the wire is told of it.
+    pub fn packet<W: Wire>(&mut self, wire: &mut W, tuple: &Tuple) -> Result<(), Memory>
         requires { AreUnread self.old.emitter }
         ensures work { OnOk result ((queries : List TypedQuery) (depth : ℕ) (pieces : List Placed) (kept : Source → Set) (tuples : List (List ℕ)) →
-            AreAtWork queries depth pieces kept tuples self.old.emitter self.old.engine.lanes.items → AreAtWork queries depth pieces kept (tuples ++ tuple.now ∷ []) self.new.emitter self.new.engine.lanes.items) }
+            AreAtWork queries depth pieces kept tuples self.old.emitter self.old.engine.lanes.items →
+            AreAtWork queries depth pieces kept (tuples ++ tuple.now ∷ []) self.new.emitter self.new.engine.lanes.items) }
+        ensures sent { OnOk result (W.told wire.new ≡ W.told wire.old ++ flat_map W.word (flat_map (frames_given tuple.now) self.old.emitter)) }
         ensures unread { OnOk result (AreUnread self.new.emitter) }
-        ensures lanes { OnOk result ((queries : List TypedQuery) (depth : ℕ) (pieces : List Placed) → AreLanesOf queries depth pieces self.old.emitter → AreLanesOf queries depth pieces self.new.emitter) }
+        ensures lanes { OnOk result ((queries : List TypedQuery) (depth : ℕ) (pieces : List Placed) → AreLanesOf queries depth pieces self.old.emitter →
+            AreLanesOf queries depth pieces self.new.emitter) }
         ensures count { OnOk result (length self.new.emitter ≡ length self.old.emitter) }
         ensures queries { self.new.engine.t.queries ≡ self.old.engine.t.queries }
         ensures sources { self.new.sources ≡ self.old.sources }
     {
-        give_lanes(&mut self.emitter, &mut self.engine, tuple)
+        give_lanes(&mut self.emitter, &mut self.engine, wire, tuple)
     }
 
-    /// Reads all lanes out, and answers the window.
-    pub fn close(&mut self, window: u64) -> Result<Answers, Memory>
+    /// Reads all lanes out, and answers the window. The engine takes what they send, and the wire is told of it.
+    pub fn close<W: Wire>(&mut self, wire: &mut W, window: u64) -> Result<Answers, Memory>
         ensures window { IfOk result (λ answers. answers.window ≡ window) }
-        ensures answers { IfOk result (λ answers. (typed_for depth : ℕ) (pieces : List Placed) (kept : Source → Set) (tuples : List (List ℕ)) → let queries = self.old.engine.t.queries in
-            ∥ IsTyped typed_for queries ∥₁ → AllByRecursion (CanMake queries) pieces → AllByRecursion HasWidths tuples → AreAtWork queries depth pieces kept tuples self.old.emitter self.old.engine.lanes.items →
-            (answers.emitted ≡ total (map (done queries depth kept tuples window) pieces)) × (answers.parts ≡ parts_of queries (map (done queries depth kept tuples window) pieces))) }
-        ensures empty { OnOk result ((typed_for depth : ℕ) (pieces : List Placed) (kept : Source → Set) (tuples : List (List ℕ)) → let queries = self.old.engine.t.queries in
-            ∥ IsTyped typed_for queries ∥₁ → AllByRecursion (CanMake queries) pieces → AllByRecursion HasWidths tuples → AreAtWork queries depth pieces kept tuples self.old.emitter self.old.engine.lanes.items →
+        ensures answers { IfOk result (λ answers. (typed_for depth : ℕ) (pieces : List Placed) (kept : Source → Set) (tuples : List (List ℕ)) →
+            let queries = self.old.engine.t.queries in
+            ∥ IsTyped typed_for queries ∥₁ → AllByRecursion (CanMake queries) pieces → AllByRecursion HasWidths tuples →
+            AreAtWork queries depth pieces kept tuples self.old.emitter self.old.engine.lanes.items →
+            (answers.emitted ≡ total (map (done queries depth kept tuples window) pieces)) ×
+            (answers.parts ≡ parts_of queries (map (done queries depth kept tuples window) pieces))) }
+        ensures empty { OnOk result ((typed_for depth : ℕ) (pieces : List Placed) (kept : Source → Set) (tuples : List (List ℕ)) →
+            let queries = self.old.engine.t.queries in
+            ∥ IsTyped typed_for queries ∥₁ → AllByRecursion (CanMake queries) pieces → AllByRecursion HasWidths tuples →
+            AreAtWork queries depth pieces kept tuples self.old.emitter self.old.engine.lanes.items →
             AreLanesOf queries depth pieces self.old.emitter → AreIdle queries depth pieces self.new.emitter self.new.engine.lanes.items) }
+        ensures sent { OnOk result (W.told wire.new ≡ W.told wire.old ++ flat_map W.word (flat_map (λ s. frames_left s window) self.old.emitter)) }
         ensures count { OnOk result (length self.new.emitter ≡ length self.old.emitter) }
         ensures queries { OnOk result (self.new.engine.t.queries ≡ self.old.engine.t.queries) }
         ensures sources { self.new.sources ≡ self.old.sources }
     {
-        drain_lanes(&mut self.emitter, &mut self.engine, window)?;
+        drain_lanes(&mut self.emitter, &mut self.engine, wire, window)?;
         let answers = close(&mut self.engine)?;
         Ok(Answers {
             window,

@@ -1,11 +1,12 @@
 //! All lanes of a plan at work.
 ghost use Rattle.std.specs.Prelude.{◌≡◌, ◌<◌, ◌++◌, ◌∷◌, [], ℕ, List, length, map, IfOk, OnOk};
-ghost use Rattle.std.specs.List.{AllByRecursion};
+ghost use Rattle.std.specs.List.{AllByRecursion, flat_map};
 ghost use Rattle.sn_engine_lockstep.specs.declared.source.Source.{Source};
 ghost use Rattle.sn_engine_lockstep.specs.Sources.{kept_in};
-ghost use Rattle.sn_engine_lockstep.specs.Work.{AreAtWork, AreUnread, Begins, done};
+ghost use Rattle.sn_engine_lockstep.specs.Work.{AreAtWork, AreUnread, Begins, done, frames_given};
 ghost use Rattle.sn_emit.specs.Making.{CanMake};
 ghost use Rattle.sn_emit.specs.Plans.{AreLanesOf, Placed};
+ghost use Rattle.sn_emit.specs.Senders.{frames_left};
 ghost use Rattle.sn_engine.specs.Answers.{parts_of};
 ghost use Rattle.sn_engine.specs.Intakes.{emptied, total};
 ghost use Rattle.sn_refine.specs.Steps.{Set};
@@ -13,6 +14,7 @@ ghost use Rattle.sn_types.specs.Typed.{HasWidths, IsTyped};
 ghost use Rattle.sn_types.specs.declared.typed_query.TypedQuery.{TypedQuery};
 
 use crate::source::{Source, kept_in};
+use crate::wire::Wire;
 use crate::work::{drain, give};
 use sn_base::memory::Memory;
 use sn_emit::lanes::Emitter;
@@ -34,7 +36,8 @@ pub(crate) fn begin_lanes(
     requires many { length sources.now ≡ length emitter.old }
     requires known { AllByRecursion (λ source. source.query < length t.now.queries) sources.now }
     ensures begun { OnOk result (Begins (kept_in t.now.queries last.now window) sources.now (length sources.now) emitter.old emitter.new) }
-    ensures lanes { OnOk result ((queries : List TypedQuery) (depth : ℕ) (pieces : List Placed) → AreLanesOf queries depth pieces emitter.old → AreLanesOf queries depth pieces emitter.new) }
+    ensures lanes { OnOk result ((queries : List TypedQuery) (depth : ℕ) (pieces : List Placed) → AreLanesOf queries depth pieces emitter.old →
+        AreLanesOf queries depth pieces emitter.new) }
 {
     for lane in 0..emitter.lanes() {
         let source = sources[lane as usize];
@@ -44,41 +47,49 @@ pub(crate) fn begin_lanes(
     Ok(())
 }
 
-/// Gives a tuple to all lanes, and what they send to the engine.
-pub(crate) fn give_lanes(
+/// Gives a tuple to all lanes, and sends what they give, in their order.
+pub(crate) fn give_lanes<W: Wire>(
     emitter: &mut Emitter,
     engine: &mut Engine,
+    wire: &mut W,
     tuple: &Tuple,
 ) -> Result<(), Memory>
     requires { AreUnread emitter.old }
     ensures work { OnOk result ((queries : List TypedQuery) (depth : ℕ) (pieces : List Placed) (kept : Source → Set) (tuples : List (List ℕ)) →
-        AreAtWork queries depth pieces kept tuples emitter.old engine.old.lanes.items → AreAtWork queries depth pieces kept (tuples ++ tuple.now ∷ []) emitter.new engine.new.lanes.items) }
+        AreAtWork queries depth pieces kept tuples emitter.old engine.old.lanes.items →
+        AreAtWork queries depth pieces kept (tuples ++ tuple.now ∷ []) emitter.new engine.new.lanes.items) }
+    ensures sent { OnOk result (W.told wire.new ≡ W.told wire.old ++ flat_map W.word (flat_map (frames_given tuple.now) emitter.old)) }
     ensures unread { OnOk result (AreUnread emitter.new) }
-    ensures lanes { OnOk result ((queries : List TypedQuery) (depth : ℕ) (pieces : List Placed) → AreLanesOf queries depth pieces emitter.old → AreLanesOf queries depth pieces emitter.new) }
+    ensures lanes { OnOk result ((queries : List TypedQuery) (depth : ℕ) (pieces : List Placed) → AreLanesOf queries depth pieces emitter.old →
+        AreLanesOf queries depth pieces emitter.new) }
     ensures count { OnOk result (length emitter.new ≡ length emitter.old) }
     ensures queries { engine.new.t.queries ≡ engine.old.t.queries }
 {
     for lane in 0..emitter.lanes() {
-        give(emitter, engine, lane, tuple)?;
+        give(emitter, engine, wire, lane, tuple)?;
     }
     Ok(())
 }
 
-/// Reads all lanes out, and gives what they send to the engine.
-pub(crate) fn drain_lanes(
+/// Reads all lanes out, one after another, and sends what they give.
+pub(crate) fn drain_lanes<W: Wire>(
     emitter: &mut Emitter,
     engine: &mut Engine,
+    wire: &mut W,
     window: u64,
 ) -> Result<(), Memory>
     ensures work { OnOk result ((typed_for depth : ℕ) (queries : List TypedQuery) (pieces : List Placed) (kept : Source → Set) (tuples : List (List ℕ)) →
-        ∥ IsTyped typed_for queries ∥₁ → AllByRecursion (CanMake queries) pieces → AllByRecursion HasWidths tuples → AreAtWork queries depth pieces kept tuples emitter.old engine.old.lanes.items →
+        ∥ IsTyped typed_for queries ∥₁ → AllByRecursion (CanMake queries) pieces → AllByRecursion HasWidths tuples →
+        AreAtWork queries depth pieces kept tuples emitter.old engine.old.lanes.items →
         engine.new.lanes.items ≡ map (done queries depth kept tuples window) pieces) }
-    ensures lanes { OnOk result ((queries : List TypedQuery) (depth : ℕ) (pieces : List Placed) → AreLanesOf queries depth pieces emitter.old → AreLanesOf queries depth pieces emitter.new) }
+    ensures sent { OnOk result (W.told wire.new ≡ W.told wire.old ++ flat_map W.word (flat_map (λ s. frames_left s window) emitter.old)) }
+    ensures lanes { OnOk result ((queries : List TypedQuery) (depth : ℕ) (pieces : List Placed) → AreLanesOf queries depth pieces emitter.old →
+        AreLanesOf queries depth pieces emitter.new) }
     ensures count { OnOk result (length emitter.new ≡ length emitter.old) }
     ensures queries { engine.new.t.queries ≡ engine.old.t.queries }
 {
     for lane in 0..emitter.lanes() {
-        drain(emitter, engine, lane, window)?;
+        drain(emitter, engine, wire, lane, window)?;
     }
     Ok(())
 }

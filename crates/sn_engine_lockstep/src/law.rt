@@ -13,17 +13,20 @@ ghost use Rattle.sn_engine.specs.Answers.{parts_of};
 ghost use Rattle.sn_engine.specs.Intakes.{intakes_of, total};
 ghost use Rattle.sn_plan_fit.specs.Fits.{AreEntriesOf, Fits};
 ghost use Rattle.sn_plan_grammar.specs.declared.plan.Entry.{Entry};
-ghost use Rattle.sn_refine.specs.Steps.{Given, Rises, Set, windows_of};
+ghost use Rattle.sn_refine.specs.Steps.{Set, windows_of};
 ghost use Rattle.sn_switch.specs.declared.switch.Switch.{Switch};
 ghost use Rattle.sn_switch.specs.Texts.{IsSwitch};
 ghost use Rattle.sn_types.specs.declared.typed_query.TypedQuery.{TypedQuery};
 ghost use Rattle.sn_types.specs.Typed.{HasWidths, IsTyped};
+ghost use Rattle.sn_windows.specs.Rising.{AreRising, Window};
 
 /// A driver as it was made is between two windows, and each of its lanes can be made and has its source.
 pub fn new_drivers_are_idle()
-    ensures idle { (queries : List TypedQuery) (depth : ℕ) (entries : List Entry) (senders : List Sender) → AreEntriesOf queries entries → AreNewLanes queries depth (pieces_from 0 entries) senders →
+    ensures idle { (queries : List TypedQuery) (depth : ℕ) (entries : List Entry) (senders : List Sender) → AreEntriesOf queries entries →
+        AreNewLanes queries depth (pieces_from 0 entries) senders →
         AreIdle queries depth (pieces_from 0 entries) senders (intakes_of 0 entries) }
-    ensures can { (window : ℕ) (queries : List TypedQuery) (s : Switch) (entries : List Entry) → ∥ IsTyped window queries ∥₁ → IsSwitch s → Fits queries s entries → AllByRecursion (CanMake queries) (pieces_from 0 entries) }
+    ensures can { (window : ℕ) (queries : List TypedQuery) (s : Switch) (entries : List Entry) → ∥ IsTyped window queries ∥₁ → IsSwitch s →
+        Fits queries s entries → AllByRecursion (CanMake queries) (pieces_from 0 entries) }
     ensures sources { (q : ℕ) (entries : List Entry) → sources_of q entries ≡ map source_of (pieces_from q entries) }
 {}
 
@@ -31,10 +34,12 @@ pub fn new_drivers_are_idle()
 /// admit, and the number of the items of all pieces: whatever the cuts, chains and sizes.
 pub fn answers_are_those_of_the_window()
     ensures parts { (typed_for depth window : ℕ) (queries : List TypedQuery) (entries : List Entry) (kept : Source → Set) (tuples : List (List ℕ)) →
-        ∥ IsTyped typed_for queries ∥₁ → AreEntriesOf queries entries → AllByRecursion (CanMake queries) (pieces_from 0 entries) → AllByRecursion HasWidths tuples →
+        ∥ IsTyped typed_for queries ∥₁ → AreEntriesOf queries entries → AllByRecursion (CanMake queries) (pieces_from 0 entries) →
+        AllByRecursion HasWidths tuples →
         parts_of queries (map (done queries depth kept tuples window) (pieces_from 0 entries)) ≡ parts_from queries kept tuples 0 entries }
     ensures count { (typed_for depth window : ℕ) (queries : List TypedQuery) (entries : List Entry) (kept : Source → Set) (tuples : List (List ℕ)) →
-        ∥ IsTyped typed_for queries ∥₁ → AreEntriesOf queries entries → AllByRecursion (CanMake queries) (pieces_from 0 entries) → AllByRecursion HasWidths tuples →
+        ∥ IsTyped typed_for queries ∥₁ → AreEntriesOf queries entries → AllByRecursion (CanMake queries) (pieces_from 0 entries) →
+        AllByRecursion HasWidths tuples →
         total (map (done queries depth kept tuples window) (pieces_from 0 entries)) ≡ sent_by queries depth (pieces_from 0 entries) kept tuples }
 {}
 
@@ -42,6 +47,6 @@ pub fn answers_are_those_of_the_window()
 /// along the plan, and the number of the items that its pieces send of what their levels see. Those that were left out held
 /// no record.
 pub fn windows_get_the_answers_of_the_plan()
-    ensures { (queries : List TypedQuery) (depth : ℕ) (entries : List Entry) (given : List Given) → AreEntriesOf queries entries → Rises None given →
+    ensures { (queries : List TypedQuery) (depth : ℕ) (entries : List Entry) (given : List Window) → AreEntriesOf queries entries → AreRising None given →
         answers_from queries depth entries None given ≡ map (λ g. plan_answers queries depth entries (windows_of given) g.0) given }
 {}

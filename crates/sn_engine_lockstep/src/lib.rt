@@ -5,5 +5,5 @@ pub mod driver;
 mod lanes;
 pub mod law;
 pub mod source;
-pub mod window;
+pub mod wire;
 mod work;

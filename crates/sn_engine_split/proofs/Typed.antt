@@ -42,14 +42,9 @@ use Rattle.sn_pipe_items.proofs.ItemsHadLemmas.{split_any}
 use Rattle.sn_pipe_items.proofs.OrderLemmas.{items_bag}
 use Rattle.sn_engine_split.proofs.TypedItems.{had_along, items_along}
 use Rattle.sn_pipe_items.proofs.ValueBag.{IsHeld, PartialHad, ItemsHad, value_bag}
+use Rattle.sn_ops.proofs.Fitting.{has_prop}
 
 -- ---- these are propositions
-
-pub has_prop : (f : AnyFold) (a : ℕ) → IsProp (any_has f a)
-has_prop (folds.SatSum f) a = le_prop
-has_prop (folds.Max f) a = le_prop
-has_prop (folds.Min f) a = le_prop
-has_prop (folds.Or f) a = le_prop
 
 pub had_prop : (ops : List Op) (row : Row) → IsProp (Had ops row)
 had_prop [] row = hlevel le_prop

@@ -7,7 +7,7 @@ use Rattle.sn_base.specs.Columns.{IsOf}
 use Rattle.sn_base.specs.Groups.{Row}
 use Rattle.sn_base.specs.Operators.{Grouping, Op as Acting, Had, key_of}
 use Rattle.sn_base.specs.declared.column.Column.{Column}
-use Rattle.sn_base.proofs.Lists.{all_weaker}
+use Rattle.sn_base.proofs.Lists.{all_weaker, all_front}
 use Rattle.sn_query_grammar.specs.declared.ast.FoldWord.TheVariants as words
 use Rattle.sn_query_grammar.specs.declared.ast.FoldWord.{FoldWord}
 use Rattle.sn_query_grammar.specs.declared.ast.Op.{Op}
@@ -20,13 +20,14 @@ use Rattle.sn_types_faults.specs.Widths.{lawful, fold_of}
 use Rattle.sn_types.specs.Typed.{schema_at}
 use Rattle.sn_types.specs.Typing.{schemas_along, typed_op, typed_ops}
 use Rattle.sn_types.specs.Values.{op_at}
-use Rattle.sn_types.proofs.Known.{IsKnown, all_front}
-use Rattle.sn_types.proofs.RowsAfter.{as_long, named_of, of_both, rows_after, value_had}
+use Rattle.sn_types.proofs.Known.{IsKnown}
+use Rattle.sn_types.proofs.RowsAfter.{as_long, named_of, of_both, rows_after, value_had, lawful_same, had_of, of_had}
 use Rattle.sn_types.proofs.Schemas.{IsSchema, reduced_whole, schema_after, value_width}
 use Rattle.sn_types.proofs.Sound.{IsSound, AreSound}
 use Rattle.sn_report.specs.declared.frame.Item.{Item}
 use Rattle.sn_pipe_items.specs.Value.{is_at, is_partial, rows_with}
 use Rattle.sn_pipe_items.proofs.ValueBag.{IsHeld, PartialHad, ItemsHad}
+use Rattle.sn_types.proofs.TypedRows.{first_along}
 
 -- ---- columns in two parts
 
@@ -42,21 +43,6 @@ of_last (x ∷ xs) c [] of = absurd of
 of_last (x ∷ xs) c (n ∷ row) of = of_last xs c row of.1
 
 -- ---- folds
-
-pub lawful_same : (w : ℕ) → Within 1 64 w → lawful w ≡ w
-lawful_same w h = omega arith
-
-pub had_of : (word : FoldWord) (w a : ℕ) → a < 2 ^ lawful w → any_has (fold_of word w) a
-had_of words.Sum w a h = h
-had_of words.Max w a h = h
-had_of words.Min w a h = h
-had_of words.Or w a h = h
-
-of_had : (word : FoldWord) (w a : ℕ) → any_has (fold_of word w) a → a < 2 ^ lawful w
-of_had words.Sum w a h = h
-of_had words.Max w a h = h
-of_had words.Min w a h = h
-of_had words.Or w a h = h
 
 -- what a typed reduce groups by
 abbrev pub grouping : List Column → Reduce → Grouping
@@ -129,15 +115,11 @@ rows_later i columns op ops found h = record {
     moved : (j : ℕ) → i + suc j ≡ suc i + j
     moved j = omega arith
 
-pub first_schema : (columns : List Column) (ops : List Op) → schema_at (schemas_along columns ops) 0 ≡ columns
-first_schema columns [] = refl
-first_schema columns (op ∷ ops) = refl
-
 -- the rows that go after the next operator, and the Partial rows at it
 pub rows_next : (i : ℕ) (columns : List Column) (op : Op) (ops : List Op) (found : List Item) → RowsFrom i columns (op ∷ ops) found → AllByRecursion (IsOf (columns_after columns op.what)) (rows_with (is_at (suc i)) found)
 rows_next i columns op ops found of =
     let next : List Column = columns_after columns op.what in
-    subst (λ (n : ℕ). AllByRecursion (IsOf next) (rows_with (is_at n) found)) one_on (subst (λ (cs : List Column). AllByRecursion (IsOf cs) (rows_with (is_at (i + 1)) found)) (first_schema next ops) (of.rows 1))
+    subst (λ (n : ℕ). AllByRecursion (IsOf next) (rows_with (is_at n) found)) one_on (subst (λ (cs : List Column). AllByRecursion (IsOf cs) (rows_with (is_at (i + 1)) found)) (first_along next ops) (of.rows 1))
   where
     one_on : i + 1 ≡ suc i
     one_on = omega arith
@@ -145,7 +127,7 @@ rows_next i columns op ops found of =
 pub parts_here : (i : ℕ) (columns : List Column) (op : Op) (ops : List Op) (found : List Item) → RowsFrom i columns (op ∷ ops) found → AllByRecursion (IsOf (columns_after columns op.what)) (rows_with (is_partial i) found)
 parts_here i columns op ops found of =
     let next : List Column = columns_after columns op.what in
-    subst (λ (n : ℕ). AllByRecursion (IsOf next) (rows_with (is_partial n) found)) same_on (subst (λ (cs : List Column). AllByRecursion (IsOf cs) (rows_with (is_partial (i + 0)) found)) (first_schema next ops) (of.partial 0))
+    subst (λ (n : ℕ). AllByRecursion (IsOf next) (rows_with (is_partial n) found)) same_on (subst (λ (cs : List Column). AllByRecursion (IsOf cs) (rows_with (is_partial (i + 0)) found)) (first_along next ops) (of.partial 0))
   where
     same_on : i + 0 ≡ i
     same_on = omega arith

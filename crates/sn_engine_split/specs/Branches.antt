@@ -71,7 +71,8 @@ branch_value query b level found = value (map (op_at level) (branch_of query b).
 -- of a query at a level: of its branch, or of its two branches, joined and taken through the operators after the join
 abbrev pub query_value : TypedQuery → ℕ → List Item → List Item → List Row
 query_value query level left right =
-    if length query.branches == 2 then through (map (op_at level) query.posts) (joined query.keys (branch_value query 0 level left) (branch_value query 1 level right)) else branch_value query 0 level left
+    if length query.branches == 2 then through (map (op_at level) query.posts)
+    (joined query.keys (branch_value query 0 level left) (branch_value query 1 level right)) else branch_value query 0 level left
 
 -- these are the items of a branch at a level over these tuples, in whatever order: of some cut, chains and sizes
 pub record AreSplit (queries : List TypedQuery) (q b level : ℕ) (kept : Option Kept) (tuples : List (List ℕ)) (found : List Item) : Type 0 where

@@ -17,7 +17,8 @@ ghost use Rattle.sn_types.specs.declared.typed_query.TypedQuery.{TypedQuery};
 /// items come. It holds with overflow at a distinct, at a reduce, at both, and with Partial rows.
 pub fn split_law()
     ensures { (window q b level cut depth : ℕ) (sizes : List ℕ) (queries : List TypedQuery) (kept : Option Kept) (tuples : List (List ℕ)) (found : List Item) →
-        ∥ IsTyped window queries ∥₁ → q < length queries → b < length (query_at queries q).branches → AllByRecursion HasWidths tuples → cut ≤ (branch_at queries q b).max_cut →
+        ∥ IsTyped window queries ∥₁ → q < length queries → b < length (query_at queries q).branches → AllByRecursion HasWidths tuples →
+        cut ≤ (branch_at queries q b).max_cut →
         SameBag (branch_items (query_at queries q) b level kept cut depth sizes tuples) found →
         SameBag (value (map (op_at level) (branch_at queries q b).ops) found) (branch_rows (query_at queries q) b level kept tuples) }
 {}
@@ -25,7 +26,8 @@ pub fn split_law()
 /// The value of items of a branch depends on their bag alone.
 pub fn value_keeps_bags()
     ensures { (window q b level : ℕ) (queries : List TypedQuery) (found others : List Item) →
-        ∥ IsTyped window queries ∥₁ → q < length queries → b < length (query_at queries q).branches → AllByRecursion (IsItemOf (branch_at queries q b)) found → SameBag found others →
+        ∥ IsTyped window queries ∥₁ → q < length queries → b < length (query_at queries q).branches → AllByRecursion (IsItemOf (branch_at queries q b)) found →
+        SameBag found others →
         SameBag (value (map (op_at level) (branch_at queries q b).ops) found) (value (map (op_at level) (branch_at queries q b).ops) others) }
 {}
 
@@ -33,7 +35,8 @@ pub fn value_keeps_bags()
 pub fn query_values_keep_bags()
     ensures { (window q level : ℕ) (queries : List TypedQuery) (left others_left right others_right : List Item) →
         ∥ IsTyped window queries ∥₁ → q < length queries →
-        AllByRecursion (IsItemOf (branch_at queries q 0)) left → SameBag left others_left → AllByRecursion (IsItemOf (branch_at queries q 1)) right → SameBag right others_right →
+        AllByRecursion (IsItemOf (branch_at queries q 0)) left → SameBag left others_left → AllByRecursion (IsItemOf (branch_at queries q 1)) right →
+        SameBag right others_right →
         sorted_rows (query_value (query_at queries q) level left right) ≡ sorted_rows (query_value (query_at queries q) level others_left others_right) }
 {}
 

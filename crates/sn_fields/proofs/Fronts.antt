@@ -7,6 +7,7 @@ use Rattle.sn_base.specs.declared.link.Link.{Link}
 use Rattle.sn_base.specs.declared.link.Link.TheVariants.{Ethernet, RawIp, Cooked, Cooked2}
 use Rattle.sn_fields.specs.Headers.{number_at, has_bytes, has_tag, tags, link_length, has_ethernet, ether_type, ip_place, ip_words, is_ip, behind_ip, is_first, carries}
 use Rattle.sn_fields.specs.Tuples.{tuple}
+use Rattle.sn_base.proofs.Lists.{by_test}
 
 byte_front : (bytes : List ℕ) (place : ℕ) → place < 128 → slice_index (take 128 bytes) place ≡ slice_index bytes place
 byte_front bytes place near = get_or-take 128 bytes place 0 near
@@ -22,10 +23,6 @@ number_from (suc count) i place bytes near =
 number_front : (count : ℕ) (bytes : List ℕ) (place : ℕ) → place + count ≤ 128 → number_at count (take 128 bytes) place ≡ number_at count bytes place
 unfolding number_at
 number_front count bytes place near = number_from count 0 place bytes (omega arith)
-
-by_test : {G : Type 0} (b : Bool) → (b ≡ true → G) → (b ≡ false → G) → G
-by_test true holds fails = holds refl
-by_test false holds fails = fails refl
 
 has_front : (bytes : List ℕ) (count : ℕ) → count ≤ 128 → has_bytes (take 128 bytes) count ≡ has_bytes bytes count
 has_front bytes count near =

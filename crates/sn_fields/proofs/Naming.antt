@@ -1,9 +1,11 @@
+-- Each field stands at its number in the table, and has its name alone.
 use Rattle.std.proofs.Common.{true, false, ◌≡◌, ◌≢◌, ◌↔◌, ℕ, List, Option, None, Some, IfSome, IsNone, refl, subst}
 use Rattle.sn_fields.specs.declared.field.Field.{Field}
 use Rattle.sn_fields.specs.declared.field.Field.TheVariants.{PacketLength}
-use Rattle.sn_fields.specs.Fields.{name_of, with_name}
+use Rattle.sn_fields.specs.Fields.{row_of, name_of, with_name}
 
 own_name : (field : Field) → with_name (name_of field) ≡ Some field
+unfolding row_of
 own_name PacketLength = refl
 own_name _ = refl
 

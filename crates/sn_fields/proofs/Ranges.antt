@@ -7,8 +7,8 @@ use Rattle.byteorder.specs.Numbers.{big_from-lt, little_from-lt}
 use Rattle.sn_base.specs.declared.link.Link.{Link}
 use Rattle.sn_base.specs.declared.link.Link.TheVariants.{Ethernet, RawIp, Cooked, Cooked2}
 use Rattle.sn_fields.specs.declared.field.Field.{Field}
-use Rattle.sn_fields.specs.declared.field.Field.TheVariants.{PacketLength, EthernetDestination, EthernetSource, EthernetType, VlanId, IpValid, IpLength, IpTimeToLive, IpProtocol, IpSource, IpDestination, TcpValid, TcpSourcePort, TcpDestinationPort, TcpSequence, TcpAcknowledgment, TcpFlags, UdpValid, UdpSourcePort, UdpDestinationPort, UdpLength, IcmpValid, IcmpType, IcmpCode}
-use Rattle.sn_fields.specs.Fields.{number_of, width_of}
+use Rattle.sn_fields.specs.declared.field.Field.TheVariants.{PacketLength, EthernetType, VlanId}
+use Rattle.sn_fields.specs.Fields.{number_of, row_of, width_of}
 use Rattle.sn_fields.specs.Headers.{number_at, has_bytes, ether_type, type_of_version}
 use Rattle.sn_fields.specs.Tuples.{field_of, tuple, where_present}
 use Rattle.sn_fields.proofs.Walked.{field_at}
@@ -86,30 +86,11 @@ module _ (link : Link) (wire : ℕ) (bytes : List ℕ) (few : wire < 2 ^ 32) (ar
   station_below present place = present_below present (number_at 6 bytes place) (2 ^ 48) (number_below 6 bytes place are)
 
   field_below : (field : Field) → field_of link wire bytes field < 2 ^ width_of field
+  unfolding row_of
   field_below PacketLength = few
-  field_below EthernetDestination = station_below _ _
-  field_below EthernetSource = station_below _ _
   field_below EthernetType = type_below link bytes are
   field_below VlanId = present_below _ (number_at 2 bytes 14 % 4096) (2 ^ 12) (mod-lt (number_at 2 bytes 14) (omega arith))
-  field_below IpValid = valid_below _
-  field_below IpLength = short_below _ _
-  field_below IpTimeToLive = byte_below _ _
-  field_below IpProtocol = byte_below _ _
-  field_below IpSource = long_below _ _
-  field_below IpDestination = long_below _ _
-  field_below TcpValid = valid_below _
-  field_below TcpSourcePort = short_below _ _
-  field_below TcpDestinationPort = short_below _ _
-  field_below TcpSequence = long_below _ _
-  field_below TcpAcknowledgment = long_below _ _
-  field_below TcpFlags = byte_below _ _
-  field_below UdpValid = valid_below _
-  field_below UdpSourcePort = short_below _ _
-  field_below UdpDestinationPort = short_below _ _
-  field_below UdpLength = short_below _ _
-  field_below IcmpValid = valid_below _
-  field_below IcmpType = byte_below _ _
-  field_below IcmpCode = byte_below _ _
+  field_below _ = search (valid_below, byte_below, short_below, long_below, station_below)
 
   -- each number of the tuple has the width of its field
   pub tuple_below : (field : Field) → slice_index (tuple link wire bytes) (number_of field) < 2 ^ width_of field

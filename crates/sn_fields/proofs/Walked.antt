@@ -1,5 +1,5 @@
 -- The parts of a walk over the headers are the tuple.
-use Rattle.std.proofs.Common.{◌≡◌, ℕ, ◌+◌, Bool, true, false, ◌&&◌, ◌==◌, nat_le, List, [], ◌∷◌, length, slice_index, refl, ap, subst}
+use Rattle.std.proofs.Common.{◌≡◌, ℕ, ◌+◌, Bool, true, false, ◌&&◌, ◌==◌, nat_le, List, length, slice_index, refl, ap, subst}
 use Rattle.sn_base.specs.declared.link.Link.{Link}
 use Rattle.sn_fields.specs.declared.field.Field.{Field}
 use Rattle.sn_fields.specs.declared.field.Field.TheVariants.{PacketLength}
@@ -11,7 +11,7 @@ use Rattle.sn_fields.specs.declared.headers.UdpHeader.{UdpHeader}
 use Rattle.sn_fields.specs.declared.headers.IcmpHeader.{IcmpHeader}
 use Rattle.sn_fields.specs.Headers.{number_at, ether_type, ip_place, is_ip, behind_ip, is_first, carries, has_tcp, has_udp, has_icmp, transport_place}
 use Rattle.sn_fields.specs.Tuples.{where_present, field_of, tuple}
-use Rattle.sn_fields.specs.Parts.{IsLinkPart, IsIpPart, part_carries, IsTcp, IsUdp, IsIcmp}
+use Rattle.sn_fields.specs.Parts.{IsLinkPart, IsIpPart, part_carries, IsTcp, IsUdp, IsIcmp, numbers_in}
 
 carried_by : (valid first is_first' : Bool) (protocol protocol' end end' wanted count size : ℕ)
     → first ≡ valid && is_first' → protocol ≡ where_present valid protocol' → end ≡ where_present valid end'
@@ -79,11 +79,7 @@ ip_is link bytes l ip is_link is_ip =
 pub tuple_is : (link : Link) (wire : ℕ) (bytes : List ℕ) (l : LinkPart) (ip : IpPart) (tcp : TcpHeader) (udp : UdpHeader) (icmp : IcmpHeader)
     → IsLinkPart link bytes l → IsIpPart l.header.kind bytes l.end ip
     → IsTcp (part_carries ip bytes 6 20) bytes ip.end tcp → IsUdp (part_carries ip bytes 17 8) bytes ip.end udp → IsIcmp (part_carries ip bytes 1 4) bytes ip.end icmp
-    → (wire ∷ l.header.destination ∷ l.header.source ∷ l.header.kind ∷ l.header.vlan
-    ∷ where_present ip.header.valid 1 ∷ ip.header.length ∷ ip.header.ttl ∷ ip.header.protocol ∷ ip.header.source ∷ ip.header.destination
-    ∷ where_present tcp.valid 1 ∷ tcp.source ∷ tcp.destination ∷ tcp.sequence ∷ tcp.acknowledgment ∷ tcp.flags
-    ∷ where_present udp.valid 1 ∷ udp.source ∷ udp.destination ∷ udp.length
-    ∷ where_present icmp.valid 1 ∷ icmp.kind ∷ icmp.code ∷ []) ≡ tuple link wire bytes
+    → numbers_in wire l.header ip.header tcp udp icmp ≡ tuple link wire bytes
 unfolding tuple
 tuple_is link wire bytes l ip tcp udp icmp is_link is_ip is_tcp is_udp is_icmp =
     let type = ether_type link bytes in

@@ -1,8 +1,10 @@
 -- serves proofs
 -- What the walk over the headers finds, header by header.
-use Rattle.std.specs.Prelude.{◌≡◌, ℕ, ◌≤◌, ◌<◌, ◌+◌, ◌%◌, ◌^◌, ◌&&◌, ◌==◌, Bool, nat_le, nat_lt, List, length, slice_index}
+use Rattle.std.specs.Prelude.{◌≡◌, ℕ, ◌≤◌, ◌<◌, ◌+◌, ◌%◌, ◌^◌, ◌&&◌, ◌==◌, Bool, nat_le, nat_lt, List, [], ◌∷◌, length, slice_index}
 use Rattle.sn_base.specs.declared.link.Link.{Link}
+use Rattle.sn_fields.specs.declared.headers.LinkHeader.{LinkHeader}
 use Rattle.sn_fields.specs.declared.headers.LinkPart.{LinkPart}
+use Rattle.sn_fields.specs.declared.headers.IpHeader.{IpHeader}
 use Rattle.sn_fields.specs.declared.headers.IpPart.{IpPart}
 use Rattle.sn_fields.specs.declared.headers.TcpHeader.{TcpHeader}
 use Rattle.sn_fields.specs.declared.headers.UdpHeader.{UdpHeader}
@@ -59,3 +61,12 @@ pub record IsIcmp (present : Bool) (bytes : List ℕ) (place : ℕ) (header : Ic
   pub valid_is : header.valid ≡ present
   pub kind_is : header.kind ≡ where_present present (slice_index bytes place)
   pub code_is : header.code ≡ where_present present (slice_index bytes (place + 1))
+
+-- the numbers of these headers, in the order of the fields
+abbrev pub numbers_in : ℕ → LinkHeader → IpHeader → TcpHeader → UdpHeader → IcmpHeader → List ℕ
+numbers_in wire link ip tcp udp icmp =
+    wire ∷ link.destination ∷ link.source ∷ link.kind ∷ link.vlan
+    ∷ where_present ip.valid 1 ∷ ip.length ∷ ip.ttl ∷ ip.protocol ∷ ip.source ∷ ip.destination
+    ∷ where_present tcp.valid 1 ∷ tcp.source ∷ tcp.destination ∷ tcp.sequence ∷ tcp.acknowledgment ∷ tcp.flags
+    ∷ where_present udp.valid 1 ∷ udp.source ∷ udp.destination ∷ udp.length
+    ∷ where_present icmp.valid 1 ∷ icmp.kind ∷ icmp.code ∷ []

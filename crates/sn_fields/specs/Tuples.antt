@@ -3,7 +3,10 @@
 use Rattle.std.specs.Prelude.{◌≡◌, ℕ, ◌+◌, ◌%◌, Bool, true, false, ◌==◌, nat_lt, refl, if◌then◌else◌, List, map, slice_index}
 use Rattle.sn_base.specs.declared.link.Link.{Link}
 use Rattle.sn_fields.specs.declared.field.Field.{Field}
-use Rattle.sn_fields.specs.declared.field.Field.TheVariants.{PacketLength, EthernetDestination, EthernetSource, EthernetType, VlanId, IpValid, IpLength, IpTimeToLive, IpProtocol, IpSource, IpDestination, TcpValid, TcpSourcePort, TcpDestinationPort, TcpSequence, TcpAcknowledgment, TcpFlags, UdpValid, UdpSourcePort, UdpDestinationPort, UdpLength, IcmpValid, IcmpType, IcmpCode}
+use Rattle.sn_fields.specs.declared.field.Field.TheVariants.{PacketLength, EthernetDestination, EthernetSource, EthernetType, VlanId, IpValid, IpLength}
+use Rattle.sn_fields.specs.declared.field.Field.TheVariants.{IpTimeToLive, IpProtocol, IpSource, IpDestination, TcpValid, TcpSourcePort, TcpDestinationPort}
+use Rattle.sn_fields.specs.declared.field.Field.TheVariants.{TcpSequence, TcpAcknowledgment, TcpFlags, UdpValid, UdpSourcePort, UdpDestinationPort, UdpLength}
+use Rattle.sn_fields.specs.declared.field.Field.TheVariants.{IcmpValid, IcmpType, IcmpCode}
 use Rattle.sn_fields.specs.Fields.{fields}
 use Rattle.sn_fields.specs.Headers.{number_at, has_ethernet, tags, ether_type, ip_place, has_ip, transport_place, has_tcp, has_udp, has_icmp}
 

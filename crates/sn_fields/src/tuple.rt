@@ -24,37 +24,87 @@ pub struct Tuple {
 }
 
 impl Model for Tuple {
-    ghost use Rattle.std.specs.Prelude.{ℕ, ◌<◌, ◌^◌, ◌==◌, List, [], ◌∷◌, slice_index};
+    ghost use Rattle.std.specs.Prelude.{ℕ, ◌<◌, ◌^◌, ◌==◌, List, slice_index};
     ghost use Rattle.std.specs.Coded.{coded_ℕ, coded_list};
-    ghost use Rattle.sn_fields.specs.Tuples.{where_present, valid_back};
+    ghost use Rattle.sn_fields.specs.declared.field.Field.TheVariants.{PacketLength, EthernetDestination, EthernetSource, EthernetType, VlanId};
+    ghost use Rattle.sn_fields.specs.declared.field.Field.TheVariants.{IpValid, IpLength, IpTimeToLive, IpProtocol, IpSource, IpDestination};
+    ghost use Rattle.sn_fields.specs.declared.field.Field.TheVariants.{TcpValid, TcpSourcePort, TcpDestinationPort, TcpSequence, TcpAcknowledgment, TcpFlags};
+    ghost use Rattle.sn_fields.specs.declared.field.Field.TheVariants.{UdpValid, UdpSourcePort, UdpDestinationPort, UdpLength};
+    ghost use Rattle.sn_fields.specs.declared.field.Field.TheVariants.{IcmpValid, IcmpType, IcmpCode};
+    ghost use Rattle.sn_fields.specs.Fields.{number_of};
+    ghost use Rattle.sn_fields.specs.Tuples.{valid_back};
+    ghost use Rattle.sn_fields.specs.Parts.{numbers_in};
 
     ghost Value = { List ℕ };
 
     ghost coded = { coded_list coded_ℕ };
 
-    ghost view = { λ a. a.wire ∷ a.link.destination ∷ a.link.source ∷ a.link.kind ∷ a.link.vlan
-        ∷ where_present a.ip.valid 1 ∷ a.ip.length ∷ a.ip.ttl ∷ a.ip.protocol ∷ a.ip.source ∷ a.ip.destination
-        ∷ where_present a.tcp.valid 1 ∷ a.tcp.source ∷ a.tcp.destination ∷ a.tcp.sequence ∷ a.tcp.acknowledgment ∷ a.tcp.flags
-        ∷ where_present a.udp.valid 1 ∷ a.udp.source ∷ a.udp.destination ∷ a.udp.length
-        ∷ where_present a.icmp.valid 1 ∷ a.icmp.kind ∷ a.icmp.code ∷ [] };
+    ghost view = { λ a. numbers_in a.wire a.link a.ip a.tcp a.udp a.icmp };
 
     ghost invariant = { λ a. (a.link.destination < 2 ^ 48) × (a.link.source < 2 ^ 48) × (a.link.vlan < 2 ^ 12) };
 
     ghost inverse = { λ xs. record {
-      wire = slice_index xs 0;
-      link = record { destination = slice_index xs 1; source = slice_index xs 2; kind = slice_index xs 3; vlan = slice_index xs 4 };
-      ip = record { valid = slice_index xs 5 == 1; length = slice_index xs 6; ttl = slice_index xs 7; protocol = slice_index xs 8; source = slice_index xs 9; destination = slice_index xs 10 };
-      tcp = record { valid = slice_index xs 11 == 1; source = slice_index xs 12; destination = slice_index xs 13; sequence = slice_index xs 14; acknowledgment = slice_index xs 15; flags = slice_index xs 16 };
-      udp = record { valid = slice_index xs 17 == 1; source = slice_index xs 18; destination = slice_index xs 19; length = slice_index xs 20 };
-      icmp = record { valid = slice_index xs 21 == 1; kind = slice_index xs 22; code = slice_index xs 23 };
+      wire = slice_index xs (number_of PacketLength);
+      link = record {
+        destination = slice_index xs (number_of EthernetDestination);
+        source = slice_index xs (number_of EthernetSource);
+        kind = slice_index xs (number_of EthernetType);
+        vlan = slice_index xs (number_of VlanId);
+      };
+      ip = record {
+        valid = slice_index xs (number_of IpValid) == 1;
+        length = slice_index xs (number_of IpLength);
+        ttl = slice_index xs (number_of IpTimeToLive);
+        protocol = slice_index xs (number_of IpProtocol);
+        source = slice_index xs (number_of IpSource);
+        destination = slice_index xs (number_of IpDestination);
+      };
+      tcp = record {
+        valid = slice_index xs (number_of TcpValid) == 1;
+        source = slice_index xs (number_of TcpSourcePort);
+        destination = slice_index xs (number_of TcpDestinationPort);
+        sequence = slice_index xs (number_of TcpSequence);
+        acknowledgment = slice_index xs (number_of TcpAcknowledgment);
+        flags = slice_index xs (number_of TcpFlags);
+      };
+      udp = record {
+        valid = slice_index xs (number_of UdpValid) == 1;
+        source = slice_index xs (number_of UdpSourcePort);
+        destination = slice_index xs (number_of UdpDestinationPort);
+        length = slice_index xs (number_of UdpLength);
+      };
+      icmp = record {
+        valid = slice_index xs (number_of IcmpValid) == 1;
+        kind = slice_index xs (number_of IcmpType);
+        code = slice_index xs (number_of IcmpCode);
+      };
     } };
 
     ghost inverse_ok = { λ a h i. record {
       wire = a.wire;
       link = a.link;
-      ip = record { valid = valid_back a.ip.valid i; length = a.ip.length; ttl = a.ip.ttl; protocol = a.ip.protocol; source = a.ip.source; destination = a.ip.destination };
-      tcp = record { valid = valid_back a.tcp.valid i; source = a.tcp.source; destination = a.tcp.destination; sequence = a.tcp.sequence; acknowledgment = a.tcp.acknowledgment; flags = a.tcp.flags };
-      udp = record { valid = valid_back a.udp.valid i; source = a.udp.source; destination = a.udp.destination; length = a.udp.length };
+      ip = record {
+        valid = valid_back a.ip.valid i;
+        length = a.ip.length;
+        ttl = a.ip.ttl;
+        protocol = a.ip.protocol;
+        source = a.ip.source;
+        destination = a.ip.destination;
+      };
+      tcp = record {
+        valid = valid_back a.tcp.valid i;
+        source = a.tcp.source;
+        destination = a.tcp.destination;
+        sequence = a.tcp.sequence;
+        acknowledgment = a.tcp.acknowledgment;
+        flags = a.tcp.flags;
+      };
+      udp = record {
+        valid = valid_back a.udp.valid i;
+        source = a.udp.source;
+        destination = a.udp.destination;
+        length = a.udp.length;
+      };
       icmp = record { valid = valid_back a.icmp.valid i; kind = a.icmp.kind; code = a.icmp.code };
     } };
 }
@@ -78,7 +128,8 @@ fn ip_fits(ip: &IpHeader)
 }
 
 fn tcp_fits(tcp: &TcpHeader)
-    ensures { (tcp.now.source < 2 ^ 16) × (tcp.now.destination < 2 ^ 16) × (tcp.now.sequence < 2 ^ 32) × (tcp.now.acknowledgment < 2 ^ 32) × (tcp.now.flags < 2 ^ 8) }
+    ensures { (tcp.now.source < 2 ^ 16) × (tcp.now.destination < 2 ^ 16) × (tcp.now.sequence < 2 ^ 32) × (tcp.now.acknowledgment < 2 ^ 32) ×
+        (tcp.now.flags < 2 ^ 8) }
 {
     let _source = tcp.source;
     let _destination = tcp.destination;
@@ -104,6 +155,7 @@ fn icmp_fits(icmp: &IcmpHeader)
 
 impl Tuple {
     /// The number of a field, which is below 2 to its width.
+    #[tactic(auto, unfolding(crate::specs::Fields::row_of))]
     pub fn get(&self, field: Field) -> u64
         ensures value { result ≡ slice_index self.now (number_of field) }
         ensures below { result < 2 ^ width_of field }

@@ -38,15 +38,39 @@ address a b c d = from_be_bytes w32 (a ∷ b ∷ c ∷ d ∷ [])
 
 -- connection c of many sources to 10.1.2.3: its SYN, with 20 bytes after the headers
 abbrev pub opening : ℕ → Segment
-opening c = record { source = address 172 16 (c / 256) (c % 256); destination = address 10 1 2 3; source_port = 1024 + c; destination_port = 80; flags = 2; length = 60 }
+opening c = record {
+  source = address 172 16 (c / 256)
+      (c % 256);
+  destination = address 10 1 2 3;
+  source_port = 1024 + c;
+  destination_port = 80;
+  flags = 2;
+  length = 60;
+}
 
 -- connection c of four sources to 10.9.8.7: an ACK, with nothing after the headers
 abbrev pub idling : ℕ → Segment
-idling c = record { source = address 192 168 0 (c % 4 + 1); destination = address 10 9 8 7; source_port = 2048 + c; destination_port = 80; flags = 16; length = 40 }
+idling c = record {
+  source = address 192 168 0
+      (c % 4 + 1);
+  destination = address 10 9 8 7;
+  source_port = 2048 + c;
+  destination_port = 80;
+  flags = 16;
+  length = 40;
+}
 
 -- a segment full of bytes, by two numbers that were drawn
 abbrev pub loaded : ℕ → ℕ → Segment
-loaded u v = record { source = address 30 0 0 (v % 16 + 1); destination = address 20 0 (u % 8) (u / 8 % 8); source_port = 4096 + v / 16 % 1024; destination_port = 443; flags = 16; length = 1040 }
+loaded u v = record {
+  source = address 30 0 0 (v % 16 + 1);
+  destination = address 20 0 (u % 8)
+      (u / 8 % 8);
+  source_port = 4096 + v / 16 % 1024;
+  destination_port = 443;
+  flags = 16;
+  length = 1040;
+}
 
 -- the segment of packet i, where x stands before its draws: u is drawn, and then v
 abbrev pub segment_at : ℕ → ℕ → Segment

@@ -6,13 +6,10 @@ use Rattle.std.specs.Cmp.Lexicographic.{pointwise, slice_cmp, texts_ties, nat_li
 use Rattle.std.specs.FinMap.{find, get, get-from_entries}
 use Rattle.sn_io.specs.Counts.{OnlyRises, Rose, RoseAt, count_of}
 use Rattle.sn_io.specs.Known.{Known, is_named, counted, raised, counts_of}
+use Rattle.sn_base.proofs.Lists.{not_true}
 
 abbrev pub same_name : List ℕ → List ℕ → Bool
 same_name q k = eq_by_cmp (slice_cmp nat_cmp) q k
-
-not_true : (b : Bool) → (b ≡ true → ⊥) → b ≡ false
-not_true true h = absurd (h refl)
-not_true false h = refl
 
 -- the test of an entry, as the map makes it
 pub named_is : {X : Type 0} (name : List ℕ) (entry : List ℕ × X) → is_named name entry ≡ same_name name entry.0

@@ -26,11 +26,6 @@ told_known (Some files) now counts name P same law here unknown =
       | Some file ↦ λ is _. let held : is_some (get files name) ≡ is_some (Some file) = ap is_some is in cc
     ] refl here
 
--- what holds of a value holds of one that equals it
-pub told_is : {X : Type 0} (P : X → Type 0) (told : Option X) (x y : X) → y ≡ x → IfSome told (λ z. x ≡ z) → P y → IfSome told P
-told_is P None x y e same h = tt
-told_is P (Some z) x y e same h = subst P (e ∙ same) h
-
 -- two pieces, one after the other
 pub append_known-append : (told : Option (List ℕ)) (first second : List ℕ) → append_known (append_known told first) second ≡ append_known told (first ++ second)
 append_known-append None first second = refl

@@ -1,5 +1,6 @@
 -- serves proofs
-use Rattle.std.specs.Prelude.{◌≡◌, ℕ, ◌-◌, List, [], ◌∷◌, ◌++◌, length, min, Bool, nat_eq, map, Option, None, Some, Result, Ok, Err, is_some, cond, if◌then◌else◌, true, false}
+use Rattle.std.specs.Prelude.{◌≡◌, ℕ, ◌-◌, List, [], ◌∷◌, ◌++◌, length, min, Bool, nat_eq, map, Option, None, Some, Result, Ok, Err, is_some, cond}
+use Rattle.std.specs.Prelude.{if◌then◌else◌, true, false}
 use Rattle.std.proofs.Common.{refl, ap, sym, ◌∙◌}
 use Rattle.std.specs.Ordering.{nat_cmp, eq_by_cmp}
 use Rattle.std.specs.Cmp.Lexicographic.{slice_cmp, pointwise, nat_list_cmp_total}
@@ -83,14 +84,18 @@ after_known s name = record s { files = if is_read_refused s then with_fault nam
 abbrev pub after_read : MemInputsState → List ℕ → MemInputsState
 after_read s name = if is_some (get (held_by s.files) name) then after_known s name else s
 
-same_find : (files : List FileState) (q : List ℕ) → is_some (find (slice_cmp nat_cmp) q (map named_bytes files)) ≡ is_some (find (slice_cmp nat_cmp) q (known_of files))
+same_find : (files : List FileState) (q : List ℕ)
+    → is_some (find (slice_cmp nat_cmp) q (map named_bytes files)) ≡ is_some (find (slice_cmp nat_cmp) q (known_of files))
 same_find [] q = refl
-same_find (f ∷ fs) q = elim (eq_by_cmp (slice_cmp nat_cmp) q f.name) as (λ b. is_some (cond b (Some f.bytes) (find (slice_cmp nat_cmp) q (map named_bytes fs))) ≡ is_some (cond b (Some f.count) (find (slice_cmp nat_cmp) q (known_of fs)))) [ true ↦ refl | false ↦ same_find fs q ]
+same_find (f ∷ fs) q = elim (eq_by_cmp (slice_cmp nat_cmp) q f.name) as
+    (λ b. is_some (cond b (Some f.bytes) (find (slice_cmp nat_cmp) q (map named_bytes fs)))
+    ≡ is_some (cond b (Some f.count) (find (slice_cmp nat_cmp) q (known_of fs)))) [ true ↦ refl | false ↦ same_find fs q ]
 
 -- the names held are the names known
 pub held_known : (files : List FileState) (q : List ℕ) → is_some (get (held_by files) q) ≡ is_some (get (faults_of files) q)
 held_known files q =
-    ap is_some (get-from_entries nat_list_cmp_total (map named_bytes files) q) ∙ same_find files q ∙ sym (ap is_some (get-from_entries nat_list_cmp_total (known_of files) q))
+    ap is_some (get-from_entries nat_list_cmp_total (map named_bytes files) q) ∙ same_find files q ∙ sym
+    (ap is_some (get-from_entries nat_list_cmp_total (known_of files) q))
 
 some_inner : {X : Type 0} (a b : X) → Some a ≡ Some b → a ≡ b
 some_inner {X = X} a b e = ap (inner a) e
@@ -98,5 +103,6 @@ some_inner {X = X} a b e = ap (inner a) e
     inner : X → Option X → X
     inner d o = elim o [ Some x ↦ x | _ ↦ d ]
 
-pub told_known : (s : MemInputsState) (files : ByName (List ℕ)) (q : List ℕ) → Some (held_by s.files) ≡ Some files → is_some (get files q) ≡ is_some (get (faults_of s.files) q)
+pub told_known : (s : MemInputsState) (files : ByName (List ℕ)) (q : List ℕ) → Some (held_by s.files) ≡ Some files
+    → is_some (get files q) ≡ is_some (get (faults_of s.files) q)
 told_known s files q e = ap (λ m. is_some (get m q)) (sym (some_inner (held_by s.files) files e)) ∙ held_known s.files q

@@ -71,7 +71,8 @@ pub fn read_whole<I: Inputs>(
 ) -> Result<Seq<u8>, ReadError>
     ensures bytes { IfOk result (λ bytes. IfSome (told_file (I.told files.old) name.now) (λ file. bytes ≡ file)) }
     ensures most { IfOk result (λ bytes. length bytes ≤ limit) }
-    ensures whole { IsSomeAnd (told_file (I.told files.old) name.now) (λ file. length file ≤ limit) → ¬ RoseAt name.now (I.faults files.old) (I.faults files.new) → IsOkUnless result ReadError.Memory }
+    ensures whole { IsSomeAnd (told_file (I.told files.old) name.now) (λ file. length file ≤ limit) →
+        ¬ RoseAt name.now (I.faults files.old) (I.faults files.new) → IsOkUnless result ReadError.Memory }
 
     ensures missing { IsErrOf result ReadError.Missing ↔ (get (I.faults files.old) name.now ≡ None) }
     ensures unchanged { IsErrOf result ReadError.Missing → files.new ≡ files.old }
@@ -79,7 +80,8 @@ pub fn read_whole<I: Inputs>(
     ensures large { IsErrOf result ReadError.TooLarge → IfSome (told_file (I.told files.old) name.now) (λ file. limit < length file) }
 
     // `ReadFault` and `Memory` go before `TooLarge`.
-    ensures is_large { IsSomeAnd (told_file (I.told files.old) name.now) (λ file. limit < length file) → IsErrOf result ReadError.TooLarge ⊎ (IsErrOf result ReadError.ReadFault ⊎ IsErrOf result ReadError.Memory) }
+    ensures is_large { IsSomeAnd (told_file (I.told files.old) name.now) (λ file. limit < length file) →
+        IsErrOf result ReadError.TooLarge ⊎ (IsErrOf result ReadError.ReadFault ⊎ IsErrOf result ReadError.Memory) }
 
     ensures told { I.told files.new ≡ I.told files.old }
     ensures faults { OnlyRises name.now (I.faults files.old) (I.faults files.new) }

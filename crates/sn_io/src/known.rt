@@ -70,7 +70,8 @@ fn raise_first(known: &mut Vec<Entry>, name: &str)
 /// Raises the count of a name, and no other.
 pub fn raise(known: &mut Vec<Entry>, name: &str)
     ensures others { OnlyRises name.now (counts_of (entries known.old.items)) (counts_of (entries known.new.items)) }
-    ensures rose { is_some (get (counts_of (entries known.old.items)) name.now) ≡ true → RoseAt name.now (counts_of (entries known.old.items)) (counts_of (entries known.new.items)) }
+    ensures rose { is_some (get (counts_of (entries known.old.items)) name.now) ≡ true →
+        RoseAt name.now (counts_of (entries known.old.items)) (counts_of (entries known.new.items)) }
 {
     raise_first(known, name);
 }

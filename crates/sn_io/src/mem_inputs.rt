@@ -1,10 +1,12 @@
 //! Files in memory, for tests.
-ghost use Rattle.std.specs.Prelude.{◌≡◌, ◌<◌, ◌≤◌, ◌-◌, ◌^◌, ◌++◌, ◌∷◌, ◌↔◌, [], None, Some, IfOk, IfSome, IsErrOf, OnOk, OnErr, is_some, length, min, position};
+ghost use Rattle.std.specs.Prelude.{◌≡◌, ◌<◌, ◌≤◌, ◌-◌, ◌^◌, ◌++◌, ◌∷◌, ◌↔◌, [], None, Some, IfOk, IfSome, IsErrOf, OnOk, OnErr, is_some, length, min};
+ghost use Rattle.std.specs.Prelude.{position};
 ghost use Rattle.std.specs.FinMap.{get, insert};
 ghost use Rattle.sn_io.specs.Counts.{OnlyRises, RoseAt};
 ghost use Rattle.sn_io.specs.Inputs.{Reads, told_file};
 ghost use Rattle.sn_io.specs.Known.{counted};
-ghost use Rattle.sn_io.specs.MemInputs.{MemInputsState, has_name, held_by, faults_of, with_bytes, with_fault, with_name, files_put, read_answer, after_read, told_known};
+ghost use Rattle.sn_io.specs.MemInputs.{MemInputsState, has_name, held_by, faults_of, with_bytes, with_fault, with_name, files_put, read_answer, after_read};
+ghost use Rattle.sn_io.specs.MemInputs.{told_known};
 
 use crate::inputs::{InputFault, Inputs};
 use crate::known::one_more;
@@ -123,17 +125,13 @@ fn add_file(files: &mut Vec<MemFile>, name: &str, bytes: Seq<u8>) -> Result<(), 
     ensures ok { OnOk result (files.new.items ≡ files.old.items ++ record { name = name.now; count = 0; bytes = bytes } ∷ []) }
     ensures err { OnErr result (files.new.items ≡ files.old.items) }
 {
-    let Ok(name) = String::from_str(*files.allocator(), name) else {
-        return Err(Memory);
-    };
-    match files.push(MemFile {
+    let name = String::from_str(*files.allocator(), name)?;
+    files.push(MemFile {
         name,
         count: 0,
         bytes,
-    }) {
-        Ok(()) => Ok(()),
-        Err(_) => Err(Memory),
-    }
+    })?;
+    Ok(())
 }
 
 /// Adds a file to them. An `Err` changes nothing.
@@ -189,10 +187,8 @@ impl MemInputs {
         ensures ok { OnOk result (self.new ≡ record self.old { refused = self.old.refused ++ call ∷ [] }) }
         ensures err { OnErr result (self.new ≡ self.old) }
     {
-        match self.refusals.push(call) {
-            Ok(()) => Ok(()),
-            Err(_) => Err(Memory),
-        }
+        self.refusals.push(call)?;
+        Ok(())
     }
 
     /// What a read does, without what every reader of files says of it.

@@ -35,16 +35,14 @@ impl MemSink {
         ensures { IfOk result (λ sink. sink ≡ record { bytes = []; room = room; refused = []; writes = 0; faults = 0 }) }
     {
         let room = room as usize;
-        match Vec::with_capacity(alloc, room) {
-            Ok(held) => Ok(MemSink {
-                held,
-                room,
-                refusals: Vec::new(alloc),
-                write_count: 0,
-                fault_count: 0,
-            }),
-            Err(_) => Err(Memory),
-        }
+        let held = Vec::with_capacity(alloc, room)?;
+        Ok(MemSink {
+            held,
+            room,
+            refusals: Vec::new(alloc),
+            write_count: 0,
+            fault_count: 0,
+        })
     }
 
     /// Makes the write of this number fail. The numbering ends at 2^64 - 1, the number of all later writes.
@@ -53,10 +51,8 @@ impl MemSink {
         ensures ok { OnOk result (self.new ≡ record self.old { refused = self.old.refused ++ call ∷ [] }) }
         ensures err { OnErr result (self.new ≡ self.old) }
     {
-        match self.refusals.push(call) {
-            Ok(()) => Ok(()),
-            Err(_) => Err(Memory),
-        }
+        self.refusals.push(call)?;
+        Ok(())
     }
 
     /// The bytes that went out.

@@ -109,7 +109,8 @@ impl Model for RealInputs {
 impl RealInputs {
     /// Knows exactly these words as names, none of them with a fault so far.
     pub fn new(rt: &HostRuntime, alloc: Global, words: &[String]) -> Result<RealInputs, Memory>
-        ensures known { IfOk result (λ files. (name : List ℕ) → is_some (get (counts_of files) name) ≡ list_any (λ w. pointwise nat_eq (string_bytes w) name) words.now) }
+        ensures known { IfOk result (λ files. (name : List ℕ) →
+            is_some (get (counts_of files) name) ≡ list_any (λ w. pointwise nat_eq (string_bytes w) name) words.now) }
         ensures counts { IfOk result (λ files. files ≡ map (λ w. (string_bytes w, 0)) words.now) }
     {
         let mut known = Vec::new(alloc);

@@ -19,6 +19,7 @@ use Rattle.sn_ops.specs.Flow.{AllFit, Fits}
 use Rattle.sn_ops.specs.declared.seen.Seen.{Seen}
 use Rattle.sn_ops.specs.Passing.{CanMeet, CanTake, flows}
 use Rattle.sn_ops.specs.Standing.{HasSeen, Stands, groups_after, is_reduce, rows_after}
+use Rattle.sn_base.proofs.Lists.{all_front}
 
 -- ---- the law
 
@@ -105,10 +106,6 @@ last_of : {X : Type 0} (P : X → Type 0) (xs : List X) (x : X) → AllByRecursi
 last_of P [] x h = h.0
 last_of P (y ∷ xs) x h = last_of P xs x h.1
 
-front_of : {X : Type 0} (P : X → Type 0) (xs ys : List X) → AllByRecursion P (xs ++ ys) → AllByRecursion P xs
-front_of P [] ys h = tt
-front_of P (x ∷ xs) ys h = (h.0, front_of P xs ys h.1)
-
 at_last : (P : Row → Type 0) (rows : List Row) (row : Row) → All P (rows ++ row ∷ []) → P row
 at_last P rows row h = last_of P rows row (recursion_from_All P (rows ++ row ∷ []) h)
 
@@ -119,7 +116,7 @@ can_meet Distinct seen groups rows row h f = tt
 can_meet (Reduce r) seen groups rows row h f =
     let key : Row = columns_at r.keys row in
     let has : Row → Type 0 = λ x. any_has r.fold (slice_index x r.value) in
-    let all : All has rows = All-from_recursion has rows (front_of has rows (row ∷ []) (recursion_from_All has (rows ++ row ∷ []) f.had)) in
+    let all : All has rows = All-from_recursion has rows (all_front has rows (row ∷ []) (recursion_from_All has (rows ++ row ∷ []) f.had)) in
     record {
       few = f.few;
       places = at_last (λ (x : Row). All (λ place. place < length x) r.keys) rows row f.places;

@@ -73,7 +73,8 @@ fn front_of(row: &Row, count: usize) -> Row
 /// Each key that occurs in the rows, with the fold of that key's values from the unit.
 fn groups_of(alloc: Global, seed: Seed, rows: &[Row], r: &TReduce) -> Result<Table, Memory>
     requires { ReduceFits r.now rows.now }
-    ensures { IfOk result (λ groups. groups.entries ≡ folded same_row (any_step r.now.fold) (any_unit r.now.fold) (map (pair_of (grouping_of r.now)) rows.now)) }
+    ensures { IfOk result (λ groups. groups.entries ≡
+        folded same_row (any_step r.now.fold) (any_unit r.now.fold) (map (pair_of (grouping_of r.now)) rows.now)) }
 {
     let mut groups = Table::new(alloc, seed);
     for row in rows {

@@ -66,7 +66,8 @@ pub fn join_branches(
     requires branches { length (query_at t.now.queries q).branches ≡ 2 }
     requires left { AllByRecursion (IsOf (end_columns (branch_at t.now.queries q 0))) left.now }
     requires right { AllByRecursion (IsOf (end_columns (branch_at t.now.queries q 1))) right.now }
-    ensures rows { let query = query_at t.now.queries q in IfOk result (λ rows. rows ≡ through (map (op_at level) query.posts) (joined query.keys left.now right.now)) }
+    ensures rows { let query = query_at t.now.queries q in IfOk result
+        (λ rows. rows ≡ through (map (op_at level) query.posts) (joined query.keys left.now right.now)) }
     ensures columns { IfOk result (λ rows. AllByRecursion (IsOf (final_columns (query_at t.now.queries q))) rows) }
 {
     join_through(

@@ -1,7 +1,8 @@
 //! The block of a window.
 ghost use Rattle.std.specs.Prelude.{◌≡◌, ◌++◌, ◌<◌, length, OnOk, IfOk};
 ghost use Rattle.std.specs.List.{flat_map, AllByRecursion};
-ghost use Rattle.sn_out.specs.Text.{IsPartOf, window_words, query_words, level_words, rows_words, window_line, level_text, count_text, query_line, part_text, block_text};
+ghost use Rattle.sn_out.specs.Text.{IsPartOf, window_words, query_words, level_words, rows_words, window_line, level_text, count_text, query_line, part_text};
+ghost use Rattle.sn_out.specs.Text.{block_text};
 
 use crate::pieces::{push_emitted, push_number};
 use crate::rows::push_rows;

@@ -8,9 +8,8 @@ use Rattle.sn_pcap.specs.declared.header.HeadFault.{HeadFault}
 use Rattle.sn_pcap.specs.declared.header.HeadFault.TheVariants as faults
 use Rattle.sn_pcap.specs.Capture.{number_at, magic_of, has_version, link_type, form_of, link_of, with_link, with_form, head_of}
 use Rattle.sn_pcap.proofs.Fronts.{number_in}
-use Rattle.sn_pcap.proofs.OneCapture.{below_or_not}
-use Rattle.sn_pcap.proofs.Shorts.{not_below}
 use Rattle.sn_pcap.proofs.ToldLemmas.{at_told}
+use Rattle.sn_base.proofs.Tests.{by_order as below_or_not, not_less as not_below}
 
 abbrev form : ℕ → ℕ → Option (Bool × Bool)
 form low high =

@@ -3,8 +3,8 @@ use Rattle.std.proofs.Common.{◌≡◌, ℕ, ◌+◌, ◌-◌, ◌≤◌, ◌^�
 use Rattle.std.proofs.Math.Seq.{take-add}
 use Rattle.std.proofs.Math.ListN.{drop_of_length-le}
 use Rattle.std.proofs.lemmas.List.{drop-drop, drop-take, take_all, take-take}
-use Rattle.sn_pcap.proofs.OneCapture.{below_or_not}
 use Rattle.sn_pcap.specs.Reading.{within, HoldsAt}
+use Rattle.sn_base.proofs.Tests.{by_order as below_or_not}
 
 -- more bytes are held
 pub holds_more : (file held more : List ℕ) (offset n : ℕ) → HoldsAt file offset held → more ≡ held ++ take n (drop (offset + length held) file) → n ≤ length file - (offset + length held) → HoldsAt file offset more

@@ -13,7 +13,7 @@ use Rattle.sn_pcap.specs.Capture.{Records, HasRecord, packet_at, captured, no_by
 use Rattle.sn_pcap.specs.Reading.{within, last_of, ReaderState, answer_of, TellsPacket, IsStep, Left, records, none, HasLeft, Takes, Run, more, ends, AllSeen, nothing, also}
 use Rattle.sn_pcap.proofs.OneCapture.{records_once, records_some}
 
-apart : {X : Type 0} (x : X) → None ≡ Some x → ⊥
+pub apart : {X : Type 0} (x : X) → None ≡ Some x → ⊥
 apart x e = cc
 
 some_is : {X : Type 0} {a b : X} → Some a ≡ Some b → a ≡ b

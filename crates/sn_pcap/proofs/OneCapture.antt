@@ -7,6 +7,8 @@ use Rattle.sn_pcap.specs.declared.packet.Packet.{Packet}
 use Rattle.sn_pcap.specs.declared.packet.Ending.{Ending}
 use Rattle.sn_pcap.specs.declared.packet.Ending.TheVariants.{Clean, Cut, Bad}
 use Rattle.sn_pcap.specs.Capture.{Records, HasRecords, HasRecord, IsWithin, captured, packet_at, no_byte, short_header, too_large, short_packet, whole}
+use Rattle.sn_base.proofs.Lists.{by_test}
+use Rattle.sn_base.proofs.Tests.{by_order}
 
 -- from an offset on a file has one list of packets and one ending at most
 pub records_once : {header : Header} {file : List ℕ} {n : ℕ} {ps qs : List Packet} {e f : Ending}
@@ -75,22 +77,15 @@ within_more header file n found more packet all has packet_is more_is =
     All-same (IsWithin file) more (found ++ packet ∷ []) more_is
     (All-push (IsWithin file) found packet all (packet_within header file n packet has packet_is))
 
-pub by_test : {G : Type 0} (b : Bool) → (b ≡ true → G) → (b ≡ false → G) → G
-by_test true holds fails = holds refl
-by_test false holds fails = fails refl
-
-pub below_or_not : {G : Type 0} (a b : ℕ) → (a < b → G) → (b ≤ a → G) → G
-below_or_not a b below above = by_test (nat_lt a b) (λ e. below (ltb-true a b e)) (λ e. above (ltb-false a b e))
-
 some_within : (header : Header) (file : List ℕ) (room n : ℕ) → length file ≤ n + room → HasRecords header file n
 some_within header file zero n near = record { packets = []; ending = Clean; are = no_byte n (omega arith) }
 some_within header file (suc room) n near =
-    below_or_not n (length file)
-    (λ stands. below_or_not (length file) (n + 16)
+    by_order n (length file)
+    (λ stands. by_order (length file) (n + 16)
     (λ few. record { packets = []; ending = Cut n; are = short_header n stands few })
-    (λ header_stands. below_or_not 262144 (captured header file n)
+    (λ header_stands. by_order 262144 (captured header file n)
     (λ large. record { packets = []; ending = Bad n; are = too_large n header_stands large })
-    (λ lawful. below_or_not (length file) (n + 16 + captured header file n)
+    (λ lawful. by_order (length file) (n + 16 + captured header file n)
     (λ few. record { packets = []; ending = Cut n; are = short_packet n header_stands lawful few })
     (λ packet_stands.
     let rest = some_within header file room (n + 16 + captured header file n) (omega arith) in

@@ -10,19 +10,7 @@ use Rattle.sn_pcap.specs.Capture.{Records, captured, no_byte, short_header, too_
 use Rattle.sn_pcap.specs.Reading.{within, last_of}
 use Rattle.sn_pcap.specs.Stands.{short_ending, IsShort, IsNextEnd}
 use Rattle.sn_pcap.proofs.Holding.{length_within}
-use Rattle.sn_pcap.proofs.OneCapture.{below_or_not}
-
-below : (a b : ℕ) → a < b → nat_lt a b ≡ true
-below a b h = grind (arith, nat_tests)
-
-pub not_below : (a b : ℕ) → b ≤ a → nat_lt a b ≡ false
-not_below a b h = grind (arith, nat_tests)
-
-at_most : (a b : ℕ) → a ≤ b → nat_le a b ≡ true
-at_most a b h = grind (arith, nat_tests)
-
-not_at_most : (a b : ℕ) → b < a → nat_le a b ≡ false
-not_at_most a b h = grind (arith, nat_tests)
+use Rattle.sn_base.proofs.Tests.{not_less, at_most, not_at_most, less, by_order as below_or_not}
 
 ending_clean : (file : List ℕ) (n : ℕ) → length file ≤ n → short_ending file n ≡ Clean
 ending_clean file n h = ap (λ (b : Bool). cond b Clean (Cut n)) (at_most (length file) n h)
@@ -33,8 +21,8 @@ ending_cut file n h = ap (λ (b : Bool). cond b Clean (Cut n)) (not_at_most (len
 large_is : (file front : List ℕ) (n : ℕ) → 2 ^ 40 < length file → last.TooLarge ≡ last_of file (short_ending front n)
 large_is file front n large =
     elim (nat_le (length front) n) as (λ b. last.TooLarge ≡ last_of file (cond b Clean (Cut n))) [
-      | true ↦ sym (ap (λ (b : Bool). cond b last.TooLarge (last.Ended Clean)) (below (2 ^ 40) (length file) large))
-      | false ↦ sym (ap (λ (b : Bool). cond b last.TooLarge (last.Ended (Cut n))) (below (2 ^ 40) (length file) large))
+      | true ↦ sym (ap (λ (b : Bool). cond b last.TooLarge (last.Ended Clean)) (less (2 ^ 40) (length file) large))
+      | false ↦ sym (ap (λ (b : Bool). cond b last.TooLarge (last.Ended (Cut n))) (less (2 ^ 40) (length file) large))
     ]
 
 -- bytes stand after the most that are read
@@ -50,7 +38,7 @@ short_clean file n need some most none =
     let past : length (within file) ≤ n = omega (arith, length_within file) in
     record {
       few = omega arith;
-      ends = sym (ap (last_of file) (ending_clean (within file) n past) ∙ ap (λ (b : Bool). cond b last.TooLarge (last.Ended Clean)) (not_below (2 ^ 40) (length file) (omega arith)));
+      ends = sym (ap (last_of file) (ending_clean (within file) n past) ∙ ap (λ (b : Bool). cond b last.TooLarge (last.Ended Clean)) (not_less (2 ^ 40) (length file) (omega arith)));
     }
 
 -- some bytes stand, but too few
@@ -59,7 +47,7 @@ short_cut file n need count some few ends most =
     let stands : n < length (within file) = omega (arith, length_within file) in
     record {
       few = omega (arith, length_within file);
-      ends = sym (ap (last_of file) (ending_cut (within file) n stands) ∙ ap (λ (b : Bool). cond b last.TooLarge (last.Ended (Cut n))) (not_below (2 ^ 40) (length file) most));
+      ends = sym (ap (last_of file) (ending_cut (within file) n stands) ∙ ap (λ (b : Bool). cond b last.TooLarge (last.Ended (Cut n))) (not_less (2 ^ 40) (length file) most));
     }
 
 -- the header of a record doesn't stand

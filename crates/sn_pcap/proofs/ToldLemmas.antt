@@ -23,8 +23,8 @@ use Rattle.sn_pcap.proofs.Holding.{holds_more, holds_rest, held_stand, length_wi
 use Rattle.sn_pcap.proofs.Shorts.{short_large, short_clean, short_cut, end_in_header, end_in_bad, end_in_packet}
 use Rattle.sn_pcap.proofs.Fronts.{read_number, packet_read}
 use Rattle.sn_pcap.proofs.LeftLemmas.{left_taken}
-use Rattle.sn_pcap.proofs.OneCapture.{below_or_not}
 use Rattle.std.proofs.lemmas.Bool.{true≢false}
+use Rattle.sn_base.proofs.Tests.{by_order as below_or_not}
 
 pub at_told : (P : List ℕ → Type 0) (now : Option (List ℕ)) (file : List ℕ) → now ≡ Some file → IfSome now P → P file
 at_told P now file same h = subst (λ (o : Option (List ℕ)). IfSome o P) same h

@@ -1,7 +1,8 @@
 -- to be believed
 -- The file format of classic pcap, version 2.4: a header of 24 bytes, and after it records, each of a header of
 -- 16 bytes and the captured bytes of a packet.
-use Rattle.std.specs.Prelude.{◌≡◌, ℕ, ◌≤◌, ◌<◌, ◌+◌, ◌*◌, ◌%◌, Bool, true, false, ◌&&◌, ◌==◌, nat_lt, find, if◌then◌else◌, List, [], ◌∷◌, length, take, drop, Option, None, Some, Result, Ok, Err}
+use Rattle.std.specs.Prelude.{◌≡◌, ℕ, ◌≤◌, ◌<◌, ◌+◌, ◌*◌, ◌%◌, Bool, true, false, ◌&&◌, ◌==◌, nat_lt, find, if◌then◌else◌, List, [], ◌∷◌, length, take, drop}
+use Rattle.std.specs.Prelude.{Option, None, Some, Result, Ok, Err}
 use Rattle.byteorder.specs.Endian.{big_number, little_number}
 use Rattle.sn_base.specs.declared.link.Link.{Link}
 use Rattle.sn_base.specs.declared.link.Link.TheVariants.{Ethernet, RawIp, Cooked, Cooked2}
@@ -104,7 +105,8 @@ pub data Records (header : Header) (file : List ℕ) : ℕ → List Packet → E
   -- a record's header with a lawful captured length, but fewer bytes after it
   short_packet : (n : ℕ) → HasHeader file n → captured header file n ≤ 262144 → length file < n + 16 + captured header file n → Records header file n [] (Cut n)
   -- a whole record: its packet, and then the records after it
-  whole : (n : ℕ) (packets : List Packet) (ending : Ending) → HasRecord header file n → Records header file (n + 16 + captured header file n) packets ending → Records header file n (packet_at header file n ∷ packets) ending
+  whole : (n : ℕ) (packets : List Packet) (ending : Ending) → HasRecord header file n → Records header file (n + 16 + captured header file n) packets ending
+      → Records header file n (packet_at header file n ∷ packets) ending
 
 -- the file has records from offset n on
 pub record HasRecords (header : Header) (file : List ℕ) (n : ℕ) : Type 0 where

@@ -1,6 +1,7 @@
 -- serves proofs
 -- A capture that is read from front to back, one record after another.
-use Rattle.std.specs.Prelude.{◌≡◌, ℕ, ◌<◌, ◌≤◌, ◌+◌, ◌^◌, ◌⊎◌, true, nat_lt, min, if◌then◌else◌, List, [], ◌∷◌, length, take, drop, Option, None, Some, is_some, Result, Ok, Err}
+use Rattle.std.specs.Prelude.{◌≡◌, ℕ, ◌<◌, ◌≤◌, ◌+◌, ◌^◌, ◌⊎◌, true, nat_lt, min, if◌then◌else◌, List, [], ◌∷◌, length, take, drop, Option, None, Some, is_some}
+use Rattle.std.specs.Prelude.{Result, Ok, Err}
 use Rattle.sn_io.specs.declared.inputs.InputFault.{InputFault}
 use Rattle.sn_io.specs.declared.inputs.InputFault.TheVariants as faults
 use Rattle.sn_io.specs.declared.inputs.ReadError.{ReadError}
@@ -102,7 +103,8 @@ IsStep file before answer seen now = TellsPacket file before answer seen now ⊎
 -- The records that are left for a reader of a file: their packets, and what it answers after them.
 pub data Left (file : List ℕ) (reader : ReaderState) : List Packet → Last → Type 0 where
   -- those from its offset on in the first 2^40 bytes
-  records : (packets : List Packet) (ending : Ending) (last : Last) → reader.last ≡ None → Records reader.header (within file) reader.offset packets ending → last ≡ last_of file ending → Left file reader packets last
+  records : (packets : List Packet) (ending : Ending) (last : Last) → reader.last ≡ None → Records reader.header (within file) reader.offset packets ending
+      → last ≡ last_of file ending → Left file reader packets last
   -- none, where it has answered how they end
   none : (last : Last) → reader.last ≡ Some last → Left file reader [] last
 
@@ -113,7 +115,8 @@ pub record HasLeft (file : List ℕ) (reader : ReaderState) : Type 0 where
   pub are : Left file reader packets last
 
 -- one call takes the first of what is left: its packet is given and the others are left; or none is left, and the end is said
-pub record TakesPacket (file : List ℕ) (packet : Packet) (packets : List Packet) (last : Last) (answer : Result Next ReadError) (seen : Seen) (now : ReaderState) : Type 0 where
+pub record TakesPacket (file : List ℕ) (packet : Packet) (packets : List Packet) (last : Last) (answer : Result Next ReadError) (seen : Seen)
+    (now : ReaderState) : Type 0 where
   pub is_seen : IsSeen (within file) packet seen
   pub answered : answer ≡ Ok next.Packet
   pub left : Left file now packets last
@@ -132,10 +135,12 @@ pub record MovesOn (before : ReaderState) (seen : Seen) (now : ReaderState) : Ty
 
 -- the answers of a run of calls up to the first that says how the records end
 pub data Run (file : List ℕ) : ReaderState → List Seen → Last → Type 0 where
-  more : {reader after : ReaderState} {seens : List Seen} {last : Last} (seen : Seen) → IsStep file reader (Ok next.Packet) seen after → Run file after seens last → Run file reader (seen ∷ seens) last
+  more : {reader after : ReaderState} {seens : List Seen} {last : Last} (seen : Seen) → IsStep file reader (Ok next.Packet) seen after
+      → Run file after seens last → Run file reader (seen ∷ seens) last
   ends : {reader after : ReaderState} {seen : Seen} (last : Last) → IsStep file reader (answer_of last) seen after → Run file reader [] last
 
 -- each of the packets, in order
 pub data AllSeen (file : List ℕ) : List Packet → List Seen → Type 0 where
   nothing : AllSeen file [] []
-  also : {packet : Packet} {packets : List Packet} {seen : Seen} {seens : List Seen} → IsSeen file packet seen → AllSeen file packets seens → AllSeen file (packet ∷ packets) (seen ∷ seens)
+  also : {packet : Packet} {packets : List Packet} {seen : Seen} {seens : List Seen} → IsSeen file packet seen → AllSeen file packets seens
+      → AllSeen file (packet ∷ packets) (seen ∷ seens)

@@ -55,7 +55,8 @@ pub fn read_behind<I: Inputs>(
     requires { held < length bytes.old }
     ensures kept { take held bytes.new ≡ take held bytes.old }
     ensures within { IfOk result (λ n. held + n ≤ length bytes.old) }
-    ensures bytes { IfOk result (λ n. IfSome (told_file (I.told files.old) name.now) (λ file. take (held + n) bytes.new ≡ take held bytes.old ++ take n (drop at file))) }
+    ensures bytes { IfOk result (λ n. IfSome (told_file (I.told files.old) name.now)
+        (λ file. take (held + n) bytes.new ≡ take held bytes.old ++ take n (drop at file))) }
     ensures stand { IfOk result (λ n. IfSome (told_file (I.told files.old) name.now) (λ file. n ≤ length file - at)) }
     ensures none { IfOk result (λ n. IfSome (told_file (I.told files.old) name.now) (λ file. (n ≡ 0) ↔ (length file ≤ at))) }
     ensures told { I.told files.new ≡ I.told files.old }

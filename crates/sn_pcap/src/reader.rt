@@ -1,5 +1,6 @@
 //! A reader of captures, which holds no more of a file than one buffer.
-ghost use Rattle.std.specs.Prelude.{◌≡◌, ◌≢◌, ◌<◌, ◌≤◌, ◌+◌, ◌-◌, ◌^◌, ◌⊎◌, ◌↔◌, ℕ, List, None, Some, true, min, max, length, take, drop, is_some, IfOk, IfErr, OnOk, OnErr, IfSome, IsErrOf};
+ghost use Rattle.std.specs.Prelude.{◌≡◌, ◌≢◌, ◌<◌, ◌≤◌, ◌+◌, ◌-◌, ◌^◌, ◌⊎◌, ◌↔◌, ℕ, List, None, Some, true, min, max, length, take, drop, is_some, IfOk, IfErr};
+ghost use Rattle.std.specs.Prelude.{OnOk, OnErr, IfSome, IsErrOf};
 ghost use Rattle.std.specs.FinMap.{get};
 ghost use Rattle.sn_io.specs.Counts.{OnlyRises, RoseAt};
 ghost use Rattle.sn_io.specs.Inputs.{told_file};
@@ -10,7 +11,8 @@ ghost use Rattle.sn_pcap.specs.declared.seen.Seen.{Seen};
 ghost use Rattle.sn_pcap.specs.declared.seen.Next.TheVariants as Next;
 ghost use Rattle.sn_pcap.specs.declared.seen.Last.{Last};
 ghost use Rattle.sn_pcap.specs.Capture.{Records, captured, packet_at};
-ghost use Rattle.sn_pcap.specs.Reading.{ReaderState, within, last_of, made, HoldsAt, Follows, HasRead, answer_of, error_of, IsSeen, IsStep, Left, HasLeft, Takes, MovesOn, Run, AllSeen};
+ghost use Rattle.sn_pcap.specs.Reading.{ReaderState, within, last_of, made, HoldsAt, Follows, HasRead, answer_of, error_of, IsSeen, IsStep, Left, HasLeft};
+ghost use Rattle.sn_pcap.specs.Reading.{Takes, MovesOn, Run, AllSeen};
 ghost use Rattle.sn_pcap.specs.Stands.{IsShort, IsNextPacket, IsNextEnd, IsLawful};
 
 use crate::buffer::{BUFFER_BYTES, Buffer};
@@ -136,7 +138,8 @@ fn stands<I: Inputs>(
     requires most { offset ≤ 2 ^ 40 }
     ensures kept { take (length buffer.old) buffer.new ≡ buffer.old }
     ensures holds { IfSome (told_file (I.told files.old) name.now) (λ file. HoldsAt file offset buffer.old → HoldsAt file offset buffer.new) }
-    ensures count { IfOk result (λ count. IfSome (told_file (I.told files.old) name.now) (λ file. HoldsAt file offset buffer.old → count ≡ min want (length file - offset))) }
+    ensures count { IfOk result (λ count. IfSome (told_file (I.told files.old) name.now) (λ file. HoldsAt file offset buffer.old →
+        count ≡ min want (length file - offset))) }
     ensures held { IfOk result (λ count. min count 65536 ≤ length buffer.new) }
     ensures most { IfOk result (λ count. count ≤ want) }
     ensures unknown { length buffer.old < min want 65536 → get (I.faults files.old) name.now ≡ None → IsErrOf result InputFault.Missing }
@@ -178,8 +181,10 @@ fn short<I: Inputs>(
     requires most { offset ≤ 2 ^ 40 }
     ensures kept { take (length buffer.old) buffer.new ≡ buffer.old }
     ensures holds { IfSome (told_file (I.told files.old) name.now) (λ file. HoldsAt file offset buffer.old → HoldsAt file offset buffer.new) }
-    ensures ends { IfOk result (λ short. IfSome short (λ last. IfSome (told_file (I.told files.old) name.now) (λ file. HoldsAt file offset buffer.old → IsShort file offset need last))) }
-    ensures whole { IfOk result (λ short. short ≡ None → IfSome (told_file (I.told files.old) name.now) (λ file. HoldsAt file offset buffer.old → offset + need ≤ length (within file))) }
+    ensures ends { IfOk result (λ short. IfSome short
+        (λ last. IfSome (told_file (I.told files.old) name.now) (λ file. HoldsAt file offset buffer.old → IsShort file offset need last))) }
+    ensures whole { IfOk result (λ short. short ≡ None →
+        IfSome (told_file (I.told files.old) name.now) (λ file. HoldsAt file offset buffer.old → offset + need ≤ length (within file))) }
     ensures held { IfOk result (λ short. short ≡ None → min need 65536 ≤ length buffer.new) }
     ensures limit { IfOk result (λ short. short ≡ None → offset + need ≤ 2 ^ 40) }
     ensures unknown { length buffer.old ≡ 0 → get (I.faults files.old) name.now ≡ None → IsErrOf result InputFault.Missing }
@@ -208,8 +213,10 @@ fn short_when_read<I: Inputs>(
     requires most { offset ≤ 2 ^ 40 }
     ensures kept { take (length buffer.old) buffer.new ≡ buffer.old }
     ensures holds { IfSome (told_file (I.told files.old) name.now) (λ file. HoldsAt file offset buffer.old → HoldsAt file offset buffer.new) }
-    ensures ends { IfOk result (λ short. IfSome short (λ last. IfSome (told_file (I.told files.old) name.now) (λ file. HoldsAt file offset buffer.old → IsShort file offset need last))) }
-    ensures whole { IfOk result (λ short. short ≡ None → IfSome (told_file (I.told files.old) name.now) (λ file. HoldsAt file offset buffer.old → offset + need ≤ length (within file))) }
+    ensures ends { IfOk result (λ short. IfSome short
+        (λ last. IfSome (told_file (I.told files.old) name.now) (λ file. HoldsAt file offset buffer.old → IsShort file offset need last))) }
+    ensures whole { IfOk result (λ short. short ≡ None →
+        IfSome (told_file (I.told files.old) name.now) (λ file. HoldsAt file offset buffer.old → offset + need ≤ length (within file))) }
     ensures held { IfOk result (λ short. short ≡ None → min need 65536 ≤ length buffer.new) }
     ensures limit { IfOk result (λ short. short ≡ None → offset + need ≤ 2 ^ 40) }
     ensures unknown { length buffer.old ≡ 0 → get (I.faults files.old) name.now ≡ None → IsErrOf result InputFault.Missing }
@@ -265,8 +272,10 @@ fn look<I: Inputs>(
     requires { offset ≤ 2 ^ 40 }
     ensures kept { take (length buffer.old) buffer.new ≡ buffer.old }
     ensures holds { IfSome (told_file (I.told files.old) name.now) (λ file. HoldsAt file offset buffer.old → HoldsAt file offset buffer.new) }
-    ensures packet { IfOk result (λ found. found ≡ None → IfSome (told_file (I.told files.old) name.now) (λ file. HoldsAt file offset buffer.old → IsNextPacket header.now file offset seen.new)) }
-    ensures last { IfOk result (λ found. IfSome found (λ last. IfSome (told_file (I.told files.old) name.now) (λ file. HoldsAt file offset buffer.old → IsNextEnd header.now file offset last))) }
+    ensures packet { IfOk result (λ found. found ≡ None →
+        IfSome (told_file (I.told files.old) name.now) (λ file. HoldsAt file offset buffer.old → IsNextPacket header.now file offset seen.new)) }
+    ensures last { IfOk result (λ found. IfSome found
+        (λ last. IfSome (told_file (I.told files.old) name.now) (λ file. HoldsAt file offset buffer.old → IsNextEnd header.now file offset last))) }
     ensures lawful { IfOk result (λ found. found ≡ None → IsLawful offset seen.new) }
     ensures unseen { result ≢ Ok None → seen.new ≡ seen.old }
     ensures unknown { length buffer.old ≡ 0 → get (I.faults files.old) name.now ≡ None → IsErrOf result InputFault.Missing }
@@ -345,7 +354,8 @@ impl Reader {
 
         // Where contents are known: the exact answer, that it takes the first of the records that are left, and that
         // the reader goes on following the file.
-        ensures step { IfSome (told_file (I.told files.old) name.now) (λ file. result ≢ Err ReadError.ReadFault → IsStep file self.old result seen.new self.new) }
+        ensures step { IfSome (told_file (I.told files.old) name.now) (λ file. result ≢ Err ReadError.ReadFault →
+            IsStep file self.old result seen.new self.new) }
         ensures takes { IfSome (told_file (I.told files.old) name.now) (λ file. (packets : List Packet) (last : Last) →
             Left file self.old packets last → result ≢ Err ReadError.ReadFault → Takes file packets last result seen.new self.new) }
         ensures follows { IfSome (told_file (I.told files.new) name.now) (λ file. Follows file self.new) }
@@ -408,7 +418,9 @@ impl Reader {
 /// end; and of each reader exactly one list of records is left.
 pub fn reader_gives_the_records()
     ensures whole { (header : Header) (file : List ℕ) (seens : List Seen) (last : Last) (packets : List Packet) (ending : Ending) →
-        Run file (made header) seens last → Records header (within file) 24 packets ending → AllSeen (within file) packets seens × (last ≡ last_of file ending) }
+        Run file (made header) seens last → Records header (within file) 24 packets ending →
+        AllSeen (within file) packets seens × (last ≡ last_of file ending) }
     ensures some { (file : List ℕ) (reader : ReaderState) → HasLeft file reader }
-    ensures once { (file : List ℕ) (reader : ReaderState) (ps qs : List Packet) (e f : Last) → Left file reader ps e → Left file reader qs f → (ps ≡ qs) × (e ≡ f) }
+    ensures once { (file : List ℕ) (reader : ReaderState) (ps qs : List Packet) (e f : Last) → Left file reader ps e → Left file reader qs f →
+        (ps ≡ qs) × (e ≡ f) }
 {}

@@ -28,21 +28,21 @@ use Rattle.sn_pipe.specs.Passing.{CanBeRead, TestWithin}
 
 -- ---- a cut is within the branch
 
-filters_short : (os : List TOp) → filters_ahead os ≤ length os
+pub filters_short : (os : List TOp) → filters_ahead os ≤ length os
 filters_short [] = omega arith
 filters_short (ops.Filter conds ∷ os) = let rest = filters_short os in omega (arith, rest)
 filters_short (ops.Map exprs ∷ os) = omega arith
 filters_short (ops.Distinct ∷ os) = omega arith
 filters_short (ops.Reduce r ∷ os) = omega arith
 
-behind_short : (os : List TOp) → cut_behind_distinct os ≤ length os
+pub behind_short : (os : List TOp) → cut_behind_distinct os ≤ length os
 behind_short [] = omega arith
 behind_short (ops.Filter conds ∷ os) = let rest = behind_short os in omega (arith, rest)
 behind_short (ops.Map exprs ∷ os) = let rest = behind_short os in omega (arith, rest)
 behind_short (ops.Distinct ∷ os) = omega arith
 behind_short (ops.Reduce r ∷ os) = let rest = filters_short os in omega (arith, rest)
 
-cut_short : (os : List TOp) → greatest_cut os ≤ length os
+pub cut_short : (os : List TOp) → greatest_cut os ≤ length os
 cut_short [] = omega arith
 cut_short (ops.Filter conds ∷ os) = let rest = cut_short os in omega (arith, rest)
 cut_short (ops.Map exprs ∷ os) = let rest = cut_short os in omega (arith, rest)

@@ -13,7 +13,7 @@ use Rattle.sn_base.specs.Operators.{Grouping, Op as Acting, grouped, key_of, pai
 use Rattle.sn_base.specs.declared.column.Column.{Column}
 use Rattle.sn_base.proofs.BagLemmas.{all_bag}
 use Rattle.sn_base.proofs.FoldedLemmas.{same_row_exact}
-use Rattle.sn_base.proofs.Lists.{all_append, all_filter, all_map, any_push, map_both, nat_self, or_left, or_right, or_true, take_one}
+use Rattle.sn_base.proofs.Lists.{all_append, all_filter, all_map, any_push, map_both, nat_self, or_left, or_right, or_true, take_one, all_unmap}
 use Rattle.sn_base.proofs.OnceLemmas.{all_once, any_once}
 use Rattle.sn_chain.specs.Homes.{homes_by_place}
 use Rattle.sn_chain.proofs.HomeLemmas.{homes_known}
@@ -43,7 +43,7 @@ use Rattle.sn_types.specs.declared.typed_query.TypedQuery.{TypedQuery}
 use Rattle.sn_types.specs.Typed.{HasWidths, IsTyped, branch_at, first_columns, query_at, schema_at}
 use Rattle.sn_types.specs.Typing.{schemas_along, typed_op, typed_ops}
 use Rattle.sn_types.specs.Values.{op_at}
-use Rattle.sn_types.proofs.Facts.{branch_source_of, few_packet_fields}
+use Rattle.sn_types.proofs.Facts.{branch_source_of, few_packet_fields, length-typed_ops}
 use Rattle.sn_types.proofs.RowsAfter.{AreOf, of_prop, rows_after}
 use Rattle.sn_types.proofs.Schemas.{IsSchema, packet_schema, schema_after}
 use Rattle.sn_types.proofs.Sound.{AreSound, IsSound, sound_branch}
@@ -52,10 +52,6 @@ use Rattle.sn_pipe.proofs.Fronts as fronts
 
 -- ---- the keys that a reduce holds are keys that came
 
-unmapped : {X Y : Type 0} (P : Y → Type 0) (f : X → Y) (xs : List X) → AllByRecursion P (map f xs) → AllByRecursion (λ x. P (f x)) xs
-unmapped P f [] h = tt
-unmapped P f (x ∷ xs) h = (h.0, unmapped P f xs h.1)
-
 -- where all rows that a reduce gives are such, those are that it holds
 held_such : (P : Row → Type 0) (depth : ℕ) (size : ℕ → ℕ) (i : ℕ) (g : Grouping) (flow : List Row) → AllByRecursion P (grouped g (map (pair_of g) flow)) → AllByRecursion P (held depth size i g flow)
 held_such P depth size i g flow h =
@@ -63,7 +59,7 @@ held_such P depth size i g flow h =
     let keys : List Row = map (λ (p : Row × ℕ). p.0) pairs in
     let same : keys ≡ map (key_of g) flow = map_both (pair_of g) (λ (p : Row × ℕ). p.0) flow in
     let homes : List Row = homes_by_place depth (size i) (map (key_of g) flow) in
-    let each = unmapped P (row_for g pairs) (once same_row keys) h in
+    let each = all_unmap P (row_for g pairs) (once same_row keys) h in
     all_map P (row_for g pairs) homes (all_members (λ k. P (row_for g pairs k)) homes (λ k is.
     member (λ k. P (row_for g pairs k)) k (once same_row keys) each
     (any_once nat_list_eq_equiv same_row_exact k keys ∙ ap (list_any (same_row k)) same ∙ homes_known depth (size i) (map (key_of g) flow) k is)))
@@ -177,10 +173,6 @@ module _ (depth : ℕ) (size : ℕ → ℕ) (level : ℕ) (schemas : List (List 
 
 -- ---- a typed branch
 
-typed_count : (columns : List Column) (os : List Op) → length (typed_ops columns os) ≡ length os
-typed_count columns [] = refl
-typed_count columns (op ∷ os) = ap suc (typed_count (columns_after columns op.what) os)
-
 -- an item has the columns of its tag, and a tag of the prefix
 abbrev Sent : TypedBranch → ℕ → Item → Type 0
 Sent branch cut item = IsItemOf branch item × (is_tag_of branch.ops cut item.tag ≡ true)
@@ -202,7 +194,7 @@ bagged_good window queries q b level cut depth size rows t lt within le of =
       schemas_here = λ j. ap (schema_at (schemas_along columns s.ops)) (zero-add j);
       operators_here = λ j. ap (slice_get (typed_ops columns s.ops)) (zero-add j);
       upto = zero-add cut;
-      long = let count = typed_count columns s.ops in omega (arith, long, count);
+      long = let count = length-typed_ops columns s.ops in omega (arith, long, count);
     }) (λ no. cc) (subst (λ (cs : List Column). AreOf cs rows) (first_along columns s.ops) is)) le of)
 
 pub items_sent : (window q b level cut depth : ℕ) (queries : List TypedQuery) (kept : Option Kept) (sizes : List ℕ) (tuples : List (List ℕ)) → ∥ IsTyped window queries ∥₁ → q < length queries → b < length (query_at queries q).branches

@@ -10,7 +10,7 @@ use Rattle.sn_types.specs.Typed.{branch_of, packet_row}
 use Rattle.sn_types.specs.declared.typed_query.TypedQuery.{TypedQuery}
 
 -- tests that agree keep the same
-same_filter : (s t : List ℕ → Bool) → ((x : List ℕ) → s x ≡ t x) → (xs : List (List ℕ)) → filter s xs ≡ filter t xs
+pub same_filter : (s t : List ℕ → Bool) → ((x : List ℕ) → s x ≡ t x) → (xs : List (List ℕ)) → filter s xs ≡ filter t xs
 same_filter s t e [] = refl
 same_filter s t e (x ∷ xs) = ap (λ b. cond b (x ∷ filter s xs) (filter s xs)) (e x) ∙ ap (λ ys. cond (t x) (x ∷ ys) ys) (same_filter s t e xs)
 

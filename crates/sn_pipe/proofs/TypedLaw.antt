@@ -10,7 +10,7 @@ use Rattle.std.specs.Ordering.{nat_cmp}
 use Rattle.sn_base.specs.AnyFold.{any_has}
 use Rattle.sn_base.specs.Groups.{Row}
 use Rattle.sn_base.specs.Operators.{Had, Op}
-use Rattle.sn_base.proofs.Lists.{all_filter, all_map, all_weaker, map_both}
+use Rattle.sn_base.proofs.Lists.{all_filter, all_map, all_weaker, map_both, map_front}
 use Rattle.sn_pipe_items.specs.Items.{by_packet, items, numbered, read_from, sent_from}
 use Rattle.sn_ops.specs.Flow.{AllFit}
 use Rattle.sn_ops.proofs.Branches.{branch_fit}
@@ -110,15 +110,10 @@ had_fit level (Reduce r chain ∷ ss) row p h =
 
 -- ---- sizes of the front are those of the branch
 
-sized_same : (depth : ℕ) (size size' : ℕ → ℕ) (i : ℕ) (ss : List Stage) → ((j : ℕ) → j < i + length ss → size j ≡ size' j) → HaveSizes depth size i ss → HaveSizes depth size' i ss
+pub sized_same : (depth : ℕ) (size size' : ℕ → ℕ) (i : ℕ) (ss : List Stage) → ((j : ℕ) → j < i + length ss → size j ≡ size' j) → HaveSizes depth size i ss → HaveSizes depth size' i ss
 sized_same depth size size' i [] e h = tt
 sized_same depth size size' i (s ∷ ss) e h =
     (subst (λ n. HasRegisters depth n s) (e i (omega arith)) h.0, sized_same depth size size' (suc i) ss (λ j lt. e j (omega (arith, lt))) h.1)
-
-map_front : {X Y : Type 0} (f : X → Y) (n : ℕ) (xs : List X) → map f (take n xs) ≡ take n (map f xs)
-map_front f zero xs = refl
-map_front f (suc n) [] = refl
-map_front f (suc n) (x ∷ xs) = ap (λ ys. f x ∷ ys) (map_front f n xs)
 
 -- items are determined by the operators before the cut
 items_by : (depth : ℕ) (size : ℕ → ℕ) (m n : ℕ) (xs ys : List Op) (rows : List Row) → take m xs ≡ take n ys → items depth size m xs rows ≡ items depth size n ys rows

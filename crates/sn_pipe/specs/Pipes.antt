@@ -1,6 +1,7 @@
 -- serves proofs
 -- A pipe: the prefix of a branch at a level, for the tuples that a coarser level admits.
-use Rattle.std.specs.Prelude.{◌≡◌, ℕ, ◌<◌, List, [], ◌∷◌, ◌++◌, map, filter, fold, take, length, Bool, true, false, nat_eq, Option, None, Some, IsSome, if◌then◌else◌}
+use Rattle.std.specs.Prelude.{◌≡◌, ℕ, ◌<◌, List, [], ◌∷◌, ◌++◌, map, filter, fold, take, length, Bool, true, false, nat_eq, Option, None, Some, IsSome}
+use Rattle.std.specs.Prelude.{if◌then◌else◌}
 use Rattle.std.specs.List.{list_any}
 use Rattle.std.specs.Ordering.{nat_cmp}
 use Rattle.std.specs.FinSet as set
@@ -16,7 +17,7 @@ use Rattle.sn_pipe.specs.declared.stage.Stage.TheVariants.{Filter, Map, Distinct
 use Rattle.sn_types.specs.Cuts.{size_at}
 use Rattle.sn_pipe.specs.Making.{AreStagesOf}
 use Rattle.sn_pipe.specs.Prefixes.{PrefixState}
-use Rattle.sn_pipe.specs.Windows.{option_list}
+use Rattle.std.specs.Option.{option_to_list}
 use Rattle.sn_pipe.specs.Stages.{cleared, item_from, stages_after, top_of}
 
 -- the query and the number of the branch; the level before on the path, if there is one, and its prefixes; the prefix
@@ -71,7 +72,8 @@ pub record IsPipe (query : TypedQuery) (branch : ℕ) (coarser : Option ℕ) (pr
   pub folds : FoldsAgree prefix.stages
 
 -- a pipe as it is made: with these operators at this level, empty registers and an empty prefix set
-pub record IsNewPipe (query : TypedQuery) (branch level : ℕ) (coarser : Option ℕ) (ops : List TOp) (depth : ℕ) (sizes : List ℕ) (pipe : PipeState) : Type 0 where
+pub record IsNewPipe (query : TypedQuery) (branch level : ℕ) (coarser : Option ℕ) (ops : List TOp) (depth : ℕ) (sizes : List ℕ)
+    (pipe : PipeState) : Type 0 where
   pub same_query : pipe.query ≡ query
   pub same_branch : pipe.branch ≡ branch
   pub same_coarser : pipe.coarser ≡ coarser
@@ -95,7 +97,7 @@ after_packets p tuples = fold after_packet p tuples
 -- what tuples give that come one after another
 abbrev pub packets_give : PipeState → List (List ℕ) → List Item
 packets_give p [] = []
-packets_give p (tuple ∷ tuples) = option_list (item_of p tuple) ++ packets_give (after_packet p tuple) tuples
+packets_give p (tuple ∷ tuples) = option_to_list (item_of p tuple) ++ packets_give (after_packet p tuple) tuples
 
 -- a pipe at the start of a window, with this prefix set
 abbrev pub at_start : PipeState → set.FinSet nat_cmp → PipeState
@@ -103,4 +105,5 @@ at_start p kept = record p { members = kept; prefix = record p.prefix { stages =
 
 -- the tuples are admitted that a pipe with these prefixes admits
 abbrev pub rows_let_in : TypedQuery → ℕ → ℕ → Option ℕ → set.FinSet nat_cmp → List (List ℕ) → List Row
-rows_let_in query b level coarser members tuples = map (packet_row query.field level (branch_of query b).fields) (filter (is_let_in query.field coarser members) tuples)
+rows_let_in query b level coarser members tuples =
+    map (packet_row query.field level (branch_of query b).fields) (filter (is_let_in query.field coarser members) tuples)

@@ -17,8 +17,9 @@ ghost use Rattle.sn_base.specs.Groups.{Row};
 ghost use Rattle.sn_base.specs.Operators.{Had};
 ghost use Rattle.sn_pipe.specs.declared.stage.Stage.{Stage};
 ghost use Rattle.sn_pipe.specs.Stages.{cleared, item_from, ops_of, stages_behind};
-ghost use Rattle.sn_pipe.specs.Windows.{HaveSizes, IsPrefix, given, left_from, option_list};
+ghost use Rattle.sn_pipe.specs.Windows.{HaveSizes, IsPrefix, given, left_from};
 ghost use Rattle.sn_pipe_items.specs.Items.{at_packet, items, sent};
+ghost use Rattle.std.specs.Option.{option_to_list};
 
 /// From empty registers on, what the rows of a window give one after another, and then what is read out, are the items
 /// of the prefix in their order. The row of each packet gives the item that stands at this packet, if there is one.
@@ -29,7 +30,7 @@ pub fn pipes_give_the_items()
         ≡ items depth size (length stages) (ops_of level stages) rows }
     ensures packet { (level depth : ℕ) (size : ℕ → ℕ) (stages : List Stage) (before later : List Row) (row : Row) →
         HaveSizes depth size 0 stages → AllByRecursion (Had (ops_of level stages)) (before ++ row ∷ later) →
-        option_list (item_from level 0 (stages_behind level (map cleared stages) before) row)
+        option_to_list (item_from level 0 (stages_behind level (map cleared stages) before) row)
         ≡ at_packet (sent depth size (length stages) (ops_of level stages) (before ++ row ∷ later)) (length before) }
 {}
 
@@ -48,7 +49,8 @@ pub fn windows_give_the_items()
 /// gives for them, one after another, and then what `read_out_next` gives, are the items of the branch's prefix in their
 /// order.
 pub fn new_pipes_give_the_items()
-    ensures { (window q b level cut depth : ℕ) (queries : List TypedQuery) (coarser : Option ℕ) (sizes : List ℕ) (pipe : PipeState) (kept : set.FinSet nat_cmp) (tuples : List (List ℕ)) →
+    ensures { (window q b level cut depth : ℕ) (queries : List TypedQuery) (coarser : Option ℕ) (sizes : List ℕ) (pipe : PipeState) (kept : set.FinSet nat_cmp)
+        (tuples : List (List ℕ)) →
         let query = query_at queries q in
         let ops = (branch_at queries q b).ops in
         ∥ IsTyped window queries ∥₁ → q < length queries → b < length query.branches → cut ≤ (branch_at queries q b).max_cut →
@@ -61,7 +63,8 @@ pub fn new_pipes_give_the_items()
 /// pipe as it was made is said of each window.
 pub fn windows_start_afresh()
     ensures packet { (pipe : PipeState) (kept : set.FinSet nat_cmp) (tuple : List ℕ) → at_start (after_packet pipe tuple) kept ≡ at_start pipe kept }
-    ensures read { (pipe : PipeState) (kept : set.FinSet nat_cmp) (place : ℕ) → at_start (record pipe { prefix = record pipe.prefix { place = place } }) kept ≡ at_start pipe kept }
+    ensures read { (pipe : PipeState) (kept : set.FinSet nat_cmp) (place : ℕ) →
+        at_start (record pipe { prefix = record pipe.prefix { place = place } }) kept ≡ at_start pipe kept }
     ensures window { (pipe : PipeState) (kept later : set.FinSet nat_cmp) → at_start (at_start pipe kept) later ≡ at_start pipe later }
 {}
 
@@ -78,6 +81,8 @@ pub fn pipes_let_in_the_kept()
 /// cut takes each of them.
 pub fn items_are_of_their_branch()
     ensures { (window q b level cut depth : ℕ) (queries : List TypedQuery) (kept : Option Kept) (sizes : List ℕ) (tuples : List (List ℕ)) →
-        ∥ IsTyped window queries ∥₁ → q < length queries → b < length (query_at queries q).branches → cut ≤ (branch_at queries q b).max_cut → AllByRecursion HasWidths tuples →
-        AllByRecursion (λ item. IsItemOf (branch_at queries q b) item × (is_tag_of (branch_at queries q b).ops cut item.tag ≡ true)) (branch_items (query_at queries q) b level kept cut depth sizes tuples) }
+        ∥ IsTyped window queries ∥₁ → q < length queries → b < length (query_at queries q).branches → cut ≤ (branch_at queries q b).max_cut →
+        AllByRecursion HasWidths tuples →
+        AllByRecursion (λ item. IsItemOf (branch_at queries q b) item × (is_tag_of (branch_at queries q b).ops cut item.tag ≡ true))
+        (branch_items (query_at queries q) b level kept cut depth sizes tuples) }
 {}

@@ -136,8 +136,8 @@ impl Pipe {
         self.prefix.read_out_next()
     }
 
-    /// Empties all registers, and takes the prefixes of the window before. A pipe without a level before it drops them.
-    /// Takes no memory.
+    /// Empties all registers, and holds these prefixes of the window before. A pipe without a level before it holds them
+    /// too, and asks for none. Takes no memory.
     pub fn next_window(&mut self, kept: Members)
         ensures { self.new ≡ record self.old { members = kept; prefix = record self.old.prefix { stages = map cleared self.old.prefix.stages; place = 0 } } }
     {

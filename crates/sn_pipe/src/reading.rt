@@ -2,9 +2,9 @@
 ghost use Rattle.std.specs.Prelude.{◌≡◌, ◌+◌, ◌≤◌, ◌<◌, ◌++◌, ◌∷◌, IfSome, drop, filter, length, slice_get};
 ghost use Rattle.sn_chain.specs.Registers.{cell};
 ghost use Rattle.sn_report.specs.Frames.{operator_of};
-ghost use Rattle.std.specs.Option.{option_map};
+ghost use Rattle.std.specs.Option.{option_map, option_to_list};
 ghost use Rattle.sn_pipe.specs.Passing.{CanRead, CanTest, HoldKeys};
-ghost use Rattle.sn_pipe.specs.Windows.{goes_up, held_row, item_up, left_from, option_list, passes, rows_left, tag_up};
+ghost use Rattle.sn_pipe.specs.Windows.{goes_up, held_row, item_up, left_from, passes, rows_left, tag_up};
 
 use crate::stage::Stage;
 use sn_base::any_fold::AnyFold;
@@ -87,7 +87,8 @@ fn up_at(
     requires keys { HoldKeys columns chain.now.cells }
     requires test { CanTest (columns + 1) behind.now }
     requires within { at < length chain.now.cells }
-    ensures { filter (goes_up level spilled behind.now) (rows_left chain.now at) ≡ option_list result ++ filter (goes_up level spilled behind.now) (rows_left chain.now (at + 1)) }
+    ensures { filter (goes_up level spilled behind.now) (rows_left chain.now at) ≡ option_to_list result ++
+        filter (goes_up level spilled behind.now) (rows_left chain.now (at + 1)) }
 {
     let row = row_at(chain, at, columns)?;
     if goes_up(behind, level, spilled, &row) {
@@ -110,7 +111,8 @@ fn first_up(
     requires keys { HoldKeys columns chain.now.cells }
     requires test { CanTest (columns + 1) behind.now }
     ensures row { result.0 ≡ slice_get (filter (goes_up level spilled behind.now) (rows_left chain.now place)) 0 }
-    ensures left { filter (goes_up level spilled behind.now) (rows_left chain.now result.1) ≡ drop 1 (filter (goes_up level spilled behind.now) (rows_left chain.now place)) }
+    ensures left { filter (goes_up level spilled behind.now) (rows_left chain.now result.1) ≡
+        drop 1 (filter (goes_up level spilled behind.now) (rows_left chain.now place)) }
 {
     for at in place..chain.places() {
         let row = up_at(chain, behind, level, spilled, at, columns);
@@ -165,7 +167,8 @@ fn next_held(
     requires keys { HoldKeys (length r.now.keys) chain.now.cells }
     requires test { CanTest (length r.now.keys + 1) behind.now }
     ensures item { result.0 ≡ slice_get (left_from level first spilled place (Stage.Reduce r.now chain.now ∷ behind.now)) 0 }
-    ensures left { left_from level first spilled result.1 (Stage.Reduce r.now chain.now ∷ behind.now) ≡ drop 1 (left_from level first spilled place (Stage.Reduce r.now chain.now ∷ behind.now)) }
+    ensures left { left_from level first spilled result.1 (Stage.Reduce r.now chain.now ∷ behind.now) ≡
+        drop 1 (left_from level first spilled place (Stage.Reduce r.now chain.now ∷ behind.now)) }
     ensures operator { IfSome result.0 (λ item. operator_of item.tag ≤ 12) }
 {
     let columns = r.keys.as_slice().len();

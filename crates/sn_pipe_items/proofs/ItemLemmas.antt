@@ -12,6 +12,7 @@ use Rattle.sn_report.specs.declared.frame.Tag.TheVariants.{At, Partial}
 use Rattle.sn_pipe_items.specs.Items.{tagged, held}
 use Rattle.sn_pipe_items.specs.Value.{is_at, is_partial, rows_with, taken, finish}
 use Rattle.sn_pipe_items.proofs.Bagged.{resides, over_distinct, over_reduce, items_from, some_row}
+use Rattle.sn_base.proofs.Tests.{nat_apart}
 
 abbrev tag_row : Tag → Row → Item
 tag_row tag row = record { tag = tag; row = row }
@@ -41,12 +42,6 @@ rows_behind t tag isnt rows xs = rows_append t (tagged tag rows) xs ∙ ap (λ y
 pub rows_front : (t : Tag → Bool) (tag : Tag) → t tag ≡ true → (rows : List Row) (xs : List Item) → rows_with t xs ≡ [] → rows_with t (tagged tag rows ++ xs) ≡ rows
 rows_front t tag is rows xs none = rows_append t (tagged tag rows) xs ∙ ap (λ ys. ys ++ rows_with t xs) (rows_all t tag is rows) ∙ ap (λ ys. rows ++ ys) none ∙ append-nil rows
 
-pub at_self : (i : ℕ) → nat_eq i i ≡ true
-at_self i = eq-eqb i i refl
-
-pub at_other : (i j : ℕ) → (i ≡ j → ⊥) → nat_eq i j ≡ false
-at_other i j h = ne_eqb i j h
-
 -- ---- the engine
 
 -- rows tagged At an operator that was passed don't count
@@ -54,13 +49,13 @@ pub finish_past : (i d : ℕ) → d ≤ i → (ops : List Op) (rows : List Row) 
 finish_past i d le [] rows xs into = refl
 finish_past i d le (op ∷ ops) rows xs into =
     ap (λ ps. finish (suc i) ops (tagged (At d) rows ++ xs) (taken op into ps ++ rows_with (is_at (suc i)) (tagged (At d) rows ++ xs))) (rows_behind (is_partial i) (At d) refl rows xs)
-    ∙ ap (λ ys. finish (suc i) ops (tagged (At d) rows ++ xs) (taken op into (rows_with (is_partial i) xs) ++ ys)) (rows_behind (is_at (suc i)) (At d) (at_other (suc i) d (λ e. omega arith)) rows xs)
+    ∙ ap (λ ys. finish (suc i) ops (tagged (At d) rows ++ xs) (taken op into (rows_with (is_partial i) xs) ++ ys)) (rows_behind (is_at (suc i)) (At d) (nat_apart (suc i) d (λ e. omega arith)) rows xs)
     ∙ finish_past (suc i) d (omega arith) ops rows xs (taken op into (rows_with (is_partial i) xs) ++ rows_with (is_at (suc i)) xs)
 
 pub finish_past_partial : (i d : ℕ) → d < i → (ops : List Op) (rows : List Row) (xs : List Item) (into : List Row) → finish i ops (tagged (Partial d) rows ++ xs) into ≡ finish i ops xs into
 finish_past_partial i d lt [] rows xs into = refl
 finish_past_partial i d lt (op ∷ ops) rows xs into =
-    ap (λ ps. finish (suc i) ops (tagged (Partial d) rows ++ xs) (taken op into ps ++ rows_with (is_at (suc i)) (tagged (Partial d) rows ++ xs))) (rows_behind (is_partial i) (Partial d) (at_other i d (λ e. omega arith)) rows xs)
+    ap (λ ps. finish (suc i) ops (tagged (Partial d) rows ++ xs) (taken op into ps ++ rows_with (is_at (suc i)) (tagged (Partial d) rows ++ xs))) (rows_behind (is_partial i) (Partial d) (nat_apart i d (λ e. omega arith)) rows xs)
     ∙ ap (λ ys. finish (suc i) ops (tagged (Partial d) rows ++ xs) (taken op into (rows_with (is_partial i) xs) ++ ys)) (rows_behind (is_at (suc i)) (Partial d) refl rows xs)
     ∙ finish_past_partial (suc i) d (omega arith) ops rows xs (taken op into (rows_with (is_partial i) xs) ++ rows_with (is_at (suc i)) xs)
 
@@ -102,7 +97,7 @@ module _ (depth : ℕ) (size : ℕ → ℕ) where
       ])
 
   pub no_at : (i j : ℕ) → i < j → (sp : Bool) (ops : List Op) (flow : List Row) → rows_with (is_at i) (items_from depth size j sp ops flow) ≡ []
-  no_at i j lt sp ops flow = none_before (is_at i) j (λ k le. at_other i k (λ e. omega arith)) (λ k le. refl) sp ops flow
+  no_at i j lt sp ops flow = none_before (is_at i) j (λ k le. nat_apart i k (λ e. omega arith)) (λ k le. refl) sp ops flow
 
   pub no_partial : (i j : ℕ) → i < j → (sp : Bool) (ops : List Op) (flow : List Row) → rows_with (is_partial i) (items_from depth size j sp ops flow) ≡ []
-  no_partial i j lt sp ops flow = none_before (is_partial i) j (λ k le. refl) (λ k le. at_other i k (λ e. omega arith)) sp ops flow
+  no_partial i j lt sp ops flow = none_before (is_partial i) j (λ k le. refl) (λ k le. nat_apart i k (λ e. omega arith)) sp ops flow

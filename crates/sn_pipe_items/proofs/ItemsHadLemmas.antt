@@ -9,7 +9,7 @@ use Rattle.sn_base.specs.Operators.{Grouping, Op, Had, row_for, key_of, pair_of,
 use Rattle.sn_base.specs.Operators.Op.{Filter, Map, Distinct, Reduce}
 use Rattle.sn_report.specs.declared.frame.Item.{Item}
 use Rattle.sn_report.specs.declared.frame.Tag.TheVariants.{At, Partial}
-use Rattle.sn_base.proofs.Lists.{all_filter, all_map}
+use Rattle.sn_base.proofs.Lists.{all_filter, all_map, nat_self as at_self}
 use Rattle.sn_base.proofs.BagLemmas.{bag_then, bag_back}
 use Rattle.sn_base.proofs.OnceLemmas.{all_once}
 use Rattle.sn_base.proofs.GroupLemmas.{total, total_had, parted_row, key_long}
@@ -21,9 +21,10 @@ use Rattle.sn_pipe_items.specs.Value.{is_at, is_partial, rows_with, value}
 use Rattle.sn_pipe_items.proofs.Bagged.{some_row, resides, over_distinct, over_reduce, items_from, bagged}
 use Rattle.sn_pipe_items.proofs.Cuts.{IsCut}
 use Rattle.sn_pipe_items.proofs.Homes.{member, all_members}
-use Rattle.sn_pipe_items.proofs.ItemLemmas.{rows_all, rows_none, rows_behind, rows_front, at_self, at_other, no_at, no_partial}
+use Rattle.sn_pipe_items.proofs.ItemLemmas.{rows_all, rows_none, rows_behind, rows_front, no_at, no_partial}
 use Rattle.sn_pipe_items.proofs.ValueBag.{IsHeld, PartialHad, ItemsHad, value_bag}
 use Rattle.sn_pipe_items.proofs.SplitLaw as law
+use Rattle.sn_base.proofs.Tests.{nat_apart as at_other}
 
 no_rows : (op : Op) (ops : List Op) (rows : List Row) → rows ≡ [] → PartialHad op ops rows
 no_rows (Filter t) ops rows none = tt

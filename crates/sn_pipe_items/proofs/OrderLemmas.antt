@@ -17,7 +17,7 @@ use Rattle.sn_base.proofs.OnceLemmas.{all_once}
 use Rattle.sn_pipe_items.specs.Items.{numbered, rows_of, standing, tagged, at_packet, by_packet, some_in, overflow, firsts, held, sent_from, read_from, sent, read_out, items}
 use Rattle.sn_pipe_items.proofs.Bagged.{some_row, resides, over_distinct, over_reduce, items_from, bagged}
 use Rattle.sn_pipe_items.proofs.Cuts.{OnlyFilters, IsCut, cut_later}
-use Rattle.sn_pipe_items.proofs.ItemLemmas.{at_other}
+use Rattle.sn_base.proofs.Tests.{nat_apart as at_other}
 
 -- ---- packet by packet
 
@@ -84,7 +84,7 @@ mapped_below count f (x ∷ xs) h = (h.0, mapped_below count f xs h.1)
 abbrev bare : Stands → List Item
 bare xs = map (λ (x : ℕ × Item). x.1) xs
 
-rows_numbered : (n : ℕ) (rows : List Row) → rows_of (numbered n rows) ≡ rows
+pub rows_numbered : (n : ℕ) (rows : List Row) → rows_of (numbered n rows) ≡ rows
 rows_numbered n [] = refl
 rows_numbered n (row ∷ rows) = ap (λ rs. row ∷ rs) (rows_numbered (suc n) rows)
 

@@ -10,7 +10,7 @@ use Rattle.sn_base.specs.Operators.{Grouping, Op, Had, grouped, key_of, pair_of,
 use Rattle.sn_base.specs.Operators.Op.{Filter, Map, Distinct, Reduce}
 use Rattle.sn_report.specs.declared.frame.Item.{Item}
 use Rattle.sn_report.specs.declared.frame.Tag.TheVariants.{At, Partial}
-use Rattle.sn_base.proofs.Lists.{by_test, filter_map, filter_all, all_filter, all_append}
+use Rattle.sn_base.proofs.Lists.{by_test, filter_map, filter_all, all_filter, all_append, filter_same as filter_agree, nat_self as at_self}
 use Rattle.sn_base.proofs.BagLemmas.{bag_same, bag_then, bag_back}
 use Rattle.sn_base.proofs.OnceLemmas.{all_once, once_parted}
 use Rattle.sn_base.proofs.FoldedLemmas.{same_row_exact}
@@ -22,8 +22,9 @@ use Rattle.sn_pipe_items.specs.Items.{tagged, held}
 use Rattle.sn_pipe_items.specs.Value.{is_at, is_partial, rows_with, taken, finish, value}
 use Rattle.sn_pipe_items.proofs.Bagged.{some_row, resides, over_distinct, over_reduce, items_from, bagged}
 use Rattle.sn_pipe_items.proofs.Cuts.{OnlyFilters, IsCutBehindDistinct, IsCut, cut_later}
-use Rattle.sn_pipe_items.proofs.Homes.{homes_apart_any, filter_agree}
-use Rattle.sn_pipe_items.proofs.ItemLemmas.{rows_all, rows_none, rows_behind, rows_front, at_self, at_other, finish_past, taken_none, finish_alone, finish_alone_partial, no_at, no_partial}
+use Rattle.sn_pipe_items.proofs.Homes.{homes_apart_any}
+use Rattle.sn_pipe_items.proofs.ItemLemmas.{rows_all, rows_none, rows_behind, rows_front, finish_past, taken_none, finish_alone, finish_alone_partial, no_at, no_partial}
+use Rattle.sn_base.proofs.Tests.{nat_apart as at_other}
 
 -- an operator over the rows that came to it and the overflow rows tagged At it
 after_over : (i : ℕ) (op : Op) (ops : List Op) (over : List Row) (rest : List Item) (extra : List Row) → rows_with (is_at i) rest ≡ [] → rows_with (is_partial i) rest ≡ [] →

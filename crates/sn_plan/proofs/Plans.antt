@@ -3,7 +3,7 @@ use Rattle.std.proofs.Common.{◌≡◌, ℕ, Bool, true, cond, List, [], ◌∷
 use Rattle.std.proofs.lemmas.List.{append_cancel_right}
 use Rattle.sn_text_rules.specs.declared.Flaw.{Flaw}
 use Rattle.sn_text_rules.specs.declared.Flaw.TheVariants as kinds
-use Rattle.sn_text_rules.specs.Tokens.{Tok, Spelled, Read, got, fails}
+use Rattle.sn_text_rules.specs.Tokens.{Tok, Spelled, Read, got, fails, first_line}
 use Rattle.sn_text_rules.specs.Rules.{kept, FirstFault}
 use Rattle.sn_text_rules.specs.Words.{judged_by}
 use Rattle.sn_text_rules.proofs.Common.{same_value, same_rest, respelled, spelled_append}
@@ -24,7 +24,7 @@ use Rattle.sn_plan_grammar.proofs.Bounded.{flaws, file_telling}
 use Rattle.sn_plan.specs.declared.fault.PlanFault.{PlanFault}
 use Rattle.sn_plan.specs.declared.fault.PlanFault.TheVariants as faults
 use Rattle.sn_plan.specs.Reading.{BeginsAt}
-use Rattle.sn_plan.specs.Texts.{StandsFor, IsFault, fault_of, line_of, Answers}
+use Rattle.sn_plan.specs.Texts.{StandsFor, IsFault, fault_of, Answers}
 
 -- ---- the end of a plan
 
@@ -158,7 +158,7 @@ fault_so text ls (stops.Fault x l) f g h k =
     let e = here ts ls (fails x (left l)) g h in
     let s = file_good.stands kept ts (left l) x e in
     let ok = told_ok file_telling ts (left l) x (tokens_ended text) e in
-    subst (λ (r : PlanFault). IsFault ts r) (sym (k ∙ ap (λ (us : List Tok). fault_of x (line_of us)) s.head)) (shown ts x s.at.line s.at.column ok (first_fault file_rule file_good file_starts ends ts (left l) s.rest s.at x e s.head))
+    subst (λ (r : PlanFault). IsFault ts r) (sym (k ∙ ap (λ (us : List Tok). fault_of x (first_line us)) s.head)) (shown ts x s.at.line s.at.column ok (first_fault file_rule file_good file_starts ends ts (left l) s.rest s.at x e s.head))
 
 pub none_so : (ts ls : List Tok) (e : Stop) (f : PlanFault) (p : Plan) (byte : ℕ) → ls ≡ ts → Halts e (file_rule.read kept ls) → Answers e f → StandsFor ts p byte → f ≡ faults.Memory
 none_so ts ls stops.NoMemory f p byte g h k j = k

@@ -25,7 +25,8 @@ sizes_text (n ∷ rest) stages = codes " slots " ++ list_text (n ∷ rest) ++ co
 
 -- a line for each piece
 abbrev pub piece_text : Piece → List ℕ
-piece_text p = codes "piece " ++ decimal p.level ++ codes " " ++ decimal p.branch ++ codes " cut " ++ decimal p.cut ++ sizes_text p.slots p.stages ++ codes ";\n"
+piece_text p = codes "piece " ++ decimal p.level ++ codes " " ++ decimal p.branch ++ codes " cut " ++ decimal p.cut ++ sizes_text p.slots p.stages
+    ++ codes ";\n"
 
 -- a line for the entry, and those of its pieces
 abbrev pub entry_text : Entry → List ℕ

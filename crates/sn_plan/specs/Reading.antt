@@ -1,15 +1,12 @@
 -- serves proofs
--- Words as lexemes.
+-- How reading a plan ends, and where tokens stand.
 use Rattle.std.specs.Prelude.{◌≡◌, ℕ, Bool, List, [], ◌∷◌, Result, Ok, Err}
-use Rattle.sn_text_rules.specs.Tokens.{Lexeme, word, Tok, got}
+use Rattle.sn_text_rules.specs.Tokens.{Tok, got}
 use Rattle.sn_text_rules.specs.Rules.{kept}
 use Rattle.sn_text.specs.declared.stop.Stop.{Stop}
 use Rattle.sn_text.specs.Reading.{Halts}
 use Rattle.sn_plan_grammar.specs.declared.plan.Plan.{Plan}
 use Rattle.sn_plan_grammar.specs.Grammar.{end_rule, plan_rule, file_rule}
-
-abbrev pub word_lexeme : List ℕ → Lexeme
-word_lexeme w = word w
 
 -- the first of these tokens begins at the byte
 abbrev pub BeginsAt : ℕ → List Tok → Type 0

@@ -7,10 +7,10 @@ ghost use Rattle.sn_text.specs.Lexing.{left, seen};
 ghost use Rattle.sn_text.specs.Reading.{Reads};
 ghost use Rattle.sn_plan_grammar.specs.Grammar.{name_test, name, entry_rule, entries_rule, plan_rule};
 ghost use Rattle.sn_plan_grammar.proofs.Goods.{entries_alike};
-ghost use Rattle.sn_plan.specs.Reading.{word_lexeme};
+ghost use Rattle.sn_text_rules.specs.Tokens.{word_lexeme};
 
 use crate::lists::{full_at, numbers};
-use crate::pieces::{SEMICOLON, pieces};
+use crate::pieces::pieces;
 use crate::plan::{Entry, Plan};
 use sn_base::name::Name;
 use sn_base::seq::Seq;
@@ -20,6 +20,7 @@ use sn_text::scan::scan;
 use sn_text::stop::Stop;
 use sn_text::words::{next_is_word, symbol, word, wrong_of};
 use sn_text_rules::Flaw;
+use sn_text_rules::symbols::SEMICOLON;
 use std::alloc::Global;
 
 fn name_in(word: &[u8]) -> Result<Name, Flaw>

@@ -1,5 +1,6 @@
 //! Lists of numbers.
 ghost use Rattle.std.specs.Prelude.{◌≡◌, ◌≤◌, length, nat_le, Some, None, IfOk, if◌then◌else◌};
+ghost use Rattle.sn_text_rules.specs.declared.symbols.TheConstants.{COMMA};
 ghost use Rattle.sn_text_rules.specs.declared.Flaw.TheVariants.{Expected};
 ghost use Rattle.sn_text_rules.specs.Rules.{kept};
 ghost use Rattle.sn_text_rules.specs.Words.{is_symbol, sign, number_in, full, ◌▸◌};
@@ -15,10 +16,8 @@ use sn_text::place::Lexer;
 use sn_text::stop::Stop;
 use sn_text::words::{next_is_symbol, number, symbol};
 use sn_text_rules::Flaw;
+use sn_text_rules::symbols::COMMA;
 use std::alloc::Global;
-
-/// The comma among the symbols.
-const COMMA: u8 = 3;
 
 pub(crate) fn small_number<'a>(
     at: Lexer<'a>,
@@ -33,7 +32,7 @@ pub(crate) fn small_number<'a>(
 }
 
 fn next_number<'a>(at: Lexer<'a>, low: u32, high: u32) -> Result<(u32, Lexer<'a>), Stop<'a>>
-    ensures { Reads result ((sign 3 ▸ number_in low high).read kept (left at.entry)) }
+    ensures { Reads result ((sign COMMA ▸ number_in low high).read kept (left at.entry)) }
 {
     let rest = symbol(at, COMMA)?;
     let (number, rest) = small_number(rest, low, high)?;
@@ -63,11 +62,11 @@ struct NumberItems {
 impl Items for NumberItems {
     type Item = u32;
 
-    ghost goes = { λ list. is_symbol 3 };
+    ghost goes = { λ list. is_symbol COMMA };
 
     ghost shut = { λ list. full list.limit Expected };
 
-    ghost rule = { λ list seen. sign 3 ▸ number_in list.low list.high };
+    ghost rule = { λ list seen. sign COMMA ▸ number_in list.low list.high };
 
     ghost laws = { λ list. numbers_alike list.limit list.low list.high list.range };
 

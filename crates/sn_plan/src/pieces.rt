@@ -17,10 +17,8 @@ use sn_text::place::Lexer;
 use sn_text::stop::Stop;
 use sn_text::words::{next_is_word, symbol, word};
 use sn_text_rules::Flaw;
+use sn_text_rules::symbols::SEMICOLON;
 use std::alloc::Global;
-
-/// The semicolon among the symbols.
-pub(crate) const SEMICOLON: u8 = 2;
 
 #[tactic(auto, unfolding(sn_plan_grammar::specs::Grammar::both_rule))]
 fn both<'a>(alloc: Global, at: Lexer<'a>) -> Result<((Short, Short), Lexer<'a>), Stop<'a>>

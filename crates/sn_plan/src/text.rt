@@ -7,7 +7,8 @@ ghost use Rattle.sn_text.specs.Lexing.{left, seen};
 ghost use Rattle.sn_plan_grammar.specs.declared.plan.Plan.{Plan};
 ghost use Rattle.sn_plan_grammar.specs.Grammar.{cost_in, end_in, any_end};
 ghost use Rattle.sn_plan.specs.Reading.{Ends, ReadsPlan};
-ghost use Rattle.sn_plan.specs.Texts.{StandsFor, IsFault, IsValue, fault_of, line_of, Answers};
+ghost use Rattle.sn_plan.specs.Texts.{StandsFor, IsFault, IsValue, fault_of, Answers};
+ghost use Rattle.sn_text_rules.specs.Tokens.{first_line};
 
 use crate::entries::plan;
 use crate::fault::PlanFault;
@@ -71,7 +72,7 @@ fn fault(flaw: Flaw, line: u32) -> PlanFault
 
 /// The line of the next token.
 fn line_at(at: Lexer<'_>) -> u32
-    ensures { result ≡ line_of (left at.entry) }
+    ensures { result ≡ first_line (left at.entry) }
 {
     let (found, _) = scan(at);
     found.line

@@ -1,6 +1,7 @@
 -- to be believed
 -- The paths of a query, and the options of a piece.
-use Rattle.std.specs.Prelude.{ℕ, zero, suc, ◌+◌, ◌-◌, ◌^◌, ◌/◌, ◌%◌, List, [], ◌∷◌, ◌++◌, map, take, drop, length, replicate, Bool, ◌==◌, slice_index, slice_get, unwrap_or, if◌then◌else◌}
+use Rattle.std.specs.Prelude.{ℕ, zero, suc, ◌+◌, ◌-◌, ◌^◌, ◌/◌, ◌%◌, List, [], ◌∷◌, ◌++◌, map, take, drop, length, replicate, Bool, ◌==◌, slice_index}
+use Rattle.std.specs.Prelude.{slice_get, unwrap_or, if◌then◌else◌}
 use Rattle.std.specs.List.{flat_map, range_with_len}
 use Rattle.sn_base.specs.declared.column.Column.{Column}
 use Rattle.sn_switch.specs.declared.switch.Switch.{Switch}

@@ -86,7 +86,8 @@ past_by stages least (keyed bits ∷ slots) = []
 -- the pieces of a level, one for each branch from this number on
 abbrev pub level_pieces : ℕ → ℕ → Bool → ℕ → List TypedBranch → List PieceTask
 level_pieces query levels is_first n [] = []
-level_pieces query levels is_first n (b ∷ bs) = record { query = query; levels = levels; is_first = is_first; number = n; branch = b } ∷ level_pieces query levels is_first (n + 1) bs
+level_pieces query levels is_first n (b ∷ bs) =
+    record { query = query; levels = levels; is_first = is_first; number = n; branch = b } ∷ level_pieces query levels is_first (n + 1) bs
 
 -- The pieces along path m, from level i of the query on, where these levels were before: of all but the finest level i where bit i of m is set, and
 -- always the finest.

@@ -42,10 +42,8 @@ impl CostTable {
         ensures places { IfOk result (λ table. HasPlaces table (length t.now.queries)) }
         ensures zero { IfOk result (λ table. (q prefix b option : ℕ) → entry_in table q prefix b option ≡ 0) }
     {
-        match vec![in t.alloc; 0; t.queries() as usize * QUERY] {
-            Ok(counts) => Ok(CostTable { counts }),
-            Err(_) => Err(Memory),
-        }
+        let counts = vec![in t.alloc; 0; t.queries() as usize * QUERY]?;
+        Ok(CostTable { counts })
     }
 
     /// Writes the entry of a query, a front of a path, a branch and an option. It takes no memory.

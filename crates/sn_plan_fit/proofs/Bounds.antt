@@ -25,7 +25,7 @@ use Rattle.sn_types.specs.declared.typed_query.TypedQuery.{TypedQuery}
 use Rattle.sn_types.specs.declared.typed_query.TypedBranch.{TypedBranch}
 use Rattle.sn_types.specs.Typed.{IsTyped, schema_at, operator_at}
 use Rattle.sn_types.specs.Typing.{typed_query, typed_branch, levels_of}
-use Rattle.sn_types.proofs.Facts.{length-typed_ops}
+use Rattle.sn_types.proofs.Facts.{length-typed_ops, joined_few}
 use Rattle.sn_plan_fit.specs.Capped.{AreSmall}
 use Rattle.sn_plan_fit.specs.Paths.{path_misfit, is_among, piece_place, level_places, places}
 use Rattle.sn_base.specs.Rising.{IsRising}
@@ -53,17 +53,13 @@ branch_bounds b h =
     let is = length-typed_ops (packet_columns b.ops) b.ops in
     record { few = omega (arith, is, h.count.to_most); narrow = branch_narrow b.ops h.each }
 
-joined : (bs : List Branch) (join : Option Join) → AreJoined bs join → length bs ≤ 2
-joined bs None h = omega (arith, h)
-joined bs (Some j) h = omega (arith, h.0)
-
-levels_low : (refine : Option Refine) → IfSome refine RefineLimits → AllByRecursion (λ l. l ≤ 64) (levels_of refine)
+pub levels_low : (refine : Option Refine) → IfSome refine RefineLimits → AllByRecursion (λ l. l ≤ 64) (levels_of refine)
 levels_low None h = (omega arith, tt)
 levels_low (Some r) h = h.levels
 
 query_bounds : (q : Query) → QueryLimits q → QueryBounds (typed_query q)
 query_bounds q h =
-    let few = joined q.branches q.join h.joined in
+    let few = joined_few q.branches q.join h.joined in
     let is = length-map q.branches (λ (b : Branch). typed_branch b.ops) in
     record {
       branches = omega (arith, few, is);
@@ -104,11 +100,11 @@ among_low (m ∷ ms) l low e =
 path_low : (levels path : List ℕ) → AllByRecursion (λ q. q ≤ 64) levels → AllByRecursion (λ l. is_among levels l ≡ true) path → AllByRecursion (λ q. q ≤ 64) path
 path_low levels path low h = all_weaker (λ (l : ℕ). is_among levels l ≡ true) (λ q. q ≤ 64) (λ l e. among_low levels l low e) path h
 
-level_length : (level n : ℕ) (bs : List TypedBranch) → length (level_places level n bs) ≡ length bs
+pub level_length : (level n : ℕ) (bs : List TypedBranch) → length (level_places level n bs) ≡ length bs
 level_length level n [] = refl
 level_length level n (b ∷ bs) = ap suc (level_length level (n + 1) bs)
 
-places_length : (bs : List TypedBranch) (path : List ℕ) → length bs ≤ 2 → length (places bs path) ≤ 2 * length path
+pub places_length : (bs : List TypedBranch) (path : List ℕ) → length bs ≤ 2 → length (places bs path) ≤ 2 * length path
 places_length bs [] h = omega arith
 places_length bs (l ∷ ls) h =
     let rest = places_length bs ls h in

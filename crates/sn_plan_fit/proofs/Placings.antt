@@ -5,7 +5,7 @@ use Rattle.std.specs.List.{AllByRecursion}
 use Rattle.sn_plan_fit.specs.Placing.{Table, stateless, register, MayStand, IsPlacing, HasPlacing, HasGaps}
 
 -- the least stage after tables with wide gaps doesn't pass the number of stages
-room : (stages least : ℕ) (ts : List Table) → HasGaps stages least ts → least ≤ stages
+pub room : (stages least : ℕ) (ts : List Table) → HasGaps stages least ts → least ≤ stages
 room stages least [] h = h
 room stages least (stateless ∷ ts) h = let k = room stages (suc least) ts h in omega arith
 room stages least (register s ∷ ts) h = let k = room stages (suc s) ts h.1 in omega (arith, h.0)

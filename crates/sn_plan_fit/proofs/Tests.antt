@@ -5,9 +5,7 @@ use Rattle.std.specs.List.{AllByRecursion, list_all}
 use Rattle.sn_plan_fit.specs.declared.misfit.Misfit.{Misfit}
 use Rattle.sn_plan_fit.specs.declared.misfit.MisfitKind.{MisfitKind}
 use Rattle.sn_plan_fit.specs.Checks.{failing, or_else}
-
-some_none : {X : Type 0} {x : X} → Some x ≡ None → ⊥
-some_none e = cc
+use Rattle.sn_types.proofs.Facts.{some_none}
 
 -- a check fails nowhere where its test doesn't hold
 pub failing_none : (b : Bool) (kind : MisfitKind) (want got : ℕ) → (failing b kind want got ≡ None) ↔ (b ≡ false)

@@ -8,8 +8,7 @@ use Rattle.sn_base.specs.declared.any_fold.AnyFold.TheVariants as folds
 use Rattle.sn_base.specs.declared.column.Column.{Column}
 use Rattle.sn_base.proofs.Lists.{all_append}
 use Rattle.sn_fields.specs.declared.field.Field.{Field}
-use Rattle.sn_fields.specs.declared.field.Field.TheVariants as field
-use Rattle.sn_fields.specs.Fields.{width_of}
+use Rattle.sn_fields.proofs.Widths.{width_most}
 use Rattle.sn_query_grammar.specs.declared.ast.Expr.{Expr}
 use Rattle.sn_query_grammar.specs.declared.ast.Expr.TheVariants as expr
 use Rattle.sn_query_grammar.specs.declared.ast.MapCol.{MapCol}
@@ -85,35 +84,9 @@ after_narrow columns (what.Reduce r) n h =
     (all_append (λ (c : Column). c.width ≤ 64) (map (column_named columns) r.keys) (folded_column columns r ∷ []) (keys_narrow columns r.keys n.widths)
     (folded_narrow r.fold r.width (column_named columns r.value).width h.width (named_narrow columns r.value n.widths), tt))
 
-field_narrow : (f : Field) → width_of f ≤ 64
-field_narrow field.PacketLength = omega arith
-field_narrow field.EthernetDestination = omega arith
-field_narrow field.EthernetSource = omega arith
-field_narrow field.EthernetType = omega arith
-field_narrow field.VlanId = omega arith
-field_narrow field.IpValid = omega arith
-field_narrow field.IpLength = omega arith
-field_narrow field.IpTimeToLive = omega arith
-field_narrow field.IpProtocol = omega arith
-field_narrow field.IpSource = omega arith
-field_narrow field.IpDestination = omega arith
-field_narrow field.TcpValid = omega arith
-field_narrow field.TcpSourcePort = omega arith
-field_narrow field.TcpDestinationPort = omega arith
-field_narrow field.TcpSequence = omega arith
-field_narrow field.TcpAcknowledgment = omega arith
-field_narrow field.TcpFlags = omega arith
-field_narrow field.UdpValid = omega arith
-field_narrow field.UdpSourcePort = omega arith
-field_narrow field.UdpDestinationPort = omega arith
-field_narrow field.UdpLength = omega arith
-field_narrow field.IcmpValid = omega arith
-field_narrow field.IcmpType = omega arith
-field_narrow field.IcmpCode = omega arith
-
 fields_narrow : (fs : List Field) → AreNarrow (map field_column fs)
 fields_narrow [] = tt
-fields_narrow (f ∷ fs) = (field_narrow f, fields_narrow fs)
+fields_narrow (f ∷ fs) = (width_most f, fields_narrow fs)
 
 pub packet_narrow : (ops : List Op) → IsNarrow (packet_columns ops)
 packet_narrow ops = cut_narrow (map field_column (packet_fields ops)) (fields_narrow (packet_fields ops))

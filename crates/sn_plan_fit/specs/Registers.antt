@@ -1,7 +1,8 @@
 -- to be believed
 -- The registers of a piece, and the widths of rows.
 use Rattle.std.specs.List.{sum_by}
-use Rattle.std.specs.Prelude.{ℕ, ◌+◌, ◌*◌, List, [], ◌∷◌, ◌++◌, map, filter, take, drop, length, max, Bool, true, false, ◌||◌, ◌==◌, slice_index, slice_get, Option, Some, None, if◌then◌else◌}
+use Rattle.std.specs.Prelude.{ℕ, ◌+◌, ◌*◌, List, [], ◌∷◌, ◌++◌, map, filter, take, drop, length, max, Bool, true, false, ◌||◌, ◌==◌, slice_index, slice_get}
+use Rattle.std.specs.Prelude.{Option, Some, None, if◌then◌else◌}
 use Rattle.sn_base.specs.declared.column.Column.{Column}
 use Rattle.sn_base.specs.declared.any_fold.AnyFold.{AnyFold}
 use Rattle.sn_base.specs.declared.any_fold.AnyFold.TheVariants as folds
@@ -95,4 +96,5 @@ width_if mapped columns = if mapped then row_width columns else 0
 -- and a map may stand before it.
 abbrev pub metadata : List (List Column) → Bool → ℕ → List TOp → ℕ
 metadata schemas mapped n [] = 0
-metadata schemas mapped n (op ∷ ops) = max (width_if (mapped || is_map_op op) (schema_at schemas (n + 1))) (metadata schemas (mapped || is_map_op op) (n + 1) ops)
+metadata schemas mapped n (op ∷ ops) = max (width_if (mapped || is_map_op op) (schema_at schemas (n + 1)))
+    (metadata schemas (mapped || is_map_op op) (n + 1) ops)

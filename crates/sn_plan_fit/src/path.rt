@@ -92,7 +92,8 @@ fn behind_level<'a>(
     branches: &[TypedBranch],
     pieces: &'a [Piece],
 ) -> Option<&'a [Piece]>
-    ensures { (later : List Place) → MatchOption result (are_at (level_places level 0 branches.now ++ later) pieces.now ≡ false) (λ after. are_at (level_places level 0 branches.now ++ later) pieces.now ≡ are_at later after.now) }
+    ensures { (later : List Place) → MatchOption result (are_at (level_places level 0 branches.now ++ later) pieces.now ≡ false)
+        (λ after. are_at (level_places level 0 branches.now ++ later) pieces.now ≡ are_at later after.now) }
 {
     let mut rest = pieces;
     for (number, _) in branches.iter().enumerate() {

@@ -6,7 +6,8 @@ ghost use Rattle.sn_plan_fit.specs.Placing.{Table};
 ghost use Rattle.sn_plan_fit.specs.Gaps.{least_behind};
 ghost use Rattle.sn_types.specs.Cuts.{stateful};
 ghost use Rattle.sn_plan_fit.specs.Tables.{is_first, membership, order_misfit};
-ghost use Rattle.sn_plan_fit.specs.Pieces.{piece_branch, tables_of, cut_misfit, strange_size, count_misfit, slots_misfit, stages_misfit, tables_misfit, piece_misfit};
+ghost use Rattle.sn_plan_fit.specs.Pieces.{piece_branch, tables_of, cut_misfit, strange_size, count_misfit, slots_misfit, stages_misfit, tables_misfit};
+ghost use Rattle.sn_plan_fit.specs.Pieces.{piece_misfit};
 
 use crate::misfit::{Misfit, MisfitKind};
 use crate::order::{end, order};

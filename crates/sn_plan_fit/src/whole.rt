@@ -6,7 +6,8 @@ ghost use Rattle.sn_plan_fit.specs.Checks.{told, failing};
 ghost use Rattle.sn_plan_fit.specs.Fits.{Fits, HasShape};
 ghost use Rattle.sn_plan_fit.specs.Loads.{load_in};
 ghost use Rattle.sn_plan_fit.specs.Registers.{Register};
-ghost use Rattle.sn_plan_fit.specs.Pieces.{cut_misfit, piece_misfit, on_branch, piece_branch, first_piece, first_misfit, all_registers, all_metadata, load_misfit, loads_misfit, meta_misfit, shape_misfit, fit_misfit};
+ghost use Rattle.sn_plan_fit.specs.Pieces.{cut_misfit, piece_misfit, on_branch, piece_branch, first_piece, first_misfit, all_registers, all_metadata};
+ghost use Rattle.sn_plan_fit.specs.Pieces.{load_misfit, loads_misfit, meta_misfit, shape_misfit, fit_misfit};
 
 use crate::loads::{Load, plan_loads};
 use crate::metadata::plan_metadata;
@@ -107,7 +108,8 @@ fn at_most(kind: MisfitKind, want: u64, got: u64) -> Result<(), Misfit>
 
 /// Whether the registers of a stage keep the limits.
 fn stage_fits(switch: &Switch, load: Load) -> Result<(), Misfit>
-    ensures { (registers : List Register) (stage : ℕ) → AreSmall switch.now registers → load ≡ load_in registers stage → told result ≡ load_misfit switch.now registers stage }
+    ensures { (registers : List Register) (stage : ℕ) → AreSmall switch.now registers → load ≡ load_in registers stage →
+        told result ≡ load_misfit switch.now registers stage }
 {
     at_most(
         MisfitKind::Actions,

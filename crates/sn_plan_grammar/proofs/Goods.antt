@@ -6,7 +6,7 @@ use Rattle.sn_text_rules.specs.declared.Flaw.TheVariants.{Expected}
 use Rattle.sn_text_rules.specs.Tokens.{Lexeme, word, number, symbol, finish, bad, Tok, Mark, plain, Spelled}
 use Rattle.sn_text_rules.specs.Rules.{aside, maybe}
 use Rattle.sn_text_rules.specs.Words.{same, is_word, is_symbol, keyword, sign, number_in, full, ◌▸◌}
-use Rattle.sn_text_rules.proofs.Common.{Heads, bearers, bearers_spelled}
+use Rattle.sn_text_rules.proofs.Common.{Heads, bearers, bearers_spelled, both_made}
 use Rattle.sn_text_rules.proofs.Laws.{Good, pair_good, free_pair, headed_pair}
 use Rattle.sn_text_rules.proofs.Choices.{Undoes, embedded_good, renamed_good, maybe_good}
 use Rattle.sn_text_rules.proofs.Series.{Alike, many_good, series_good}
@@ -153,13 +153,10 @@ entry_opens t e =
     let a = entry_good.some in
     (a.0, bearers (tail_of (entry_rule.spell a.0)), a.1, (((word_mark (codes "query")).only t.face e, tt), bearers_spelled (tail_of (entry_rule.spell a.0))))
 
-ends_both : (a b : Bool) → a ≡ true → b ≡ true → cond a b false ≡ true
-ends_both a b e f = rw (e, f) refl
-
 -- no piece follows
 entry_end : (t : Tok) (us : List Tok) → is_word (codes "piece") t.face ≡ false → entry_rule.follow (t ∷ us) ≡ true
 unfolding entry_rule pieces_rule
-entry_end t us e = ends_both (not (is_word (codes "piece") t.face)) (piece_rule.follow (t ∷ us)) (ap not e) (piece_free (t ∷ us))
+entry_end t us e = both_made (not (is_word (codes "piece") t.face)) (piece_rule.follow (t ∷ us)) (ap not e) (piece_free (t ∷ us))
 
 query_is : (t : Tok) → is_word (codes "query") t.face ≡ true → is_word (codes "piece") t.face ≡ false
 query_is t e = ap (is_word (codes "piece")) ((word_mark (codes "query")).only t.face e)
@@ -173,7 +170,7 @@ entries_good = series_good entries_alike (record { good = entry_good; marked = �
 
 entries_end : (t : Tok) (us : List Tok) → is_word (codes "query") t.face ≡ false → is_word (codes "piece") t.face ≡ false → entries_rule.follow (t ∷ us) ≡ true
 unfolding entries_rule
-entries_end t us e f = ends_both (not (is_word (codes "query") t.face)) (cond (entry_rule.follow (t ∷ us)) (entry_rule.follow (t ∷ us)) false) (ap not e) (ends_both (entry_rule.follow (t ∷ us)) (entry_rule.follow (t ∷ us)) (entry_end t us f) (entry_end t us f))
+entries_end t us e f = both_made (not (is_word (codes "query") t.face)) (cond (entry_rule.follow (t ∷ us)) (entry_rule.follow (t ∷ us)) false) (ap not e) (both_made (entry_rule.follow (t ∷ us)) (entry_rule.follow (t ∷ us)) (entry_end t us f) (entry_end t us f))
 
 pub plan_good : Good plan_rule
 unfolding plan_rule

@@ -3,9 +3,9 @@ use Rattle.std.proofs.Common.{Bool, true, false, refl}
 use Rattle.std.specs.Prelude.{codes}
 use Rattle.sn_text_rules.specs.declared.Flaw.{Flaw}
 use Rattle.sn_text_rules.specs.declared.Flaw.TheVariants.{Lex, Expected}
-use Rattle.sn_text_rules.specs.Words.{is_word}
+use Rattle.sn_text_rules.specs.Words.{is_word, any_number}
 use Rattle.sn_text_rules.proofs.Bounded.{Flaws, Bounded, Whole, number_in_bounded, keyword_bounded, sign_bounded, pair_whole, renamed_bounded, behind_bounded, before_bounded, either_bounded, many_bounded, the_end_whole, behind_whole, before_whole}
-use Rattle.sn_plan_grammar.specs.TreeGrammar.{any_number, to_node, from_node, node_rule, nodes_rule, tree_rule}
+use Rattle.sn_plan_grammar.specs.TreeGrammar.{to_node, from_node, node_rule, nodes_rule, tree_rule}
 use Rattle.sn_plan_grammar.proofs.TreeGoods.{nodes_alike}
 
 abbrev of_tree : Flaw → Bool

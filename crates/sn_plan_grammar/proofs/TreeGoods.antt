@@ -3,15 +3,15 @@ use Rattle.std.proofs.Common.{◌≡◌, ℕ, Bool, true, false, cond, List, [],
 use Rattle.std.specs.Prelude.{codes, not, ◌||◌}
 use Rattle.sn_text_rules.specs.Tokens.{Lexeme, number, Tok, Mark, plain, Spelled}
 use Rattle.sn_text_rules.specs.Rules.{aside, Rule, either}
-use Rattle.sn_text_rules.specs.Words.{is_word, keyword, the_end, never, ◌▸◌, ◌◂◌}
-use Rattle.sn_text_rules.proofs.Common.{Heads, bearers, bearers_spelled}
+use Rattle.sn_text_rules.specs.Words.{is_word, keyword, the_end, never, ◌▸◌, ◌◂◌, any_number}
+use Rattle.sn_text_rules.proofs.Common.{Heads, bearers, bearers_spelled, both_made}
 use Rattle.sn_text_rules.proofs.Laws.{Good, free_pair, freely, headed_follows}
 use Rattle.sn_text_rules.proofs.Choices.{renamed_good, either_good}
 use Rattle.sn_text_rules.proofs.Series.{Alike, many_good}
 use Rattle.sn_text_rules.proofs.Words.{keyword_good, end_good, number_in_good, word_mark, same_self, before_sign, before_good, after_word, word_starts}
 use Rattle.sn_tree_space.specs.declared.node.Node.{Node}
 use Rattle.sn_tree_space.specs.declared.node.Node.TheVariants.{Expand, Bound, Broken, Chosen}
-use Rattle.sn_plan_grammar.specs.TreeGrammar.{any_number, Parts, to_node, from_node, node_rule, begins, nodes_rule, tree_rule}
+use Rattle.sn_plan_grammar.specs.TreeGrammar.{Parts, to_node, from_node, node_rule, begins, nodes_rule, tree_rule}
 
 pub any_good : Good any_number
 any_good = number_in_good 0 18446744073709551615 (omega arith)
@@ -132,15 +132,12 @@ pub nodes_good : Good nodes_rule
 unfolding nodes_rule
 nodes_good = many_good nodes_alike
 
-both : (a b : Bool) → a ≡ true → b ≡ true → cond a b false ≡ true
-both a b e f = rw (e, f) refl
-
 done_ends : (x : Lexeme) → is_word (codes "done") x ≡ true → not (begins x) ≡ true
 done_ends x e = ap (λ (y : Lexeme). not (begins y)) ((word_mark (codes "done")).only x e)
 
 nodes_end : (t : Tok) (us : List Tok) → is_word (codes "done") t.face ≡ true → nodes_rule.follow (t ∷ us) ≡ true
 unfolding nodes_rule
-nodes_end t us e = both (not (begins t.face)) (node_rule.follow (t ∷ us)) (done_ends t.face e) (node_free (t ∷ us))
+nodes_end t us e = both_made (not (begins t.face)) (node_rule.follow (t ∷ us)) (done_ends t.face e) (node_free (t ∷ us))
 
 pub closed_good : Good (nodes_rule ◂ keyword (codes "done"))
 closed_good = before_good nodes_good (keyword_good (codes "done")) (headed_follows nodes_rule (keyword (codes "done")) (is_word (codes "done")) (λ b f. same_self (codes "done")) nodes_end)

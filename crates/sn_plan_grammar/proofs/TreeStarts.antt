@@ -1,10 +1,10 @@
 -- Tokens of the tree text that are read without a fault begin an accepted one.
 use Rattle.std.proofs.Common.{refl, arith}
 use Rattle.std.specs.Prelude.{codes}
-use Rattle.sn_text_rules.specs.Words.{is_word}
+use Rattle.sn_text_rules.specs.Words.{is_word, any_number}
 use Rattle.sn_text_rules.proofs.Starts.{Able, Starting, starting, pair_able, renamed_able, either_able, keyword_able, sign_able, end_able, number_in_able, before_able, after_word_able, kept_steps, many_able}
 use Rattle.sn_text_rules.proofs.Words.{before_sign}
-use Rattle.sn_plan_grammar.specs.TreeGrammar.{any_number, to_node, from_node, node_rule, nodes_rule, tree_rule}
+use Rattle.sn_plan_grammar.specs.TreeGrammar.{to_node, from_node, node_rule, nodes_rule, tree_rule}
 use Rattle.sn_plan_grammar.proofs.TreeGoods.{any_good, back, nodes_alike, nodes_good, closed_good}
 
 any_able : Able any_number

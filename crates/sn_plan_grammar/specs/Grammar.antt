@@ -3,6 +3,7 @@
 use Rattle.std.specs.Prelude.{ℕ, Bool, true, false, List, [], ◌∷◌, length, Option, Some, None, nat_lt, ◌==◌, ◌||◌, codes, if◌then◌else◌}
 use Rattle.sn_text_rules.specs.declared.Flaw.{Flaw}
 use Rattle.sn_text_rules.specs.declared.Flaw.TheVariants.{Expected}
+use Rattle.sn_text_rules.specs.declared.symbols.TheConstants.{SEMICOLON, COMMA}
 use Rattle.sn_text_rules.specs.Tokens.{Lexeme, word, finish}
 use Rattle.sn_text_rules.specs.Rules.{Rule, pair, embedded, renamed, maybe, many, series}
 use Rattle.sn_text_rules.specs.Words.{same, is_word, is_symbol, leaf, word_by, keyword, sign, number_in, full, ◌▸◌, ◌◂◌}
@@ -21,7 +22,7 @@ name = word_by name_test
 
 -- NUM { "," NUM }, this many at most
 unfoldable pub numbers : ℕ → ℕ → ℕ → Rule (List ℕ)
-numbers limit low high = series (number_in low high) (is_symbol 3) (full limit Expected) (λ seen. sign 3 ▸ number_in low high)
+numbers limit low high = series (number_in low high) (is_symbol COMMA) (full limit Expected) (λ seen. sign COMMA ▸ number_in low high)
 
 -- ---- pieces
 
@@ -58,7 +59,9 @@ from_piece p = (p.level, (p.branch, (p.cut, (p.slots, p.stages))))
 
 -- piece = "piece" LEVEL BRANCH "cut" NUM [ "slots" .. "stages" .. ] ";"
 unfoldable pub piece_rule : Rule Piece
-piece_rule = renamed to_piece from_piece (keyword (codes "piece") ▸ pair (number_in 0 64) (pair (number_in 0 1) (keyword (codes "cut") ▸ pair (number_in 0 12) (sizes_rule ◂ sign 2))))
+piece_rule =
+    renamed to_piece from_piece (keyword (codes "piece")
+    ▸ pair (number_in 0 64) (pair (number_in 0 1) (keyword (codes "cut") ▸ pair (number_in 0 12) (sizes_rule ◂ sign SEMICOLON))))
 
 -- ---- entries
 
@@ -74,7 +77,7 @@ pieces_rule = many (is_word (codes "piece")) (full 8 Expected) (λ seen. piece_r
 
 -- entry = "query" NAME "path" NUM { "," NUM } ";" { piece }
 unfoldable pub entry_rule : Rule Entry
-entry_rule = renamed to_entry from_entry (keyword (codes "query") ▸ pair name (keyword (codes "path") ▸ pair (numbers 4 0 64 ◂ sign 2) pieces_rule))
+entry_rule = renamed to_entry from_entry (keyword (codes "query") ▸ pair name (keyword (codes "path") ▸ pair (numbers 4 0 64 ◂ sign SEMICOLON) pieces_rule))
 
 abbrev pub to_plan : List Entry → Plan
 to_plan entries = record { entries = entries }

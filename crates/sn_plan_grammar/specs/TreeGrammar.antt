@@ -2,15 +2,12 @@
 -- The grammar of the tree text, production by production. The production stands above each rule.
 use Rattle.std.specs.Prelude.{ℕ, Bool, List, ◌||◌, ◌⊎◌, codes}
 use Rattle.std.proofs.Common.{inl, inr}
+use Rattle.sn_text_rules.specs.declared.symbols.TheConstants.{SEMICOLON}
 use Rattle.sn_text_rules.specs.Tokens.{Lexeme}
 use Rattle.sn_text_rules.specs.Rules.{Rule, pair, renamed, either, many}
-use Rattle.sn_text_rules.specs.Words.{is_word, keyword, sign, the_end, number_in, never, ◌▸◌, ◌◂◌}
+use Rattle.sn_text_rules.specs.Words.{is_word, keyword, sign, the_end, never, ◌▸◌, ◌◂◌, any_number}
 use Rattle.sn_tree_space.specs.declared.node.Node.{Node}
 use Rattle.sn_tree_space.specs.declared.node.Node.TheVariants.{Expand, Bound, Broken, Chosen}
-
--- any number of 64 bits
-abbrev pub any_number : Rule ℕ
-any_number = number_in 0 18446744073709551615
 
 -- ---- nodes
 
@@ -46,4 +43,4 @@ nodes_rule = many begins never (λ seen. node_rule)
 
 -- text = "cost" NUM ";" "tree" { node } "done", and nothing after it
 unfoldable pub tree_rule : Rule (ℕ × List Node)
-tree_rule = keyword (codes "cost") ▸ pair (any_number ◂ sign 2) (keyword (codes "tree") ▸ ((nodes_rule ◂ keyword (codes "done")) ◂ the_end))
+tree_rule = keyword (codes "cost") ▸ pair (any_number ◂ sign SEMICOLON) (keyword (codes "tree") ▸ ((nodes_rule ◂ keyword (codes "done")) ◂ the_end))

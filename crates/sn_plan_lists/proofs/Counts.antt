@@ -16,9 +16,9 @@ use Rattle.sn_plan_lists.specs.Numbers.{path_number}
 use Rattle.sn_plan_lists.specs.Bounds.{HasBounds}
 use Rattle.sn_plan_lists.specs.Chosen.{level_seats, path_seats}
 use Rattle.sn_plan_lists.proofs.PathNumbers.{path_of_number}
-use Rattle.sn_plan_lists.proofs.Places.{all_each}
 use Rattle.sn_plan_lists.proofs.Pieces.{seat_of, GoodPiece}
 use Rattle.sn_plan_lists.proofs.Readings.{GoodEntry, good_entry}
+use Rattle.sn_base.proofs.Lists.{all_weaker as all_each}
 
 -- ---- few pieces
 

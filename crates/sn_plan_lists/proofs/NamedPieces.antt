@@ -16,11 +16,6 @@ use Rattle.sn_plan_lists.specs.Chosen.{Seat, level_seats, path_seats, registers_
 
 -- ---- items
 
-pub all_get : {A : Type 0} (P : A → Type 0) (xs : List A) (i : ℕ) (x : A) → AllByRecursion P xs → i < length xs → x ≡ get_or xs i x → P x
-all_get P [] i x h lt e = absurd (omega arith)
-all_get P (y ∷ xs) zero x h lt e = subst P (sym e) h.0
-all_get P (y ∷ xs) (suc i) x h lt e = all_get P xs i x h.1 (omega arith) e
-
 -- ---- a piece
 
 pub sizes_back : (sizes : List ℕ) → length sizes ≤ 2 → take (length sizes) (take 2 (sizes ++ 0 ∷ 0 ∷ [])) ≡ sizes

@@ -4,7 +4,7 @@ use Rattle.std.specs.Prelude.{nat_eq, ◌==◌}
 use Rattle.std.specs.Cmp.Lexicographic.{pointwise}
 use Rattle.std.specs.List.{AllByRecursion, flat_map, range_with_len}
 use Rattle.std.proofs.lemmas.Bool.Decides.{nat_tests}
-use Rattle.sn_base.proofs.Lists.{and_both, and_parts}
+use Rattle.sn_base.proofs.Lists.{and_both, and_parts, nat_same as equal_or, nat_self as same_equal}
 use Rattle.sn_tree_space.specs.Space.{IsOneOf}
 use Rattle.sn_switch.specs.declared.switch.Switch.{Switch}
 use Rattle.sn_types.specs.declared.typed_query.TypedBranch.{TypedBranch}
@@ -13,8 +13,10 @@ use Rattle.sn_plan_fit.specs.Paths.{is_among}
 use Rattle.sn_base.specs.Rising.{IsRising}
 use Rattle.sn_plan_choices.specs.Options.{Setting, size_lists, options, option_at}
 use Rattle.sn_plan_lists.specs.Numbers.{is_setting, option_number}
-use Rattle.sn_plan_lists.proofs.PathNumbers.{equal_or, same_equal}
-use Rattle.sn_plan_lists.proofs.Places.{place_of, place_at, one_at, distinct_above, in_map, of_map, in_flat, of_flat, Distinct, distinct_flat, distinct_map, distinct_range, of_range, in_range, Tells}
+use Rattle.sn_plan_lists.proofs.Places.{place_of, place_at, one_at, distinct_above, in_map, of_map, in_flat, of_flat, Distinct, distinct_flat, distinct_map, distinct_range, Tells}
+use Rattle.sn_tree_space.proofs.Order.{list_itself, same_list}
+use Rattle.sn_tree_space.proofs.Reading.{of_range}
+use Rattle.sn_tree_space.proofs.Agendas.{in_range}
 
 -- ---- the test of settings
 
@@ -24,23 +26,11 @@ same_number n = grind (arith, nat_tests)
 equal_numbers : (n m : ℕ) → (n == m) ≡ true → n ≡ m
 equal_numbers n m e = grind (arith, nat_tests)
 
-same_lists : (xs : List ℕ) → pointwise nat_eq xs xs ≡ true
-same_lists [] = refl
-same_lists (x ∷ xs) = and_both (nat_eq x x) (pointwise nat_eq xs xs) (same_equal x) (same_lists xs)
-
-equal_lists : (xs ys : List ℕ) → pointwise nat_eq xs ys ≡ true → xs ≡ ys
-equal_lists [] [] e = refl
-equal_lists [] (y ∷ ys) e = cc
-equal_lists (x ∷ xs) [] e = cc
-equal_lists (x ∷ xs) (y ∷ ys) e =
-    let k = and_parts (nat_eq x y) (pointwise nat_eq xs ys) e in
-    ap (λ (n : ℕ). n ∷ xs) (equal_or x y k.0) ∙ ap (λ l. y ∷ l) (equal_lists xs ys k.1)
-
 pub setting_test : Tells is_setting
 setting_test = record {
-  finds = λ a. and_both (a.0 == a.0) (pointwise nat_eq a.1 a.1) (same_number a.0) (same_lists a.1);
+  finds = λ a. and_both (a.0 == a.0) (pointwise nat_eq a.1 a.1) (same_number a.0) (list_itself a.1);
   only = λ a b e. let k = and_parts (a.0 == b.0) (pointwise nat_eq a.1 b.1) e in
-      ap (λ (n : ℕ). (n, a.1)) (equal_numbers a.0 b.0 k.0) ∙ ap (λ (l : List ℕ). (b.0, l)) (equal_lists a.1 b.1 k.1);
+      ap (λ (n : ℕ). (n, a.1)) (equal_numbers a.0 b.0 k.0) ∙ ap (λ (l : List ℕ). (b.0, l)) (same_list a.1 b.1 k.1);
 }
 
 -- ---- lists of sizes

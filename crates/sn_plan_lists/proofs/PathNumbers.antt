@@ -9,52 +9,33 @@ use Rattle.sn_base.specs.Rising.{IsRising}
 use Rattle.sn_plan_fit.specs.Fits.{IsPath}
 use Rattle.sn_plan_choices.specs.Options.{path_of}
 use Rattle.sn_plan_lists.specs.Numbers.{path_number}
-use Rattle.sn_plan_lists.proofs.Places.{all_each}
-
-pub all_two : {A : Type 0} (P Q R : A → Type 0) → ((x : A) → P x → Q x → R x) → (xs : List A) → AllByRecursion P xs → AllByRecursion Q xs → AllByRecursion R xs
-all_two P Q R f [] h k = tt
-all_two P Q R f (x ∷ xs) h k = (f x h.0 k.0, all_two P Q R f xs h.1 k.1)
+use Rattle.sn_base.proofs.Lists.{all_two, or_true, nat_self, nat_same, all_weaker as all_each}
+use Rattle.sn_base.proofs.Tests.{zero_plus, nat_above, even, odd, half_even, half_odd, nat_below}
 
 or_parts : (a b : Bool) → (a || b) ≡ true → (a ≡ true) ⊎ (b ≡ true)
 or_parts true b e = inl refl
 or_parts false b e = inr e
-
-pub equal_or : (n m : ℕ) → nat_eq n m ≡ true → n ≡ m
-equal_or n m e = grind (arith, nat_tests)
-
-pub same_equal : (n : ℕ) → nat_eq n n ≡ true
-same_equal n = grind (arith, nat_tests)
-
-unequal : (n m : ℕ) → n < m → nat_eq n m ≡ false
-unequal n m h = grind (arith, nat_tests)
-
-unequal_back : (n m : ℕ) → m < n → nat_eq n m ≡ false
-unequal_back n m h = grind (arith, nat_tests)
-
-or_true : (a : Bool) → (a || true) ≡ true
-or_true true = refl
-or_true false = refl
 
 -- ---- which numbers are among others
 
 -- a number below all isn't among them
 pub not_among : (l : ℕ) (ls : List ℕ) → AllByRecursion (λ k. l < k) ls → is_among ls l ≡ false
 not_among l [] h = refl
-not_among l (k ∷ ls) h = ap (λ b. b || is_among ls l) (unequal l k h.0) ∙ not_among l ls h.1
+not_among l (k ∷ ls) h = ap (λ b. b || is_among ls l) (nat_below l k h.0) ∙ not_among l ls h.1
 
 pub among_head : (l : ℕ) (ls : List ℕ) → is_among (l ∷ ls) l ≡ true
-among_head l ls = ap (λ b. b || is_among ls l) (same_equal l)
+among_head l ls = ap (λ b. b || is_among ls l) (nat_self l)
 
 among_more : (l x : ℕ) (ls : List ℕ) → is_among ls x ≡ true → is_among (l ∷ ls) x ≡ true
 among_more l x ls h = ap (λ b. nat_eq x l || b) h ∙ or_true (nat_eq x l)
 
 -- what isn't the first is among the rest
 pub among_rest : (l x : ℕ) (ls : List ℕ) → l < x → is_among (l ∷ ls) x ≡ is_among ls x
-among_rest l x ls h = ap (λ b. b || is_among ls x) (unequal_back x l h)
+among_rest l x ls h = ap (λ b. b || is_among ls x) (nat_above x l h)
 
-among_all : (P : ℕ → Type 0) (x : ℕ) (ls : List ℕ) → is_among ls x ≡ true → AllByRecursion P ls → P x
+pub among_all : (P : ℕ → Type 0) (x : ℕ) (ls : List ℕ) → is_among ls x ≡ true → AllByRecursion P ls → P x
 among_all P x [] e h = cc
-among_all P x (l ∷ ls) e h = elim (or_parts (nat_eq x l) (is_among ls x) e) [ inl k ↦ subst P (sym (equal_or x l k)) h.0 | inr k ↦ among_all P x ls k h.1 ]
+among_all P x (l ∷ ls) e h = elim (or_parts (nat_eq x l) (is_among ls x) e) [ inl k ↦ subst P (sym (nat_same x l k)) h.0 | inr k ↦ among_all P x ls k h.1 ]
 
 -- ---- the paths of a number
 
@@ -131,18 +112,6 @@ number_skips (l ∷ k ∷ ls) path x h =
     ap (λ b. (if b then 1 else 0) + 2 * path_number (k ∷ ls) (x ∷ path)) (among_rest x l path h.0)
     ∙ ap (λ n. (if is_among path l then 1 else 0) + 2 * n) (number_skips (k ∷ ls) path x h.1)
 
-even : (n : ℕ) → (2 * n) % 2 ≡ 0
-even n = omega arith
-
-odd : (n : ℕ) → (1 + 2 * n) % 2 ≡ 1
-odd n = omega arith
-
-half_even : (n : ℕ) → (2 * n) / 2 ≡ n
-half_even n = omega arith
-
-half_odd : (n : ℕ) → (1 + 2 * n) / 2 ≡ n
-half_odd n = omega arith
-
 -- the path of an odd number takes the first level
 take_level : (n l k : ℕ) (ls : List ℕ) → path_of (1 + 2 * n) (l ∷ k ∷ ls) ≡ l ∷ path_of n (k ∷ ls)
 take_level n l k ls =
@@ -188,7 +157,7 @@ no_some : {A : Type 0} (x : A) → None ≡ Some x → ⊥
 no_some x e = cc
 
 only : (l x : ℕ) → is_among (l ∷ []) x ≡ true → x ≡ l
-only l x e = elim (or_parts (nat_eq x l) false e) [ inl k ↦ equal_or x l k | inr k ↦ absurd (let no : false ≡ true = k in cc) ]
+only l x e = elim (or_parts (nat_eq x l) false e) [ inl k ↦ nat_same x l k | inr k ↦ absurd (let no : false ≡ true = k in cc) ]
 
 one_path : (l : ℕ) (path : List ℕ) → IsPath (l ∷ []) path → path ≡ l ∷ []
 one_path l [] p = absurd (no_some p.finest.0 p.finest.1)
@@ -207,7 +176,7 @@ last_above l k level [] h e = subst (λ (n : ℕ). l < n) (some_same k level e) 
 last_above l k level (j ∷ ls) h e = last_above l j level ls h.1 e
 
 -- what is above the first level is among the others
-known_rest : (l : ℕ) (ls path : List ℕ) → AllByRecursion (λ x. l < x) path → AllByRecursion (λ x. is_among (l ∷ ls) x ≡ true) path → AllByRecursion (λ x. is_among ls x ≡ true) path
+pub known_rest : (l : ℕ) (ls path : List ℕ) → AllByRecursion (λ x. l < x) path → AllByRecursion (λ x. is_among (l ∷ ls) x ≡ true) path → AllByRecursion (λ x. is_among ls x ≡ true) path
 known_rest l ls path = all_two (λ x. l < x) (λ x. is_among (l ∷ ls) x ≡ true) (λ x. is_among ls x ≡ true) (λ x a b. sym (among_rest l x ls a) ∙ b) path
 
 path_behind : (l k : ℕ) (ls path : List ℕ) → AllByRecursion (λ q. l < q) (k ∷ ls) → IsPath (l ∷ k ∷ ls) (l ∷ path) → IsPath (k ∷ ls) path
@@ -229,9 +198,6 @@ take_first l k x ls path e h p rest = subst (λ (y : ℕ). path_of (path_number 
     ∙ ap (λ (n : ℕ). l ∷ path_of n (k ∷ ls)) (number_skips (k ∷ ls) path l h)
     ∙ ap (λ q. l ∷ q) (rest (path_behind l k ls path h (subst (λ (y : ℕ). IsPath (l ∷ k ∷ ls) (y ∷ path)) e p))))
 
-zero_plus : (n : ℕ) → 0 + n ≡ n
-zero_plus n = omega arith
-
 skip_first : (l k : ℕ) (ls path : List ℕ) → AllByRecursion (λ q. l < q) path → IsPath (l ∷ k ∷ ls) path → (IsPath (k ∷ ls) path → path_of (path_number (k ∷ ls) path) (k ∷ ls) ≡ path)
     → path_of (path_number (l ∷ k ∷ ls) path) (l ∷ k ∷ ls) ≡ path
 skip_first l k ls path h p rest =
@@ -251,6 +217,6 @@ path_of_number (l ∷ k ∷ ls) (x ∷ path) h p = by_head l k x ls path h p (or
         → (IsPath (k ∷ ls) path → path_of (path_number (k ∷ ls) path) (k ∷ ls) ≡ path)
         → (IsPath (k ∷ ls) (x ∷ path) → path_of (path_number (k ∷ ls) (x ∷ path)) (k ∷ ls) ≡ x ∷ path)
         → path_of (path_number (l ∷ k ∷ ls) (x ∷ path)) (l ∷ k ∷ ls) ≡ x ∷ path
-    by_head l k x ls path h p (inl e) behind beside = take_first l k x ls path (equal_or x l e) h.0 p behind
+    by_head l k x ls path h p (inl e) behind beside = take_first l k x ls path (nat_same x l e) h.0 p behind
     by_head l k x ls path h p (inr e) behind beside =
         skip_first l k ls (x ∷ path) (all_above l x path (among_all (λ q. l < q) x (k ∷ ls) e h.0) p.rising.0) p beside

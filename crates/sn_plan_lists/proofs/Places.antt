@@ -4,6 +4,7 @@ use Rattle.std.specs.Prelude.{◌⊎◌, slice_get, unwrap_or, cond}
 use Rattle.std.specs.List.{AllByRecursion, flat_map, range_with_len, position_or_len}
 use Rattle.std.proofs.Math.Nat.{eq-or-lt_of_le}
 use Rattle.sn_tree_space.specs.Space.{IsOneOf}
+use Rattle.sn_tree_space.proofs.Reading.{of_range}
 
 -- ---- elements
 
@@ -49,10 +50,6 @@ pub all_from : {A : Type 0} (P : A → Type 0) (xs : List A) → ((x : A) → Is
 all_from P [] f = tt
 all_from P (x ∷ xs) f = (f x (inl refl), all_from P xs (λ y i. f y (inr i)))
 
-pub all_each : {A : Type 0} (P Q : A → Type 0) → ((x : A) → P x → Q x) → (xs : List A) → AllByRecursion P xs → AllByRecursion Q xs
-all_each P Q f [] h = tt
-all_each P Q f (x ∷ xs) h = (f x h.0, all_each P Q f xs h.1)
-
 -- ---- none stands twice
 
 abbrev pub Distinct : {A : Type 0} → List A → Type 0
@@ -80,15 +77,6 @@ distinct_map f one (x ∷ xs) h = (
   all_from (λ y. f x ≡ y → ⊥) (map f xs) (λ y i e. let k = of_map f y xs i in all_at (λ z. x ≡ z → ⊥) k.0 xs k.2 h.0 (one x k.0 (e ∙ k.1))),
   distinct_map f one xs h.1,
 )
-
-pub of_range : (first count x : ℕ) → IsOneOf x (range_with_len first count) → (first ≤ x) × (x < first + count)
-of_range first zero x i = absurd i
-of_range first (suc count) x (inl e) = (omega arith, omega arith)
-of_range first (suc count) x (inr i) = let k = of_range (first + 1) count x i in (let h = k.0 in omega arith, let h = k.1 in omega arith)
-
-pub in_range : (x first count : ℕ) → first ≤ x → x < first + count → IsOneOf x (range_with_len first count)
-in_range x first zero a b = absurd (omega arith)
-in_range x first (suc count) a b = elim (eq-or-lt_of_le a) [ inl e ↦ inl (sym e) | inr less ↦ inr (in_range x (first + 1) count (omega arith) (omega arith)) ]
 
 pub distinct_range : (first count : ℕ) → Distinct (range_with_len first count)
 distinct_range first zero = tt

@@ -15,8 +15,10 @@ use Rattle.sn_plan_fit.specs.Fits.{IsEntryOf, AreEntriesOf, PieceFits, OnBranch,
 use Rattle.sn_plan_lists.specs.Chosen.{Seat, level_seats, path_seats, registers_with, piece_with, piece_at, behind_piece, pieces_at, behind_pieces, entry_at, behind_entry, plan_at, option_of, piece_choices, entry_choices, plan_choices, HasLevels}
 use Rattle.sn_plan_lists.proofs.OptionNumbers.{number_of_option}
 use Rattle.sn_plan_lists.proofs.PathNumbers.{path_of_number}
-use Rattle.sn_plan_lists.proofs.Seats.{all_append, seat_place}
+use Rattle.sn_plan_lists.proofs.Seats.{seat_place}
 use Rattle.sn_plan_lists.proofs.Pieces.{seat_of, GoodPiece, is_option, IsKnown}
+use Rattle.sn_base.proofs.Tests.{zero_plus}
+use Rattle.sn_base.proofs.Lists.{all_append}
 
 -- ---- the seats of a query
 
@@ -28,13 +30,10 @@ level_known all level n (b ∷ bs) h = (
   level_known all level (n + 1) bs (λ i. ap (slice_get all) (let e : n + 1 + i ≡ n + suc i = omega arith in e) ∙ h (suc i)),
 )
 
-zero_more : (i : ℕ) → 0 + i ≡ i
-zero_more i = omega arith
-
 pub seats_known : (q : TypedQuery) (path : List ℕ) → AllByRecursion (IsKnown q) (path_seats q.branches path)
 seats_known q [] = tt
 seats_known q (l ∷ path) =
-    all_append (IsKnown q) (level_seats l 0 q.branches) (path_seats q.branches path) (level_known q.branches l 0 q.branches (λ i. ap (slice_get q.branches) (zero_more i))) (seats_known q path)
+    all_append (IsKnown q) (level_seats l 0 q.branches) (path_seats q.branches path) (level_known q.branches l 0 q.branches (λ i. ap (slice_get q.branches) (zero_plus i))) (seats_known q path)
 
 level_placed : (level n : ℕ) (bs : List TypedBranch) → map seat_place (level_seats level n bs) ≡ level_places level n bs
 level_placed level n [] = refl

@@ -7,8 +7,9 @@ use Rattle.sn_tree_space.specs.declared.follow.Follow.{Follow}
 use Rattle.sn_tree_space.specs.declared.follow.Follow.TheVariants.{Complete, Choices}
 use Rattle.sn_tree_space.specs.Space.{IsOneOf, with_choice, choices_in, children, GoesOnTo, itself, through, IsPlan}
 use Rattle.sn_tree_space.specs.Readers.{read, MayFollow}
-use Rattle.sn_plan_lists.proofs.Places.{of_range, in_range}
 use Rattle.sn_tree_space.specs.Agendas.{Tasks, after_choice, first_choices, agenda_reader, agenda_space}
+use Rattle.sn_tree_space.proofs.Reading.{choice_of, child_follows, of_range}
+use Rattle.sn_tree_space.proofs.Agendas.{in_range}
 
 -- ---- choices that may follow
 
@@ -20,15 +21,6 @@ may_be_child q x (Choices first count) m = mapped (range_with_len first count) (
     mapped [] i = absurd i
     mapped (y ∷ xs) (inl e) = inl (ap (with_choice q) e)
     mapped (y ∷ xs) (inr i) = inr (mapped xs i)
-
-choice_of : (q child : List ℕ) (xs : List ℕ) → IsOneOf child (map (with_choice q) xs) → (x : ℕ) × (child ≡ with_choice q x) × IsOneOf x xs
-choice_of q child [] i = absurd i
-choice_of q child (x ∷ xs) (inl e) = (x, e, inl refl)
-choice_of q child (x ∷ xs) (inr i) = let k = choice_of q child xs i in (k.0, k.1, inr k.2)
-
-child_follows : (f : Follow) (q child : List ℕ) → IsOneOf child (map (with_choice q) (choices_in f)) → (x : ℕ) × (child ≡ with_choice q x) × MayFollow f x
-child_follows Complete q child i = absurd i
-child_follows (Choices first count) q child i = let k = choice_of q child (range_with_len first count) i in (k.0, k.1, of_range first count k.0 k.2)
 
 module _ {T U : Type 0} (tasks : Tasks T U) where
   -- choices that do all of these tasks

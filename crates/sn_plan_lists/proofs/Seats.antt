@@ -15,12 +15,10 @@ use Rattle.sn_plan_choices.specs.Planning.{PieceTask, level_pieces, path_pieces}
 use Rattle.sn_plan_lists.specs.Chosen.{Seat, level_seats, path_seats}
 use Rattle.sn_plan_lists.specs.Costs.{bits_of, is_upto, front_of}
 use Rattle.sn_plan_lists.proofs.PathNumbers.{path_all, not_among, among_head, among_rest}
+use Rattle.sn_base.proofs.Lists.{all_append}
+use Rattle.sn_base.proofs.Tests.{at_most, and_never}
 
 -- ---- lists
-
-pub all_append : {A : Type 0} (P : A → Type 0) (xs ys : List A) → AllByRecursion P xs → AllByRecursion P ys → AllByRecursion P (xs ++ ys)
-all_append P [] ys h k = k
-all_append P (x ∷ xs) ys h k = (h.0, all_append P xs ys h.1 k)
 
 map_same : {A B : Type 0} (P : A → Type 0) (f g : A → B) → ((x : A) → P x → f x ≡ g x) → (xs : List A) → AllByRecursion P xs → map f xs ≡ map g xs
 map_same P f g e [] h = refl
@@ -50,25 +48,18 @@ bits_same : (f g : ℕ → Bool) (ls : List ℕ) → AllByRecursion (λ l. f l �
 bits_same f g [] h = refl
 bits_same f g (l ∷ ls) h = ap (λ b. (if b then 1 else 0) + 2 * bits_of f ls) h.0 ∙ ap (λ (n : ℕ). (if g l then 1 else 0) + 2 * n) (bits_same f g ls h.1)
 
-at_most : (l m : ℕ) → l ≤ m → nat_le l m ≡ true
-at_most l m h = grind (arith, nat_tests)
-
 upto_first : (l level : ℕ) (path : List ℕ) → l ≤ level → is_upto (l ∷ path) level l ≡ true
 upto_first l level path h = ap (λ b. b && nat_le l level) (among_head l path) ∙ at_most l level h
 
 above_level : (l x : ℕ) → l < x → nat_le x l ≡ false
 above_level l x h = grind (arith, nat_tests)
 
-and_false : (a : Bool) → (a && false) ≡ false
-and_false true = refl
-and_false false = refl
-
 -- of levels above the first one none is up to it
 none_upto : (l : ℕ) (path ls : List ℕ) → AllByRecursion (λ k. l < k) ls → bits_of (is_upto path l) ls ≡ 0
 none_upto l path [] h = refl
 none_upto l path (k ∷ ls) h =
     ap (λ b. (if is_among path k && b then 1 else 0) + 2 * bits_of (is_upto path l) ls) (above_level l k h.0)
-    ∙ ap (λ b. (if b then 1 else 0) + 2 * bits_of (is_upto path l) ls) (and_false (is_among path k))
+    ∙ ap (λ b. (if b then 1 else 0) + 2 * bits_of (is_upto path l) ls) (and_never (is_among path k))
     ∙ ap (λ (n : ℕ). 0 + 2 * n) (none_upto l path ls h.1)
 
 upto_rest : (l level : ℕ) (path ls : List ℕ) → AllByRecursion (λ k. l < k) ls → bits_of (is_upto (l ∷ path) level) ls ≡ bits_of (is_upto path level) ls
@@ -126,7 +117,7 @@ module _ (n : ℕ) (bs : List TypedBranch) where
   not_first before level l f h k = ap (λ b. b && f) (let e : (before == 0) ≡ false = grind (arith, nat_tests) in e)
 
   other_level : (a : Bool) (level l : ℕ) → l < level → (a && (level == l)) ≡ false
-  other_level a level l h = ap (λ b. a && b) (let e : (level == l) ≡ false = grind (arith, nat_tests) in e) ∙ and_false a
+  other_level a level l h = ap (λ b. a && b) (let e : (level == l) ≡ false = grind (arith, nat_tests) in e) ∙ and_never a
 
   -- a piece after the first level of a path
   behind_task : (i before l : ℕ) (path rest : List ℕ) → AllByRecursion (λ k. l < k) rest → (seat : Seat) → l < seat.level

@@ -16,6 +16,8 @@ use Rattle.sn_plan_fit.specs.Tables.{op_tables}
 use Rattle.sn_plan_choices.specs.Options.{Slot, plain, keyed, op_slots, registers_among}
 use Rattle.sn_plan_choices.specs.Planning.{Taken, in_register, past_stages, is_past, registers_in, metadata_of, Task, for_stage, next_stage, past_by, planning}
 use Rattle.sn_plan_lists.proofs.Runs.{Does, spent_by, taken_by}
+use Rattle.sn_base.proofs.Tests.{not_less, not_less_is}
+use Rattle.sn_plan_fit.proofs.Placings.{room}
 
 -- the tables of slots, with stages for the registers
 abbrev pub fill : List Slot → List ℕ → List Table
@@ -52,7 +54,7 @@ left_behind zero n ss e = omega arith
 left_behind (suc d) n [] e = absurd (omega arith)
 left_behind (suc d) n (x ∷ ss) e = left_behind d n ss (omega arith)
 
-times_next : (d n : ℕ) → d * (1 + n) ≡ d + d * n
+pub times_next : (d n : ℕ) → d * (1 + n) ≡ d + d * n
 times_next d n = ap (λ (k : ℕ). d * k) (let e : 1 + n ≡ suc n = omega arith in e) ∙ mul-suc d n ∙ (let e : d * n + d ≡ d + d * n = omega arith in e)
 
 -- each stateful operator has a chain of registers
@@ -98,17 +100,6 @@ op_stand d schemas n (op ∷ ops) sizes ss e =
 
 -- ---- stages are chosen
 
-room : (stages least : ℕ) (ts : List Table) → HasGaps stages least ts → least ≤ stages
-room stages least [] h = h
-room stages least (stateless ∷ ts) h = let k = room stages (suc least) ts h in omega arith
-room stages least (register x ∷ ts) h = let k = room stages (suc x) ts h.1 in omega (arith, h.0)
-
-pub not_past : (stages least : ℕ) → least ≤ stages → nat_lt stages least ≡ false
-not_past stages least h = grind (arith, nat_tests)
-
-pub is_within : (stages least : ℕ) → nat_lt stages least ≡ false → least ≤ stages
-is_within stages least e = grind (arith, nat_tests)
-
 module _ (s : Switch) (entry : ℕ → ℕ → ℕ → ℕ → ℕ) where
   -- what tasks cost and take up, with something taken up before, where choices do them and nothing goes past the last stage
   pub record Runs (before : List Taken) (ts : List Task) (cs : List ℕ) (cost : ℕ) (registers : List Register) (bits : ℕ) : Type 0 where
@@ -122,7 +113,7 @@ module _ (s : Switch) (entry : ℕ → ℕ → ℕ → ℕ → ℕ) where
       → HasGaps s.stages least (fill slots ss) → Runs [] ts rest cost registers bits
       → Runs (past_by s.stages least slots) (map for_stage (next_stage least slots) ++ ts) (ss ++ rest) cost (stand slots ss ++ registers) bits
   stages_run least [] [] rest ts cost registers bits e h r =
-      subst (λ b. Runs (if b then past_stages ∷ [] else []) ts rest cost registers bits) (sym (not_past s.stages least h)) r
+      subst (λ b. Runs (if b then past_stages ∷ [] else []) ts rest cost registers bits) (sym (not_less s.stages least h)) r
   stages_run least [] (x ∷ ss) rest ts cost registers bits e h r = absurd (omega arith)
   stages_run least (plain ∷ slots) ss rest ts cost registers bits e h r =
       stages_run (least + 1) slots ss rest ts cost registers bits e (subst (λ (n : ℕ). HasGaps s.stages n (fill slots ss)) (sym (add-one least)) h) r
@@ -158,7 +149,7 @@ module _ (s : Switch) (entry : ℕ → ℕ → ℕ → ℕ → ℕ) where
     where
       by_end : (b : Bool) → nat_lt s.stages least ≡ b → list_any is_past ((if b then past_stages ∷ [] else []) ++ taken_by (planning s entry) ts cs) ≡ false → StageSplit least [] ts cs
       by_end true e p = absurd (let no : true ≡ false = p in cc)
-      by_end false e p = record { stages = []; rest = cs; is = refl; count = refl; gaps = is_within s.stages least e; does = d; past = p }
+      by_end false e p = record { stages = []; rest = cs; is = refl; count = refl; gaps = not_less_is s.stages least e; does = d; past = p }
   stages_split least (plain ∷ slots) cs ts d p =
       let k = stages_split (least + 1) slots cs ts d p in
       record { stages = k.stages; rest = k.rest; is = k.is; count = k.count; gaps = subst (λ (n : ℕ). HasGaps s.stages n (fill slots k.stages)) (add-one least) k.gaps; does = k.does; past = k.past }

@@ -5,7 +5,7 @@ use Rattle.std.specs.Option.{option_map_or}
 use Rattle.std.proofs.Math.Bridge.{le_prop}
 use Rattle.std.proofs.Math.Logic.{∥∥₁_elim}
 use Rattle.std.proofs.lemmas.Bool.Decides.{nat_tests}
-use Rattle.sn_base.proofs.Lists.{and_parts, not_false, or_none}
+use Rattle.sn_base.proofs.Lists.{and_parts, not_false, or_none, all_weaker as all_each}
 use Rattle.sn_fields.specs.declared.field.Field.{Field}
 use Rattle.sn_fields.specs.Fields.{with_name, width_of, is_address}
 use Rattle.sn_query_grammar.specs.declared.ast.Refine.{Refine}
@@ -28,7 +28,6 @@ use Rattle.sn_plan_choices.proofs.Narrow.{typed_narrow}
 use Rattle.sn_plan_lists.specs.Bounds.{HasBounds}
 use Rattle.sn_plan_lists.specs.Chosen.{HasLevels}
 use Rattle.sn_plan_lists.specs.Theorems.{HaveRisingNumbers}
-use Rattle.sn_plan_lists.proofs.Places.{all_each}
 
 -- ---- lists by their places
 

@@ -23,8 +23,9 @@ use Rattle.sn_plan_lists.proofs.Pieces.{seat_of, ByGaps, pieces_run, pieces_spli
 use Rattle.sn_plan_lists.proofs.Readings.{seats_known, seats_placed, GoodEntry, good_entry, plan_read}
 use Rattle.sn_plan_lists.proofs.Runs.{Does, taken_by, plan_runs, run_is_plan, run_costs}
 use Rattle.sn_plan_lists.proofs.Seats.{task_at, query_tasks}
-use Rattle.sn_plan_lists.proofs.Slots.{not_past, is_within, Runs}
+use Rattle.sn_plan_lists.proofs.Slots.{Runs}
 use Rattle.sn_base.proofs.Lists.{or_none}
+use Rattle.sn_base.proofs.Tests.{not_less as not_past, not_less_is as is_within}
 
 path_fits : (q : TypedQuery) (m : ℕ) → HasLevels q → IsPath q.levels (path_of m q.levels)
 path_fits q m h = by_levels q.levels h.some h.rising

@@ -66,7 +66,12 @@ first_path q choices = path_of (slice_index choices 0) q.levels
 
 -- The entry of a query that choices name: its path, and then its pieces.
 abbrev pub entry_at : Switch → TypedQuery → List ℕ → Entry
-entry_at s q choices = record { name = q.name; levels = first_path q choices; pieces = pieces_at s (path_seats q.branches (first_path q choices)) (drop 1 choices) }
+entry_at s q choices = record {
+  name = q.name;
+  levels = first_path q choices;
+  pieces = pieces_at s (path_seats q.branches (first_path q choices))
+      (drop 1 choices);
+}
 
 abbrev pub behind_entry : Switch → TypedQuery → List ℕ → List ℕ
 behind_entry s q choices = behind_pieces s (path_seats q.branches (first_path q choices)) (drop 1 choices)

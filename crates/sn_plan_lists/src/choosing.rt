@@ -99,7 +99,8 @@ pub fn choices_of(t: &Typed, s: &Switch, plan: &Plan) -> Result<Seq<u32>, Memory
     // It names the plan.
     ensures names { IfOk result (λ choices. plan_at s.now t.now.queries choices ≡ plan.now.entries) }
     // No other such list does.
-    ensures only { (entry : ℕ → ℕ → ℕ → ℕ → ℕ) (r : List ℕ) → IsPlan (plans_of s.now entry t.now.queries) r → plan_at s.now t.now.queries r ≡ plan.now.entries → IfOk result (λ choices. choices ≡ r) }
+    ensures only { (entry : ℕ → ℕ → ℕ → ℕ → ℕ) (r : List ℕ) → IsPlan (plans_of s.now entry t.now.queries) r → plan_at s.now t.now.queries r ≡ plan.now.entries →
+        IfOk result (λ choices. choices ≡ r) }
 {
     choices_along(t, s, plan)
 }

@@ -15,14 +15,16 @@ use sn_plan_fit::laws::gaps_decide_placing;
 
 /// Each complete list of choices that isn't broken names a plan that fits. The list is the one of that plan's choices, and its bound is the plan's cost.
 pub fn lists_name_fitting_plans()
-    ensures { (s : Switch) (entry : ℕ → ℕ → ℕ → ℕ → ℕ) (queries : List TypedQuery) (r : List ℕ) → HaveRisingNumbers s queries → IsPlan (plans_of s entry queries) r → NamesPlan s entry queries r }
+    ensures { (s : Switch) (entry : ℕ → ℕ → ℕ → ℕ → ℕ) (queries : List TypedQuery) (r : List ℕ) → HaveRisingNumbers s queries →
+        IsPlan (plans_of s entry queries) r → NamesPlan s entry queries r }
 {
     gaps_decide_placing();
 }
 
 /// Each plan that fits is named by exactly one such list, that of its choices.
 pub fn fitting_plans_are_named()
-    ensures { (s : Switch) (entry : ℕ → ℕ → ℕ → ℕ → ℕ) (queries : List TypedQuery) (entries : List Entry) → HaveRisingNumbers s queries → Fits queries s entries → IsNamed s entry queries entries }
+    ensures { (s : Switch) (entry : ℕ → ℕ → ℕ → ℕ → ℕ) (queries : List TypedQuery) (entries : List Entry) → HaveRisingNumbers s queries →
+        Fits queries s entries → IsNamed s entry queries entries }
 {
     gaps_decide_placing();
 }
@@ -35,7 +37,8 @@ pub fn typed_queries_and_switches_rise()
 
 /// No plan that fits costs less than the plan of a first least list of choices.
 pub fn least_lists_name_cheapest_plans()
-    ensures { (s : Switch) (entry : ℕ → ℕ → ℕ → ℕ → ℕ) (queries : List TypedQuery) (r : List ℕ) (entries : List Entry) → HaveRisingNumbers s queries → IsFirstLeast (plans_of s entry queries) r →
+    ensures { (s : Switch) (entry : ℕ → ℕ → ℕ → ℕ → ℕ) (queries : List TypedQuery) (r : List ℕ) (entries : List Entry) → HaveRisingNumbers s queries →
+        IsFirstLeast (plans_of s entry queries) r →
         Fits queries s entries → plan_cost s entry 0 queries (plan_at s queries r) ≤ plan_cost s entry 0 queries entries }
 {
     gaps_decide_placing();

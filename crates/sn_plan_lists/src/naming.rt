@@ -7,7 +7,8 @@ ghost use Rattle.sn_tree_space.specs.Space.{IsPlan};
 ghost use Rattle.sn_plan_choices.specs.Options.{path_of};
 ghost use Rattle.sn_plan_choices.specs.Settings.{IsNarrow};
 ghost use Rattle.sn_plan_lists.specs.Bounds.{HasBounds};
-ghost use Rattle.sn_plan_lists.specs.Chosen.{Seat, seat_at, level_seats, path_seats, piece_at, behind_piece, pieces_at, behind_pieces, entry_at, behind_entry, plan_at};
+ghost use Rattle.sn_plan_lists.specs.Chosen.{Seat, seat_at, level_seats, path_seats, piece_at, behind_piece, pieces_at, behind_pieces, entry_at, behind_entry};
+ghost use Rattle.sn_plan_lists.specs.Chosen.{plan_at};
 ghost use Rattle.sn_plan_lists.specs.Theorems.{plans_of};
 
 use crate::front::{first, short, split};
@@ -171,7 +172,8 @@ pub fn plan_of(t: &Typed, s: &Switch, choices: &[u32]) -> Result<Plan, Memory>
     requires { IsSwitch s.now }
     ensures plan { IfOk result (λ plan. plan.entries ≡ plan_at s.now t.now.queries choices.now) }
     // The plan of a complete list that isn't broken fits.
-    ensures fits { (entry : ℕ → ℕ → ℕ → ℕ → ℕ) → IsPlan (plans_of s.now entry t.now.queries) choices.now → IfOk result (λ plan. Fits t.now.queries s.now plan.entries) }
+    ensures fits { (entry : ℕ → ℕ → ℕ → ℕ → ℕ) → IsPlan (plans_of s.now entry t.now.queries) choices.now →
+        IfOk result (λ plan. Fits t.now.queries s.now plan.entries) }
 {
     entries_at(t, s, choices)
 }

@@ -16,6 +16,7 @@ use Rattle.sn_plan_choices.specs.Planning.{Task, for_path, for_piece, for_stage,
 use Rattle.sn_plan_space.specs.Readable.{AreReadable}
 use Rattle.sn_plan_space.specs.Reading.{behind_choices}
 use Rattle.sn_plan_space.proofs.Following.{partial_follows, kept_along}
+use Rattle.sn_base.proofs.Lists.{all_append}
 
 abbrev weight : Task → ℕ
 weight (for_path t) = 8 * 2 ^ 56
@@ -30,10 +31,6 @@ IsSmallTask (for_stage t) = Unit {0}
 record IsBounded (a : Agenda Task Taken) : Type 0 where
   small : AllByRecursion IsSmallTask a.left
   room : a.spent + sum_by weight a.left ≤ 64 * 2 ^ 56
-
-all_of_two : {A : Type 0} (P : A → Type 0) (xs ys : List A) → AllByRecursion P xs → AllByRecursion P ys → AllByRecursion P (xs ++ ys)
-all_of_two P [] ys a b = b
-all_of_two P (x ∷ xs) ys a b = (a.0, all_of_two P xs ys a.1 b)
 
 -- ---- how many pieces a path has
 
@@ -106,7 +103,7 @@ module _ (s : Switch) (entry : ℕ → ℕ → ℕ → ℕ → ℕ) (E : (q pref
       → MayFollow (first_choices (planning s entry) left) x → IsBounded (after_choice (planning s entry) a left x)
   keeps_at a [] x small room m = absurd m
   keeps_at a (t ∷ ts) x small room m = record {
-    small = all_of_two IsSmallTask (leaves_of s entry t x) ts (leaves_small t x) small.1;
+    small = all_append IsSmallTask (leaves_of s entry t x) ts (leaves_small t x) small.1;
     room = let one = sum_by-cons weight t ts in let two = sum_by-append weight (leaves_of s entry t x) ts in let less = choice_weighs t x small.0 in omega arith;
   }
 

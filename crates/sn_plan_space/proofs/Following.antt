@@ -9,20 +9,7 @@ use Rattle.sn_tree_space.specs.declared.follow.Follow.TheVariants.{Complete, Cho
 use Rattle.sn_tree_space.specs.Space.{IsOneOf, with_choice, choices_in, GoesOnTo, itself, through, IsPartial}
 use Rattle.sn_tree_space.specs.Readers.{Reader, read, space_of, MayFollow}
 use Rattle.sn_plan_space.specs.Reading.{Follows}
-
-of_range : (first count x : ℕ) → IsOneOf x (range_with_len first count) → (first ≤ x) × (x < first + count)
-of_range first zero x i = absurd i
-of_range first (suc count) x (inl e) = (omega arith, omega arith)
-of_range first (suc count) x (inr i) = let k = of_range (first + 1) count x i in (let h = k.0 in omega arith, let h = k.1 in omega arith)
-
-choice_of : (q child : List ℕ) (xs : List ℕ) → IsOneOf child (map (with_choice q) xs) → (x : ℕ) × (child ≡ with_choice q x) × IsOneOf x xs
-choice_of q child [] i = absurd i
-choice_of q child (x ∷ xs) (inl e) = (x, e, inl refl)
-choice_of q child (x ∷ xs) (inr i) = let k = choice_of q child xs i in (k.0, k.1, inr k.2)
-
-child_follows : (f : Follow) (q child : List ℕ) → IsOneOf child (map (with_choice q) (choices_in f)) → (x : ℕ) × (child ≡ with_choice q x) × MayFollow f x
-child_follows Complete q child i = absurd i
-child_follows (Choices first count) q child i = let k = choice_of q child (range_with_len first count) i in (k.0, k.1, of_range first count k.0 k.2)
+use Rattle.sn_tree_space.proofs.Reading.{choice_of, child_follows}
 
 module _ {S : Type 0} (r : Reader S) (depth : ℕ) where
   follows_from : (q t : List ℕ) → GoesOnTo (space_of r depth) q t → (more : List ℕ) × (t ≡ q ++ more) × Follows r (read r q) more

@@ -8,7 +8,8 @@ use Rattle.sn_plan_fit.specs.Registers.{Register, in_stage}
 use Rattle.sn_tree_space.specs.Readers.{MayFollow}
 use Rattle.sn_tree_space.specs.Agendas.{Agenda, first_choices, after_choice}
 use Rattle.sn_plan_choices.specs.Options as choices
-use Rattle.sn_plan_choices.specs.Planning.{Task, for_path, for_piece, for_stage, StageTask, PieceTask, PathTask, Taken, metadata_of, is_past, registers_in, next_stage, past_by, planning}
+use Rattle.sn_plan_choices.specs.Planning.{Task, for_path, for_piece, for_stage, StageTask, PieceTask, PathTask, Taken, metadata_of, is_past, registers_in}
+use Rattle.sn_plan_choices.specs.Planning.{next_stage, past_by, planning}
 use Rattle.sn_plan_space.specs.declared.waiting.Waiting.{Waiting}
 use Rattle.sn_plan_space.specs.declared.position.Position.{Position}
 use Rattle.sn_plan_space.specs.declared.position.Standing.{Standing}

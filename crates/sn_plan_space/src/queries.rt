@@ -62,7 +62,8 @@ fn add_chosen(
     requires few { length branches.now ≤ 2 }
     requires places { HasPlaces c.now (at.query + 1) }
     requires levels { at.levels < 16 }
-    ensures { OnOk result (pieces.new ≡ pieces.old ++ map (known_piece s.now (entry_in c.now)) (if chosen then level_pieces at.query at.levels at.is_first 0 branches.now else [])) }
+    ensures { OnOk result (pieces.new ≡ pieces.old ++
+        map (known_piece s.now (entry_in c.now)) (if chosen then level_pieces at.query at.levels at.is_first 0 branches.now else [])) }
 {
     if chosen {
         add_level(pieces, alloc, s, c, at, branches)

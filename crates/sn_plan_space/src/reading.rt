@@ -22,7 +22,8 @@ use sn_tree_space::follow::Follow;
 
 /// Where a reader stands before the first choice.
 fn start<'a>(known: &'a [KnownQuery]) -> Position<'a>
-    ensures { (s : Switch) (entry : ℕ → ℕ → ℕ → ℕ → ℕ) (queries : List TypedQuery) → known.now ≡ map (known_query s entry) (numbered 0 queries) → Stands s entry result (behind_choices s entry queries []) }
+    ensures { (s : Switch) (entry : ℕ → ℕ → ℕ → ℕ → ℕ) (queries : List TypedQuery) → known.now ≡ map (known_query s entry) (numbered 0 queries) →
+        Stands s entry result (behind_choices s entry queries []) }
 {
     Position {
         waiting: None,
@@ -35,7 +36,8 @@ fn start<'a>(known: &'a [KnownQuery]) -> Position<'a>
 /// Where a reader stands after a partial plan.
 pub fn position_behind<'a>(stages: u32, known: &'a [KnownQuery], partial: &[u32]) -> Position<'a>
     requires { stages ≤ 32 }
-    ensures { (s : Switch) (entry : ℕ → ℕ → ℕ → ℕ → ℕ) (queries : List TypedQuery) → s.stages ≡ stages → known.now ≡ map (known_query s entry) (numbered 0 queries)
+    ensures { (s : Switch) (entry : ℕ → ℕ → ℕ → ℕ → ℕ) (queries : List TypedQuery) → s.stages ≡ stages →
+        known.now ≡ map (known_query s entry) (numbered 0 queries)
         → IsPartial (agenda_space (planning s entry) (first_tasks 0 queries)) partial.now → Stands s entry result (behind_choices s entry queries partial.now) }
 {
     let mut position = start(known);
@@ -48,8 +50,10 @@ pub fn position_behind<'a>(stages: u32, known: &'a [KnownQuery], partial: &[u32]
 /// What a partial plan takes up.
 pub fn totals_behind(stages: u32, known: &[KnownQuery], partial: &[u32]) -> Totals
     requires { stages ≤ 32 }
-    ensures { (s : Switch) (entry : ℕ → ℕ → ℕ → ℕ → ℕ) (queries : List TypedQuery) → s.stages ≡ stages → known.now ≡ map (known_query s entry) (numbered 0 queries)
-        → IsPartial (agenda_space (planning s entry) (first_tasks 0 queries)) partial.now → AreTotals result (behind_choices s entry queries partial.now).taken }
+    ensures { (s : Switch) (entry : ℕ → ℕ → ℕ → ℕ → ℕ) (queries : List TypedQuery) → s.stages ≡ stages →
+        known.now ≡ map (known_query s entry) (numbered 0 queries)
+        → IsPartial (agenda_space (planning s entry) (first_tasks 0 queries)) partial.now →
+        AreTotals result (behind_choices s entry queries partial.now).taken }
 {
     let mut position = start(known);
     let mut totals = Totals::new();
@@ -78,7 +82,8 @@ fn paths_in(query: &KnownQuery) -> u32
 /// What may follow at a position.
 pub fn follow_at(position: Position, stages: u32) -> Follow
     requires { stages ≤ 32 }
-    ensures value { (s : Switch) (entry : ℕ → ℕ → ℕ → ℕ → ℕ) (a : Agenda Task Taken) → s.stages ≡ stages → Stands s entry position.entry a → result ≡ first_choices (planning s entry) a.left }
+    ensures value { (s : Switch) (entry : ℕ → ℕ → ℕ → ℕ → ℕ) (a : Agenda Task Taken) → s.stages ≡ stages → Stands s entry position.entry a →
+        result ≡ first_choices (planning s entry) a.left }
     ensures small { IsSmall result }
 {
     if let Some(waiting) = position.waiting {
@@ -106,7 +111,8 @@ fn add_least_queries(sum: u64, queries: &[KnownQuery]) -> u64
 
 /// What was spent, with the least that is still to be spent, or 2^64 - 1 where it is more.
 pub fn lower_at(position: Position) -> u64
-    ensures { (s : Switch) (entry : ℕ → ℕ → ℕ → ℕ → ℕ) (a : Agenda Task Taken) → Stands s entry position.entry a → result ≡ capped (a.spent + sum_by (least_of s entry) a.left) }
+    ensures { (s : Switch) (entry : ℕ → ℕ → ℕ → ℕ → ℕ) (a : Agenda Task Taken) → Stands s entry position.entry a →
+        result ≡ capped (a.spent + sum_by (least_of s entry) a.left) }
 {
     let chosen = add_least(position.spent, position.pieces);
     add_least_queries(chosen, position.queries)

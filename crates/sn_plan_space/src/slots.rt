@@ -122,7 +122,8 @@ pub fn piece_slots(
     requires switch { IsSwitch s.now }
     requires cut { setting.now.cut ≤ 12 }
     requires few { setting.now.used ≤ 2 }
-    ensures { (o : choices.Setting) → setting.now ≡ written o → IfOk result (λ slots. slots ≡ map known_slot (choices.piece_slots s.now is_first branch.now o)) }
+    ensures { (o : choices.Setting) → setting.now ≡ written o →
+        IfOk result (λ slots. slots ≡ map known_slot (choices.piece_slots s.now is_first branch.now o)) }
 {
     let mut slots = membership(alloc, is_first)?;
     let ops = prefix(branch, setting.cut);

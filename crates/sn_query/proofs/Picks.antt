@@ -3,7 +3,7 @@ use Rattle.std.proofs.Common.{◌≡◌, ℕ, Bool, true, false, List, [], ◌�
 use Rattle.std.specs.Prelude.{codes}
 use Rattle.sn_text_rules.specs.Tokens.{Lexeme, Tok, Read, got, fails, short, bind}
 use Rattle.sn_text_rules.specs.Rules.{kept, Rule, either, either_at, maybe, maybe_at, pair}
-use Rattle.sn_text_rules.specs.Words.{is_word, is_symbol, is_number, keyword, number_in, ◌▸◌}
+use Rattle.sn_text_rules.specs.Words.{is_word, is_symbol, is_number, keyword, number_in, ◌▸◌, any_number}
 use Rattle.sn_text.specs.declared.stop.Stop.{Stop}
 use Rattle.sn_text.specs.declared.stop.Stop.TheVariants as stops
 use Rattle.sn_text.specs.Reading.{Halts, Peeked}
@@ -15,7 +15,7 @@ use Rattle.sn_query_grammar.specs.declared.ast.What.{What}
 use Rattle.sn_query_grammar.specs.declared.ast.What.TheVariants as whats
 use Rattle.sn_query_grammar.specs.declared.ast.Reduce.{Reduce}
 use Rattle.sn_query_grammar.specs.declared.ast.FoldWord.{FoldWord}
-use Rattle.sn_query_grammar.specs.Names.{name, any_number, plain_fold}
+use Rattle.sn_query_grammar.specs.Names.{name, plain_fold}
 use Rattle.sn_query_grammar.specs.Grammar.{Name, Tail, PostTail, to_expr, to_post_expr, read_as, read_post, to_what, to_post_what, goes_tail, goes_post_tail, expr_rule, post_expr_rule, filter_rule, map_rule, post_map_rule, reduce_rule, what_rule, post_what_rule, fold_rule, fold_to}
 use Rattle.sn_query.specs.Parts.{mask_rule, shift_rule, plus_rule, ratio_rule, column_rule, fold_read}
 

@@ -2,10 +2,10 @@
 ghost use Rattle.std.specs.Prelude.{◌≡◌, List};
 ghost use Rattle.sn_text_rules.specs.declared.Flaw.{Flaw};
 ghost use Rattle.sn_text_rules.specs.Rules.{kept, maybe_at};
-ghost use Rattle.sn_text_rules.specs.Words.{is_symbol, sign, ◌▸◌};
+ghost use Rattle.sn_text_rules.specs.Words.{is_symbol, sign, ◌▸◌, any_number};
 ghost use Rattle.sn_text.specs.Lexing.{left, seen};
 ghost use Rattle.sn_text.specs.Reading.{Reads};
-ghost use Rattle.sn_query_grammar.specs.Names.{any_number, past_name, past_number};
+ghost use Rattle.sn_query_grammar.specs.Names.{past_name, past_number};
 ghost use Rattle.sn_query_grammar.specs.Grammar.{relax_rule, relaxes_rule, cond_rule, filter_rule};
 ghost use Rattle.sn_query_grammar.proofs.Goods.{relax_listed, cond_listed};
 ghost use Rattle.sn_query.specs.Parts.{and_rule};
@@ -18,6 +18,7 @@ use sn_text::place::{Lexer, Piece};
 use sn_text::stop::Stop;
 use sn_text::words::{next_is_symbol, next_is_word, number, symbol, word};
 use sn_text_rules::Flaw;
+use sn_text_rules::symbols::{AND, CLOSE, COLON, OPEN};
 use std::alloc::Global;
 
 #[tactic(auto, unfolding(sn_query_grammar::specs::Grammar::relax_rule))]
@@ -25,7 +26,7 @@ fn relax<'a>(at: Lexer<'a>) -> Result<(Relax, Lexer<'a>), Stop<'a>>
     ensures { Reads result (relax_rule.read kept (left at.entry)) }
 {
     let (level, rest) = number(at, 0, 64)?;
-    let rest = symbol(rest, 7)?;
+    let rest = symbol(rest, COLON)?;
     let (value, rest) = number(rest, 0, u64::MAX)?;
     Ok((
         Relax {
@@ -75,9 +76,9 @@ fn relaxes<'a>(alloc: Global, at: Lexer<'a>) -> Result<(Seq<Relax>, Lexer<'a>), 
         return Ok((Seq::new(alloc), at));
     }
     let rest = word(at, b"at")?;
-    let rest = symbol(rest, 5)?;
+    let rest = symbol(rest, OPEN)?;
     let (relaxed, rest) = list::<RelaxItems>(alloc, rest)?;
-    let rest = symbol(rest, 6)?;
+    let rest = symbol(rest, CLOSE)?;
     Ok((relaxed, rest))
 }
 
@@ -85,10 +86,10 @@ fn relaxes<'a>(alloc: Global, at: Lexer<'a>) -> Result<(Seq<Relax>, Lexer<'a>), 
 fn and_number<'a>(at: Lexer<'a>) -> Result<(Option<u64>, Lexer<'a>), Stop<'a>>
     ensures { Reads result (and_rule.read kept (left at.entry)) }
 {
-    if !next_is_symbol(at, 8) {
+    if !next_is_symbol(at, AND) {
         return Ok((None, at));
     }
-    let rest = symbol(at, 8)?;
+    let rest = symbol(at, AND)?;
     let (number, rest) = number(rest, 0, u64::MAX)?;
     Ok((Some(number), rest))
 }

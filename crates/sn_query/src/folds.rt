@@ -18,6 +18,7 @@ use sn_text::place::{Lexer, Piece};
 use sn_text::stop::Stop;
 use sn_text::words::{next_is_word, number, symbol, word};
 use sn_text_rules::Flaw;
+use sn_text_rules::symbols::{CLOSE, COLON, OPEN};
 use std::alloc::Global;
 
 /// The keys of a fold or a join.
@@ -63,12 +64,12 @@ pub(crate) fn keys<'a>(alloc: Global, at: Lexer<'a>) -> Result<(Seq<Name>, Lexer
 fn column<'a>(at: Lexer<'a>, keys: &[Name]) -> Result<(Name, Lexer<'a>), Stop<'a>>
     ensures { Reads result ((column_rule keys.now).read kept (left at.entry)) }
 {
-    let rest = symbol(at, 5)?;
+    let rest = symbol(at, OPEN)?;
     let (value, rest) = match new_name(rest, keys) {
         Ok(found) => found,
         Err(stop) => return Err(stop),
     };
-    let rest = symbol(rest, 6)?;
+    let rest = symbol(rest, CLOSE)?;
     Ok((value, rest))
 }
 
@@ -122,6 +123,6 @@ pub(crate) fn reduce<'a>(alloc: Global, at: Lexer<'a>) -> Result<(Reduce, Lexer<
         Ok(found) => found,
         Err(stop) => return Err(stop),
     };
-    let rest = symbol(rest, 7)?;
+    let rest = symbol(rest, COLON)?;
     fold(keys, rest)
 }

@@ -17,12 +17,13 @@ use sn_text::place::{Lexer, Piece};
 use sn_text::stop::Stop;
 use sn_text::words::{next_is_number, next_is_symbol, number, symbol, word};
 use sn_text_rules::Flaw;
+use sn_text_rules::symbols::{AND, OVER, PLUS, SHIFT, TIMES};
 use std::alloc::Global;
 
 fn mask<'a>(at: Lexer<'a>) -> Result<(u64, Lexer<'a>), Stop<'a>>
     ensures { Reads result (mask_rule.read kept (left at.entry)) }
 {
-    let rest = symbol(at, 8)?;
+    let rest = symbol(at, AND)?;
     let (number, rest) = number(rest, 0, u64::MAX)?;
     Ok((number, rest))
 }
@@ -30,7 +31,7 @@ fn mask<'a>(at: Lexer<'a>) -> Result<(u64, Lexer<'a>), Stop<'a>>
 fn shift<'a>(at: Lexer<'a>) -> Result<(u32, Lexer<'a>), Stop<'a>>
     ensures { Reads result (shift_rule.read kept (left at.entry)) }
 {
-    let rest = symbol(at, 18)?;
+    let rest = symbol(at, SHIFT)?;
     let (bits, rest) = number(rest, 0, 63)?;
     Ok((bits as u32, rest))
 }
@@ -38,7 +39,7 @@ fn shift<'a>(at: Lexer<'a>) -> Result<(u32, Lexer<'a>), Stop<'a>>
 fn plus<'a>(at: Lexer<'a>) -> Result<(Name, Lexer<'a>), Stop<'a>>
     ensures { Reads result (plus_rule.read kept (left at.entry)) }
 {
-    let rest = symbol(at, 9)?;
+    let rest = symbol(at, PLUS)?;
     let (name, rest) = match name(rest) {
         Ok(found) => found,
         Err(stop) => return Err(stop),
@@ -49,9 +50,9 @@ fn plus<'a>(at: Lexer<'a>) -> Result<(Name, Lexer<'a>), Stop<'a>>
 fn ratio<'a>(at: Lexer<'a>) -> Result<((u64, Name), Lexer<'a>), Stop<'a>>
     ensures { Reads result (ratio_rule.read kept (left at.entry)) }
 {
-    let rest = symbol(at, 10)?;
+    let rest = symbol(at, TIMES)?;
     let (factor, rest) = number(rest, 0, u64::MAX)?;
-    let rest = symbol(rest, 11)?;
+    let rest = symbol(rest, OVER)?;
     let (name, rest) = match name(rest) {
         Ok(found) => found,
         Err(stop) => return Err(stop),
@@ -72,11 +73,11 @@ fn expr<'a>(at: Lexer<'a>) -> Result<(Expr, Lexer<'a>), Stop<'a>>
         Ok(found) => found,
         Err(stop) => return Err(stop),
     };
-    if next_is_symbol(rest, 8) {
+    if next_is_symbol(rest, AND) {
         let (mask, after) = mask(rest)?;
         return Ok((Expr::Mask(name, mask), after));
     }
-    if next_is_symbol(rest, 18) {
+    if next_is_symbol(rest, SHIFT) {
         let (bits, after) = shift(rest)?;
         return Ok((Expr::Shift(name, bits), after));
     }
@@ -96,22 +97,22 @@ fn post_expr<'a>(at: Lexer<'a>) -> Result<(Expr, Lexer<'a>), Stop<'a>>
         Ok(found) => found,
         Err(stop) => return Err(stop),
     };
-    if next_is_symbol(rest, 8) {
+    if next_is_symbol(rest, AND) {
         let (mask, after) = mask(rest)?;
         return Ok((Expr::Mask(name, mask), after));
     }
-    if next_is_symbol(rest, 18) {
+    if next_is_symbol(rest, SHIFT) {
         let (bits, after) = shift(rest)?;
         return Ok((Expr::Shift(name, bits), after));
     }
-    if next_is_symbol(rest, 9) {
+    if next_is_symbol(rest, PLUS) {
         let (second, after) = match plus(rest) {
             Ok(found) => found,
             Err(stop) => return Err(stop),
         };
         return Ok((Expr::Sum(name, second), after));
     }
-    if next_is_symbol(rest, 10) {
+    if next_is_symbol(rest, TIMES) {
         let ((factor, second), after) = match ratio(rest) {
             Ok(found) => found,
             Err(stop) => return Err(stop),

@@ -1,5 +1,6 @@
 //! Operators.
 ghost use Rattle.std.specs.Prelude.{◌≡◌, List};
+ghost use Rattle.sn_text_rules.specs.declared.symbols.TheConstants.{BAR};
 ghost use Rattle.sn_text_rules.specs.declared.Flaw.{Flaw};
 ghost use Rattle.sn_text_rules.specs.declared.Flaw.TheVariants.{TooMany};
 ghost use Rattle.sn_text_rules.specs.Rules.{kept};
@@ -21,6 +22,7 @@ use sn_text::place::Lexer;
 use sn_text::stop::Stop;
 use sn_text::words::{next_is_symbol, next_is_word, symbol_line, word};
 use sn_text_rules::Flaw;
+use sn_text_rules::symbols::BAR;
 use std::alloc::Global;
 
 #[tactic(auto, using(crate::proofs::Picks::what_filter_value, crate::proofs::Picks::what_filter_halt, crate::proofs::Picks::what_map_value, crate::proofs::Picks::what_map_halt, crate::proofs::Picks::what_distinct_value, crate::proofs::Picks::what_distinct_halt, crate::proofs::Picks::what_reduce_value, crate::proofs::Picks::what_reduce_halt))]
@@ -47,7 +49,7 @@ fn what<'a>(alloc: Global, at: Lexer<'a>) -> Result<(What, Lexer<'a>), Stop<'a>>
 fn op<'a>(alloc: Global, at: Lexer<'a>) -> Result<(Op, Lexer<'a>), Stop<'a>>
     ensures { Reads result (op_rule.read kept (left at.entry)) }
 {
-    let (line, rest) = symbol_line(at, 4)?;
+    let (line, rest) = symbol_line(at, BAR)?;
     let (what, rest) = what(alloc, rest)?;
     Ok((Op { line, what }, rest))
 }
@@ -58,7 +60,7 @@ struct OpItems;
 impl Items for OpItems {
     type Item = Op;
 
-    ghost goes = { λ items. is_symbol 4 };
+    ghost goes = { λ items. is_symbol BAR };
 
     ghost shut = { λ items. full 12 TooMany };
 
@@ -67,7 +69,7 @@ impl Items for OpItems {
     ghost laws = { λ items. ops_alike };
 
     fn begins(&self, at: Lexer<'_>) -> bool {
-        next_is_symbol(at, 4)
+        next_is_symbol(at, BAR)
     }
 
     fn shut_by(&self, taken: &[Op]) -> Option<Flaw> {
@@ -114,7 +116,7 @@ fn post_what<'a>(alloc: Global, at: Lexer<'a>) -> Result<(What, Lexer<'a>), Stop
 fn post_op<'a>(alloc: Global, at: Lexer<'a>) -> Result<(Op, Lexer<'a>), Stop<'a>>
     ensures { Reads result (post_op_rule.read kept (left at.entry)) }
 {
-    let (line, rest) = symbol_line(at, 4)?;
+    let (line, rest) = symbol_line(at, BAR)?;
     let (what, rest) = post_what(alloc, rest)?;
     Ok((Op { line, what }, rest))
 }
@@ -125,7 +127,7 @@ struct PostItems;
 impl Items for PostItems {
     type Item = Op;
 
-    ghost goes = { λ items. is_symbol 4 };
+    ghost goes = { λ items. is_symbol BAR };
 
     ghost shut = { λ items. full 12 TooMany };
 
@@ -134,7 +136,7 @@ impl Items for PostItems {
     ghost laws = { λ items. post_ops_alike };
 
     fn begins(&self, at: Lexer<'_>) -> bool {
-        next_is_symbol(at, 4)
+        next_is_symbol(at, BAR)
     }
 
     fn shut_by(&self, taken: &[Op]) -> Option<Flaw> {

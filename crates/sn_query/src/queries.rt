@@ -25,6 +25,7 @@ use sn_text::place::{Lexer, Piece};
 use sn_text::stop::Stop;
 use sn_text::words::{next_is_word, number, symbol, word, word_line};
 use sn_text_rules::Flaw;
+use sn_text_rules::symbols::{CLOSE_BRACE, COLON, OPEN_BRACE, SEMICOLON};
 use std::alloc::Global;
 
 fn level<'a>(at: Lexer<'a>) -> Result<(u32, Lexer<'a>), Stop<'a>>
@@ -81,9 +82,9 @@ fn refine<'a>(alloc: Global, at: Lexer<'a>) -> Result<(Refine, Lexer<'a>), Stop<
         Ok(found) => found,
         Err(stop) => return Err(stop),
     };
-    let rest = symbol(rest, 7)?;
+    let rest = symbol(rest, COLON)?;
     let (levels, rest) = levels(alloc, rest)?;
-    let rest = symbol(rest, 2)?;
+    let rest = symbol(rest, SEMICOLON)?;
     Ok((
         Refine {
             line,
@@ -111,7 +112,7 @@ fn branch<'a>(alloc: Global, at: Lexer<'a>) -> Result<(Branch, Lexer<'a>), Stop<
 {
     let rest = word(at, b"packets")?;
     let (ops, rest) = ops(alloc, rest)?;
-    let rest = symbol(rest, 2)?;
+    let rest = symbol(rest, SEMICOLON)?;
     Ok((Branch { ops }, rest))
 }
 
@@ -122,7 +123,7 @@ fn join<'a>(alloc: Global, at: Lexer<'a>) -> Result<(Join, Lexer<'a>), Stop<'a>>
     let (line, rest) = word_line(at, b"join")?;
     let (keys, rest) = keys(alloc, rest)?;
     let (post, rest) = post(alloc, rest)?;
-    let rest = symbol(rest, 2)?;
+    let rest = symbol(rest, SEMICOLON)?;
     Ok((Join { line, keys, post }, rest))
 }
 
@@ -189,7 +190,7 @@ fn query<'a>(alloc: Global, taken: &[Query], at: Lexer<'a>) -> Result<(Query, Le
         Ok(found) => found,
         Err(stop) => return Err(stop),
     };
-    let rest = symbol(rest, 0)?;
+    let rest = symbol(rest, OPEN_BRACE)?;
     let (refine, rest) = match maybe_refine(alloc, rest) {
         Ok(found) => found,
         Err(stop) => return Err(stop),
@@ -202,7 +203,7 @@ fn query<'a>(alloc: Global, taken: &[Query], at: Lexer<'a>) -> Result<(Query, Le
         Ok(found) => found,
         Err(stop) => return Err(stop),
     };
-    let rest = symbol(rest, 1)?;
+    let rest = symbol(rest, CLOSE_BRACE)?;
     match query_of(alloc, name, refine, first, second) {
         Ok(query) => Ok((query, rest)),
         Err(_) => Err(Stop::NoMemory),

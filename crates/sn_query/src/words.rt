@@ -2,11 +2,12 @@
 ghost use Rattle.std.specs.Prelude.{◌≡◌, List, [], nat_le};
 ghost use Rattle.std.specs.List.{list_any};
 ghost use Rattle.sn_text_rules.specs.Rules.{kept};
-ghost use Rattle.sn_query.specs.Reading.{word_lexeme};
+ghost use Rattle.sn_text_rules.specs.Tokens.{word_lexeme};
 ghost use Rattle.sn_text_rules.specs.Words.{same, wrong, word_in, judged_by};
 ghost use Rattle.sn_text.specs.Lexing.{left, seen};
 ghost use Rattle.sn_text.specs.Reading.{Reads};
-ghost use Rattle.sn_query_grammar.specs.Names.{is_keyword, name_test, name_not, past_name, past_number, cmp_in, any_cmp, comparison, fold_in, no_sum, plain_fold};
+ghost use Rattle.sn_query_grammar.specs.Names.{is_keyword, name_test, name_not, past_name, past_number, cmp_in, any_cmp, comparison, fold_in, no_sum};
+ghost use Rattle.sn_query_grammar.specs.Names.{plain_fold};
 ghost use Rattle.sn_query_grammar.specs.Grammar.{past_col, col_names, query_names};
 
 use sn_base::name::Name;

@@ -6,11 +6,11 @@ use Rattle.sn_text_rules.specs.declared.Flaw.{Flaw}
 use Rattle.sn_text_rules.specs.declared.Flaw.TheVariants.{Expected, TooMany, Range, Twice, Missing}
 use Rattle.sn_text_rules.specs.Tokens.{Lexeme, word, number, symbol, finish, bad}
 use Rattle.sn_text_rules.specs.Rules.{anything}
-use Rattle.sn_text_rules.specs.Words.{same, is_word, is_symbol, is_number, keyword, sign, number_in, ◌▸◌, ◌◂◌}
+use Rattle.sn_text_rules.specs.Words.{same, is_word, is_symbol, is_number, keyword, sign, number_in, ◌▸◌, ◌◂◌, any_number}
 use Rattle.sn_text_rules.proofs.Bounded.{Flaws, Bounded, Whole, Allows, if_allows, full_allows, leaf_bounded, word_by_bounded, number_in_bounded, keyword_bounded, sign_bounded, line_of_word_bounded, line_of_sign_bounded, pair_on_bounded, pair_bounded, embedded_bounded, renamed_bounded, behind_bounded, before_bounded, maybe_bounded, either_bounded, many_bounded, series_bounded, commas_bounded, the_end_whole, pair_whole, renamed_whole, behind_whole, before_whole}
 use Rattle.sn_query_grammar.specs.declared.ast.FoldWord.{FoldWord}
 use Rattle.sn_query_grammar.specs.declared.ast.FoldWord.TheVariants as folds
-use Rattle.sn_query_grammar.specs.Names.{is_keyword, name_test, name_not, name, any_number, past_name, past_number, cmp_face, cmp_in, any_cmp, comparison, fold_face, fold_in, no_sum, plain_fold}
+use Rattle.sn_query_grammar.specs.Names.{is_keyword, name_test, name_not, name, past_name, past_number, cmp_face, cmp_in, any_cmp, comparison, fold_face, fold_in, no_sum, plain_fold}
 use Rattle.sn_query_grammar.specs.Grammar.{Name, to_relax, from_relax, relax_rule, to_relaxes, from_relaxes, relaxes_rule, to_cond, from_cond, cond_rule, filter_rule, to_expr, from_expr, goes_tail, expr_rule, past_col, to_col, from_col, col_names, col_rule, map_rule, to_post_expr, from_post_expr, goes_post_tail, post_expr_rule, post_col_rule, post_map_rule, keys_rule, fold_rule, to_reduce, from_reduce, reduce_rule, to_what, from_what, what_rule, to_op, from_op, op_rule, to_post_what, from_post_what, post_what_rule, post_op_rule, to_refine, from_refine, levels_rule, refine_rule, to_branch, from_branch, branch_rule, to_join, from_join, join_rule, body_rule, to_query, from_query, query_rule, query_names, to_file, from_file, file_rule}
 use Rattle.sn_query_grammar.proofs.Names.{comparisons_stand, folds_stand}
 use Rattle.sn_query_grammar.proofs.Goods.{relax_listed, cond_listed, col_listed, post_col_listed}

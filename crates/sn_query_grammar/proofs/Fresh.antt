@@ -11,6 +11,7 @@ use Rattle.sn_text_rules.specs.Words.{same, word_in}
 use Rattle.sn_text_rules.proofs.Common.{either_way}
 use Rattle.sn_text_rules.proofs.Starts.{Able, leaf_able}
 use Rattle.sn_query_grammar.specs.Names.{is_keyword, name_test, name_not}
+use Rattle.sn_base.proofs.Tests.{and_false_right, and_false_left}
 
 -- ---- a word apart from others
 
@@ -32,14 +33,6 @@ apart : ℕ → List (List ℕ) → List ℕ
 apart n [] = []
 apart n (w ∷ ws) = other (behind n w) ∷ apart (suc n) ws
 
-and_false : (a b : Bool) → b ≡ false → (a && b) ≡ false
-and_false true b e = e
-and_false false b e = refl
-
-first_false : (a b : Bool) → a ≡ false → (a && b) ≡ false
-first_false true b e = absurd cc
-first_false false b e = refl
-
 other_letter : (b : ℕ) (c : Bool) → (b == 120) ≡ c → (cond c 121 120 == b) ≡ false
 other_letter b true e = let h : b ≡ 120 = eqb-true b 120 e in rw h refl
 other_letter b false e = elim (either_way (120 == b)) [
@@ -50,12 +43,12 @@ other_letter b false e = elim (either_way (120 == b)) [
 other_differs : (v d : List ℕ) → same (other v ∷ d) v ≡ false
 unfolding other
 other_differs [] d = refl
-other_differs (b ∷ v) d = first_false (cond (b == 120) 121 120 == b) (same d v) (other_letter b (b == 120) refl)
+other_differs (b ∷ v) d = and_false_left (cond (b == 120) 121 120 == b) (same d v) (other_letter b (b == 120) refl)
 
 tail_differs : (x : ℕ) (d v : List ℕ) → same d (behind_first v) ≡ false → same (x ∷ d) v ≡ false
 unfolding behind_first
 tail_differs x d [] h = refl
-tail_differs x d (b ∷ v) h = and_false (x == b) (same d v) h
+tail_differs x d (b ∷ v) h = and_false_right (x == b) (same d v) h
 
 none_longer : (x : ℕ) (d : List ℕ) (n : ℕ) (ws : List (List ℕ)) → list_any (λ w. same d (behind (suc n) w)) ws ≡ false → list_any (λ w. same (x ∷ d) (behind n w)) ws ≡ false
 unfolding behind

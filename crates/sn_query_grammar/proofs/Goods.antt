@@ -4,7 +4,7 @@ use Rattle.std.specs.Prelude.{codes, not, ◌==◌}
 use Rattle.sn_text_rules.specs.declared.Flaw.{Flaw}
 use Rattle.sn_text_rules.specs.Tokens.{Lexeme, word, number, symbol, finish, bad, Tok, Spelled, got, fails, bind}
 use Rattle.sn_text_rules.specs.Rules.{kept, aside, is_limit, Rule, pair, maybe, either}
-use Rattle.sn_text_rules.specs.Words.{is_word, is_symbol, is_number, keyword, sign, number_in, ◌▸◌, ◌◂◌, commas}
+use Rattle.sn_text_rules.specs.Words.{is_word, is_symbol, is_number, keyword, sign, number_in, ◌▸◌, ◌◂◌, commas, any_number}
 use Rattle.sn_text_rules.proofs.Common.{Heads}
 use Rattle.sn_text_rules.proofs.Laws.{Good, Follows, pair_good, free_pair, headed_follows, headed_pair}
 use Rattle.sn_text_rules.proofs.Choices.{Undoes, embedded_good, renamed_good, maybe_good, either_good, Past}
@@ -16,7 +16,7 @@ use Rattle.sn_query_grammar.specs.declared.ast.Cmp.{Cmp}
 use Rattle.sn_query_grammar.specs.declared.ast.Cmp.TheVariants as cmps
 use Rattle.sn_query_grammar.specs.declared.ast.Expr.{Expr}
 use Rattle.sn_query_grammar.specs.declared.ast.Expr.TheVariants as exprs
-use Rattle.sn_query_grammar.specs.Names.{name, name_not, any_number, past_name, past_number, cmp_sign, comparison}
+use Rattle.sn_query_grammar.specs.Names.{name, name_not, past_name, past_number, cmp_sign, comparison}
 use Rattle.sn_query_grammar.specs.Grammar.{Name, to_relax, from_relax, relax_rule, to_relaxes, from_relaxes, relaxes_rule, to_cond, from_cond, cond_rule, filter_rule, Tail, to_expr, from_expr, goes_tail, expr_rule, past_col, to_col, from_col, col_name, col_names, col_rule, map_rule, PostTail, to_post_expr, from_post_expr, goes_post_tail, post_expr_rule, post_col_rule, post_map_rule}
 use Rattle.sn_query_grammar.proofs.Names.{name_good, name_past, any_good, number_past, comparison_good}
 

@@ -8,7 +8,7 @@ use Rattle.sn_text_rules.specs.declared.Flaw.{Flaw}
 use Rattle.sn_text_rules.specs.declared.Flaw.TheVariants.{Expected, TooMany, Twice}
 use Rattle.sn_text_rules.specs.Tokens.{Lexeme, word, number, symbol, finish, bad}
 use Rattle.sn_text_rules.specs.Rules.{aside, is_limit, closed}
-use Rattle.sn_text_rules.specs.Words.{same, judged_as, judged_by, word_in, number_at, in_range, number_in}
+use Rattle.sn_text_rules.specs.Words.{same, judged_as, judged_by, word_in, number_at, in_range, number_in, any_number}
 use Rattle.sn_text_rules.proofs.Laws.{Good}
 use Rattle.sn_text_rules.proofs.Choices.{Past}
 use Rattle.sn_text_rules.proofs.Words.{Stands_for, leaf_good, word_by_good, number_in_good}
@@ -16,7 +16,7 @@ use Rattle.sn_query_grammar.specs.declared.ast.Cmp.{Cmp}
 use Rattle.sn_query_grammar.specs.declared.ast.Cmp.TheVariants as cmps
 use Rattle.sn_query_grammar.specs.declared.ast.FoldWord.{FoldWord}
 use Rattle.sn_query_grammar.specs.declared.ast.FoldWord.TheVariants as folds
-use Rattle.sn_query_grammar.specs.Names.{is_keyword, name_test, name_not, any_number, past_name, past_number, cmp_sign, cmp_face, cmp_in, any_cmp, comparison, fold_text, fold_face, fold_in, no_sum, plain_fold}
+use Rattle.sn_query_grammar.specs.Names.{is_keyword, name_test, name_not, past_name, past_number, cmp_sign, cmp_face, cmp_in, any_cmp, comparison, fold_text, fold_face, fold_in, no_sum, plain_fold}
 
 -- ---- names
 

@@ -5,13 +5,13 @@ use Rattle.sn_text_rules.specs.declared.Flaw.TheVariants.{Expected, TooMany}
 use Rattle.sn_text_rules.specs.Tokens.{Lexeme, word, number, symbol, finish, bad, Tok, Mark, plain, Spelled}
 use Rattle.sn_text_rules.specs.Rules.{kept, aside, Rule, anything, pair, pair_on, maybe, either, many, series, holds_of, spelled_as, bared_as}
 use Rattle.sn_text_rules.specs.Words.{is_word, is_symbol, keyword, sign, the_end, number_in, ◌▸◌, ◌◂◌, full, commas, behind_comma}
-use Rattle.sn_text_rules.proofs.Common.{Heads, either_way, bearers, bearers_spelled, heads_append}
+use Rattle.sn_text_rules.proofs.Common.{Heads, either_way, bearers, bearers_spelled, heads_append, both_made}
 use Rattle.std.proofs.lemmas.Bool.{eqb-true}
 use Rattle.sn_text_rules.proofs.Laws.{Good, pair_on_good, Follows, pair_good, free_pair, headed_follows, headed_pair}
 use Rattle.sn_text_rules.proofs.Choices.{Undoes, embedded_good, renamed_good, Starts, maybe_good, either_good}
 use Rattle.sn_text_rules.proofs.Series.{Alike, many_good, series_good}
 use Rattle.sn_text_rules.proofs.Words.{keyword_good, end_good, line_of_word_good, line_of_sign_good, number_in_good, word_mark, symbol_mark, before_good, before_sign, after_word, after_sign, word_starts, Listed, always_listed, commas_good}
-use Rattle.sn_text_rules.proofs.Lists.{keyed, unmapped, full_steady, always_alike, commas_sign}
+use Rattle.sn_text_rules.proofs.Lists.{keyed, unmapped, full_steady, always_alike, commas_sign, open_follow}
 use Rattle.sn_query_grammar.specs.declared.ast.Query.{Query}
 use Rattle.sn_query_grammar.specs.declared.ast.Refine.{Refine}
 use Rattle.sn_query_grammar.specs.declared.ast.Branch.{Branch}
@@ -224,16 +224,13 @@ pub what_good : Good what_rule
 unfolding what_rule
 what_good = renamed_good to_what from_what what_back what_forth filter_on_good
 
-both : (a b : Bool) → a ≡ true → b ≡ true → cond a b false ≡ true
-both a b e f = rw (e, f) refl
-
 reduce_free : (us : List Tok) → reduce_rule.follow us ≡ true
 unfolding reduce_rule
 reduce_free us = refl
 
 what_end : (k : ℕ) → (k == 3) ≡ false → (t : Tok) (us : List Tok) → t.face ≡ symbol k → what_rule.follow (t ∷ us) ≡ true
 unfolding what_rule
-what_end k n t us e = both (filter_rule.follow (t ∷ us)) (map_on.follow (t ∷ us)) (filter_end k n t us e) (both (map_rule.follow (t ∷ us)) (distinct_on.follow (t ∷ us)) (map_end k n t us e) (reduce_free (t ∷ us)))
+what_end k n t us e = both_made (filter_rule.follow (t ∷ us)) (map_on.follow (t ∷ us)) (filter_end k n t us e) (both_made (map_rule.follow (t ∷ us)) (distinct_on.follow (t ∷ us)) (map_end k n t us e) (reduce_free (t ∷ us)))
 
 pub op_good : Good op_rule
 unfolding op_rule
@@ -282,7 +279,7 @@ post_what_good = embedded_good to_post_what from_post_what post_undone post_on_g
 
 post_what_end : (k : ℕ) → (k == 3) ≡ false → (t : Tok) (us : List Tok) → t.face ≡ symbol k → post_what_rule.follow (t ∷ us) ≡ true
 unfolding post_what_rule
-post_what_end k n t us e = both (filter_rule.follow (t ∷ us)) (post_map_rule.follow (t ∷ us)) (filter_end k n t us e) (post_map_end k n t us e)
+post_what_end k n t us e = both_made (filter_rule.follow (t ∷ us)) (post_map_rule.follow (t ∷ us)) (filter_end k n t us e) (post_map_end k n t us e)
 
 pub post_op_good : Good post_op_rule
 unfolding post_op_rule
@@ -342,14 +339,11 @@ ops_rule = series op_rule (is_symbol 4) (full 12 TooMany) (λ seen. op_rule)
 pub ops_good : Good ops_rule
 ops_good = series_good ops_alike (record { good = op_good; marked = λ t us e. op_end 4 refl t us ((symbol_mark 4).only t.face e); bares = λ a. refl })
 
-ends_both : (c a b : Bool) → c ≡ true → a ≡ true → b ≡ true → cond c (cond a b false) false ≡ true
-ends_both c a b e f g = rw (e, f, g) refl
-
 no_sign : (k j : ℕ) (t : Tok) → t.face ≡ symbol j → (j == k) ≡ false → not (is_symbol k t.face) ≡ true
 no_sign k j t e n = ap (λ (x : Lexeme). not (is_symbol k x)) e ∙ ap not n
 
 ops_end : (t : Tok) (us : List Tok) → t.face ≡ symbol 2 → ops_rule.follow (t ∷ us) ≡ true
-ops_end t us e = ends_both (not (is_symbol 4 t.face)) (op_rule.follow (t ∷ us)) (op_rule.follow (t ∷ us)) (no_sign 4 2 t e refl) (op_end 2 refl t us e) (op_end 2 refl t us e)
+ops_end t us e = open_follow (not (is_symbol 4 t.face)) (op_rule.follow (t ∷ us)) (op_rule.follow (t ∷ us)) (no_sign 4 2 t e refl) (op_end 2 refl t us e) (op_end 2 refl t us e)
 
 pub branch_good : Good branch_rule
 unfolding branch_rule
@@ -370,7 +364,7 @@ pub post_good : Good post_rule
 post_good = many_good post_ops_alike
 
 post_end : (t : Tok) (us : List Tok) → t.face ≡ symbol 2 → post_rule.follow (t ∷ us) ≡ true
-post_end t us e = both (not (is_symbol 4 t.face)) (post_op_rule.follow (t ∷ us)) (no_sign 4 2 t e refl) (post_op_end 2 refl t us e)
+post_end t us e = both_made (not (is_symbol 4 t.face)) (post_op_rule.follow (t ∷ us)) (no_sign 4 2 t e refl) (post_op_end 2 refl t us e)
 
 -- a list of operators, or its end
 abbrev ends_keys : Lexeme → Bool
@@ -425,7 +419,7 @@ body_good = free_pair branch_good (maybe_good (is_word (codes "packets")) joined
 
 body_end : (t : Tok) (us : List Tok) → t.face ≡ symbol 1 → body_rule.follow (t ∷ us) ≡ true
 unfolding body_rule
-body_end t us e = both (not (is_word (codes "packets") t.face)) (join_rule.follow (t ∷ us)) (ap (λ (x : Lexeme). not (is_word (codes "packets") x)) e) (join_free (t ∷ us))
+body_end t us e = both_made (not (is_word (codes "packets") t.face)) (join_rule.follow (t ∷ us)) (ap (λ (x : Lexeme). not (is_word (codes "packets") x)) e) (join_free (t ∷ us))
 
 body_heads : (b : Body) → Heads (is_word (codes "packets")) (body_rule.spell b)
 unfolding body_rule
@@ -439,7 +433,7 @@ refined_good = maybe_good (is_word (codes "refine")) refine_good (record { heads
 
 refined_follows : Follows refined_rule body_rule
 refined_follows = headed_follows refined_rule body_rule (is_word (codes "packets")) (λ b f. body_heads b)
-    (λ t us e. both (not (is_word (codes "refine") t.face)) (refine_rule.follow (t ∷ us)) (ap (λ (x : Lexeme). not (is_word (codes "refine") x)) ((word_mark (codes "packets")).only t.face e)) (refine_free (t ∷ us)))
+    (λ t us e. both_made (not (is_word (codes "refine") t.face)) (refine_rule.follow (t ∷ us)) (ap (λ (x : Lexeme). not (is_word (codes "refine") x)) ((word_mark (codes "packets")).only t.face e)) (refine_free (t ∷ us)))
 
 abbrev pub inner_rule : Rule (Option Refine × Body)
 inner_rule = pair refined_rule body_rule
@@ -540,7 +534,7 @@ pub queries_good : Good queries_rule
 queries_good = series_good queries_alike (record { good = query_good []; marked = λ t us e. query_free [] (t ∷ us); bares = λ a. refl })
 
 queries_end : (t : Tok) (us : List Tok) → t.face ≡ finish → queries_rule.follow (t ∷ us) ≡ true
-queries_end t us e = ends_both (not (is_word (codes "query") t.face)) ((query_rule []).follow (t ∷ us)) ((query_rule []).follow (t ∷ us)) (ap (λ (x : Lexeme). not (is_word (codes "query") x)) e) (query_free [] (t ∷ us)) (query_free [] (t ∷ us))
+queries_end t us e = open_follow (not (is_word (codes "query") t.face)) ((query_rule []).follow (t ∷ us)) ((query_rule []).follow (t ∷ us)) (ap (λ (x : Lexeme). not (is_word (codes "query") x)) e) (query_free [] (t ∷ us)) (query_free [] (t ∷ us))
 
 end_follows : Follows queries_rule the_end
 end_follows = record { meets = meets }

@@ -4,7 +4,7 @@ use Rattle.std.specs.Prelude.{codes}
 use Rattle.std.proofs.lemmas.List.{length-map}
 use Rattle.sn_text_rules.specs.declared.Flaw.TheVariants.{TooMany}
 use Rattle.sn_text_rules.specs.Rules.{kept, anything}
-use Rattle.sn_text_rules.specs.Words.{is_word, is_symbol, is_number, sign, ◌▸◌, ◌◂◌, full}
+use Rattle.sn_text_rules.specs.Words.{is_word, is_symbol, is_number, sign, ◌▸◌, ◌◂◌, full, any_number}
 use Rattle.sn_text_rules.proofs.Choices.{maybe_good}
 use Rattle.sn_text_rules.proofs.Words.{number_in_good, line_of_word_good, line_of_sign_good, after_word, after_sign, sign_starts, word_starts}
 use Rattle.sn_text_rules.proofs.Items.{not_full, commas_list}
@@ -12,7 +12,7 @@ use Rattle.sn_text_rules.proofs.Starts.{Able, Starting, starting, pair_able, pai
 use Rattle.sn_query_grammar.specs.declared.ast.Query.{Query}
 use Rattle.sn_query_grammar.specs.declared.ast.Cmp.TheVariants as cmps
 use Rattle.sn_query_grammar.specs.declared.ast.FoldWord.TheVariants as folds
-use Rattle.sn_query_grammar.specs.Names.{name, name_not, any_number, past_name, cmp_face, cmp_in, any_cmp, comparison, fold_face, fold_in, no_sum}
+use Rattle.sn_query_grammar.specs.Names.{name, name_not, past_name, cmp_face, cmp_in, any_cmp, comparison, fold_face, fold_in, no_sum}
 use Rattle.sn_query_grammar.specs.Grammar.{Name, to_relax, from_relax, relax_rule, to_relaxes, from_relaxes, relaxes_rule, to_cond, from_cond, cond_rule, filter_rule, to_expr, from_expr, goes_tail, expr_rule, to_col, from_col, col_name, col_names, col_rule, map_rule, to_post_expr, from_post_expr, goes_post_tail, post_expr_rule, post_col_rule, post_map_rule, keys_rule, fold_rule, to_reduce, from_reduce, reduce_rule, to_what, from_what, what_rule, to_op, from_op, op_rule, to_post_what, from_post_what, post_what_rule, post_op_rule, to_refine, from_refine, levels_rule, refine_rule, to_branch, from_branch, branch_rule, to_join, from_join, join_rule, body_rule, to_query, from_query, query_rule, query_name, query_names, to_file, from_file, file_rule}
 use Rattle.sn_query_grammar.proofs.Names.{name_good, any_good, comparison_good, plain_fold_good}
 use Rattle.sn_query_grammar.proofs.Goods.{relax_listed, relaxes_good_in, at_good, relaxes_undone, relaxes, cond_listed, mask_rule, shift_rule, expr_in_good, expr_undone, expr_good, col_listed, post_back, post_expr_good, post_col_listed}

@@ -4,10 +4,12 @@ use Rattle.std.specs.Prelude.{ℕ, zero, suc, Bool, List, [], ◌∷◌, map, Op
 use Rattle.std.proofs.Common.{inl, inr, ◌⊎◌}
 use Rattle.sn_text_rules.specs.declared.Flaw.{Flaw}
 use Rattle.sn_text_rules.specs.declared.Flaw.TheVariants.{TooMany}
+use Rattle.sn_text_rules.specs.declared.symbols.TheConstants.{OPEN_BRACE, CLOSE_BRACE, SEMICOLON, BAR, OPEN, CLOSE, COLON, AND, PLUS, TIMES, OVER, SHIFT}
 use Rattle.sn_text_rules.specs.Tokens.{Lexeme, number}
 use Rattle.sn_text_rules.specs.Rules.{Rule, anything, pair, pair_on, embedded, renamed, maybe, either, many, series}
 use Rattle.sn_text_rules.specs.Words.{is_word, is_symbol, is_number, keyword, sign, the_end, line_of_word, line_of_sign, number_in, ◌▸◌, ◌◂◌, full, commas}
-use Rattle.sn_query_grammar.specs.Names.{name, name_not, any_number, past_name, past_number, comparison, plain_fold}
+use Rattle.sn_text_rules.specs.Words.{any_number}
+use Rattle.sn_query_grammar.specs.Names.{name, name_not, past_name, past_number, comparison, plain_fold}
 use Rattle.sn_query_grammar.specs.declared.ast.QueryFile.{QueryFile}
 use Rattle.sn_query_grammar.specs.declared.ast.Query.{Query}
 use Rattle.sn_query_grammar.specs.declared.ast.Refine.{Refine}
@@ -39,7 +41,7 @@ abbrev pub from_relax : Relax → ℕ × ℕ
 from_relax r = (r.level, r.value)
 
 unfoldable pub relax_rule : Rule Relax
-relax_rule = renamed to_relax from_relax (pair (number_in 0 64) (sign 7 ▸ any_number))
+relax_rule = renamed to_relax from_relax (pair (number_in 0 64) (sign COLON ▸ any_number))
 
 -- [ "at" "(" relax { "," relax } ")" ]
 abbrev pub to_relaxes : Option (List Relax) → List Relax
@@ -51,7 +53,9 @@ from_relaxes [] = Some None
 from_relaxes (r ∷ rs) = Some (Some (r ∷ rs))
 
 unfoldable pub relaxes_rule : Rule (List Relax)
-relaxes_rule = embedded to_relaxes from_relaxes (maybe (is_word (codes "at")) (keyword (codes "at") ▸ sign 5 ▸ (commas 4 (past_number 0 64) (λ seen. relax_rule) ◂ sign 6)))
+relaxes_rule =
+    embedded to_relaxes from_relaxes (maybe (is_word (codes "at"))
+    (keyword (codes "at") ▸ sign OPEN ▸ (commas 4 (past_number 0 64) (λ seen. relax_rule) ◂ sign CLOSE)))
 
 -- cond = NAME [ "&" NUM ] CMP NUM [ "at" .. ]
 abbrev pub to_cond : Name × (Option ℕ × (Cmp × (ℕ × List Relax))) → Cond
@@ -61,7 +65,7 @@ abbrev pub from_cond : Cond → Name × (Option ℕ × (Cmp × (ℕ × List Rela
 from_cond c = (c.name, (c.and, (c.cmp, (c.own, c.relaxed))))
 
 unfoldable pub cond_rule : Rule Cond
-cond_rule = renamed to_cond from_cond (pair name (pair (maybe (is_symbol 8) (sign 8 ▸ any_number)) (pair comparison (pair any_number relaxes_rule))))
+cond_rule = renamed to_cond from_cond (pair name (pair (maybe (is_symbol AND) (sign AND ▸ any_number)) (pair comparison (pair any_number relaxes_rule))))
 
 -- filter = "filter" cond { "," cond }
 unfoldable pub filter_rule : Rule (List Cond)
@@ -91,11 +95,11 @@ from_expr (exprs.Sum a b) = None
 from_expr (exprs.Ratio a k b) = None
 
 abbrev pub goes_tail : Lexeme → Bool
-goes_tail x = is_symbol 8 x || is_symbol 18 x
+goes_tail x = is_symbol AND x || is_symbol SHIFT x
 
 unfoldable pub expr_rule : Rule Expr
 expr_rule = embedded to_expr from_expr (either is_number any_number
-    (pair name (maybe goes_tail (either (is_symbol 8) (sign 8 ▸ any_number) (sign 18 ▸ number_in 0 63)))))
+    (pair name (maybe goes_tail (either (is_symbol AND) (sign AND ▸ any_number) (sign SHIFT ▸ number_in 0 63)))))
 
 -- what stands where a column past the limit would begin
 abbrev pub past_col : Lexeme → Flaw
@@ -146,12 +150,12 @@ from_post_expr (exprs.Sum a b) = inr (a, Some (inr (inr (inl b))))
 from_post_expr (exprs.Ratio a k b) = inr (a, Some (inr (inr (inr (k, b)))))
 
 abbrev pub goes_post_tail : Lexeme → Bool
-goes_post_tail x = is_symbol 8 x || is_symbol 18 x || is_symbol 9 x || is_symbol 10 x
+goes_post_tail x = is_symbol AND x || is_symbol SHIFT x || is_symbol PLUS x || is_symbol TIMES x
 
 unfoldable pub post_expr_rule : Rule Expr
 post_expr_rule = renamed to_post_expr from_post_expr (either is_number any_number
-    (pair name (maybe goes_post_tail (either (is_symbol 8) (sign 8 ▸ any_number) (either (is_symbol 18) (sign 18 ▸ number_in 0 63)
-    (either (is_symbol 9) (sign 9 ▸ name) (sign 10 ▸ pair any_number (sign 11 ▸ name))))))))
+    (pair name (maybe goes_post_tail (either (is_symbol AND) (sign AND ▸ any_number) (either (is_symbol SHIFT) (sign SHIFT ▸ number_in 0 63)
+    (either (is_symbol PLUS) (sign PLUS ▸ name) (sign TIMES ▸ pair any_number (sign OVER ▸ name))))))))
 
 -- pcol = col | NAME ( "+" NAME | "*" NUM "/" NAME ) "as" NAME
 unfoldable pub post_col_rule : List Name → Rule MapCol
@@ -170,8 +174,8 @@ keys_rule = commas 8 past_name (λ seen. name_not seen)
 -- fold = "sum" "(" NAME ")" "width" NUM | ( "max" | "min" | "or" ) "(" NAME ")", the name none of the keys
 unfoldable pub fold_rule : List Name → Rule ((Name × ℕ) ⊎ (FoldWord × Name))
 fold_rule keys = either (is_word (codes "sum"))
-    (keyword (codes "sum") ▸ pair (sign 5 ▸ (name_not keys ◂ sign 6)) (keyword (codes "width") ▸ number_in 1 64))
-    (pair plain_fold (sign 5 ▸ (name_not keys ◂ sign 6)))
+    (keyword (codes "sum") ▸ pair (sign OPEN ▸ (name_not keys ◂ sign CLOSE)) (keyword (codes "width") ▸ number_in 1 64))
+    (pair plain_fold (sign OPEN ▸ (name_not keys ◂ sign CLOSE)))
 
 abbrev pub fold_to : List Name → (Name × ℕ) ⊎ (FoldWord × Name) → Reduce
 fold_to keys (inl x) = record { keys = keys; fold = folds.Sum; value = x.0; width = x.1 }
@@ -194,7 +198,7 @@ from_reduce r = fold_from r.keys r.fold r.value r.width
 
 -- reduce = "reduce" NAME { "," NAME } ":" fold
 unfoldable pub reduce_rule : Rule Reduce
-reduce_rule = keyword (codes "reduce") ▸ embedded to_reduce from_reduce (pair_on keys_rule (λ keys. sign 7 ▸ fold_rule keys) anything)
+reduce_rule = keyword (codes "reduce") ▸ embedded to_reduce from_reduce (pair_on keys_rule (λ keys. sign COLON ▸ fold_rule keys) anything)
 
 -- ---- operators
 
@@ -223,7 +227,7 @@ from_op o = (o.line, o.what)
 
 -- op = "|" ( filter | map | "distinct" | reduce )
 unfoldable pub op_rule : Rule Op
-op_rule = renamed to_op from_op (pair (line_of_sign 4) what_rule)
+op_rule = renamed to_op from_op (pair (line_of_sign BAR) what_rule)
 
 abbrev pub to_post_what : List Cond ⊎ List MapCol → What
 to_post_what (inl conds) = whats.Filter conds
@@ -241,7 +245,7 @@ post_what_rule = embedded to_post_what from_post_what (either (is_word (codes "f
 
 -- "|" ( filter | postmap )
 unfoldable pub post_op_rule : Rule Op
-post_op_rule = renamed to_op from_op (pair (line_of_sign 4) post_what_rule)
+post_op_rule = renamed to_op from_op (pair (line_of_sign BAR) post_what_rule)
 
 -- ---- queries
 
@@ -257,7 +261,7 @@ levels_rule = commas 4 (past_number 0 64) (λ seen. number_in 0 64)
 
 -- refine = "refine" NAME ":" NUM { "," NUM } ";"
 unfoldable pub refine_rule : Rule Refine
-refine_rule = renamed to_refine from_refine (pair (line_of_word (codes "refine")) (pair name (sign 7 ▸ (levels_rule ◂ sign 2))))
+refine_rule = renamed to_refine from_refine (pair (line_of_word (codes "refine")) (pair name (sign COLON ▸ (levels_rule ◂ sign SEMICOLON))))
 
 abbrev pub to_branch : List Op → Branch
 to_branch ops = record { ops = ops }
@@ -267,7 +271,7 @@ from_branch b = b.ops
 
 -- branch = "packets" op { op } ";"
 unfoldable pub branch_rule : Rule Branch
-branch_rule = renamed to_branch from_branch (keyword (codes "packets") ▸ (series op_rule (is_symbol 4) (full 12 TooMany) (λ seen. op_rule) ◂ sign 2))
+branch_rule = renamed to_branch from_branch (keyword (codes "packets") ▸ (series op_rule (is_symbol BAR) (full 12 TooMany) (λ seen. op_rule) ◂ sign SEMICOLON))
 
 abbrev pub to_join : ℕ × (List Name × List Op) → Join
 to_join x = record { line = x.0; keys = x.1.0; post = x.1.1 }
@@ -277,7 +281,9 @@ from_join j = (j.line, (j.keys, j.post))
 
 -- join = "join" NAME { "," NAME } { "|" ( filter | postmap ) } ";"
 unfoldable pub join_rule : Rule Join
-join_rule = renamed to_join from_join (pair (line_of_word (codes "join")) (pair keys_rule (many (is_symbol 4) (full 12 TooMany) (λ seen. post_op_rule) ◂ sign 2)))
+join_rule =
+    renamed to_join from_join (pair (line_of_word (codes "join"))
+    (pair keys_rule (many (is_symbol BAR) (full 12 TooMany) (λ seen. post_op_rule) ◂ sign SEMICOLON)))
 
 -- branch [ branch join ]
 abbrev pub Body : Type 0
@@ -308,7 +314,9 @@ from_query q = with_name q.name q.refine (body_of q.branches q.join)
 
 -- query = "query" NAME "{" [ refine ] branch [ branch join ] "}"
 unfoldable pub query_rule : List Name → Rule Query
-query_rule names = embedded to_query from_query (keyword (codes "query") ▸ pair (name_not names) (sign 0 ▸ (pair (maybe (is_word (codes "refine")) refine_rule) body_rule ◂ sign 1)))
+query_rule names =
+    embedded to_query from_query (keyword (codes "query")
+    ▸ pair (name_not names) (sign OPEN_BRACE ▸ (pair (maybe (is_word (codes "refine")) refine_rule) body_rule ◂ sign CLOSE_BRACE)))
 
 abbrev pub query_name : Query → Name
 query_name q = q.name

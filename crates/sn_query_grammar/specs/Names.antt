@@ -6,7 +6,7 @@ use Rattle.sn_text_rules.specs.declared.Flaw.{Flaw}
 use Rattle.sn_text_rules.specs.declared.Flaw.TheVariants.{Expected, TooMany, Twice}
 use Rattle.sn_text_rules.specs.Tokens.{Lexeme, word, number, symbol}
 use Rattle.sn_text_rules.specs.Rules.{Rule}
-use Rattle.sn_text_rules.specs.Words.{same, wrong, word_by, number_in, leaf}
+use Rattle.sn_text_rules.specs.Words.{same, wrong, word_by, leaf}
 use Rattle.sn_query_grammar.specs.declared.ast.Cmp.{Cmp}
 use Rattle.sn_query_grammar.specs.declared.ast.Cmp.TheVariants as cmps
 use Rattle.sn_query_grammar.specs.declared.ast.FoldWord.{FoldWord}
@@ -22,16 +22,14 @@ is_keyword w = list_any (same w) keywords
 
 -- a name is no keyword, has at most 32 bytes and is none of those seen
 abbrev pub name_test : List (List ℕ) → List ℕ → Option Flaw
-name_test seen w = if is_keyword w || (length w == 0) then Some Expected else if nat_lt 32 (length w) then Some TooMany else if list_any (same w) seen then Some Twice else None
+name_test seen w = if is_keyword w || (length w == 0) then Some Expected else if nat_lt 32 (length w) then Some TooMany else if list_any (same w) seen
+    then Some Twice else None
 
 abbrev pub name_not : List (List ℕ) → Rule (List ℕ)
 name_not seen = word_by (name_test seen)
 
 abbrev pub name : Rule (List ℕ)
 name = name_not []
-
-abbrev pub any_number : Rule ℕ
-any_number = number_in 0 18446744073709551615
 
 -- what stands where a name past a limit would begin
 abbrev pub past_name : Lexeme → Flaw

@@ -57,6 +57,3 @@ start = record { text = []; last = lasts.Begin }
 -- the canonical text
 abbrev pub layout : List Mark → List ℕ
 layout ms = (fold put start ms).text
-
-abbrev pub word_lexeme : List ℕ → Lexeme
-word_lexeme w = word w

@@ -1,6 +1,7 @@
 -- serves proofs
 -- The printer of the code, as a state.
 use Rattle.std.specs.Prelude.{ℕ, zero, suc, List, [], ◌∷◌, ◌++◌, fold, Option, Some, None, codes}
+use Rattle.sn_text_rules.specs.declared.symbols.TheConstants.{OPEN_BRACE, COMMA, OPEN, CLOSE, COLON, AND}
 use Rattle.sn_text_rules.specs.Tokens.{Mark, plain, word, number, symbol}
 use Rattle.sn_text_rules.specs.Rules.{series_spelled, maybe_spelled}
 use Rattle.sn_query_grammar.specs.declared.ast.FoldWord.{FoldWord}
@@ -22,20 +23,20 @@ puts s ms = fold put s ms
 
 -- items with commas between them
 abbrev pub list_spelled : {A : Type 0} → (A → List Mark) → List A → List Mark
-list_spelled spell items = series_spelled spell (λ item. plain (symbol 3) ∷ spell item) items
+list_spelled spell items = series_spelled spell (λ item. plain (symbol COMMA) ∷ spell item) items
 
 -- [ "&" NUM ]
 abbrev pub and_spelled : Option ℕ → List Mark
 and_spelled None = []
-and_spelled (Some k) = plain (symbol 8) ∷ plain (number k) ∷ []
+and_spelled (Some k) = plain (symbol AND) ∷ plain (number k) ∷ []
 
 -- the word of a fold, and its column in brackets
 abbrev pub folded_spelled : List ℕ → List ℕ → List Mark
-folded_spelled text value = plain (word text) ∷ plain (symbol 5) ∷ plain (word value) ∷ plain (symbol 6) ∷ []
+folded_spelled text value = plain (word text) ∷ plain (symbol OPEN) ∷ plain (word value) ∷ plain (symbol CLOSE) ∷ []
 
 -- a fold that has no width
 abbrev pub plain_spelled : List (List ℕ) → List ℕ → List ℕ → ℕ → List Mark
-plain_spelled keys text value zero = keys_rule.spell keys ++ plain (symbol 7) ∷ folded_spelled text value
+plain_spelled keys text value zero = keys_rule.spell keys ++ plain (symbol COLON) ∷ folded_spelled text value
 plain_spelled keys text value (suc width) = []
 
 abbrev pub refined_spelled : Option Refine → List Mark
@@ -49,14 +50,15 @@ queries_spelled queries = series_spelled (query_rule []).spell (query_rule []).s
 
 -- what stands before the first branch's end: the word, the name and the refinement
 abbrev pub head_spelled : List ℕ → Option Refine → Branch → List Mark
-head_spelled n r b = plain (word (codes "query")) ∷ plain (word n) ∷ plain (symbol 0) ∷ (refined_spelled r ++ branch_rule.spell b)
+head_spelled n r b = plain (word (codes "query")) ∷ plain (word n) ∷ plain (symbol OPEN_BRACE) ∷ (refined_spelled r ++ branch_rule.spell b)
 
 -- a sum with its width
 abbrev pub summed_spelled : List ℕ → ℕ → List Mark
-summed_spelled value width = plain (word (codes "sum")) ∷ plain (symbol 5) ∷ plain (word value) ∷ plain (symbol 6) ∷ plain (word (codes "width")) ∷ plain (number width) ∷ []
+summed_spelled value width =
+    plain (word (codes "sum")) ∷ plain (symbol OPEN) ∷ plain (word value) ∷ plain (symbol CLOSE) ∷ plain (word (codes "width")) ∷ plain (number width) ∷ []
 
 abbrev pub sum_spelled : List (List ℕ) → List ℕ → ℕ → List Mark
-sum_spelled keys value width = keys_rule.spell keys ++ plain (symbol 7) ∷ summed_spelled value width
+sum_spelled keys value width = keys_rule.spell keys ++ plain (symbol COLON) ∷ summed_spelled value width
 
 abbrev pub reduction_spelled : FoldWord → List (List ℕ) → List ℕ → ℕ → List Mark
 reduction_spelled folds.Sum keys value width = sum_spelled keys value width

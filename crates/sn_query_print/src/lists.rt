@@ -1,5 +1,6 @@
 //! Lists of items.
 ghost use Rattle.std.specs.Prelude.{◌≡◌, List, ◌∷◌, OnOk};
+ghost use Rattle.sn_text_rules.specs.declared.symbols.TheConstants.{COMMA};
 ghost use Rattle.sn_text_rules.specs.Tokens.{Mark, plain, symbol};
 ghost use Rattle.sn_text_rules.specs.Rules.{items_spelled};
 ghost use Rattle.sn_query_print.specs.Printing.{state, puts, list_spelled};
@@ -34,7 +35,7 @@ pub(crate) fn put_each<S: Shown>(
 }
 
 fn put_more<S: Shown>(alloc: Global, items: &[S::Item], out: &mut Printer) -> Result<(), Memory>
-    ensures { OnOk result (state out.new ≡ puts (state out.old) (items_spelled (λ item. plain (symbol 3) ∷ S.spell item) items.now)) }
+    ensures { OnOk result (state out.new ≡ puts (state out.old) (items_spelled (λ item. plain (symbol COMMA) ∷ S.spell item) items.now)) }
 {
     for item in items {
         out.symbol(3)?;

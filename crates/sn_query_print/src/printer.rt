@@ -1,11 +1,10 @@
 //! Tokens written one after the other, each with the blanks before it.
 ghost use Rattle.std.specs.Prelude.{◌≡◌, ◌++◌, OnOk};
-ghost use Rattle.sn_text_rules.specs.Tokens.{plain, number, symbol, finish};
+ghost use Rattle.sn_text_rules.specs.Tokens.{plain, number, symbol, finish, word_lexeme};
 ghost use Rattle.sn_text_rules.specs.Words.{same};
 ghost use Rattle.sn_text.specs.Writing.{symbol_text};
 ghost use Rattle.sn_query_print.specs.Layout.{word_gap, symbol_gap, gap, last_of, put, start};
 ghost use Rattle.sn_query_print.specs.Printing.{state};
-ghost use Rattle.sn_query_print.specs.Layout.{word_lexeme};
 
 use sn_base::bytes::push_bytes;
 use sn_base::memory::Memory;

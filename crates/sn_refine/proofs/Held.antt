@@ -3,7 +3,7 @@ use Rattle.std.proofs.Common.{◌≡◌, ℕ, List, [], ◌∷◌, map, filter, 
 use Rattle.std.proofs.lemmas.Bool.{false≢true}
 use Rattle.std.specs.List.{list_any}
 use Rattle.std.specs.FinSet as set
-use Rattle.sn_base.proofs.Lists.{by_test, not_true, nat_same}
+use Rattle.sn_base.proofs.Lists.{by_test, not_true, nat_same, filter_same}
 use Rattle.sn_base.specs.Groups.{Row}
 use Rattle.sn_base.specs.Mask.{masked}
 use Rattle.sn_base.specs.Operators.{through}
@@ -18,10 +18,6 @@ use Rattle.sn_types.specs.Typed.{branch_of, packet_row}
 use Rattle.sn_types.specs.Values.{op_at}
 use Rattle.sn_refine.specs.Refined.{answered, column_of, is_in}
 use Rattle.sn_refine.specs.Steps.{Set, is_held, prefixes_of}
-
-pub filter_same : {X : Type 0} (p q : X → Bool) → ((x : X) → p x ≡ q x) → (xs : List X) → filter p xs ≡ filter q xs
-filter_same p q same [] = refl
-filter_same p q same (x ∷ xs) = ap (λ b. cond b (x ∷ filter p xs) (filter p xs)) (same x) ∙ ap (λ ys. cond (q x) (x ∷ ys) ys) (filter_same p q same xs)
 
 -- ---- all that is left of a filter
 

@@ -8,34 +8,35 @@ use Rattle.sn_base.specs.Groups.{Row}
 use Rattle.sn_types.specs.declared.answers.Part.{Part}
 use Rattle.sn_types.specs.declared.typed_query.TypedQuery.{TypedQuery}
 use Rattle.sn_refine.specs.Refined.{Windows, before, level_rows, part_at, refined_parts, refined_rows}
-use Rattle.sn_refine.specs.Steps.{Given, IsAbove, Rises, Set, answers_from, kept_at, kept_of, parts_in, prefixes_of, rows_at, windows_of}
+use Rattle.sn_refine.specs.Steps.{Set, answers_from, kept_at, kept_of, parts_in, prefixes_of, rows_at, windows_of}
 use Rattle.sn_refine.proofs.Held.{held_answered}
 use Rattle.sn_refine.proofs.Levels.{next_sees, no_rows}
 use Rattle.sn_refine.proofs.Places.{at_place, map_below}
+use Rattle.sn_windows.specs.Rising.{AreRising, IsAbove, Window}
 
 -- ---- what windows hold
 
 apart : (m n : ℕ) → m < n → (n == m) ≡ false
 apart m n lt = not_true (n == m) (λ same. let e = nat_same n m same in absurd (omega (arith, e, lt)))
 
-none_below : (n : ℕ) (rest : List Given) (v : ℕ) → Rises (Some n) rest → v ≤ n → windows_of rest v ≡ None
+none_below : (n : ℕ) (rest : List Window) (v : ℕ) → AreRising (Some n) rest → v ≤ n → windows_of rest v ≡ None
 none_below n [] v h le = refl
 none_below n (given ∷ rest) v h le =
     let above : n < given.0 = h.0 in
     ap (λ b. cond b (Some given.1) (windows_of rest v)) (apart v given.0 (omega (arith, le, above)))
     ∙ none_below given.0 rest v h.1 (omega (arith, le, above))
 
-pub here : (given : Given) (rest : List Given) → windows_of (given ∷ rest) given.0 ≡ Some given.1
+pub here : (given : Window) (rest : List Window) → windows_of (given ∷ rest) given.0 ≡ Some given.1
 here given rest = ap (λ b. cond b (Some given.1) (windows_of rest given.0)) (same given.0)
   where
     same : (n : ℕ) → (n == n) ≡ true
     same n = eq-eqb n n refl
 
-pub earlier : (given : Given) (rest : List Given) (v : ℕ) → Rises (Some given.0) rest → v < given.0 → windows_of (given ∷ rest) v ≡ None
+pub earlier : (given : Window) (rest : List Window) (v : ℕ) → AreRising (Some given.0) rest → v < given.0 → windows_of (given ∷ rest) v ≡ None
 earlier given rest v h lt =
     ap (λ b. cond b (Some given.1) (windows_of rest v)) (apart v given.0 lt) ∙ none_below given.0 rest v h (omega (arith, lt))
 
-pub later : (given : Given) (rest : List Given) (v : ℕ) → given.0 < v → windows_of (given ∷ rest) v ≡ windows_of rest v
+pub later : (given : Window) (rest : List Window) (v : ℕ) → given.0 < v → windows_of (given ∷ rest) v ≡ windows_of rest v
 later given rest v lt = ap (λ b. cond b (Some given.1) (windows_of rest v)) (not_true (given.0 == v) (λ same. let e = nat_same given.0 v same in absurd (omega (arith, e, lt))))
 
 -- ---- what is kept of the windows so far
@@ -49,7 +50,7 @@ Remembers query windows path (Some last) kept = (j : ℕ) → suc j < length pat
 abbrev pub NoneBetween : Windows → Option ℕ → ℕ → Type 0
 NoneBetween windows last w = (v : ℕ) → IsAbove last v → v < w → windows v ≡ None
 
-no_prefixes : (query : TypedQuery) (rows : List Row) → rows ≡ [] → set.empty ≡ prefixes_of query rows
+pub no_prefixes : (query : TypedQuery) (rows : List Row) → rows ≡ [] → set.empty ≡ prefixes_of query rows
 no_prefixes query rows none = sym (ap (prefixes_of query) none)
 
 -- the prefixes that a level sees are those of the window before
@@ -112,7 +113,7 @@ pub above_last : (last : Option ℕ) (w v : ℕ) → IsAbove last w → w < v �
 above_last None w v above lt = tt
 above_last (Some last) w v above lt = omega (arith, above, lt)
 
-from : (q : ℕ) (query : TypedQuery) (windows : Windows) (path : List ℕ) (last : Option ℕ) (kept : List Set) (given : List Given) → Rises last given → ((v : ℕ) → IsAbove last v → windows v ≡ windows_of given v)
+from : (q : ℕ) (query : TypedQuery) (windows : Windows) (path : List ℕ) (last : Option ℕ) (kept : List Set) (given : List Window) → AreRising last given → ((v : ℕ) → IsAbove last v → windows v ≡ windows_of given v)
     → Remembers query windows path last kept → answers_from q query path last kept given ≡ map (λ g. refined_parts q query windows path g.0) given
 from q query windows path last kept [] rises agrees remembers = refl
 from q query windows path last kept (g ∷ rest) rises agrees remembers =
@@ -122,5 +123,5 @@ from q query windows path last kept (g ∷ rest) rises agrees remembers =
     (from q query windows path (Some g.0) (kept_of query path (refined_parts q query windows path g.0)) rest rises.1
     (λ v lt. agrees v (above_last last g.0 v rises.0 lt) ∙ later g rest v lt) (remembered q query windows path g.0))
 
-pub all_refined : (q : ℕ) (query : TypedQuery) (path : List ℕ) (given : List Given) → Rises None given → answers_from q query path None [] given ≡ map (λ g. refined_parts q query (windows_of given) path g.0) given
+pub all_refined : (q : ℕ) (query : TypedQuery) (path : List ℕ) (given : List Window) → AreRising None given → answers_from q query path None [] given ≡ map (λ g. refined_parts q query (windows_of given) path g.0) given
 all_refined q query path given rises = from q query (windows_of given) path None [] given rises (λ v above. refl) tt

@@ -55,3 +55,9 @@ parts_along q path rows = map (part_at q path rows) (range_with_len 0 (length pa
 
 abbrev pub refined_parts : ℕ → TypedQuery → Windows → List ℕ → ℕ → List Part
 refined_parts q query windows path w = parts_along q path (λ j. refined_rows query windows path j w)
+
+-- the tuples of a window that the level at a place of a path sees: all where it is the first, or else those whose prefix the
+-- level before it answered in the window before
+abbrev pub seen_at : TypedQuery → Windows → List ℕ → ℕ → ℕ → Option (List (List ℕ))
+seen_at query windows path zero w = windows w
+seen_at query windows path (suc j) w = option_map (answered query (slice_index path j) (before (refined_rows query windows path j) w)) (windows w)

@@ -1,6 +1,7 @@
 -- serves proofs
 -- Windows one after another, each from what the one before it left.
-use Rattle.std.specs.Prelude.{◌≡◌, ℕ, zero, suc, ◌+◌, ◌-◌, ◌<◌, List, [], ◌∷◌, map, filter, take, length, Bool, true, false, nat_eq, ◌==◌, slice_get, slice_index, unwrap_or, Option, None, Some, IsSome, if◌then◌else◌}
+use Rattle.std.specs.Prelude.{◌≡◌, ℕ, zero, suc, ◌+◌, ◌-◌, ◌<◌, List, [], ◌∷◌, map, filter, take, length, Bool, true, false, nat_eq, ◌==◌, slice_get}
+use Rattle.std.specs.Prelude.{slice_index, unwrap_or, Option, None, Some, IsSome, if◌then◌else◌}
 use Rattle.std.specs.List.{AllByRecursion, list_any}
 use Rattle.std.specs.Ordering.{nat_cmp}
 use Rattle.std.specs.FinSet as set
@@ -12,6 +13,7 @@ use Rattle.sn_types.specs.declared.answers.Part.{Part}
 use Rattle.sn_types.specs.declared.typed_query.TypedQuery.{TypedQuery}
 use Rattle.sn_types.specs.Typed.{query_at}
 use Rattle.sn_refine.specs.Refined.{Windows, before, column_of, level_rows, parts_along, refined_rows}
+use Rattle.sn_windows.specs.Rising.{Window}
 
 abbrev pub Set : Type 0
 Set = set.FinSet nat_cmp
@@ -21,11 +23,6 @@ pub record IsPathOf (queries : List TypedQuery) (q : ℕ) (path : List ℕ) : Ty
   pub query : q < length queries
   pub known : AllByRecursion (λ level. list_any (nat_eq level) (query_at queries q).levels ≡ true) path
   pub refined : 1 < length path → IsSome (query_at queries q).field
-
--- a window's number is above the last one's
-abbrev pub IsAbove : Option ℕ → ℕ → Type 0
-IsAbove None w = Unit {0}
-IsAbove (Some last) w = last < w
 
 -- ---- one window
 
@@ -65,27 +62,19 @@ abbrev pub Sees : TypedQuery → Windows → List ℕ → ℕ → ℕ → Option
 Sees query windows path zero w None = Unit {0}
 Sees query windows path zero w (Some kept) = ⊥
 Sees query windows path (suc j) w None = ⊥
-Sees query windows path (suc j) w (Some kept) = (kept.bits ≡ slice_index path j) × (kept.members.now ≡ prefixes_of query (before (refined_rows query windows path j) w))
+Sees query windows path (suc j) w (Some kept) =
+    (kept.bits ≡ slice_index path j) × (kept.members.now ≡ prefixes_of query (before (refined_rows query windows path j) w))
 
 -- ---- windows
 
--- the number of a window and its tuples
-abbrev pub Given : Type 0
-Given = ℕ × List (List ℕ)
-
--- the numbers rise
-abbrev pub Rises : Option ℕ → List Given → Type 0
-Rises last [] = Unit {0}
-Rises last (given ∷ rest) = IsAbove last given.0 × Rises (Some given.0) rest
-
 -- what these windows hold
-abbrev pub windows_of : List Given → Windows
+abbrev pub windows_of : List Window → Windows
 windows_of [] w = None
 windows_of (given ∷ rest) w = if given.0 == w then Some given.1 else windows_of rest w
 
 -- the answers of windows that are given one after another, the last one before them being this, of which these prefixes
 -- were kept
-abbrev pub answers_from : ℕ → TypedQuery → List ℕ → Option ℕ → List Set → List Given → List (List Part)
+abbrev pub answers_from : ℕ → TypedQuery → List ℕ → Option ℕ → List Set → List Window → List (List Part)
 answers_from q query path last kept [] = []
 answers_from q query path last kept (given ∷ rest) =
     parts_in q query path (kept_at last kept given.0) given.1

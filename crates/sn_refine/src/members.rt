@@ -37,7 +37,8 @@ fn place_of(t: &Typed, q: u32) -> u32
 pub fn members(alloc: Global, t: &Typed, q: u32, rows: &[Row]) -> Result<Members, Memory>
     requires { q < length t.now.queries }
     ensures set { IfOk result (λ members. members ≡ prefixes_of (query_at t.now.queries q) rows.now) }
-    ensures exactly { IfOk result (λ members. (prefix : ℕ) → set.contains members prefix ≡ list_any (λ n. nat_eq n prefix) (column_of (query_at t.now.queries q) rows.now)) }
+    ensures exactly { IfOk result (λ members. (prefix : ℕ) →
+        set.contains members prefix ≡ list_any (λ n. nat_eq n prefix) (column_of (query_at t.now.queries q) rows.now)) }
 {
     let place = place_of(t, q);
     let mut members = Members::new(alloc);

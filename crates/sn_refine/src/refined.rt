@@ -4,8 +4,9 @@ ghost use Rattle.std.specs.List.{list_any};
 ghost use Rattle.std.specs.FinSet as set;
 ghost use Rattle.sn_base.specs.Sorted.{sorted_rows};
 ghost use Rattle.sn_refine.specs.Refined.{level_rows};
-ghost use Rattle.sn_refine.specs.Steps.{IsPathOf, IsAbove, follows, prefixes_of, kept_at, is_held, rows_at, parts_in, kept_of};
+ghost use Rattle.sn_refine.specs.Steps.{IsPathOf, follows, prefixes_of, kept_at, is_held, rows_at, parts_in, kept_of};
 ghost use Rattle.sn_types.specs.Typed.{query_at};
+ghost use Rattle.sn_windows.specs.Rising.{IsAbove};
 
 use crate::members::members;
 use sn_base::members::Members;
@@ -82,7 +83,8 @@ fn next_rows(
     requires level { list_any (nat_eq level) (query_at t.now.queries q).levels ≡ true }
     requires refined { IsSome (query_at t.now.queries q).field }
     requires bits { list_any (nat_eq kept.bits) (query_at t.now.queries q).levels ≡ true }
-    ensures { let query = query_at t.now.queries q in IfOk result (λ rows. rows ≡ level_rows query level (Some (filter (is_held query.field kept.entry.bits kept.entry.members.now) tuples.now))) }
+    ensures { let query = query_at t.now.queries q in IfOk result
+        (λ rows. rows ≡ level_rows query level (Some (filter (is_held query.field kept.entry.bits kept.entry.members.now) tuples.now))) }
 {
     let rows = plain(alloc, t, q, level, Some(kept), tuples)?;
     sorted(rows)
@@ -150,7 +152,8 @@ impl Refined {
         requires above { IsAbove self.now.last w }
         requires place { place < length self.now.path }
         requires none { none.now ≡ set.empty }
-        ensures { IfOk result (λ rows. rows ≡ rows_at (query_at t.now.queries self.now.query) self.now.path (kept_at self.now.last self.now.kept w) tuples.now place) }
+        ensures { IfOk result (λ rows. rows ≡ rows_at (query_at t.now.queries self.now.query) self.now.path
+            (kept_at self.now.last self.now.kept w) tuples.now place) }
     {
         let path = self.path.as_slice();
         if place == 0 {
@@ -168,7 +171,8 @@ impl Refined {
         requires path { IsPathOf t.now.queries self.now.query self.now.path }
         requires above { IsAbove self.now.last w }
         requires count { count ≤ length self.now.path }
-        ensures { IfOk result (λ parts. parts ≡ take count (parts_in self.now.query (query_at t.now.queries self.now.query) self.now.path (kept_at self.now.last self.now.kept w) tuples.now)) }
+        ensures { IfOk result (λ parts. parts ≡ take count
+            (parts_in self.now.query (query_at t.now.queries self.now.query) self.now.path (kept_at self.now.last self.now.kept w) tuples.now)) }
     {
         let none = Members::new(self.alloc);
         let mut parts = Seq::new(self.alloc);
@@ -189,7 +193,8 @@ impl Refined {
     pub fn window(&mut self, t: &Typed, w: u64, tuples: &[Tuple]) -> Result<Seq<Part>, Memory>
         requires path { IsPathOf t.now.queries self.old.query self.old.path }
         requires above { IsAbove self.old.last w }
-        ensures parts { IfOk result (λ parts. parts ≡ parts_in self.old.query (query_at t.now.queries self.old.query) self.old.path (kept_at self.old.last self.old.kept w) tuples.now) }
+        ensures parts { IfOk result (λ parts. parts ≡
+            parts_in self.old.query (query_at t.now.queries self.old.query) self.old.path (kept_at self.old.last self.old.kept w) tuples.now) }
         ensures kept { IfOk result (λ parts. self.new.kept ≡ kept_of (query_at t.now.queries self.old.query) self.old.path parts) }
         ensures last { OnOk result (self.new.last ≡ Some w) }
         ensures err { OnErr result ((self.new.last ≡ self.old.last) × (self.new.kept ≡ self.old.kept)) }
@@ -210,7 +215,8 @@ impl Refined {
     pub fn pass(&mut self, t: &Typed, w: u64, tuples: &[Tuple]) -> Result<(), Memory>
         requires path { IsPathOf t.now.queries self.old.query self.old.path }
         requires above { IsAbove self.old.last w }
-        ensures kept { let query = query_at t.now.queries self.old.query in OnOk result (self.new.kept ≡ kept_of query self.old.path (parts_in self.old.query query self.old.path (kept_at self.old.last self.old.kept w) tuples.now)) }
+        ensures kept { let query = query_at t.now.queries self.old.query in OnOk result
+            (self.new.kept ≡ kept_of query self.old.path (parts_in self.old.query query self.old.path (kept_at self.old.last self.old.kept w) tuples.now)) }
         ensures last { OnOk result (self.new.last ≡ Some w) }
         ensures err { OnErr result ((self.new.last ≡ self.old.last) × (self.new.kept ≡ self.old.kept)) }
         ensures query { self.new.query ≡ self.old.query }

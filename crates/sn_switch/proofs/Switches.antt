@@ -4,7 +4,7 @@ use Rattle.std.specs.List.{All, AllByRecursion, filter}
 use Rattle.std.proofs.lemmas.List.Elements.{All-nil, All-cons}
 use Rattle.sn_text_rules.specs.declared.Flaw.{Flaw}
 use Rattle.sn_text_rules.specs.declared.Flaw.TheVariants as kinds
-use Rattle.sn_text_rules.specs.Tokens.{Tok, Read, got, fails}
+use Rattle.sn_text_rules.specs.Tokens.{Tok, Read, got, fails, first_line}
 use Rattle.sn_text_rules.specs.Rules.{kept, FirstFault}
 use Rattle.sn_text_rules.proofs.Faults.{found_of, only_of, none_of, fault_of as first_fault}
 use Rattle.sn_text_rules.proofs.Bounded.{whole_ok}
@@ -27,7 +27,7 @@ use Rattle.sn_switch_grammar.proofs.Bounded.{flaws, switch_whole}
 use Rattle.sn_switch.specs.declared.switch.Switch.{Switch}
 use Rattle.sn_switch.specs.declared.fault.SwitchFault.{SwitchFault}
 use Rattle.sn_switch.specs.declared.fault.SwitchFault.TheVariants as faults
-use Rattle.sn_switch.specs.Texts.{numbers_of, switch_in, IsOf, StandsFor, IsFault, fault_of, line_of, Answers}
+use Rattle.sn_switch.specs.Texts.{numbers_of, switch_in, IsOf, StandsFor, IsFault, fault_of, Answers}
 
 abbrev pub InRange : ℕ → Type 0
 InRange n = IsIn 1 65536 n
@@ -150,7 +150,7 @@ fault_so text ls (stops.Fault x l) f g h k =
     let e = here ts ls (fails x (left l)) g h in
     let s = switch_good.stands kept ts (left l) x e in
     let ok = whole_ok switch_whole ts (left l) x (tokens_ended text) e in
-    subst (λ (r : SwitchFault). IsFault ts r) (sym (k ∙ ap (λ (us : List Tok). fault_of x (line_of us)) s.head)) (shown ts x s.at.line s.at.column ok (first_fault switch_rule switch_good switch_starts ends ts (left l) s.rest s.at x e s.head))
+    subst (λ (r : SwitchFault). IsFault ts r) (sym (k ∙ ap (λ (us : List Tok). fault_of x (first_line us)) s.head)) (shown ts x s.at.line s.at.column ok (first_fault switch_rule switch_good switch_starts ends ts (left l) s.rest s.at x e s.head))
 
 pub none_so : (ts ls : List Tok) (e : Stop) (f : SwitchFault) (s : Switch) → ls ≡ ts → Halts e (switch_rule.read kept ls) → Answers e f → StandsFor ts s → f ≡ faults.Memory
 none_so ts ls stops.NoMemory f s g h k j = k

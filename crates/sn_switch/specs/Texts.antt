@@ -4,7 +4,7 @@ use Rattle.std.specs.Prelude.{◌≡◌, ◌≢◌, ℕ, List, [], ◌∷◌, Re
 use Rattle.std.specs.List.{filter}
 use Rattle.sn_text_rules.specs.declared.Flaw.{Flaw}
 use Rattle.sn_text_rules.specs.declared.Flaw.TheVariants as flaws
-use Rattle.sn_text_rules.specs.Tokens.{Tok}
+use Rattle.sn_text_rules.specs.Tokens.{Tok, first_line}
 use Rattle.sn_text_rules.specs.Rules.{Accepts, FirstFault}
 use Rattle.sn_text.specs.Cutting.{tokens_of}
 use Rattle.sn_text.specs.Lexing.{left}
@@ -84,14 +84,10 @@ fault_of flaws.Range line = faults.Range line
 fault_of flaws.Twice line = faults.Twice line
 fault_of flaws.Missing line = faults.Missing line
 
-abbrev pub line_of : List Tok → ℕ
-line_of [] = 0
-line_of (t ∷ ts) = t.line
-
 -- what is answered where reading stops
 abbrev pub Answers : Stop → SwitchFault → Type 0
 Answers stops.NoMemory e = e ≡ faults.Memory
-Answers (stops.Fault x l) e = e ≡ fault_of x (line_of (left l))
+Answers (stops.Fault x l) e = e ≡ fault_of x (first_line (left l))
 
 -- ---- the one reading of a text
 

@@ -18,10 +18,8 @@ use sn_text::scan::scan;
 use sn_text::stop::Stop;
 use sn_text::words::{symbol, wrong_of};
 use sn_text_rules::Flaw;
+use sn_text_rules::symbols::SEMICOLON;
 use std::alloc::Global;
-
-/// The semicolon among the symbols.
-const SEMICOLON: u8 = 2;
 
 #[tactic(auto, unfolding(sn_switch_grammar::specs::Grammar::item_rule))]
 fn item<'a>(alloc: Global, taken: &[Item], at: Lexer<'a>) -> Result<(Item, Lexer<'a>), Stop<'a>>

@@ -8,7 +8,8 @@ ghost use Rattle.sn_switch_grammar.specs.Settings.{sets};
 ghost use Rattle.sn_switch_grammar.specs.Grammar.{switch_rule};
 ghost use Rattle.sn_switch_grammar.specs.Wholes.{numbers_in, first_of, IsIn};
 ghost use Rattle.sn_switch.specs.declared.switch.Switch.{Switch};
-ghost use Rattle.sn_switch.specs.Texts.{IsSwitch, switch_in, StandsFor, IsFault, IsValue, fault_of, line_of, Answers};
+ghost use Rattle.sn_switch.specs.Texts.{IsSwitch, switch_in, StandsFor, IsFault, IsValue, fault_of, Answers};
+ghost use Rattle.sn_text_rules.specs.Tokens.{first_line};
 
 use crate::fault::SwitchFault;
 use crate::read::read;
@@ -94,7 +95,7 @@ fn fault(flaw: Flaw, line: u32) -> SwitchFault
 
 /// The line of the next token.
 fn line_at(at: Lexer<'_>) -> u32
-    ensures { result ≡ line_of (left at.entry) }
+    ensures { result ≡ first_line (left at.entry) }
 {
     let (found, _) = scan(at);
     found.line

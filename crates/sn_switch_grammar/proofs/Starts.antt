@@ -19,6 +19,8 @@ use Rattle.sn_switch_grammar.specs.Settings.{word_of, setting_in, sets, has}
 use Rattle.sn_switch_grammar.specs.Grammar.{once, within, alone, lone, one_number, below, size_test, size_rule, sizes, to_item, from_item, item_rule, is_whole, end_in, complete, end_rule, items_rule, switch_rule}
 use Rattle.sn_switch_grammar.proofs.Goods.{setting_good, within_good, alone_undone, one_number_good, fits_size, size_listed, sizes_good, ended, items_alike, items_good}
 use Rattle.sn_switch_grammar.proofs.Wholes.{itself}
+use Rattle.sn_base.proofs.Lists.{or_right, and_parts, or_left}
+use Rattle.sn_base.proofs.Tests.{three_parts}
 
 abbrev no_flaw : Option Flaw
 no_flaw = None
@@ -36,30 +38,20 @@ one_number_able low high le = embedded_able alone lone (alone_undone low high) (
 
 -- ---- sizes: one is above those before it where the largest is
 
-three_true : (a b c : Bool) → (a && b && c) ≡ true → (a ≡ true) × (b ≡ true) × (c ≡ true)
-three_true true true true e = (refl, refl, refl)
-three_true true true false e = absurd cc
-three_true true false c e = absurd cc
-three_true false b c e = absurd cc
-
 three_made : (a b c : Bool) → a ≡ true → b ≡ true → c ≡ true → (a && b && c) ≡ true
 three_made a b c e f g = rw (e, f, g) refl
-
-two_true : (a b : Bool) → (a && b) ≡ true → (a ≡ true) × (b ≡ true)
-two_true true b e = (refl, e)
-two_true false b e = absurd cc
 
 all_below : (n m : ℕ) → n ≤ m → (seen : List ℕ) → list_all (below n) seen ≡ true → list_all (below m) seen ≡ true
 all_below n m le [] e = refl
 all_below n m le (k ∷ seen) e =
-    let h = two_true (nat_lt k n) (list_all (below n) seen) e in
+    let h = and_parts (nat_lt k n) (list_all (below n) seen) e in
     let less : k < n = ltb-true k n h.0 in
     let a : nat_lt k m ≡ true = lt-ltb k m (omega (arith, less)) in
     rw (a, all_below n m le seen h.1) refl
 
 largest_fits : (seen : List ℕ) (n : ℕ) → fits_size seen n ≡ true → fits_size seen 65536 ≡ true
 largest_fits seen n e =
-    let h = three_true (nat_le 1 n) (nat_le n 65536) (list_all (below n) seen) e in
+    let h = three_parts (nat_le 1 n) (nat_le n 65536) (list_all (below n) seen) e in
     let most : n ≤ 65536 = leb-true n 65536 h.1 in
     three_made (nat_le 1 65536) (nat_le 65536 65536) (list_all (below 65536) seen) (le-leb 1 65536 (omega arith)) (le-leb 65536 65536 (omega arith)) (all_below n 65536 most seen h.2)
 
@@ -127,13 +119,6 @@ its_setting k = itself k
 item_fits : (k : Setting) (seen : List Item) → has k seen ≡ false → (item_rule seen).fits kept (item_of k)
 unfolding item_rule item_of
 item_fits k seen e = (rw e refl, (ended_able k).some.1)
-
-or_left : (a b : Bool) → a ≡ true → (a || b) ≡ true
-or_left a b e = rw e refl
-
-or_right : (a b : Bool) → b ≡ true → (a || b) ≡ true
-or_right true b e = refl
-or_right false b e = e
 
 still_has : (k : Setting) (x y : List Item) → has k x ≡ true → has k (x ++ y) ≡ true
 still_has k x y e = list_any-append (sets k) x y ∙ or_left (has k x) (has k y) e

@@ -4,7 +4,7 @@ use Rattle.std.specs.Prelude.{nat_le, ◌&&◌, ◌||◌}
 use Rattle.std.specs.List.{AllByRecursion, list_all, filter}
 use Rattle.std.proofs.lemmas.Bool.{eqb-true, eq-eqb, leb-true}
 use Rattle.std.proofs.lemmas.List.Folds.{list_any-append}
-use Rattle.sn_base.proofs.Lists.{and_parts}
+use Rattle.sn_base.proofs.Lists.{and_parts, or_right}
 use Rattle.sn_text_rules.specs.declared.Flaw.{Flaw}
 use Rattle.sn_text_rules.specs.declared.Flaw.TheVariants.{Range, Twice, Missing}
 use Rattle.sn_text_rules.specs.Rules.{kept, closed, fit_from}
@@ -65,12 +65,8 @@ Fit seen items = fit_from never item_rule kept seen items
 more_seen : (k : Setting) (seen : List Item) (a : Item) → has k seen ≡ true → has k (seen ++ a ∷ []) ≡ true
 more_seen k seen a e = list_any-append (sets k) seen (a ∷ []) ∙ rw e refl
 
-or_true : (a b : Bool) → b ≡ true → (a || b) ≡ true
-or_true true b e = refl
-or_true false b e = e
-
 now_seen : (k : Setting) (seen : List Item) (a : Item) → sets k a ≡ true → has k (seen ++ a ∷ []) ≡ true
-now_seen k seen a e = list_any-append (sets k) seen (a ∷ []) ∙ or_true (has k seen) (has k (a ∷ [])) (rw e refl)
+now_seen k seen a e = list_any-append (sets k) seen (a ∷ []) ∙ or_right (has k seen) (has k (a ∷ [])) (rw e refl)
 
 seen_once : (k : Setting) (seen : List Item) (a : Item) → (item_rule seen).fits kept a → has k seen ≡ true → sets k a ≡ true → ⊥
 seen_once k seen a f h e =

@@ -4,6 +4,7 @@ use Rattle.std.specs.Prelude.{ℕ, Bool, List, [], ◌∷◌, Option, Some, None
 use Rattle.std.specs.List.{list_all}
 use Rattle.sn_text_rules.specs.declared.Flaw.{Flaw}
 use Rattle.sn_text_rules.specs.declared.Flaw.TheVariants.{Range, Twice, Missing}
+use Rattle.sn_text_rules.specs.declared.symbols.TheConstants.{SEMICOLON}
 use Rattle.sn_text_rules.specs.Tokens.{Lexeme, number, finish}
 use Rattle.sn_text_rules.specs.Rules.{Rule, anything, pair_on, embedded, renamed, many}
 use Rattle.sn_text_rules.specs.Words.{wrong, leaf, number_by, sign, first, with_second, never, commas, ◌◂◌}
@@ -75,7 +76,7 @@ from_item item = (item.setting, item.numbers)
 
 -- item = ( "stages" | "actions" | "bits" | "meta" | "chain" ) NUM ";" | "slots" NUM { "," NUM } ";"
 unfoldable pub item_rule : List Item → Rule Item
-item_rule seen = renamed to_item from_item (pair_on (setting_rule seen) (λ k. numbers k ◂ sign 2) anything)
+item_rule seen = renamed to_item from_item (pair_on (setting_rule seen) (λ k. numbers k ◂ sign SEMICOLON) anything)
 
 -- ---- the text
 
@@ -87,7 +88,8 @@ abbrev pub end_face : Unit {0} → Lexeme
 end_face u = finish
 
 abbrev pub is_whole : List Item → Bool
-is_whole items = has settings.Stages items && has settings.Actions items && has settings.Bits items && has settings.Meta items && has settings.Chain items && has settings.Slots items
+is_whole items = has settings.Stages items && has settings.Actions items && has settings.Bits items && has settings.Meta items && has settings.Chain items
+    && has settings.Slots items
 
 -- at the end each setting has had its item
 abbrev pub complete : List Item → Unit {0} → Option Flaw

@@ -35,7 +35,8 @@ fn add_number(
 ) -> Result<(), Memory>
     requires so_far { any_has fold (unwrap_or (lookup (nat_eq number) numbers.old.entries) (any_unit fold)) }
     requires value { any_has fold value }
-    ensures ok { OnOk result (numbers.new.entries ≡ insert_entry nat_eq numbers.old.entries number (any_step fold (unwrap_or (lookup (nat_eq number) numbers.old.entries) (any_unit fold)) value)) }
+    ensures ok { OnOk result (numbers.new.entries ≡
+        insert_entry nat_eq numbers.old.entries number (any_step fold (unwrap_or (lookup (nat_eq number) numbers.old.entries) (any_unit fold)) value)) }
     ensures err { OnErr result (numbers.new.entries ≡ numbers.old.entries) }
 {
     let Ok(entry) = numbers.entry(Number::new(number)) else {
@@ -55,7 +56,8 @@ fn add_row(
 ) -> Result<(), Memory>
     requires so_far { any_has fold (unwrap_or (lookup (same_row key.now) rows.old.entries) (any_unit fold)) }
     requires value { any_has fold value }
-    ensures ok { OnOk result (rows.new.entries ≡ insert_entry same_row rows.old.entries key.now (any_step fold (unwrap_or (lookup (same_row key.now) rows.old.entries) (any_unit fold)) value)) }
+    ensures ok { OnOk result (rows.new.entries ≡
+        insert_entry same_row rows.old.entries key.now (any_step fold (unwrap_or (lookup (same_row key.now) rows.old.entries) (any_unit fold)) value)) }
     ensures err { OnErr result (rows.new.entries ≡ rows.old.entries) }
 {
     let Ok(entry) = rows.entry(*key) else {
@@ -72,7 +74,9 @@ pub(crate) fn put(held: &mut Entries, fold: AnyFold, key: &Row, value: u64) -> R
     requires so_far { any_has fold (unwrap_or (lookup (same_row key.now) (entries_of held.old)) (any_unit fold)) }
     requires value { any_has fold value }
     ensures sound { IsSound held.new }
-    ensures ok { IfOk result (λ can. entries_of held.new ≡ (if can then insert_entry same_row (entries_of held.old) key.now (any_step fold (unwrap_or (lookup (same_row key.now) (entries_of held.old)) (any_unit fold)) value) else entries_of held.old)) }
+    ensures ok { IfOk result (λ can. entries_of held.new ≡
+        (if can then insert_entry same_row (entries_of held.old) key.now
+        (any_step fold (unwrap_or (lookup (same_row key.now) (entries_of held.old)) (any_unit fold)) value) else entries_of held.old)) }
     ensures wide { IsWide held.old → IfOk result (λ can. can ≡ true) }
     ensures err { OnErr result (entries_of held.new ≡ entries_of held.old) }
 {
@@ -106,7 +110,9 @@ pub(crate) fn put_at(
     requires so_far { any_has fold (unwrap_or (lookup (same_row (columns_at places.now row.now)) (entries_of held.old)) (any_unit fold)) }
     requires value { any_has fold value }
     ensures sound { IsSound held.new }
-    ensures ok { let key = columns_at places.now row.now in IfOk result (λ can. entries_of held.new ≡ (if can then insert_entry same_row (entries_of held.old) key (any_step fold (unwrap_or (lookup (same_row key) (entries_of held.old)) (any_unit fold)) value) else entries_of held.old)) }
+    ensures ok { let key = columns_at places.now row.now in IfOk result
+        (λ can. entries_of held.new ≡ (if can then insert_entry same_row (entries_of held.old) key
+        (any_step fold (unwrap_or (lookup (same_row key) (entries_of held.old)) (any_unit fold)) value) else entries_of held.old)) }
     ensures err { OnErr result (entries_of held.new ≡ entries_of held.old) }
 {
     match held {

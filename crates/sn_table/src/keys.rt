@@ -28,10 +28,7 @@ fn insert_number(numbers: &mut IndexSet<Number, Seed>, number: u128) -> Result<b
     ensures keys { OnOk result (numbers.new.keys ≡ insert_key nat_eq numbers.old.keys number) }
     ensures err { OnErr result (numbers.new.keys ≡ numbers.old.keys) }
 {
-    match numbers.insert(Number::new(number)) {
-        Ok(new) => Ok(new),
-        Err(_) => Err(Memory),
-    }
+    Ok(numbers.insert(Number::new(number))?)
 }
 
 /// Adds a row, and says whether it is new.
@@ -40,10 +37,7 @@ fn insert_row(rows: &mut IndexSet<Row, Seed>, row: &Row) -> Result<bool, Memory>
     ensures keys { OnOk result (rows.new.keys ≡ insert_key same_row rows.old.keys row.now) }
     ensures err { OnErr result (rows.new.keys ≡ rows.old.keys) }
 {
-    match rows.insert(*row) {
-        Ok(new) => Ok(new),
-        Err(_) => Err(Memory),
-    }
+    Ok(rows.insert(*row)?)
 }
 
 /// Adds a row, where it can be held as the others are, and says whether it is new. `None` where it can't: then nothing

@@ -81,7 +81,8 @@ pub fn number_of(key: &Row, columns: usize) -> Option<u128>
 /// is given where the key has another number of columns, and for all keys but those of one or two columns.
 pub(crate) fn number_at(row: &Row, places: &[u32], columns: usize) -> Option<u128>
     requires { All (λ place. place < length row.now) places.now }
-    ensures { let key = columns_at places.now row.now in IfSome result (λ number. (if is_narrow columns key then Some (number_of columns key) else None) ≡ Some number) }
+    ensures { let key = columns_at places.now row.now in IfSome result
+        (λ number. (if is_narrow columns key then Some (number_of columns key) else None) ≡ Some number) }
 {
     if places.len() != columns {
         return None;

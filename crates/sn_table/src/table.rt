@@ -65,7 +65,8 @@ impl Table {
     pub fn add(&mut self, fold: AnyFold, key: &Row, value: u64) -> Result<(), Memory>
         requires so_far { any_has fold (unwrap_or (lookup (same_row key.now) self.old.entries) (any_unit fold)) }
         requires value { any_has fold value }
-        ensures ok { OnOk result (self.new.entries ≡ insert_entry same_row self.old.entries key.now (any_step fold (unwrap_or (lookup (same_row key.now) self.old.entries) (any_unit fold)) value)) }
+        ensures ok { OnOk result (self.new.entries ≡
+            insert_entry same_row self.old.entries key.now (any_step fold (unwrap_or (lookup (same_row key.now) self.old.entries) (any_unit fold)) value)) }
         ensures err { OnErr result (self.new.entries ≡ self.old.entries) }
     {
         if !put(&mut self.held, fold, key, value)? {
@@ -89,7 +90,9 @@ impl Table {
         requires few { length places.now ≤ 8 }
         requires so_far { any_has fold (unwrap_or (lookup (same_row (columns_at places.now row.now)) self.old.entries) (any_unit fold)) }
         requires value { any_has fold value }
-        ensures ok { let key = columns_at places.now row.now in OnOk result (self.new.entries ≡ insert_entry same_row self.old.entries key (any_step fold (unwrap_or (lookup (same_row key) self.old.entries) (any_unit fold)) value)) }
+        ensures ok { let key = columns_at places.now row.now in OnOk result
+            (self.new.entries ≡ insert_entry same_row self.old.entries key
+            (any_step fold (unwrap_or (lookup (same_row key) self.old.entries) (any_unit fold)) value)) }
         ensures err { OnErr result (self.new.entries ≡ self.old.entries) }
     {
         if put_at(&mut self.held, fold, row, places, value)? {

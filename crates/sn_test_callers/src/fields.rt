@@ -10,6 +10,7 @@ use sn_fields::field::{Field, field_named};
 use sn_fields::tuple::tuple_of;
 
 /// The destination port of a packet of Ethernet, 0 where it has no TCP header.
+#[tactic(auto, unfolding(sn_fields::specs::Fields::row_of))]
 pub fn tcp_port(wire: u32, bytes: &[u8]) -> u64
     ensures value { result ≡ field_of Link.Ethernet wire bytes.now Field.TcpDestinationPort }
     ensures small { result < 2 ^ 16 }

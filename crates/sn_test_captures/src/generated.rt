@@ -1,6 +1,7 @@
-//! Captures that are made from a number.
+//! Captures that are made from a number, and the texts of a job over them.
 use sn_gen::capture::capture;
 use sn_gen::frame::push_record;
+use sn_gen::job::{job_queries, job_switch};
 use sn_gen::packet::Packet;
 use sn_gen::segment::Segment;
 use std::test::Fail;
@@ -131,5 +132,54 @@ fn takes_numbers_of_more_than_32_bits(rt: HostRuntime) -> Result<(), Fail> {
         0, 0, 0, 0, 0, 0, 80, 16, 0, 0, 0, 0, 0, 0,
     ];
     assert_eq!(rt; record_of(file.as_slice(), 2), record.as_slice());
+    Ok(())
+}
+
+/// The switch of all jobs, as the format's definition has it.
+const JOB_SWITCH: &[u8] =
+    b"stages 16; actions 8; bits 8388608; meta 4096; chain 2; slots 256, 1024, 4096;\n";
+
+/// The queries of all jobs, as the format's definition has them.
+const JOB_QUERIES: &[u8] = b"window 1000000
+query newconn {
+  refine ip.dst: 8, 16, 32;
+  packets
+    | filter tcp.flags == 2
+    | map ip.dst as d, 1 as n
+    | reduce d: sum(n) width 32
+    | filter n > 400;
+}
+query spread {
+  refine ip.dst: 8, 16, 32;
+  packets
+    | filter ip.valid == 1
+    | map ip.dst as d, ip.src as s
+    | distinct
+    | map d as d, 1 as n
+    | reduce d: sum(n) width 32
+    | filter n > 300;
+}
+query slow {
+  refine ip.dst: 8, 16, 32;
+  packets
+    | filter tcp.valid == 1
+    | map ip.dst as d, ip.src as s, tcp.sport as p
+    | distinct
+    | map d as d, 1 as conns
+    | reduce d: sum(conns) width 32;
+  packets
+    | filter tcp.valid == 1
+    | map ip.dst as d, ip.len as total
+    | reduce d: sum(total) width 48;
+  join d
+    | map d as d, conns * 1000000 / total as ratio
+    | filter ratio > 20000 at (8: 1000, 16: 1000);
+}
+";
+
+#[test]
+fn states_the_texts_of_a_job(rt: HostRuntime) -> Result<(), Fail> {
+    assert_eq!(rt; job_switch(), JOB_SWITCH);
+    assert_eq!(rt; job_queries(), JOB_QUERIES);
     Ok(())
 }

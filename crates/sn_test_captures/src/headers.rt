@@ -82,9 +82,10 @@ fn reads_after_cooked_headers(rt: HostRuntime) {
 #[test]
 fn names_fields(rt: HostRuntime) {
     let mut bits: u32 = 0;
-    for field in FIELDS {
-        assert_eq!(rt; field_named(field.name()), Some(field));
-        bits = field.width().wrapping_add(bits);
+    for (field, name, width, _) in FIELDS {
+        assert_eq!(rt; field_named(name), Some(field));
+        assert_eq!(rt; field.name(), name);
+        bits = width.wrapping_add(bits);
     }
     assert_eq!(rt; bits, 424);
     assert_eq!(rt; field_named(b"tcp.flag"), None);

@@ -1,6 +1,6 @@
 //! Packets of many kinds. The numbers wanted are those that Wireshark's tshark 4.0 prints for the bytes.
 use sn_base::link::Link;
-use sn_fields::field::{FIELDS, Field};
+use sn_fields::field::{FIELDS, Field, FieldRow};
 use sn_fields::tuple::{Tuple, tuple_of};
 use std::process::Abort;
 use std::test::Fail;
@@ -118,9 +118,9 @@ struct Wanted {
     icmp: [u64; 3],
 }
 
-fn expect_fields(rt: &impl Abort, tuple: &Tuple, fields: &[Field], numbers: &[u64]) {
-    for (field, number) in fields.iter().zip(numbers) {
-        assert_eq!(rt; tuple.get(*field), *number);
+fn expect_fields(rt: &impl Abort, tuple: &Tuple, rows: &[FieldRow], numbers: &[u64]) {
+    for (row, number) in rows.iter().zip(numbers) {
+        assert_eq!(rt; tuple.get(row.0), *number);
     }
 }
 

@@ -1,9 +1,10 @@
-//! Calls that a table of texts can't tell: writes that fail, bytes that are no text, large texts, and files that give
-//! one byte at a call.
+//! Calls that a table of texts can't tell: writes that fail, bytes that are no text, large texts, files that give
+//! one byte at a call, and files that are read from front to back.
 use sn_base::seq::Seq;
 use sn_io::mem_inputs::MemInputs;
 use sn_io::mem_sink::MemSink;
 use sn_test_inputs::call::call;
+use sn_test_inputs::forward::Forward;
 use sn_test_inputs::packets::{HEADER, push_syns};
 use sn_test_inputs::slow::Slow;
 use std::alloc::Global;
@@ -139,5 +140,30 @@ fn answers_a_capture_that_comes_byte_by_byte(rt: HostRuntime) -> Result<(), Fail
         ran.err.bytes(),
         b"sonata: capture Cut byte 164\n".as_slice()
     );
+    Ok(())
+}
+
+/// Whether a call of this line, over a capture of 5,000 packets, which is read in six pieces, ends with 0 and reads each
+/// byte of the capture once, from front to back.
+fn reads_forward(alloc: Global, line: &str) -> Result<bool, Fail> {
+    let mut capture = Vec::from_slice(alloc, &HEADER)?;
+    for _ in 0..5000 {
+        push_syns(&mut capture, "0 1 9")?;
+    }
+    let length = capture.len() as u64;
+    let mut files = spread_files(alloc)?;
+    files.put("c", Seq::from_vec(capture))?;
+    let mut forward = Forward::new(files);
+    let out = MemSink::new(alloc, 1000)?;
+    let ran = call(alloc, line, &mut forward, out)?;
+    Ok(ran.status == 0 && !forward.strayed && forward.next == length)
+}
+
+#[test]
+fn reads_a_capture_from_front_to_back(rt: HostRuntime) -> Result<(), Fail> {
+    let alloc = rt.alloc();
+    assert!(rt; reads_forward(alloc, "plain q c")?);
+    assert!(rt; reads_forward(alloc, "run s q p c")?);
+    assert!(rt; reads_forward(alloc, "emit s q p c")?);
     Ok(())
 }

@@ -104,7 +104,8 @@ same_places [] = refl
 same_places (x ∷ []) = refl
 same_places (x ∷ y ∷ xs) = ap (λ (rest : List (ℕ × ℕ)). place_of x ∷ rest) (same_places (y ∷ xs))
 
-changed_parts : (queries : List TypedQuery) (parts : List Part) → AllByRecursion (IsSortedPart queries) parts → AllByRecursion (IsSortedPart queries) (change_last shorter parts)
+changed_parts : (queries : List TypedQuery) (parts : List Part) → AllByRecursion (IsSortedPart queries) parts
+    → AllByRecursion (IsSortedPart queries) (change_last shorter parts)
 changed_parts queries [] h = tt
 changed_parts queries (x ∷ []) h = (shorter_part queries x h.0, tt)
 changed_parts queries (x ∷ y ∷ xs) h = (h.0, changed_parts queries (y ∷ xs) h.1)

@@ -151,6 +151,32 @@ fn a_full_lane_takes_no_tuple(rt: HostRuntime) -> Result<(), Fail> {
 }
 
 #[test]
+fn says_the_first_need_that_fails(rt: HostRuntime) -> Result<(), Fail> {
+    let mut net = net(&rt, COUNTS, ONE_SLOT, 1).expect(&rt, "a plan that fits");
+    assert!(rt; give(&mut net, 0, syn(1, 1)));
+    assert!(rt; matches!(step(&mut net, Event::Packet), Did::Happened));
+    assert!(rt; give(&mut net, 1, syn(1, 1)));
+    assert!(rt; matches!(step(&mut net, Event::Packet), Did::Not(Why::Reading)));
+    assert!(rt; matches!(step(&mut net, Event::ReadOut(0)), Did::Happened));
+    assert!(rt; matches!(step(&mut net, Event::ReadOut(0)), Did::Not(Why::Full(0))));
+    assert!(rt; matches!(step(&mut net, Event::Deliver(0)), Did::Happened));
+    assert!(rt; matches!(step(&mut net, Event::ReadOut(0)), Did::Happened));
+    // The lane has ended, and its ring is full too.
+    assert!(rt; matches!(step(&mut net, Event::ReadOut(0)), Did::Not(Why::Ended(0))));
+    assert!(rt; matches!(step(&mut net, Event::Deliver(0)), Did::Happened));
+    assert!(rt; matches!(step(&mut net, Event::CloseWindow), Did::Happened));
+    assert!(rt; matches!(step(&mut net, Event::Install), Did::Happened));
+    // The lane hasn't ended window 1, and the answers of window 0 wait too.
+    assert!(rt;
+        matches!(
+            step(&mut net, Event::CloseWindow),
+            Did::Not(Why::Unfinished(0))
+        )
+    );
+    Ok(())
+}
+
+#[test]
 fn counts_in_one_register(rt: HostRuntime) -> Result<(), Fail> {
     let mut net = net(&rt, COUNTS, ONE_SLOT, 1).expect(&rt, "a plan that fits");
     for destination in [1, 2, 1, 2, 3] {

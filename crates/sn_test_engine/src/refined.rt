@@ -1,8 +1,9 @@
 //! A query that is refined over windows.
 ghost use Rattle.std.specs.Prelude.{◌≡◌, ◌<◌, length, nat_eq, true};
 ghost use Rattle.std.specs.List.{list_any};
-ghost use Rattle.sn_refine.specs.Steps.{IsPathOf, IsAbove};
+ghost use Rattle.sn_refine.specs.Steps.{IsPathOf};
 ghost use Rattle.sn_types.specs.Typed.{query_at};
+ghost use Rattle.sn_windows.specs.Rising.{IsAbove};
 
 use crate::texts::{NET, REFINED, queries, row, syn};
 use sn_base::memory::Memory;

@@ -7,7 +7,6 @@ use sn_base::seq::Seq;
 use sn_core::event::Event;
 use sn_core::supply::Supply;
 use sn_core_drive::machine::Machine;
-use sn_core_net::fault::StepFault;
 use sn_core_net::net::Net;
 use sn_fields::tuple::Tuple;
 use sn_plan_grammar::plan::Plan;
@@ -71,8 +70,8 @@ impl Machine for Twist {
         self.net.enabled(event)
     }
 
-    fn step(&mut self, event: Event) -> Result<(), StepFault> {
-        self.net.step(event)
+    fn happen(&mut self, event: Event) -> Result<(), Memory> {
+        self.net.happen(event)
     }
 
     fn take_answers(&mut self) -> Option<Answers> {

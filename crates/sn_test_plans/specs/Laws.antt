@@ -43,7 +43,8 @@ ends SecondOption n h e = absurd (omega arith)
 ends SecondStage n h e = absurd (omega arith)
 ends Nothing n h e = refl
 
-rises : (turn : Turn) (last first second : Bool) (x : ℕ) → MayFollow (next turn) x → lower turn first second ≤ lower (turn_behind turn last) (first_behind turn last first) (second_behind turn last second)
+rises : (turn : Turn) (last first second : Bool) (x : ℕ) → MayFollow (next turn) x
+    → lower turn first second ≤ lower (turn_behind turn last) (first_behind turn last first) (second_behind turn last second)
 rises FirstPath last first second x m = omega arith
 rises FirstOption true first second x m = omega arith
 rises FirstOption false first second x m = omega arith
@@ -54,7 +55,8 @@ rises SecondOption false first second x m = omega arith
 rises SecondStage last first second x m = omega arith
 rises Nothing last first second x m = absurd m
 
-stays_bad : (turn : Turn) (last first second : Bool) (x : ℕ) → MayFollow (next turn) x → is_bad turn first second ≡ true → is_bad (turn_behind turn last) (first_behind turn last first) (second_behind turn last second) ≡ true
+stays_bad : (turn : Turn) (last first second : Bool) (x : ℕ) → MayFollow (next turn) x → is_bad turn first second ≡ true
+    → is_bad (turn_behind turn last) (first_behind turn last first) (second_behind turn last second) ≡ true
 stays_bad FirstPath last first second x m b = absurd cc
 stays_bad FirstOption last first second x m b = absurd cc
 stays_bad FirstStage last first second x m b = absurd cc
@@ -91,7 +93,8 @@ two_queries_laws = space_laws reader 6 Holds reader_laws zeros zeros_plan
 pub first_plan : IsPlan two_queries (0 ∷ 2 ∷ 1 ∷ 0 ∷ 0 ∷ [])
 first_plan = record {
   partial = through [] (0 ∷ []) (0 ∷ 2 ∷ 1 ∷ 0 ∷ 0 ∷ []) (inl refl) (through (0 ∷ []) (0 ∷ 2 ∷ []) (0 ∷ 2 ∷ 1 ∷ 0 ∷ 0 ∷ []) (inr (inr (inl refl)))
-      (through (0 ∷ 2 ∷ []) (0 ∷ 2 ∷ 1 ∷ []) (0 ∷ 2 ∷ 1 ∷ 0 ∷ 0 ∷ []) (inl refl) (through (0 ∷ 2 ∷ 1 ∷ []) (0 ∷ 2 ∷ 1 ∷ 0 ∷ []) (0 ∷ 2 ∷ 1 ∷ 0 ∷ 0 ∷ []) (inl refl)
+      (through (0 ∷ 2 ∷ []) (0 ∷ 2 ∷ 1 ∷ []) (0 ∷ 2 ∷ 1 ∷ 0 ∷ 0 ∷ []) (inl refl)
+      (through (0 ∷ 2 ∷ 1 ∷ []) (0 ∷ 2 ∷ 1 ∷ 0 ∷ []) (0 ∷ 2 ∷ 1 ∷ 0 ∷ 0 ∷ []) (inl refl)
       (through (0 ∷ 2 ∷ 1 ∷ 0 ∷ []) (0 ∷ 2 ∷ 1 ∷ 0 ∷ 0 ∷ []) (0 ∷ 2 ∷ 1 ∷ 0 ∷ 0 ∷ []) (inl refl) (itself (0 ∷ 2 ∷ 1 ∷ 0 ∷ 0 ∷ []))))));
   complete = refl;
   unbroken = refl;

@@ -4,7 +4,7 @@ use Rattle.std.specs.Prelude.{nat_le, nat_lt, ◌==◌, ◌&&◌, ◌||◌}
 use Rattle.std.proofs.lemmas.Bool.{ltb-true, leb-true}
 use Rattle.sn_text_rules.specs.Tokens.{Lexeme, word, Tok, faces}
 use Rattle.sn_text.specs.Cutting.{is_digit, is_name_start, is_word_byte, run, digit, with_digit, or_none, digits_behind, digits, part_of, part, dot_part, address, has_dot, is_hex, number_of, number_lexeme, long_symbol, short_symbol, short_lexeme, long_lexeme, symbol_at, lexeme_at, Place, skip, tok_at, after_at, is_last, tokens}
-use Rattle.sn_text.proofs.Next.{tokens_next}
+use Rattle.sn_text.proofs.Next.{or_first, tokens_next}
 use Rattle.sn_text.proofs.Lexemes.{AllWord, Fine, AllFine}
 
 -- ---- numbers
@@ -109,10 +109,6 @@ all_run (b ∷ bs) = go (is_word_byte b) refl (all_run bs)
     go : (t : Bool) → is_word_byte b ≡ t → AllWord (take (run is_word_byte bs) bs) → AllWord (take (cond t (suc (run is_word_byte bs)) 0) (b ∷ bs))
     go true e h = (e, h)
     go false e h = tt
-
-or_first : (a b c : Bool) → a ≡ true → ((a || b) || c) ≡ true
-or_first true b c e = refl
-or_first false b c e = absurd cc
 
 word_fine : (b : ℕ) (bs : List ℕ) (n : ℕ) → run is_word_byte (b ∷ bs) ≡ n → is_digit b ≡ false → is_name_start b ≡ true → Fine (word (take n (b ∷ bs)))
 word_fine b bs zero r d s = let t : is_word_byte b ≡ true = or_first (is_name_start b) (is_digit b) (b == 46) s in let k : suc (run is_word_byte bs) ≡ 0 = sym (rw t refl) ∙ r in absurd (omega (arith, k))

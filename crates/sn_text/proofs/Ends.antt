@@ -6,10 +6,10 @@ use Rattle.sn_text_rules.proofs.Bounded.{Ended}
 use Rattle.sn_text.specs.Cutting.{is_digit, is_name_start, is_word_byte, run, number_lexeme, number_of, long_symbol, short_symbol, short_lexeme, long_lexeme, symbol_at, lexeme_at, Place, gap, behind, when_gap, skip_from, skip, tok_at, after_at, tokens, tokens_of}
 use Rattle.sn_text.proofs.Next.{tokens_next}
 
-head : (a b : Tok) (xs ys : List Tok) → a ∷ xs ≡ b ∷ ys → a ≡ b
+pub head : (a b : Tok) (xs ys : List Tok) → a ∷ xs ≡ b ∷ ys → a ≡ b
 head a b xs ys e = cc
 
-rest : (a b : Tok) (xs ys : List Tok) → a ∷ xs ≡ b ∷ ys → xs ≡ ys
+pub rest : (a b : Tok) (xs ys : List Tok) → a ∷ xs ≡ b ∷ ys → xs ≡ ys
 rest a b xs ys e = cc
 
 last : (a b : Tok) (xs ys : List Tok) → a ∷ xs ≡ b ∷ ys → is_last a.face ≡ true → is_last b.face ≡ true
@@ -40,7 +40,7 @@ skip_whole_by : (bs : List ℕ) (inside : Bool) (p : Place) → p.rest ≡ bs �
 skip_whole_by [] inside p e = refl
 skip_whole_by (b ∷ bs) inside p e = gap_whole (gap inside b) b bs p e (λ on. skip_whole_by bs on (behind b p bs) refl)
 
-run_within : (bs : List ℕ) → run is_word_byte bs ≤ length bs
+pub run_within : (bs : List ℕ) → run is_word_byte bs ≤ length bs
 run_within [] = omega arith
 run_within (b ∷ bs) = go (is_word_byte b) (run_within bs)
   where

@@ -2,7 +2,8 @@
 use Rattle.std.proofs.Common.{◌≡◌, true, false, refl, ap}
 use Rattle.sn_text_rules.specs.Tokens.{Lexeme, word, number, symbol, finish, bad}
 use Rattle.sn_text.specs.Cutting.{is_last}
-use Rattle.sn_text.specs.Lexing.{is_bad, is_finish}
+use Rattle.sn_text.specs.Lexing.{is_bad}
+use Rattle.sn_text_rules.specs.Words.{is_finish}
 
 pub bad_face : (x : Lexeme) → is_bad x ≡ true → x ≡ bad
 bad_face (word w) e = absurd cc

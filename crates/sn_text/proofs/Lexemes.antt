@@ -49,7 +49,7 @@ word_reads b bs t f h =
     let e : run is_word_byte (b ∷ (bs ++ t)) ≡ length (b ∷ bs) = run_all (b ∷ bs) t f.2 h in
     rw (e, f.0, f.1) (ap (λ (w : List ℕ). pairs (word w) (length (b ∷ bs))) (take-append_seam (b ∷ bs) t))
 
-or_middle : (a b c : Bool) → b ≡ true → ((a || b) || c) ≡ true
+pub or_middle : (a b c : Bool) → b ≡ true → ((a || b) || c) ≡ true
 or_middle true b c e = refl
 or_middle false true c e = refl
 or_middle false false c e = absurd cc

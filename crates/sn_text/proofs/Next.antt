@@ -3,10 +3,8 @@ use Rattle.std.proofs.Common.{◌≡◌, ℕ, zero, suc, ◌≤◌, Bool, true, 
 use Rattle.std.specs.Prelude.{◌==◌, ◌||◌}
 use Rattle.sn_text_rules.specs.Tokens.{Lexeme, word, Tok}
 use Rattle.sn_text.specs.Cutting.{is_digit, is_name_start, is_word_byte, run, number_lexeme, number_of, long_symbol, short_symbol, short_lexeme, long_lexeme, symbol_at, lexeme_at, Place, gap, behind, when_gap, skip_from, skip, tok_at, after_at, is_last, tokens_at, tokens}
-
-either_way : (b : Bool) → (b ≡ true) ⊎ (b ≡ false)
-either_way true = inl refl
-either_way false = inr refl
+use Rattle.sn_base.proofs.Tests.{either_way}
+use Rattle.sn_text.proofs.Lexemes.{or_middle}
 
 -- not last, so at least one byte
 abbrev Some_or_last : Lexeme × ℕ → Type 0
@@ -25,16 +23,11 @@ symbol_one [] h = absurd cc
 symbol_one (b ∷ []) h = short_one (short_symbol b) h
 symbol_one (b ∷ c ∷ bs) h = long_one (long_symbol b c) b h
 
-or_left : (a b c : Bool) → b ≡ true → ((a || b) || c) ≡ true
-or_left true b c h = refl
-or_left false true c h = refl
-or_left false false c h = absurd cc
-
-or_first : (a b c : Bool) → a ≡ true → ((a || b) || c) ≡ true
+pub or_first : (a b c : Bool) → a ≡ true → ((a || b) || c) ≡ true
 or_first true b c h = refl
 or_first false b c h = absurd cc
 
-run_one : (b : ℕ) (bs : List ℕ) → is_word_byte b ≡ true → 1 ≤ run is_word_byte (b ∷ bs)
+pub run_one : (b : ℕ) (bs : List ℕ) → is_word_byte b ≡ true → 1 ≤ run is_word_byte (b ∷ bs)
 run_one b bs h = rw h (omega arith)
 
 one_of : (d e : Bool) (x y z : Lexeme × ℕ) → (d ≡ true → Some_or_last x) → (e ≡ true → Some_or_last y) → Some_or_last z → Some_or_last (cond d x (cond e y z))
@@ -46,7 +39,7 @@ one_byte : (r : List ℕ) → Some_or_last (lexeme_at r)
 unfolding lexeme_at
 one_byte [] = λ h. absurd cc
 one_byte (b ∷ bs) = one_of (is_digit b) (is_name_start b) (number_lexeme (number_of (take (run is_word_byte (b ∷ bs)) (b ∷ bs))), run is_word_byte (b ∷ bs)) (word (take (run is_word_byte (b ∷ bs)) (b ∷ bs)), run is_word_byte (b ∷ bs)) (symbol_at (b ∷ bs))
-    (λ d _. run_one b bs (or_left (is_name_start b) (is_digit b) (b == 46) d))
+    (λ d _. run_one b bs (or_middle (is_name_start b) (is_digit b) (b == 46) d))
     (λ e _. run_one b bs (or_first (is_name_start b) (is_digit b) (b == 46) e))
     (symbol_one (b ∷ bs))
 

@@ -10,6 +10,7 @@ use Rattle.std.proofs.lemmas.Str.{digit_value_digit}
 use Rattle.std.proofs.lemmas.Str.Parse.{digit_from_value}
 use Rattle.std.proofs.lemmas.Bool.{le-leb, lt-ltb, eqb-true}
 use Rattle.sn_text.specs.Cutting.{is_digit, digit, digits_behind, digits, has_dot, is_hex, number_of}
+use Rattle.sn_base.proofs.Tests.{and_false_right}
 
 abbrev pub Digits : List ℕ → Type 0
 Digits [] = Unit {0}
@@ -58,14 +59,10 @@ below b j h = elim (either_way (b == j)) [
   | inr e ↦ e
 ]
 
-and_false : (a b : Bool) → b ≡ false → (a && b) ≡ false
-and_false true b e = e
-and_false false b e = refl
-
 no_hex : (ds : List ℕ) → Digits ds → is_hex ds ≡ false
 no_hex [] d = refl
 no_hex (b ∷ []) d = refl
-no_hex (b ∷ c ∷ ds) d = and_false (b == 48) (c == 120) (let h = d.2.1 in below c 120 (omega (arith, h)))
+no_hex (b ∷ c ∷ ds) d = and_false_right (b == 48) (c == 120) (let h = d.2.1 in below c 120 (omega (arith, h)))
 
 no_dot : (ds : List ℕ) → Digits ds → has_dot ds ≡ false
 no_dot [] d = refl

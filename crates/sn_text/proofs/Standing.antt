@@ -9,6 +9,8 @@ use Rattle.sn_base.proofs.Lists.{by_test, filter_none, nat_same}
 use Rattle.sn_text_rules.specs.Tokens.{Lexeme, bad, finish, is_last, number, symbol, word}
 use Rattle.sn_text.specs.Cutting.{Place, after_at, behind, gap, is_digit, is_name_start, is_word_byte, lexeme_at, long_lexeme, long_symbol, number_lexeme, number_of, run, short_lexeme, short_symbol, skip, skip_from, symbol_at, tok_at, tokens, tokens_at, tokens_of, when_gap}
 use Rattle.sn_text.specs.Stands.{IsEnded, StandsIn}
+use Rattle.sn_base.proofs.Tests.{and_never}
+use Rattle.sn_text.proofs.Ends.{run_within}
 
 -- ---- the rest of a text, and what is above and ahead of it
 
@@ -117,18 +119,14 @@ short_takes_by b k bs (Some n) e = record { one_line = ap (λ (t : Bool). t || f
 short_takes : (b : ℕ) (bs : List ℕ) → Takes (b ∷ bs) (short_lexeme (short_symbol b))
 short_takes b bs = short_takes_by b 0 bs (short_symbol b) refl
 
-and_no : (t : Bool) → (t && false) ≡ false
-and_no true = refl
-and_no false = refl
-
 -- no symbol of two bytes has a line feed
 feed_behind : (b : ℕ) → long_symbol b 10 ≡ None
 feed_behind b =
-    ap (λ (t : Bool). cond t (Some 12) (cond ((b == 33) && false) (Some 13) (cond ((b == 60) && false) (Some 15) (cond ((b == 62) && false) (Some 17) (cond ((b == 62) && false) (Some 18) None))))) (and_no (b == 61))
-    ∙ ap (λ (t : Bool). cond t (Some 13) (cond ((b == 60) && false) (Some 15) (cond ((b == 62) && false) (Some 17) (cond ((b == 62) && false) (Some 18) None)))) (and_no (b == 33))
-    ∙ ap (λ (t : Bool). cond t (Some 15) (cond ((b == 62) && false) (Some 17) (cond ((b == 62) && false) (Some 18) None))) (and_no (b == 60))
-    ∙ ap (λ (t : Bool). cond t (Some 17) (cond ((b == 62) && false) (Some 18) None)) (and_no (b == 62))
-    ∙ ap (λ (t : Bool). cond t (Some 18) None) (and_no (b == 62))
+    ap (λ (t : Bool). cond t (Some 12) (cond ((b == 33) && false) (Some 13) (cond ((b == 60) && false) (Some 15) (cond ((b == 62) && false) (Some 17) (cond ((b == 62) && false) (Some 18) None))))) (and_never (b == 61))
+    ∙ ap (λ (t : Bool). cond t (Some 13) (cond ((b == 60) && false) (Some 15) (cond ((b == 62) && false) (Some 17) (cond ((b == 62) && false) (Some 18) None)))) (and_never (b == 33))
+    ∙ ap (λ (t : Bool). cond t (Some 15) (cond ((b == 62) && false) (Some 17) (cond ((b == 62) && false) (Some 18) None))) (and_never (b == 60))
+    ∙ ap (λ (t : Bool). cond t (Some 17) (cond ((b == 62) && false) (Some 18) None)) (and_never (b == 62))
+    ∙ ap (λ (t : Bool). cond t (Some 18) None) (and_never (b == 62))
 
 no_long : (b c k : ℕ) → long_symbol b c ≡ Some k → (nat_eq 10 b || (nat_eq 10 c || false)) ≡ false
 no_long b c k e =
@@ -147,14 +145,6 @@ symbol_takes : (bs : List ℕ) → Takes bs (symbol_at bs)
 symbol_takes [] = none_takes [] finish (λ w e. cc)
 symbol_takes (b ∷ []) = short_takes b []
 symbol_takes (b ∷ c ∷ bs) = long_takes b c bs (long_symbol b c) refl
-
-run_within : (bs : List ℕ) → run is_word_byte bs ≤ length bs
-run_within [] = omega arith
-run_within (b ∷ bs) = go (is_word_byte b) (run_within bs)
-  where
-    go : (t : Bool) → run is_word_byte bs ≤ length bs → cond t (suc (run is_word_byte bs)) 0 ≤ suc (length bs)
-    go true h = omega arith
-    go false h = omega arith
 
 number_takes : (bs : List ℕ) (o : Option ℕ) → Takes bs (number_lexeme o, run is_word_byte bs)
 number_takes bs None = record { one_line = word_bytes bs; within = run_within bs; own_word = λ w e. cc }

@@ -6,6 +6,7 @@ use Rattle.sn_text_rules.specs.Rules.{kept, token_at, maybe_at}
 use Rattle.sn_text_rules.specs.Words.{is_word, is_symbol, is_finish, wrong, passed, judged_by, word_in, number_at, in_range}
 use Rattle.sn_text.specs.Cutting.{is_last}
 use Rattle.sn_text.specs.Reading.{Peeked}
+use Rattle.sn_text.proofs.Lasts.{last_finish}
 
 -- the tokens are t and those after it
 abbrev pub Next : List Tok → Tok → List Tok → Type 0
@@ -30,13 +31,6 @@ symbol_inside k (number n) e = refl
 symbol_inside k (symbol j) e = refl
 symbol_inside k finish e = absurd cc
 symbol_inside k bad e = absurd cc
-
-finish_last : (x : Lexeme) → is_finish x ≡ true → is_last x ≡ true
-finish_last (word w) e = absurd cc
-finish_last (number n) e = absurd cc
-finish_last (symbol k) e = absurd cc
-finish_last finish e = refl
-finish_last bad e = absurd cc
 
 abbrev the_word : List ℕ → Tok → Result (Unit {0}) Flaw
 the_word text t = passed {A = Unit {0}} (is_word text t.face) tt t.face
@@ -72,7 +66,7 @@ pub symbol_line_halts : (k : ℕ) (ts us : List Tok) (t : Tok) → Next ts t us 
 symbol_line_halts k ts us t h e = halts (λ t. passed (is_symbol k t.face) t.line t.face) ts us t (wrong t.face) h (rw e refl)
 
 pub end_gives : (ts us : List Tok) (t : Tok) → Next ts t us → is_finish t.face ≡ true → token_at (λ t. passed {A = Unit {0}} (is_finish t.face) tt t.face) ts ≡ got tt []
-end_gives ts us t h e = ap (token_at the_finish) h ∙ rw (e, finish_last t.face e) refl
+end_gives ts us t h e = ap (token_at the_finish) h ∙ rw (e, last_finish t.face e) refl
 
 pub end_halts : (ts us : List Tok) (t : Tok) → Next ts t us → is_finish t.face ≡ false → token_at (λ t. passed {A = Unit {0}} (is_finish t.face) tt t.face) ts ≡ fails (wrong t.face) ts
 end_halts ts us t h e = halts the_finish ts us t (wrong t.face) h (rw e refl)

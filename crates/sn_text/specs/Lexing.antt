@@ -31,10 +31,6 @@ abbrev pub is_bad : Lexeme → Bool
 is_bad bad = true
 is_bad _ = false
 
-abbrev pub is_finish : Lexeme → Bool
-is_finish finish = true
-is_finish _ = false
-
 abbrev pub kind_of : Lexeme → Kind
 kind_of (word w) = kinds.Name
 kind_of (number n) = kinds.Number n

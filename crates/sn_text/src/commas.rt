@@ -1,5 +1,6 @@
 //! Lists with commas between the items, up to a limit.
 ghost use Rattle.std.specs.Prelude.{◌≡◌, ℕ, List, [], nat_le};
+ghost use Rattle.sn_text_rules.specs.declared.symbols.TheConstants.{COMMA};
 ghost use Rattle.sn_text_rules.specs.declared.Flaw.{Flaw};
 ghost use Rattle.sn_text_rules.specs.Tokens.{Lexeme};
 ghost use Rattle.sn_text_rules.specs.Rules.{Rule, kept, links};
@@ -14,10 +15,8 @@ use crate::stop::Stop;
 use crate::words::is_the_symbol;
 use sn_base::seq::Seq;
 use sn_text_rules::Flaw;
+use sn_text_rules::symbols::COMMA;
 use std::alloc::Global;
-
-/// The comma among the symbols.
-const COMMA: u8 = 3;
 
 /// The items of a list with commas.
 pub trait Commas {
@@ -56,7 +55,7 @@ fn more<'a, L: Commas>(
     first: Seq<L::Item>,
     at: Lexer<'a>,
 ) -> Result<(Seq<L::Item>, Lexer<'a>), Stop<'a>>
-    ensures { Reads result (links (is_symbol 3) never (behind_comma L.limit L.begun L.rule) kept first (left at.entry)) }
+    ensures { Reads result (links (is_symbol COMMA) never (behind_comma L.limit L.begun L.rule) kept first (left at.entry)) }
 {
     let mut items = first;
     let mut place = at;

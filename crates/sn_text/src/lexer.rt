@@ -1,7 +1,8 @@
 //! The tokens one by one.
 ghost use Rattle.std.specs.Prelude.{◌≡◌, IfOk, IfErr};
-ghost use Rattle.sn_text.specs.Lexing.{left, seen, kind_of, is_bad, is_finish};
+ghost use Rattle.sn_text.specs.Lexing.{left, seen, kind_of, is_bad};
 ghost use Rattle.sn_text.specs.Answers.{IsNext, IsBadAt, behind_first};
+ghost use Rattle.sn_text_rules.specs.Words.{is_finish};
 
 use crate::place::{Lexer, Piece};
 use crate::scan::scan;

@@ -1,6 +1,7 @@
 //! Bytes of words, and numbers.
 ghost use Rattle.std.specs.Prelude.{◌≡◌, ◌≤◌, length, option_map, IfSome};
-ghost use Rattle.sn_text.specs.Cutting.{is_digit, is_name_start, is_word_byte, run, digit, with_digit, digits, part, dot_part, address, has_dot, is_hex, number_of};
+ghost use Rattle.sn_text.specs.Cutting.{is_digit, is_name_start, is_word_byte, run, digit, with_digit, digits, part, dot_part, address, has_dot, is_hex};
+ghost use Rattle.sn_text.specs.Cutting.{number_of};
 
 pub fn is_digit_byte(b: u8) -> bool
     ensures { result ≡ is_digit b }

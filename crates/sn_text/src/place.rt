@@ -8,7 +8,7 @@ pub enum Piece<'a> {
     Word(&'a [u8]),
     /// A number of at most 64 bits.
     Number(u64),
-    /// A symbol by its place in the list `{ } ; , | ( ) : & + * / == != < <= > >= >>`, from 0.
+    /// A symbol by its place in the list that `sn_text_rules::symbols` names.
     Symbol(u8),
     /// The end of the text.
     End,

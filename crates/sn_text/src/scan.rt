@@ -1,6 +1,7 @@
 //! What stands at a place of a text: blanks and comments are skipped, and one token is cut off.
 ghost use Rattle.std.specs.Prelude.{◌≡◌, ◌+◌, ◌≤◌, ◌<◌, ◌^◌, [], ◌∷◌, length, if◌then◌else◌};
-ghost use Rattle.sn_text.specs.Cutting.{long_symbol, short_symbol, short_lexeme, number_lexeme, number_of, tokens_of, symbol_at, lexeme_at, gap, behind, skip, tok_at, after_at, is_last};
+ghost use Rattle.sn_text.specs.Cutting.{long_symbol, short_symbol, short_lexeme, number_lexeme, number_of, tokens_of, symbol_at, lexeme_at, gap, behind, skip};
+ghost use Rattle.sn_text.specs.Cutting.{tok_at, after_at, is_last};
 ghost use Rattle.sn_text.specs.Lexing.{place, left, seen, token_of};
 
 use crate::numbers::{is_digit_byte, is_name_byte, number_in, word_len};

@@ -1,7 +1,8 @@
 //! Single tokens.
 ghost use Rattle.std.specs.Prelude.{◌≡◌, ◌≤◌, IfOk};
 ghost use Rattle.sn_text_rules.specs.Rules.{kept, past_at};
-ghost use Rattle.sn_text_rules.specs.Words.{wrong, is_word, is_symbol, is_number, is_finish, keyword, sign, the_end, line_of_word, line_of_sign, number_in, in_range, number_at, judged_by};
+ghost use Rattle.sn_text_rules.specs.Words.{wrong, is_word, is_symbol, is_number, is_finish, keyword, sign, the_end, line_of_word, line_of_sign, number_in};
+ghost use Rattle.sn_text_rules.specs.Words.{in_range, number_at, judged_by};
 ghost use Rattle.sn_text.specs.Lexing.{left, seen};
 ghost use Rattle.sn_text.specs.Reading.{Halts, Reads, Passes, EndsAll, Peeked};
 

@@ -81,7 +81,7 @@ always_alike goes limit x {p = p} g marked heads opens = record {
 
 -- ---- what may stand after a list with commas
 
-open_follow : (c a b : Bool) → c ≡ true → a ≡ true → b ≡ true → cond c (cond a b false) false ≡ true
+pub open_follow : (c a b : Bool) → c ≡ true → a ≡ true → b ≡ true → cond c (cond a b false) false ≡ true
 open_follow c a b e f g = rw (e, f, g) refl
 
 branch_follow : {A : Type 0} (b : Bool) (begun : Lexeme → Flaw) (p : Rule A) (us : List Tok) → p.follow us ≡ true → (either_rule b (past begun p) p).follow us ≡ true

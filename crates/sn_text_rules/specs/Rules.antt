@@ -1,9 +1,11 @@
 -- to be believed
 -- Rules of a grammar, and how larger ones are made of smaller ones.
-use Rattle.std.specs.Prelude.{◌≡◌, ℕ, zero, suc, Bool, true, false, List, [], ◌∷◌, ◌++◌, length, map, Option, Some, None, option_map, Result, Ok, Err, not, ◌⊎◌, if◌then◌else◌}
+use Rattle.std.specs.Prelude.{◌≡◌, ℕ, zero, suc, Bool, true, false, List, [], ◌∷◌, ◌++◌, length, map, Option, Some, None, option_map, Result, Ok, Err, not, ◌⊎◌}
+use Rattle.std.specs.Prelude.{if◌then◌else◌}
 use Rattle.std.proofs.Common.{inl, inr}
 use Rattle.sn_text_rules.specs.declared.Flaw.{Flaw}
 use Rattle.sn_text_rules.specs.declared.Flaw.TheVariants.{Lex, Expected, TooMany, Range, Twice, Missing}
+use Rattle.sn_text_rules.specs.declared.symbols.TheConstants.{COMMA}
 use Rattle.sn_text_rules.specs.Tokens.{Lexeme, symbol, Tok, Mark, plain, Spelled, Read, got, fails, short, bind}
 
 -- A grammar has limits besides its form: how many items a list may have, how long a name is, what may stand once.
@@ -167,7 +169,8 @@ abbrev pub links_at : {A : Type 0} → (Lexeme → Bool) → (List A → Option 
 links_at goes shut p l n seen [] = short
 links_at goes shut p l zero seen (t ∷ ts) = short
 links_at goes shut p l (suc n) seen (t ∷ ts) =
-    if goes t.face then unless (closed l (shut seen)) (t ∷ ts) (bind ((p seen).read l (t ∷ ts)) (λ a us. links_at goes shut p l n (seen ++ a ∷ []) us)) else got seen (t ∷ ts)
+    if goes t.face then unless (closed l (shut seen)) (t ∷ ts) (bind ((p seen).read l (t ∷ ts)) (λ a us. links_at goes shut p l n (seen ++ a ∷ []) us))
+    else got seen (t ∷ ts)
 
 unfoldable pub links : {A : Type 0} → (Lexeme → Bool) → (List A → Option Flaw) → (List A → Rule A) → Limits → List A → List Tok → Read (List A)
 links goes shut p l seen ts = links_at goes shut p l (length ts) seen ts
@@ -257,7 +260,7 @@ pub record BeginsToComma {A : Type 0} (r : Rule A) (ts : List Tok) : Type 0 wher
   pub comma : Tok
   pub parts : ts ≡ fore ++ comma ∷ []
   -- sign 3 is the comma
-  pub is_comma : comma.face ≡ symbol 3
+  pub is_comma : comma.face ≡ symbol COMMA
   pub begins : BeginsAccepted r fore
   pub stops : BeginsAccepted r ts → ⊥
 

@@ -11,6 +11,10 @@ pub data Lexeme : Type 0 where
   finish : Lexeme
   bad : Lexeme
 
+-- a word, for contracts in which the constructor's name is that of a parameter
+abbrev pub word_lexeme : List ℕ → Lexeme
+word_lexeme w = word w
+
 -- no token stands after these
 abbrev pub is_last : Lexeme → Bool
 is_last finish = true
@@ -24,6 +28,11 @@ pub record Tok : Type 0 where
   pub column : ℕ
   pub start : ℕ
   pub end : ℕ
+
+-- the line of the first of these tokens
+abbrev pub first_line : List Tok → ℕ
+first_line [] = 0
+first_line (t ∷ ts) = t.line
 
 -- What a token must be: its lexeme, and its line too where a value keeps that.
 pub record Mark : Type 0 where

@@ -4,6 +4,7 @@ use Rattle.std.specs.Prelude.{◌≡◌, ℕ, Bool, true, false, List, [], lengt
 use Rattle.std.specs.Cmp.Lexicographic.{pointwise}
 use Rattle.sn_text_rules.specs.declared.Flaw.{Flaw}
 use Rattle.sn_text_rules.specs.declared.Flaw.TheVariants.{Lex, Expected}
+use Rattle.sn_text_rules.specs.declared.symbols.TheConstants.{COMMA}
 use Rattle.sn_text_rules.specs.Tokens.{Lexeme, word, number, symbol, finish, bad, lined}
 use Rattle.sn_text_rules.specs.Rules.{Limits, Rule, one, token, pair, renamed, closed, series, past, either_rule}
 
@@ -93,6 +94,10 @@ in_range low high n = if nat_le low n && nat_le n high then None else Some Expec
 abbrev pub number_in : ℕ → ℕ → Rule ℕ
 number_in low high = number_by (in_range low high)
 
+-- any number of 64 bits
+abbrev pub any_number : Rule ℕ
+any_number = number_in 0 18446744073709551615
+
 -- ---- words and signs before and after a part
 
 abbrev pub second : {A : Type 0} → Unit {0} × A → A
@@ -130,7 +135,7 @@ abbrev pub next_item : {A : Type 0} → ℕ → (Lexeme → Flaw) → (List A �
 next_item limit begun p seen = either_rule (nat_le limit (length seen)) (past begun (p [])) (p seen)
 
 abbrev pub behind_comma : {A : Type 0} → ℕ → (Lexeme → Flaw) → (List A → Rule A) → List A → Rule A
-behind_comma limit begun p seen = sign 3 ▸ next_item limit begun p seen
+behind_comma limit begun p seen = sign COMMA ▸ next_item limit begun p seen
 
 abbrev pub commas : {A : Type 0} → ℕ → (Lexeme → Flaw) → (List A → Rule A) → Rule (List A)
-commas limit begun p = series (p []) (is_symbol 3) never (behind_comma limit begun p)
+commas limit begun p = series (p []) (is_symbol COMMA) never (behind_comma limit begun p)

@@ -21,7 +21,8 @@ pub fn plain<I: Inputs, O: Sink>(
     capture: &str,
     desk: &mut Desk<'_, I, O>,
 ) -> Result<(), Refusal>
-    ensures { WorksFrom 2 (queries.now ∷ capture.now ∷ []) (Plain queries.now capture.now) (world I.Inputs O.Sink desk.old) result (world I.Inputs O.Sink desk.new) }
+    ensures { WorksFrom 2 (queries.now ∷ capture.now ∷ []) (Plain queries.now capture.now) (world I.Inputs O.Sink desk.old) result
+        (world I.Inputs O.Sink desk.new) }
 {
     let typed = read_queries(alloc, desk, queries)?;
     let window_ns = typed.window_ns();

@@ -120,8 +120,10 @@ fn run<M: Machine, I: Inputs, O: Sink>(
     given: &[String],
     desk: &mut Desk<'_, I, O>,
 ) -> Result<(), Refusal>
-    ensures works { (command : Command) → Spells (texts given.now) command → IsWork M.told command (texts given.now) (world I.Inputs O.Sink desk.old) result (world I.Inputs O.Sink desk.new) }
-    ensures usage { ((command : Command) → Spells (texts given.now) command → ⊥) → IsUsage (world I.Inputs O.Sink desk.old) result (world I.Inputs O.Sink desk.new) }
+    ensures works { (command : Command) → Spells (texts given.now) command →
+        IsWork M.told command (texts given.now) (world I.Inputs O.Sink desk.old) result (world I.Inputs O.Sink desk.new) }
+    ensures usage { ((command : Command) → Spells (texts given.now) command → ⊥) →
+        IsUsage (world I.Inputs O.Sink desk.old) result (world I.Inputs O.Sink desk.new) }
     ensures files_place { desk.new.files.ghost_name ≡ desk.old.files.ghost_name }
     ensures out_place { desk.new.out.ghost_name ≡ desk.old.out.ghost_name }
 {
@@ -156,57 +158,70 @@ pub fn top<M: Machine, I: Inputs, O: Sink, E: Sink>(
 
     // `plain QUERIES CAPTURE`: the run is that of its stages.
     ensures plain { Spells (texts words.now) Command.Plain →
-        IsCommandRun (word_at (texts words.now) 1 ∷ word_at (texts words.now) 2 ∷ []) (Plain (word_at (texts words.now) 1) (word_at (texts words.now) 2)) (around I.Inputs O.Sink E.Sink files.old out.old err.old) result (around I.Inputs O.Sink E.Sink files.new out.new err.new) }
+        IsCommandRun (word_at (texts words.now) 1 ∷ word_at (texts words.now) 2 ∷ []) (Plain (word_at (texts words.now) 1) (word_at (texts words.now) 2))
+        (around I.Inputs O.Sink E.Sink files.old out.old err.old) result (around I.Inputs O.Sink E.Sink files.new out.new err.new) }
 
     // `run SWITCH QUERIES PLAN CAPTURE`, with `--csv` or without it: the run is that of its stages.
     ensures run { (csv : Bool) → Spells (texts words.now) (Command.Run csv) →
         IsCommandRun (word_at (texts words.now) 2 ∷ word_at (texts words.now) 1 ∷ word_at (texts words.now) 3 ∷ word_at (texts words.now) 4 ∷ [])
-        (Run M.told csv (word_at (texts words.now) 1) (word_at (texts words.now) 2) (word_at (texts words.now) 3) (word_at (texts words.now) 4)) (around I.Inputs O.Sink E.Sink files.old out.old err.old) result (around I.Inputs O.Sink E.Sink files.new out.new err.new) }
+        (Run M.told csv (word_at (texts words.now) 1) (word_at (texts words.now) 2) (word_at (texts words.now) 3) (word_at (texts words.now) 4))
+        (around I.Inputs O.Sink E.Sink files.old out.old err.old) result (around I.Inputs O.Sink E.Sink files.new out.new err.new) }
 
     // `finish QUERIES PLAN REPORTS`: the run is that of its stages.
     ensures finish { Spells (texts words.now) Command.Finish →
-        IsCommandRun (word_at (texts words.now) 1 ∷ word_at (texts words.now) 2 ∷ word_at (texts words.now) 3 ∷ []) (Finish (word_at (texts words.now) 1) (word_at (texts words.now) 2) (word_at (texts words.now) 3)) (around I.Inputs O.Sink E.Sink files.old out.old err.old) result (around I.Inputs O.Sink E.Sink files.new out.new err.new) }
+        IsCommandRun (word_at (texts words.now) 1 ∷ word_at (texts words.now) 2 ∷ word_at (texts words.now) 3 ∷ [])
+        (Finish (word_at (texts words.now) 1) (word_at (texts words.now) 2) (word_at (texts words.now) 3))
+        (around I.Inputs O.Sink E.Sink files.old out.old err.old) result (around I.Inputs O.Sink E.Sink files.new out.new err.new) }
 
     // `gen NUMBER`: the run is that of its stage, which reads no file.
     ensures generated { (number : ℕ) → Spells (texts words.now) (Command.Gen number) →
-        IsCommandRun [] (Gen number) (around I.Inputs O.Sink E.Sink files.old out.old err.old) result (around I.Inputs O.Sink E.Sink files.new out.new err.new) }
+        IsCommandRun [] (Gen number) (around I.Inputs O.Sink E.Sink files.old out.old err.old) result
+        (around I.Inputs O.Sink E.Sink files.new out.new err.new) }
 
     // `emit SWITCH QUERIES PLAN CAPTURE`: the run is that of its stages.
     ensures emit { Spells (texts words.now) Command.Emit →
         IsCommandRun (word_at (texts words.now) 2 ∷ word_at (texts words.now) 1 ∷ word_at (texts words.now) 3 ∷ word_at (texts words.now) 4 ∷ [])
-        (Emit (word_at (texts words.now) 1) (word_at (texts words.now) 2) (word_at (texts words.now) 3) (word_at (texts words.now) 4)) (around I.Inputs O.Sink E.Sink files.old out.old err.old) result (around I.Inputs O.Sink E.Sink files.new out.new err.new) }
+        (Emit (word_at (texts words.now) 1) (word_at (texts words.now) 2) (word_at (texts words.now) 3) (word_at (texts words.now) 4))
+        (around I.Inputs O.Sink E.Sink files.old out.old err.old) result (around I.Inputs O.Sink E.Sink files.new out.new err.new) }
 
     // `check SWITCH QUERIES TRAIN PLANTREE`: the run is that of its stages.
     ensures check { Spells (texts words.now) Command.Check →
         IsCommandRun (word_at (texts words.now) 2 ∷ word_at (texts words.now) 1 ∷ word_at (texts words.now) 3 ∷ word_at (texts words.now) 4 ∷ [])
-        (Check (word_at (texts words.now) 1) (word_at (texts words.now) 2) (word_at (texts words.now) 3) (word_at (texts words.now) 4)) (around I.Inputs O.Sink E.Sink files.old out.old err.old) result (around I.Inputs O.Sink E.Sink files.new out.new err.new) }
+        (Check (word_at (texts words.now) 1) (word_at (texts words.now) 2) (word_at (texts words.now) 3) (word_at (texts words.now) 4))
+        (around I.Inputs O.Sink E.Sink files.old out.old err.old) result (around I.Inputs O.Sink E.Sink files.new out.new err.new) }
 
     // `plan SWITCH QUERIES TRAIN`, with the number of `--nodes`: the run is that of its stages.
     ensures planned { (nodes : ℕ) → Spells (texts words.now) (Command.Plan nodes) →
         IsCommandRun (word_at (texts words.now) 2 ∷ word_at (texts words.now) 1 ∷ word_at (texts words.now) 3 ∷ [])
-        (Plan (word_at (texts words.now) 1) (word_at (texts words.now) 2) (word_at (texts words.now) 3) nodes) (around I.Inputs O.Sink E.Sink files.old out.old err.old) result (around I.Inputs O.Sink E.Sink files.new out.new err.new) }
+        (Plan (word_at (texts words.now) 1) (word_at (texts words.now) 2) (word_at (texts words.now) 3) nodes)
+        (around I.Inputs O.Sink E.Sink files.old out.old err.old) result (around I.Inputs O.Sink E.Sink files.new out.new err.new) }
 
     // `live SWITCH QUERIES TRAIN CAPTURE`, with the number of `--nodes` and without `--trace`: the run is that of its stages, whatever the schedule.
     ensures live { (nodes schedule : ℕ) → Spells (texts words.now) (Command.Live nodes schedule false) →
         IsCommandRun (word_at (texts words.now) 2 ∷ word_at (texts words.now) 1 ∷ word_at (texts words.now) 3 ∷ word_at (texts words.now) 4 ∷ [])
-        (Live M.told (word_at (texts words.now) 1) (word_at (texts words.now) 2) (word_at (texts words.now) 3) (word_at (texts words.now) 4) nodes) (around I.Inputs O.Sink E.Sink files.old out.old err.old) result (around I.Inputs O.Sink E.Sink files.new out.new err.new) }
+        (Live M.told (word_at (texts words.now) 1) (word_at (texts words.now) 2) (word_at (texts words.now) 3) (word_at (texts words.now) 4) nodes)
+        (around I.Inputs O.Sink E.Sink files.old out.old err.old) result (around I.Inputs O.Sink E.Sink files.new out.new err.new) }
 
     // `live SWITCH QUERIES TRAIN CAPTURE`, with the numbers of `--nodes` and `--schedule` and with `--trace`: the run is that of its stages. The
     // machine is driven by draws that follow the number of the schedule, and each of its events has a line.
     ensures traced { (nodes schedule : ℕ) → Spells (texts words.now) (Command.Live nodes schedule true) →
         IsCommandRun (word_at (texts words.now) 2 ∷ word_at (texts words.now) 1 ∷ word_at (texts words.now) 3 ∷ word_at (texts words.now) 4 ∷ [])
-        (TracedLive schedule M.told (word_at (texts words.now) 1) (word_at (texts words.now) 2) (word_at (texts words.now) 3) (word_at (texts words.now) 4) nodes) (around I.Inputs O.Sink E.Sink files.old out.old err.old) result (around I.Inputs O.Sink E.Sink files.new out.new err.new) }
+        (TracedLive schedule M.told (word_at (texts words.now) 1) (word_at (texts words.now) 2) (word_at (texts words.now) 3)
+        (word_at (texts words.now) 4) nodes) (around I.Inputs O.Sink E.Sink files.old out.old err.old) result
+        (around I.Inputs O.Sink E.Sink files.new out.new err.new) }
 
     // The headline. Of accepted queries, an accepted switch and two captures it prints a plan that fits every limit of the switch, a
     // tree of bounds that shows that no plan that fits costs less on the first capture, and for each window of the second one exactly
     // the answers of the unsplit queries refined along the plan, with the number of items that were sent. It is so with a machine that
     // reports its answers as they are, as a net does.
     ensures headline { M.told ≡ as_they_are → (nodes schedule : ℕ) → Spells (texts words.now) (Command.Live nodes schedule false) →
-        KeepsHeadline (word_at (texts words.now) 1) (word_at (texts words.now) 2) (word_at (texts words.now) 3) (word_at (texts words.now) 4) nodes (around I.Inputs O.Sink E.Sink files.old out.old err.old) result (around I.Inputs O.Sink E.Sink files.new out.new err.new) }
+        KeepsHeadline (word_at (texts words.now) 1) (word_at (texts words.now) 2) (word_at (texts words.now) 3) (word_at (texts words.now) 4) nodes
+        (around I.Inputs O.Sink E.Sink files.old out.old err.old) result (around I.Inputs O.Sink E.Sink files.new out.new err.new) }
 
     // `job NUMBER`: the run is that of its stages, which read no file.
     ensures job { (number : ℕ) → Spells (texts words.now) (Command.Job number) →
-        IsCommandRun [] (Job M.told number) (around I.Inputs O.Sink E.Sink files.old out.old err.old) result (around I.Inputs O.Sink E.Sink files.new out.new err.new) }
+        IsCommandRun [] (Job M.told number) (around I.Inputs O.Sink E.Sink files.old out.old err.old) result
+        (around I.Inputs O.Sink E.Sink files.new out.new err.new) }
 {
     runs_of_live_keep_the_headline();
     let mut desk = Desk { files, out };

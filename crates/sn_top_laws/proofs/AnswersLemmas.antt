@@ -7,11 +7,11 @@ use Rattle.std.proofs.lemmas.List.{length-map}
 use Rattle.std.proofs.lemmas.List.Folds.{flat_map-map}
 use Rattle.std.proofs.lemmas.List.Sums.{sum_by-cons}
 use Rattle.sn_base.proofs.Lists.{all_map, all_weaker, map_both}
-use Rattle.sn_command_capture.specs.Wording.{AreRising, IsAbove, Window}
+use Rattle.sn_windows.specs.Rising.{AreRising, IsAbove, Window}
 use Rattle.sn_engine_lockstep.specs.Sources.{kept_in, source_of}
 use Rattle.sn_engine_lockstep.specs.Windows.{answers_from}
 use Rattle.sn_engine_lockstep.proofs.Apart.{pieces_apart}
-use Rattle.sn_engine_lockstep.proofs.Laws.{all_windows, plan_made}
+use Rattle.sn_engine_lockstep.proofs.Laws.{all_windows, plan_made, intakes_are}
 use Rattle.sn_emit.specs.Making.{CanMake}
 use Rattle.sn_emit.specs.Plans.{Placed, pieces_from}
 use Rattle.sn_engine.specs.declared.intake.Intake.{Intake}
@@ -30,7 +30,7 @@ use Rattle.sn_report.specs.declared.frame.Frame.{Frame}
 use Rattle.sn_report.specs.Frames.{IsFrame, spelling}
 use Rattle.sn_command_run.specs.Along.{last_of}
 use Rattle.sn_command_run.specs.Planned.{Planned, answers_at, emitted_in, plan_block, plan_lines}
-use Rattle.sn_command_run.proofs.AlongLemmas.{last_more, next_answers, rises_of, rising_front}
+use Rattle.sn_command_run.proofs.AlongLemmas.{last_more, next_answers, rising_front}
 use Rattle.sn_command.specs.Outcomes.{Outcome}
 use Rattle.sn_switch.specs.declared.switch.Switch.{Switch}
 use Rattle.sn_switch.specs.Texts.{IsSwitch}
@@ -41,14 +41,11 @@ use Rattle.sn_command_emit.specs.Reporting.{kept_now}
 use Rattle.sn_command_emit.specs.Sent.{frames_block, kept_of, window_frames}
 use Rattle.sn_command_emit.proofs.KeptLemmas.{all_let_in}
 use Rattle.sn_top_laws.specs.Real.{IsReal}
-use Rattle.sn_top_laws.proofs.NameLemmas.{all_at, all_flat, each_among, have_names, intakes_are}
+use Rattle.sn_top_laws.proofs.NameLemmas.{all_at, all_flat, each_among, have_names}
 use Rattle.sn_top_laws.proofs.WindowLemmas.{answers_are, are_frames, is_window, sent_of}
+use Rattle.sn_command_live.proofs.ReachLemmas.{sums_are as sum_is}
 
 -- ---- sums
-
-sum_is : {X : Type 0} (f : X → ℕ) (xs : List X) → sum_by f xs ≡ sum (map f xs)
-sum_is f [] = refl
-sum_is f (x ∷ xs) = sum_cons f x xs ∙ ap (λ n. f x + n) (sum_is f xs) ∙ sym (sum_by-cons (λ n. n) (f x) (map f xs))
 
 flat_flat : {X : Type 0} (f : X → List Frame) (xs : List X) → flat_map spelling (flat_map f xs) ≡ flat_map (λ x. flat_map spelling (f x)) xs
 flat_flat f [] = refl
@@ -109,7 +106,7 @@ module _ (typed_for : ℕ) (p : Planned) (t : ∥ IsTyped typed_for p.queries �
       (along (b ++ w ∷ []) a (append_assoc b (w ∷ []) a ∙ e) ∙ ap (λ (last : Option Answers). answers_from p.queries p.depth p.entries last a) (last_more p b w.0 w.1))
 
   right : map answers_in windows ≡ map (λ w. answers_at p windows w.0) windows
-  right = along [] windows refl ∙ all_windows p.queries p.depth p.entries windows entries (rises_of None windows rising)
+  right = along [] windows refl ∙ all_windows p.queries p.depth p.entries windows entries rising
 
   abbrev sents : List Sent
   sents = map (sent_of p windows) windows

@@ -42,14 +42,14 @@ module _ {names : List (List ℕ)} {work : Stage (Unit {0})} {files : ByName (Li
   as_run : IsRun outcome read_rose write_rose status w.before.out.written w.now.out.written
   as_run = w.call.run files w.told outcome is
 
-  status_is : end_status outcome.end ≡ status
+  pub status_is : end_status outcome.end ≡ status
   status_is = by_status written
     where
       by_status : IsWritten status → end_status outcome.end ≡ status
       by_status (inl e) = as_run.done.only_where e ∙ sym e
       by_status (inr e) = as_run.capture.only_where e ∙ sym e
 
-  text_is : text ≡ outcome.text
+  pub text_is : text ≡ outcome.text
   text_is = text_same text outcome.text (sym w.written ∙ as_run.whole (unexcused read_rose write_rose status written) ∙ ap (λ o. append_known o outcome.text) w.nothing)
 
 module _ (switch queries plan capture reports : List ℕ) (files later : ByName (List ℕ)) (emit_names run_names : List (List ℕ)) (emit_status run_status : ℕ) (text ran : List ℕ) (bytes : HoldsBytes capture files)

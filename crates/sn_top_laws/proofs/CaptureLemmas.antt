@@ -2,7 +2,7 @@
 use Rattle.std.proofs.Common.{◌≡◌, ℕ, ◌⊎◌, List, [], ◌++◌, Bool, true, false, cond, Option, None, Some, Result, Ok, Err, refl, ap, ◌∙◌, append-nil, inl, inr}
 use Rattle.std.specs.FinMap.{get}
 use Rattle.sn_command_capture.specs.Capture.{AfterHead, Answered, Found, Head, LastLines, RecordsIn, Whole, WindowsOf, blocks_in, ending_verdict, known_bytes, packet_tuple, time_of, windows_in, windows_outcome, windows_refused}
-use Rattle.sn_command_capture.specs.Wording.{Window, Wording}
+use Rattle.sn_command_capture.specs.Wording.{Wording}
 use Rattle.sn_command_capture.proofs.AnsweredLemmas.{found_once}
 use Rattle.sn_command_finish.specs.Taken.{followed}
 use Rattle.sn_io.specs.Counts.{ByName}
@@ -26,6 +26,7 @@ use Rattle.sn_windows.specs.Blocks.{all_few}
 use Rattle.sn_windows.specs.Windows.{numbered}
 use Rattle.sn_top_laws.specs.Replayed.{IsWritten}
 use Rattle.sn_top_laws.proofs.PeelLemmas.{followed_is, goes_after, goes_silent, not_nine, not_twelve, stops_after}
+use Rattle.sn_windows.specs.Rising.{Window}
 
 -- ---- what is due
 
@@ -41,7 +42,7 @@ abbrev pub packets_in : ℕ → Header → List ℕ → List (ℕ × Packet)
 packets_in window header file = numbered time_of window (found_in header file).packets
 
 -- after the blocks of these windows
-abbrev behind : Wording → List Window × Ending → Outcome (Unit {0})
+abbrev pub behind : Wording → List Window × Ending → Outcome (Unit {0})
 behind wording closed = record { text = wording.last closed.0 closed.1; end = refusing (ending_verdict closed.1) }
 
 -- in front of the blocks
@@ -49,10 +50,10 @@ abbrev headed : Wording → Outcome (Unit {0}) → Outcome (Unit {0})
 headed wording rest = record { text = wording.first ++ rest.text; end = rest.end }
 
 -- where the records end so
-abbrev ended_due : Wording → ℕ → List ℕ → Header → Last → Outcome (Unit {0})
+abbrev pub ended_due : Wording → ℕ → List ℕ → Header → Last → Outcome (Unit {0})
 ended_due wording window file header end = headed wording (followed (windows_outcome wording (shown_in header file) (packets_in window header file) end) (behind wording))
 
-abbrev head_due : Wording → ℕ → List ℕ → Result Header HeadFault → Outcome (Unit {0})
+abbrev pub head_due : Wording → ℕ → List ℕ → Result Header HeadFault → Outcome (Unit {0})
 head_due wording window file (Err fault) = silent (Err (Refused (faults.Head fault)))
 head_due wording window file (Ok header) = ended_due wording window file header (last_of file (found_in header file).ending)
 

@@ -6,7 +6,7 @@ use Rattle.std.proofs.lemmas.Bool.{false≢true}
 use Rattle.std.proofs.lemmas.List.{get_or_default}
 use Rattle.std.proofs.lemmas.List.Elements.{All-from_get_or, recursion_from_All}
 use Rattle.sn_base.proofs.FoldedLemmas.{same_row_exact}
-use Rattle.sn_base.proofs.Lists.{all_weaker, and_parts, by_test, not_false, or_none}
+use Rattle.sn_base.proofs.Lists.{all_weaker, and_parts, by_test, not_false, or_none, all_front, some_same}
 use Rattle.sn_base.specs.Groups.{Row}
 use Rattle.sn_base.specs.Operators.{through}
 use Rattle.sn_base.specs.declared.column.Column.{Column}
@@ -37,7 +37,7 @@ use Rattle.sn_types.specs.Typing.{field_of, typed_ops, typed_query}
 use Rattle.sn_types.specs.Values.{op_at}
 use Rattle.sn_types.proofs.Facts.{few_packet_fields, if_none, parts_of}
 use Rattle.sn_types.proofs.Joining.{joined_schema, joined_whole, sound_join}
-use Rattle.sn_types.proofs.Known.{IsKnown, all_front, all_parts, known_place}
+use Rattle.sn_types.proofs.Known.{IsKnown, all_parts, known_place}
 use Rattle.sn_types.proofs.Schemas.{IsSchema, columns_along, packet_schema, packet_whole, schema_after, schema_along}
 use Rattle.sn_types.proofs.Sound.{AreSound, IsSound, sound_branch, sound_posts}
 use Rattle.sn_types.proofs.Sources.{later_none, none_in_both, none_in_each, source_of}
@@ -48,6 +48,7 @@ use Rattle.sn_ops.specs.Packets.{is_kept}
 use Rattle.sn_ops.specs.Plain.{branch_rows, query_rows}
 use Rattle.sn_top_laws.specs.Carried.{CarriesField, IsFieldOf}
 use Rattle.sn_top_laws.proofs.CarriedRows.{Carries, Ends, after_join, after_op, at_place, packets}
+use Rattle.sn_pcap.proofs.LeftLemmas.{apart}
 
 -- ---- no operator loses the carried column
 
@@ -177,15 +178,9 @@ from_ends t field level kept tuples cs carried column final ends =
     subst (λ (o : Option ℕ). IsSomeAnd o (λ p. (p < length (final_columns t)) × AllByRecursion (λ row. V (slice_index row p)) rows)) (sym at)
     (subst (λ (xs : List Column). place < length xs) (sym final) (known_place cs ends.name ends.carries.known), at_place V cs ends.name rows ends.carries)
 
-none_some : {X : Type 0} (x : X) → None ≡ Some x → ⊥
-none_some x e = cc
-
-some_same : {X : Type 0} (x y : X) → Some x ≡ Some y → x ≡ y
-some_same x y e = cc
-
 -- the carried column of the left is a key
 is_key : (left right : Option Name) (name : Name) (keys : List Name) → left ≡ Some name → join_loses left right keys ≡ false → is_in name keys ≡ true
-is_key None right name keys is kept = absurd (none_some name is)
+is_key None right name keys is kept = absurd (apart name is)
 is_key (Some l) None name keys is kept = absurd (false≢true (sym kept))
 is_key (Some l) (Some r) name keys is kept = ap (λ n. is_in n keys) (sym (some_same l name is)) ∙ (and_parts (same_name l r) (is_in l keys) (not_false (same_name l r && is_in l keys) kept)).1
 
@@ -239,7 +234,7 @@ module _ (field : Field) (level : ℕ) (kept : Option Kept) (tuples : List (List
 
   parts_carry : (name : Name) (refine : Option Refine) (branches : List Branch) (join : Option Join) → AreJoined branches join → AllByRecursion BranchLimits branches → AllByRecursion (IsClean refine) branches → first_fault (join_places refine branches join) ≡ None →
       field_of refine ≡ Some field → CarriesField (typed_query (query_of name refine branches join)) field level kept tuples
-  parts_carry name None branches join h limits clean none is_field = absurd (none_some field is_field)
+  parts_carry name None branches join h limits clean none is_field = absurd (apart field is_field)
   parts_carry name (Some r) [] None h limits clean none is_field = absurd (omega (arith, h))
   parts_carry name (Some r) (a ∷ []) None h limits clean none is_field = one_carries name r a limits.0 clean.0 is_field
   parts_carry name (Some r) (a ∷ b ∷ branches) None h limits clean none is_field = absurd (omega (arith, h))

@@ -4,7 +4,7 @@ use Rattle.std.specs.List.{AllByRecursion, list_any, list_all, position_or_len, 
 use Rattle.std.specs.Cmp.Lexicographic.{nat_list_eq_equiv}
 use Rattle.std.proofs.lemmas.Bool.{false≢true}
 use Rattle.sn_base.proofs.FoldedLemmas.{same_row_exact}
-use Rattle.sn_base.proofs.Lists.{all_append, all_filter, all_map, all_weaker, by_test, map_both, not_false, or_left, or_right}
+use Rattle.sn_base.proofs.Lists.{all_append, all_filter, all_map, all_weaker, by_test, map_both, not_false, or_left, or_right, some_same, all_of}
 use Rattle.sn_base.proofs.OnceLemmas.{all_once}
 use Rattle.sn_base.specs.Groups.{Apart, Row, columns_at, once, same_row}
 use Rattle.sn_base.specs.Operators.{Grouping, apply, join, pair_of, row_for}
@@ -26,12 +26,13 @@ use Rattle.sn_types.specs.Typed.{packet_row, read_at}
 use Rattle.sn_types.specs.Typing.{join_key, typed_cond, typed_expr, typed_op, typed_reduce}
 use Rattle.sn_types.specs.Values.{holds, op_at, value_of}
 use Rattle.sn_types.specs.declared.typed_op.JoinKey.{JoinKey}
-use Rattle.sn_types.proofs.Known.{IsKnown}
+use Rattle.sn_types.proofs.Known.{IsKnown, same_row_self}
 use Rattle.sn_types.proofs.RowLemmas.{place_is}
 use Rattle.sn_types.proofs.Schemas.{IsSchema, mapped_whole, reduced_columns, reduced_whole}
 use Rattle.sn_types.proofs.Sound.{IsSound}
 use Rattle.sn_ops.specs.Joins as joins
 use Rattle.sn_ops.specs.Joins.{both, joined, lefts, meets, rights}
+use Rattle.sn_pcap.proofs.LeftLemmas.{apart as none_some}
 
 -- ---- the place of a name
 
@@ -41,20 +42,11 @@ named name c = same_name c.name name
 abbrev pub at_name : List Column → Name → ℕ
 at_name cs name = position_or_len (named name) cs
 
-self : (name : Name) → same_name name name ≡ true
-self name = nat_list_eq_equiv.refl name
-
 here : (name : Name) (c : Column) (cs : List Column) → same_name c.name name ≡ true → at_name (c ∷ cs) name ≡ 0
 here name c cs is = ap (λ b. cond (not b) (1 + at_name cs name) 0) is
 
 later : (name : Name) (c : Column) (cs : List Column) → same_name c.name name ≡ false → at_name (c ∷ cs) name ≡ suc (at_name cs name)
 later name c cs isnt = let next : 1 + at_name cs name ≡ suc (at_name cs name) = omega arith in ap (λ b. cond (not b) (1 + at_name cs name) 0) isnt ∙ next
-
-none_some : {X : Type 0} (x : X) → None ≡ Some x → ⊥
-none_some x e = cc
-
-some_same : {X : Type 0} (x y : X) → Some x ≡ Some y → x ≡ y
-some_same x y e = cc
 
 -- a column that is found by its name has it
 found_name : (n : Name) (d : Column) (cs : List Column) → d.name ≡ n → (unwrap_or (find (named n) cs) d).name ≡ n
@@ -103,7 +95,7 @@ mapped_known cs name to [] copy = absurd (none_some to copy)
 mapped_known cs name to (c ∷ cols) copy =
     let rest = has_column (map (mapped_column cs) cols) to in
     by_test (is_copy name c.expr)
-    (λ is. or_left (same_name c.name to) rest (ap (λ m. same_name m to) (is_first name to c cols copy is) ∙ self to))
+    (λ is. or_left (same_name c.name to) rest (ap (λ m. same_name m to) (is_first name to c cols copy is) ∙ same_row_self to))
     (λ isnt. or_right (same_name c.name to) rest (mapped_known cs name to cols (is_later name to c cols copy isnt)))
 
 mapped_number : (cs : List Column) (row : Row) (name to : Name) (cols : List MapCol) → Apart same_row (map (λ c. c.name) cols) → copy_name name cols ≡ Some to →
@@ -114,7 +106,7 @@ mapped_number cs row name to (c ∷ cols) apart copy =
     let number : ℕ = value_of (typed_expr cs c.expr) row in
     let made : List Column = map (mapped_column cs) cols in
     by_test (is_copy name c.expr)
-    (λ is. ap (slice_index (number ∷ numbers)) (here to (mapped_column cs c) made (ap (λ m. same_name m to) (is_first name to c cols copy is) ∙ self to)) ∙ copied cs row name c.expr is)
+    (λ is. ap (slice_index (number ∷ numbers)) (here to (mapped_column cs c) made (ap (λ m. same_name m to) (is_first name to c cols copy is) ∙ same_row_self to)) ∙ copied cs row name c.expr is)
     (λ isnt. let copy_later = is_later name to c cols copy isnt in
     ap (slice_index (number ∷ numbers)) (later to (mapped_column cs c) made (apart_copy name to c.name cols apart.0 copy_later)) ∙ mapped_number cs row name to cols apart.1 copy_later)
 
@@ -141,10 +133,6 @@ key_number cs row name (k ∷ keys) rest tail among =
     (λ is. ap (slice_index (number ∷ numbers)) (here name (column_named cs k) behind (ap (λ m. same_name m name) own ∙ is)) ∙ ap (λ m. slice_index row (place_of cs m)) (same_row_exact k name is))
     (λ isnt. ap (slice_index (number ∷ numbers)) (later name (column_named cs k) behind (ap (λ m. same_name m name) own ∙ isnt))
     ∙ key_number cs row name keys rest tail (sym (ap (λ b. b || is_in name keys) isnt) ∙ among))
-
-all_of : {X : Type 0} (P : X → Type 0) → ((x : X) → P x) → (xs : List X) → AllByRecursion P xs
-all_of P h [] = tt
-all_of P h (x ∷ xs) = (h x, all_of P h xs)
 
 -- ---- packet rows
 

@@ -4,7 +4,7 @@ use Rattle.std.specs.List.{AllByRecursion, list_all, list_any}
 use Rattle.std.specs.Option.{option_map_or}
 use Rattle.std.proofs.lemmas.Bool.Decides.{nat_tests}
 use Rattle.std.proofs.lemmas.List.{length-map}
-use Rattle.sn_base.proofs.Lists.{all_map, all_weaker, and_parts, not_false, or_none}
+use Rattle.sn_base.proofs.Lists.{all_map, all_weaker, and_parts, not_false, or_none, all_both as both_of}
 use Rattle.sn_fields.specs.declared.field.Field.{Field}
 use Rattle.sn_fields.specs.Fields.{is_address, width_of, with_name}
 use Rattle.sn_query_grammar.specs.declared.ast.Branch.{Branch}
@@ -18,9 +18,9 @@ use Rattle.sn_types.specs.declared.typed_query.TypedQuery.{TypedQuery}
 use Rattle.sn_types.specs.Typed.{IsTyped}
 use Rattle.sn_base.specs.declared.column.Column.{Column}
 use Rattle.sn_types.specs.Typing.{behind_branches, field_of, levels_of, posts_of, typed_branch, typed_ops, typed_query}
-use Rattle.sn_types.proofs.Facts.{if_none, length-typed_ops, parts_of}
+use Rattle.sn_types.proofs.Facts.{if_none, length-typed_ops, parts_of, posts_few}
 use Rattle.sn_types.proofs.RefinedLemmas.{refined_alike}
-use Rattle.sn_types.proofs.Sources.{both_of, later_none, none_in_each}
+use Rattle.sn_types.proofs.Sources.{later_none, none_in_each}
 use Rattle.sn_types_faults.specs.declared.fault.TypeFault.{TypeFault}
 use Rattle.sn_types_faults.specs.declared.fault.TypeFault.TheVariants.{Levels, UnknownField}
 use Rattle.sn_types_faults.specs.Columns.{packet_columns}
@@ -89,10 +89,6 @@ branch_count : (branches : List Branch) (join : Option Join) → AreJoined branc
 branch_count branches None h = record { from_least = omega (arith, h); to_most = omega (arith, h) }
 branch_count branches (Some j) h = let two = h.0 in record { from_least = omega (arith, two); to_most = omega (arith, two) }
 
-post_count : (branches : List Branch) (join : Option Join) → AreJoined branches join → length (posts_of join) ≤ 12
-post_count branches None h = omega arith
-post_count branches (Some j) h = h.1.posts
-
 branch_ops : (branches : List Branch) → AllByRecursion BranchLimits branches → AllByRecursion (λ (b : TypedBranch). Within 1 12 (length b.ops)) (map (λ (b : Branch). typed_branch b.ops) branches)
 branch_ops branches limits =
     all_map (λ (b : TypedBranch). Within 1 12 (length b.ops)) (λ (b : Branch). typed_branch b.ops) branches
@@ -129,7 +125,7 @@ query_counts q limits none =
     record {
       branches = subst (Within 1 2) (sym count) (branch_count q.branches q.join limits.joined);
       ops = branch_ops q.branches limits.branches;
-      posts = subst (λ (n : ℕ). n ≤ 12) (sym (length-typed_ops columns (posts_of q.join))) (post_count q.branches q.join limits.joined);
+      posts = subst (λ (n : ℕ). n ≤ 12) (sym (length-typed_ops columns (posts_of q.join))) (posts_few q.branches q.join limits.joined);
       joined = λ one. no_posts columns q.branches q.join limits.joined (sym count ∙ one);
       refined = refined_or_not q.refine (typed_query q) limits.refine (parts_of q none).0 refl refl alike.0 alike.1;
     }

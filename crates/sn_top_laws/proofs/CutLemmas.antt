@@ -13,6 +13,7 @@ use Rattle.sn_types.specs.Cuts.{cut_behind_distinct, filters_ahead, greatest_cut
 use Rattle.sn_types.specs.Typed.{IsTyped, branch_at, query_at}
 use Rattle.sn_types.proofs.Facts.{branch_source_of}
 use Rattle.sn_engine_split.proofs.Typed.{cut_of}
+use Rattle.sn_pipe.proofs.Fronts.{filters_short, behind_short, cut_short}
 
 -- ---- the same, read from the front: after a reduce, after a distinct, and from the start
 
@@ -72,27 +73,6 @@ front_decides (Filter conds ∷ ops) (suc n) le = let h = front_decides ops n (o
 front_decides (Map exprs ∷ ops) (suc n) le = let h = front_decides ops n (omega (arith, le)) in (λ e. let k = h.0 e in omega (arith, k), λ k. h.1 (omega (arith, k)))
 front_decides (Distinct ∷ ops) (suc n) le = let h = behind_decides ops n (omega (arith, le)) in (λ e. let k = h.0 e in omega (arith, k), λ k. h.1 (omega (arith, k)))
 front_decides (Reduced r ∷ ops) (suc n) le = let h = alone_decides ops n (omega (arith, le)) in (λ e. let k = h.0 e in omega (arith, k), λ k. h.1 (omega (arith, k)))
-
-ahead_within : (ops : List TOp) → filters_ahead ops ≤ length ops
-ahead_within [] = omega arith
-ahead_within (Filter conds ∷ ops) = let h = ahead_within ops in omega (arith, h)
-ahead_within (Map exprs ∷ ops) = omega arith
-ahead_within (Distinct ∷ ops) = omega arith
-ahead_within (Reduced r ∷ ops) = omega arith
-
-behind_within : (ops : List TOp) → cut_behind_distinct ops ≤ length ops
-behind_within [] = omega arith
-behind_within (Filter conds ∷ ops) = let h = behind_within ops in omega (arith, h)
-behind_within (Map exprs ∷ ops) = let h = behind_within ops in omega (arith, h)
-behind_within (Distinct ∷ ops) = omega arith
-behind_within (Reduced r ∷ ops) = let h = ahead_within ops in omega (arith, h)
-
-cut_within : (ops : List TOp) → greatest_cut ops ≤ length ops
-cut_within [] = omega arith
-cut_within (Filter conds ∷ ops) = let h = cut_within ops in omega (arith, h)
-cut_within (Map exprs ∷ ops) = let h = cut_within ops in omega (arith, h)
-cut_within (Distinct ∷ ops) = let h = behind_within ops in omega (arith, h)
-cut_within (Reduced r ∷ ops) = let h = ahead_within ops in omega (arith, h)
 
 -- ---- from the sentence to the reading
 
@@ -225,8 +205,8 @@ stands (Reduced r ∷ ops) e = record { few = ap (λ (xs : List TOp). are_few (R
 greatest : (ops : List TOp) → IsGreatestCut ops (greatest_cut ops)
 unfolding Decides
 greatest ops = record {
-  within = cut_within ops;
-  stands = stands (take (greatest_cut ops) ops) ((front_decides ops (greatest_cut ops) (cut_within ops)).1 (omega arith));
+  within = cut_short ops;
+  stands = stands (take (greatest_cut ops) ops) ((front_decides ops (greatest_cut ops) (cut_short ops)).1 (omega arith));
   greatest = λ more le h. (front_decides ops more le).0 (to_front (take more ops) h.few h.filters);
 }
 

@@ -34,7 +34,7 @@ use Rattle.sn_types.specs.declared.typed_query.TypedBranch.{TypedBranch}
 use Rattle.sn_types.specs.declared.typed_query.TypedQuery.{TypedQuery}
 use Rattle.sn_types.specs.Typed.{HasWidths, IsTyped, branch_at, query_at, schema_at}
 use Rattle.sn_types.specs.Typing.{schemas_along, typed_ops}
-use Rattle.sn_types.proofs.Facts.{branch_source_of, few_ops, few_packet_fields}
+use Rattle.sn_types.proofs.Facts.{branch_source_of, few_ops, few_packet_fields, length-typed_ops}
 use Rattle.sn_types.proofs.RowsAfter.{as_long}
 use Rattle.sn_types.proofs.Schemas.{HasWidth, IsSchema, packet_schema, schema_after}
 use Rattle.sn_types.proofs.Sound.{AreSound, sound_branch}
@@ -70,10 +70,6 @@ along_schema columns [] (suc j) le schema sound = absurd (omega (arith, le))
 along_schema columns (op ∷ ops) zero le schema sound = schema
 along_schema columns (op ∷ ops) (suc j) le schema sound = along_schema (columns_after columns op.what) ops j (omega (arith, le)) (schema_after columns op.what schema sound.0) sound.1
 
-typed_many : (columns : List Column) (ops : List Op) → length (typed_ops columns ops) ≡ length ops
-typed_many columns [] = refl
-typed_many columns (op ∷ ops) = ap suc (typed_many (columns_after columns op.what) ops)
-
 module _ (window : ℕ) (queries : List TypedQuery) (q b : ℕ) (t : ∥ IsTyped window queries ∥₁) (lt : q < length queries) (within : b < length (query_at queries q).branches) where
   row_columns : (j : ℕ) (row : Row) → j ≤ length (branch_at queries q b).ops → IsOf (schema_at (branch_at queries q b).schemas j) row → HasColumns row
   row_columns j row le of =
@@ -83,7 +79,7 @@ module _ (window : ℕ) (queries : List TypedQuery) (q b : ℕ) (t : ∥ IsTyped
       let P : TypedBranch → Type 0 = λ x. j ≤ length x.ops → IsOf (schema_at x.schemas j) row → HasColumns row in
       subst P (sym s.is)
       (λ few is. of_columns (schema_at (schemas_along columns s.ops) j) row
-      (along_schema columns s.ops j (let many = typed_many columns s.ops in omega (arith, many, few)) (packet_schema s.ops (few_packet_fields s.refine s.ops s.no_fault)) (sound_branch s.refine s.ops s.each s.no_fault)) is) le of)
+      (along_schema columns s.ops j (let many = length-typed_ops columns s.ops in omega (arith, many, few)) (packet_schema s.ops (few_packet_fields s.refine s.ops s.no_fault)) (sound_branch s.refine s.ops s.each s.no_fault)) is) le of)
 
 -- ---- tags
 

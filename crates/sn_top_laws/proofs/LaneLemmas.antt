@@ -15,10 +15,7 @@ use Rattle.sn_types.specs.declared.typed_query.TypedQuery.{TypedQuery}
 use Rattle.sn_types.specs.Typed.{IsTyped, query_at}
 use Rattle.sn_types.specs.Typing.{typed_branch, typed_query}
 use Rattle.sn_types.proofs.Sources.{source_of}
-
-joined_some : (branches : List Branch) (join : Option Join) → AreJoined branches join → 1 ≤ length branches
-joined_some branches None h = omega (arith, h)
-joined_some branches (Some join) h = let two = h.0 in omega (arith, two)
+use Rattle.sn_ops.proofs.PacketSteps.{joined_some}
 
 some_places : (branches : List TypedBranch) (path : List ℕ) (level : ℕ) → 1 ≤ length branches → last_of path ≡ Some level → 1 ≤ length (places branches path)
 some_places branches [] level some finest = absurd cc

@@ -3,7 +3,6 @@ pub mod PipeLemmas
 pub mod FrameLemmas
 pub mod WindowLemmas
 pub mod AnswersLemmas
-pub mod ByteLemmas
 pub mod RecordLemmas
 pub mod PeelLemmas
 pub mod CaptureLemmas
@@ -16,3 +15,17 @@ pub mod TupleBags
 pub mod ShiftLemmas
 pub mod CarriedRows
 pub mod CarriedQueries
+pub mod EventLines
+pub mod EventTexts
+pub mod ItemCounts
+pub mod CostBounds
+pub mod PlanTexts
+pub mod PlanFits
+pub mod FitPlans
+pub mod QueryNames
+pub mod EventNames
+pub mod EventRuns
+pub mod StartLemmas
+pub mod TraceCalls
+pub mod WrittenLemmas
+pub mod WrittenCalls

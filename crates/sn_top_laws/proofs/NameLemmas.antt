@@ -16,17 +16,6 @@ use Rattle.sn_plan_grammar.specs.declared.plan.Entry.{Entry}
 use Rattle.sn_report.specs.declared.frame.Frame.{Frame}
 use Rattle.sn_report.specs.Frames.{lane_of as lane_in}
 
--- the engine's lanes are those of the pieces
-pub intakes_are : (q : ℕ) (es : List Entry) → intakes_of q es ≡ map intake_of (pieces_from q es)
-intakes_are q [] = refl
-intakes_are q (e ∷ es) =
-    ap (λ ls. ls ++ intakes_of (q + 1) es) (sym (map_both (placed q e.levels) intake_of e.pieces))
-    ∙ ap (λ ls. map intake_of (map (placed q e.levels) e.pieces) ++ ls) (ap (λ n. intakes_of n es) next ∙ intakes_are (suc q) es)
-    ∙ sym (map-append intake_of (map (placed q e.levels) e.pieces) (pieces_from (suc q) es))
-  where
-    next : q + 1 ≡ suc q
-    next = omega arith
-
 -- ---- names
 
 eq_turned : (m n : ℕ) → (m == n) ≡ (n == m)

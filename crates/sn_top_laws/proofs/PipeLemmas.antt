@@ -6,16 +6,15 @@ use Rattle.std.proofs.lemmas.List.{length-append}
 use Rattle.std.proofs.lemmas.List.Elements.{recursion_from_All}
 use Rattle.std.proofs.lemmas.List.Sums.{fold-append}
 use Rattle.sn_base.specs.declared.fold.Or.{Or}
-use Rattle.sn_base.proofs.Lists.{none_some, some_same}
+use Rattle.sn_base.proofs.Lists.{none_some, some_same, all_at as all_index}
 use Rattle.sn_chain.specs.Chain.{empty_chain}
-use Rattle.sn_engine_lockstep.proofs.Apart.{all_index}
 use Rattle.sn_emit.specs.Making.{CanMake}
 use Rattle.sn_emit.specs.Plans.{IsNewPipeOf, Placed, items_of, level_before}
 use Rattle.sn_pipe.specs.declared.stage.Stage.{Stage}
 use Rattle.sn_pipe.specs.declared.stage.Stage.TheVariants.{Filter, Map, Distinct, Reduce}
 use Rattle.sn_pipe.specs.Pipes.{PipeState, after_packet, after_packets, at_start, item_of, packets_give}
 use Rattle.sn_pipe.specs.Stages.{cleared, top_of}
-use Rattle.sn_pipe.specs.Windows.{HaveSizes, option_list}
+use Rattle.sn_pipe.specs.Windows.{HaveSizes}
 use Rattle.sn_pipe.proofs.Makings.{count_front, count_more}
 use Rattle.sn_pipe.proofs.TypedLaw.{typed_items}
 use Rattle.sn_refine.specs.Steps.{Set}
@@ -27,6 +26,7 @@ use Rattle.sn_types.specs.Cuts.{is_stateful, size_at, stateful}
 use Rattle.sn_types.specs.Typed.{HasWidths, IsTyped, branch_at, query_at}
 use Rattle.sn_command_emit.specs.Sent.{reads_out, sends_at}
 use Rattle.sn_command_emit.proofs.PieceLemmas.{piece_reads, piece_sends}
+use Rattle.std.specs.Option.{option_to_list}
 
 -- ---- a pipe is made
 
@@ -149,7 +149,7 @@ module _ (window : ℕ) (queries : List TypedQuery) (depth : ℕ) (x : Placed) (
         let same : next ++ tuples ≡ all = append_assoc before (tuple ∷ []) tuples in
         let count : length before + 1 ≡ length next = let both = length-append before (tuple ∷ []) in omega (arith, both) in
         ap (λ (is : List Item). is ++ flat_map (sends_at queries depth x kept all) (range_with_len (length before + 1) (length tuples))) (sym (piece_sends window queries depth x pipe kept t can new before tuples tuple widths))
-        ∙ ap (λ (is : List Item). option_list (item_of (after_packets start before) tuple) ++ is)
+        ∙ ap (λ (is : List Item). option_to_list (item_of (after_packets start before) tuple) ++ is)
         (ap (λ (ts : List (List ℕ)). flat_map (sends_at queries depth x kept ts) (range_with_len (length before + 1) (length tuples))) (sym same)
         ∙ ap (λ n. flat_map (sends_at queries depth x kept (next ++ tuples)) (range_with_len n (length tuples))) count
         ∙ gives next tuples (subst (AllByRecursion HasWidths) (sym same) widths)

@@ -4,7 +4,7 @@ use Rattle.std.specs.List.{AllByRecursion, flat_map, list_all}
 use Rattle.std.proofs.Math.Nat.{div-le_self}
 use Rattle.std.proofs.lemmas.List.Folds.{flat_map-map}
 use Rattle.sn_command_capture.specs.Capture.{block_in, blocks_in, time_of, window_in, windows_in}
-use Rattle.sn_command_capture.specs.Wording.{AreRising, Window, Wording}
+use Rattle.sn_command_capture.specs.Wording.{Wording}
 use Rattle.sn_command_capture.proofs.WindowLemmas.{rising_above, windows_more}
 use Rattle.sn_base.specs.Groups.{once}
 use Rattle.sn_base.proofs.Lists.{all_filter, all_map, all_weaker}
@@ -21,7 +21,9 @@ use Rattle.sn_windows.proofs.NumberLemmas.{numbered_is, numbers_rise}
 use Rattle.sn_windows.proofs.RunLemmas.{Rises, drop_rises, run_above}
 use Rattle.sn_top_laws.specs.Real.{IsReal}
 use Rattle.sn_top_laws.specs.Replayed.{AreBytes}
-use Rattle.sn_top_laws.proofs.ByteLemmas.{big_below, little_below}
+use Rattle.sn_fields.proofs.Ranges.{big_below, little_below}
+use Rattle.sn_windows.specs.Rising.{AreRising, Window}
+use Rattle.sn_command_live.proofs.CaptureLemmas.{all_held}
 
 -- ---- packets
 
@@ -100,16 +102,10 @@ windows_rise shown (p ∷ ps) r =
 
 -- ---- their blocks
 
-while_all : (t : ℕ → Bool) (ns : List ℕ) → list_all t ns ≡ true → while_holds t ns ≡ ns
-while_all t [] e = refl
-while_all t (n ∷ ns) e =
-    let both = (and_true (t n) (list_all t ns)).0 e in
-    ap (λ b. cond b (n ∷ while_holds t ns) []) both.0 ∙ ap (λ ms. n ∷ ms) (while_all t ns both.1)
-
 -- where no window has too many records, each has its block
 pub blocks_whole : (wording : Wording) (shown : Packet → List ℕ) (ps : List (ℕ × Packet)) → all_few ps ≡ true
     → blocks_in wording shown ps ≡ flat_map (λ (w : Window). wording.block (windows_in shown ps) w.0 w.1) (windows_in shown ps)
 blocks_whole wording shown ps few =
     let all : List Window = windows_in shown ps in
-    ap (flat_map (λ w. block_in wording shown all w (in_window w ps))) (while_all (λ w. is_few w ps) (windows_of ps) few)
+    ap (flat_map (λ w. block_in wording shown all w (in_window w ps))) (all_held (λ w. is_few w ps) (windows_of ps) few)
     ∙ sym (flat_map-map (λ (w : Window). wording.block all w.0 w.1) (window_in shown ps) (windows_of ps))

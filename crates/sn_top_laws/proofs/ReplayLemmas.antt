@@ -4,7 +4,7 @@ use Rattle.std.specs.FinMap.{get}
 use Rattle.std.specs.List.{AllByRecursion, flat_map}
 use Rattle.std.proofs.lemmas.Bool.{le-ltb}
 use Rattle.sn_command_capture.specs.Capture.{ending_verdict, windows_in}
-use Rattle.sn_command_capture.specs.Wording.{AreRising, Window}
+use Rattle.sn_windows.specs.Rising.{AreRising, Window}
 use Rattle.sn_base.proofs.Lists.{all_weaker}
 use Rattle.sn_command_emit.specs.Emit.{Emit}
 use Rattle.sn_command_emit.specs.Sent.{frames_block, frames_wording}
@@ -46,7 +46,7 @@ use Rattle.sn_types.specs.Typed.{HasWidths, IsTyped}
 use Rattle.sn_top_laws.specs.Real.{IsReal}
 use Rattle.sn_top_laws.specs.Replayed.{AreBytes, FinishesSo, HasWritten, HoldsBytes, IsKept, IsWritten}
 use Rattle.sn_top_laws.proofs.AnswersLemmas.{fits_replayed}
-use Rattle.sn_top_laws.proofs.ByteLemmas.{front_bytes, rest_bytes, tuple_below}
+use Rattle.sn_fields.proofs.Ranges.{front_bytes, rest_bytes, tuple_below}
 use Rattle.sn_top_laws.proofs.CaptureLemmas.{HasNoHead, HasWindows, capture_due, capture_is, capture_ways, found_in, packets_in, shown_in}
 use Rattle.sn_top_laws.proofs.LaneLemmas.{some_lanes}
 use Rattle.sn_top_laws.proofs.PeelLemmas.{goes_silent, passed_goes, plan_harmless, queries_harmless, read_goes, reads_there, switch_harmless, test_passed, text_read}

@@ -3,14 +3,14 @@ use Rattle.std.proofs.Common.{◌≡◌, ℕ, ◌<◌, ◌≤◌, ◌^◌, List,
 use Rattle.std.specs.List.{AllByRecursion, flat_map, list_any, range_with_len}
 use Rattle.std.proofs.lemmas.List.{map-append}
 use Rattle.sn_base.specs.declared.lane.Lane.{Lane}
-use Rattle.sn_base.proofs.Lists.{all_append, all_map, all_weaker, map_both}
-use Rattle.sn_command_capture.specs.Wording.{Window}
+use Rattle.sn_base.proofs.Lists.{all_append, all_map, all_weaker, map_both, all_front, all_rest}
+use Rattle.sn_windows.specs.Rising.{Window}
 use Rattle.sn_engine_lockstep.specs.declared.source.Source.{Source}
 use Rattle.sn_engine_lockstep.specs.Sources.{source_of}
 use Rattle.sn_engine_lockstep.specs.Windows.{window_answers}
 use Rattle.sn_engine_lockstep.specs.Work.{done, intake_of, name_of}
 use Rattle.sn_engine_lockstep.proofs.Apart.{pieces_apart}
-use Rattle.sn_engine_lockstep.proofs.Laws.{answered_count, answered_parts}
+use Rattle.sn_engine_lockstep.proofs.Laws.{answered_count, answered_parts, intakes_are}
 use Rattle.sn_emit.specs.Making.{CanMake}
 use Rattle.sn_emit.specs.Plans.{Placed, items_of, pieces_from}
 use Rattle.sn_emit.specs.Senders.{row_frame}
@@ -32,8 +32,9 @@ use Rattle.sn_types.specs.declared.answers.Part.{Part}
 use Rattle.sn_types.specs.Typed.{HasWidths, IsTyped}
 use Rattle.sn_command_emit.specs.Sent.{frames_at, frames_behind, kept_of, packet_frames, reads_out, sends_at, window_frames}
 use Rattle.sn_top_laws.proofs.FrameLemmas.{IsGood, all_good, no_fault, row_is_frame}
-use Rattle.sn_top_laws.proofs.NameLemmas.{AreOf, all_at, all_flat, each_among, frames_both, frames_flat, intakes_are, known_names, lane_among}
+use Rattle.sn_top_laws.proofs.NameLemmas.{AreOf, all_at, all_flat, each_among, frames_both, frames_flat, known_names, lane_among}
 use Rattle.sn_top_laws.proofs.PipeLemmas.{items_are}
+use Rattle.sn_types.proofs.Known.{all_parts}
 
 -- ---- lists
 
@@ -44,18 +45,6 @@ flat_agree f g same (x ∷ xs) = ap (λ ys. ys ++ flat_map f xs) (same x) ∙ ap
 map_flat : {X : Type 0} (f : X → List Item) (g : Item → Frame) (xs : List X) → flat_map (λ x. map g (f x)) xs ≡ map g (flat_map f xs)
 map_flat f g [] = refl
 map_flat f g (x ∷ xs) = ap (λ ys. map g (f x) ++ ys) (map_flat f g xs) ∙ sym (map-append g (f x) (flat_map f xs))
-
-all_front : {X : Type 0} (P : X → Type 0) (xs ys : List X) → AllByRecursion P (xs ++ ys) → AllByRecursion P xs
-all_front P [] ys h = tt
-all_front P (x ∷ xs) ys h = (h.0, all_front P xs ys h.1)
-
-all_rest : {X : Type 0} (P : X → Type 0) (xs ys : List X) → AllByRecursion P (xs ++ ys) → AllByRecursion P ys
-all_rest P [] ys h = h
-all_rest P (x ∷ xs) ys h = all_rest P xs ys h.1
-
-all_parts : {X Y : Type 0} (P : Y → Type 0) (f : X → List Y) (xs : List X) → AllByRecursion P (flat_map f xs) → AllByRecursion (λ x. AllByRecursion P (f x)) xs
-all_parts P f [] h = tt
-all_parts P f (x ∷ xs) h = (all_front P (f x) (flat_map f xs) h, all_parts P f xs (all_rest P (f x) (flat_map f xs) h))
 
 all_turned : {X Y : Type 0} (P : X → Y → Type 0) (xs : List X) (ys : List Y) → AllByRecursion (λ y. AllByRecursion (λ x. P x y) xs) ys → AllByRecursion (λ x. AllByRecursion (λ y. P x y) ys) xs
 all_turned P [] ys h = tt

@@ -45,8 +45,10 @@ IsToPrint status ran printed = DifferByDamage status ran printed ⊎ AreOfNoWind
 -- Each call with the words of `finish` over these files is a run that is to print this text and to end with 0.
 abbrev pub CallsPrint : List ℕ → List ℕ → List ℕ → ByName (List ℕ) → List ℕ → Type 0
 CallsPrint queries plan reports files printed =
-    (names : List (List ℕ)) (before now : Around) (status : ℕ) → IsCommandRun names (Finish queries plan reports) before status now → before.files.told ≡ Some files
-    → IsRun (record { text = printed; end = Ok tt }) (AnyRose names before.files now.files) (OutRose before.out now.out) status before.out.written now.out.written
+    (names : List (List ℕ)) (before now : Around) (status : ℕ) → IsCommandRun names (Finish queries plan reports) before status now
+    → before.files.told ≡ Some files
+    → IsRun (record { text = printed; end = Ok tt }) (AnyRose names before.files now.files)
+    (OutRose before.out now.out) status before.out.written now.out.written
 
 -- `run` ended with this status, as `emit` did, and wrote this text: then this is what calls of `finish` print
 pub record CallsFollow (queries plan reports : List ℕ) (files : ByName (List ℕ)) (emitted ran : ℕ) (text : List ℕ) : Type 0 where

@@ -4,3 +4,6 @@ pub mod Calls
 pub mod Carried
 pub mod Counts
 pub mod Cuts
+pub mod Events
+pub mod TracedHeadline
+pub mod Written

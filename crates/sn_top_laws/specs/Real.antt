@@ -2,7 +2,7 @@
 -- Windows that a capture can have.
 use Rattle.std.specs.Prelude.{◌<◌, ◌^◌}
 use Rattle.std.specs.List.{AllByRecursion}
-use Rattle.sn_command_capture.specs.Wording.{Window}
+use Rattle.sn_windows.specs.Rising.{Window}
 use Rattle.sn_types.specs.Typed.{HasWidths}
 
 -- a window's number has 64 bits, and its tuples have the widths of their fields

@@ -28,5 +28,6 @@ pub fn least_plans_are_the_same()
 pub fn trees_are_the_same()
     ensures tree { (a b : Space) → AreAlike a b → (p : List ℕ) → IsPartial a p → tree_of a p ≡ tree_of b p }
     ensures accepted { (a b : Space) → AreAlike a b → (p : List ℕ) → IsPartial a p → (nodes : List Node) → IsAccepted a p nodes → IsAccepted b p nodes }
-    ensures fault { (a b : Space) → AreAlike a b → (p : List ℕ) → IsPartial a p → (cost : ℕ) (nodes : List Node) → tree_fault a p cost nodes ≡ tree_fault b p cost nodes }
+    ensures fault { (a b : Space) → AreAlike a b → (p : List ℕ) → IsPartial a p → (cost : ℕ) (nodes : List Node) →
+        tree_fault a p cost nodes ≡ tree_fault b p cost nodes }
 {}

@@ -53,7 +53,7 @@ module _ {T U : Type 0} (tasks : Tasks T U) (L : TaskLaws tasks) (first : List T
 
 -- ---- a plan of first choices
 
-in_range : (x first count : ℕ) → first ≤ x → x < first + count → IsOneOf x (range_with_len first count)
+pub in_range : (x first count : ℕ) → first ≤ x → x < first + count → IsOneOf x (range_with_len first count)
 in_range x first zero a b = absurd (omega arith)
 in_range x first (suc count) a b = elim (eq-or-lt_of_le a) [ inl e ↦ inl (sym e) | inr less ↦ inr (in_range x (first + 1) count (omega arith) (omega arith)) ]
 

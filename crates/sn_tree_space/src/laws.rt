@@ -6,7 +6,8 @@ ghost use Rattle.sn_tree_space.specs.Trees.{IsAccepted, tree_of};
 
 /// Where a tree is accepted for a plan, no plan of the space costs less.
 pub fn accepted_trees_show_least()
-    ensures { (s : Space) (p : List ℕ) (nodes : List Node) → SpaceLaws s → IsPlan s p → IsAccepted s p nodes → (r : List ℕ) → IsPlan s r → s.lower p ≤ s.lower r }
+    ensures { (s : Space) (p : List ℕ) (nodes : List Node) → SpaceLaws s → IsPlan s p → IsAccepted s p nodes → (r : List ℕ) → IsPlan s r →
+        s.lower p ≤ s.lower r }
 {}
 
 /// The tree of the first least plan is accepted for it.

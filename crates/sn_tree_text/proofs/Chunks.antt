@@ -14,6 +14,7 @@ use Rattle.sn_tree_space.specs.declared.node.Node.{Node}
 use Rattle.sn_tree_space.specs.declared.node.Node.TheVariants.{Expand, Bound, Broken, Chosen}
 use Rattle.sn_plan_grammar.specs.TreeGrammar.{node_rule, nodes_rule, tree_rule}
 use Rattle.sn_tree_text.specs.Printing.{node_text, nodes_text, tree_text, IsSmall}
+use Rattle.sn_base.proofs.Tests.{at_most}
 
 abbrev space : List ℕ
 space = 32 ∷ []
@@ -130,11 +131,8 @@ tree_faces cost ns = ap (λ (l : List Lexeme). word (codes "cost") ∷ number co
 
 -- ---- ranges
 
-not_past : (n m : ℕ) → n ≤ m → nat_le n m ≡ true
-not_past n m h = grind (arith, nat_tests)
-
 number_fits : (n : ℕ) → n < 2 ^ 64 → in_range 0 18446744073709551615 n ≡ None
-number_fits n h = rw (not_past 0 n (omega arith), not_past n 18446744073709551615 (omega arith)) refl
+number_fits n h = rw (at_most 0 n (omega arith), at_most n 18446744073709551615 (omega arith)) refl
 
 node_fits : (n : Node) → IsSmall n → node_rule.fits kept n
 unfolding node_rule

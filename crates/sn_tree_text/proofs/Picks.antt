@@ -3,13 +3,13 @@ use Rattle.std.proofs.Common.{◌≡◌, ℕ, Bool, true, false, List, [], ◌�
 use Rattle.std.specs.Prelude.{codes}
 use Rattle.sn_text_rules.specs.Tokens.{Lexeme, Tok, Read, got, fails, short, bind}
 use Rattle.sn_text_rules.specs.Rules.{kept, Rule, either_at}
-use Rattle.sn_text_rules.specs.Words.{is_word, keyword, ◌▸◌}
+use Rattle.sn_text_rules.specs.Words.{is_word, keyword, ◌▸◌, any_number}
 use Rattle.sn_text.specs.declared.stop.Stop.{Stop}
 use Rattle.sn_text.specs.declared.stop.Stop.TheVariants as stops
 use Rattle.sn_text.specs.Reading.{Halts, Peeked}
 use Rattle.sn_tree_space.specs.declared.node.Node.{Node}
 use Rattle.sn_tree_space.specs.declared.node.Node.TheVariants.{Expand, Bound, Broken, Chosen}
-use Rattle.sn_plan_grammar.specs.TreeGrammar.{any_number, to_node, node_rule}
+use Rattle.sn_plan_grammar.specs.TreeGrammar.{to_node, node_rule}
 
 -- the value of a part is read, or its halt is that of the whole
 record Part {A B : Type 0} (part : Read A) (to : A → B) (whole : Read B) : Type 0 where

@@ -6,33 +6,24 @@ use Rattle.sn_text_rules.specs.Tokens.{Lexeme, word, is_last, Tok}
 use Rattle.sn_text_rules.proofs.Common.{either_way}
 use Rattle.sn_text_rules.proofs.Bounded.{Ended}
 use Rattle.sn_text.specs.Cutting.{is_digit, is_name_start, is_word_byte, run, number_lexeme, number_of, long_symbol, short_symbol, short_lexeme, long_lexeme, symbol_at, lexeme_at, Place, gap, behind, when_gap, skip_from, skip, tok_at, after_at, tokens, tokens_of}
-use Rattle.sn_text.proofs.Next.{tokens_next}
-use Rattle.sn_text.proofs.Ends.{tokens_ended}
+use Rattle.sn_text.proofs.Next.{tokens_next, run_one}
+use Rattle.sn_text.proofs.Ends.{tokens_ended, head, rest}
 use Rattle.sn_tree_text.specs.Places.{from_byte}
+use Rattle.sn_base.proofs.Tests.{not_less, and_false_right, less}
 
 -- ---- the steps of the code
 
 abbrev at_or_on : Bool → ℕ → Tok → List Tok → List Tok
 at_or_on b byte t ts = cond b (from_byte byte ts) (t ∷ ts)
 
-is_before : (n m : ℕ) → n < m → nat_lt n m ≡ true
-is_before n m h = grind (arith, nat_tests)
-
-not_before : (n m : ℕ) → m ≤ n → nat_lt n m ≡ false
-not_before n m h = grind (arith, nat_tests)
-
-and_right : (a b : Bool) → b ≡ false → (a && b) ≡ false
-and_right true b e = e
-and_right false b e = refl
-
 pub stays_behind : (byte : ℕ) (t : Tok) (ts us : List Tok) → us ≡ t ∷ ts → byte ≤ t.start → from_byte byte us ≡ us
-stays_behind byte t ts us e h = ap (from_byte byte) e ∙ rw (not_before t.start byte h) refl ∙ sym e
+stays_behind byte t ts us e h = ap (from_byte byte) e ∙ rw (not_less t.start byte h) refl ∙ sym e
 
 pub stays_last : (byte : ℕ) (t : Tok) (ts us : List Tok) → us ≡ t ∷ ts → is_last t.face ≡ true → from_byte byte us ≡ us
-stays_last byte t ts us e h = ap (from_byte byte) e ∙ ap (λ (b : Bool). at_or_on b byte t ts) (and_right (nat_lt t.start byte) (not (is_last t.face)) (ap not h)) ∙ sym e
+stays_last byte t ts us e h = ap (from_byte byte) e ∙ ap (λ (b : Bool). at_or_on b byte t ts) (and_false_right (nat_lt t.start byte) (not (is_last t.face)) (ap not h)) ∙ sym e
 
 pub goes_on : (byte : ℕ) (t : Tok) (ts us : List Tok) → us ≡ t ∷ cond (is_last t.face) [] ts → t.start < byte → is_last t.face ≡ false → from_byte byte us ≡ from_byte byte ts
-goes_on byte t ts us e h l = ap (from_byte byte) e ∙ rw (is_before t.start byte h, l) refl
+goes_on byte t ts us e h l = ap (from_byte byte) e ∙ rw (less t.start byte h, l) refl
 
 pub fewer : (t : Tok) (ts us : List Tok) → us ≡ t ∷ cond (is_last t.face) [] ts → is_last t.face ≡ false → length ts < length us
 fewer t ts us e l = let k : us ≡ t ∷ ts = e ∙ rw l refl in let n = ap length k in omega arith
@@ -46,7 +37,7 @@ ended_if false byte t ts h e = e
 
 pub ended_from : (byte : ℕ) (ts : List Tok) → Ended ts → Ended (from_byte byte ts)
 ended_from byte [] e = e
-ended_from byte (t ∷ ts) (inl e) = ended_if (nat_lt t.start byte && not (is_last t.face)) byte t ts (inr (and_right (nat_lt t.start byte) (not (is_last t.face)) (ap not e.0))) (inl e)
+ended_from byte (t ∷ ts) (inl e) = ended_if (nat_lt t.start byte && not (is_last t.face)) byte t ts (inr (and_false_right (nat_lt t.start byte) (not (is_last t.face)) (ap not e.0))) (inl e)
 ended_from byte (t ∷ ts) (inr e) = ended_if (nat_lt t.start byte && not (is_last t.face)) byte t ts (inl (ended_from byte ts e.1)) (inr e)
 
 -- ---- tokens begin one after the other
@@ -76,9 +67,6 @@ if_counts true e x y z f g h = f refl
 if_counts false true x y z f g h = g refl
 if_counts false false x y z f g h = h
 
-one_byte : (b : ℕ) (bs : List ℕ) → is_word_byte b ≡ true → 1 ≤ run is_word_byte (b ∷ bs)
-one_byte b bs e = subst (λ (t : Bool). 1 ≤ cond t (suc (run is_word_byte bs)) 0) (sym e) (omega arith)
-
 digit_counts : (b : ℕ) → is_digit b ≡ true → is_word_byte b ≡ true
 digit_counts b e = made (is_name_start b) (is_digit b) (b == 46) e
   where
@@ -101,7 +89,7 @@ lexeme_counts (b ∷ bs) =
     let n : ℕ = run is_word_byte (b ∷ bs) in
     let w : List ℕ = take n (b ∷ bs) in
     if_counts (is_digit b) (is_name_start b) (number_lexeme (number_of w), n) (word w, n) (symbol_at (b ∷ bs))
-    (λ d e. one_byte b bs (digit_counts b d)) (λ d e. one_byte b bs (name_counts b d)) (symbol_counts b bs)
+    (λ d e. run_one b bs (digit_counts b d)) (λ d e. run_one b bs (name_counts b d)) (symbol_counts b bs)
 
 gap_later : (o : Option Bool) (b : ℕ) (bs : List ℕ) (p : Place) → ((on : Bool) → p.start + 1 ≤ (skip_from bs on (behind b p bs)).start) → p.start ≤ (when_gap o p (λ on. skip_from bs on (behind b p bs))).start
 gap_later None b bs p h = omega arith
@@ -110,12 +98,6 @@ gap_later (Some on) b bs p h = let k = h on in omega arith
 skip_later : (bs : List ℕ) (inside : Bool) (p : Place) → p.start ≤ (skip_from bs inside p).start
 skip_later [] inside p = omega arith
 skip_later (b ∷ bs) inside p = gap_later (gap inside b) b bs p (λ on. skip_later bs on (behind b p bs))
-
-head : (a b : Tok) (xs ys : List Tok) → a ∷ xs ≡ b ∷ ys → a ≡ b
-head a b xs ys e = cc
-
-rest : (a b : Tok) (xs ys : List Tok) → a ∷ xs ≡ b ∷ ys → xs ≡ ys
-rest a b xs ys e = cc
 
 rises_at : (ts : List Tok) (p : Place) (low : ℕ) → tokens p ≡ ts → low ≤ p.start → Rises low ts
 unfolding Rises
@@ -148,7 +130,7 @@ from_there [] at us low r e = stays_behind at.start at us (at ∷ us) refl (omeg
 from_there (t ∷ front) at us low r (inl e) = absurd (no_end front at us e.1)
 from_there (t ∷ front) at us low r (inr e) =
     let before = lowest front at us (t.start + 1) r.1 in
-    rw (is_before t.start at.start (omega arith), e.0) (from_there front at us (t.start + 1) r.1 e.1)
+    rw (less t.start at.start (omega arith), e.0) (from_there front at us (t.start + 1) r.1 e.1)
 
 pub from_start : (text : List ℕ) (front : List Tok) (at : Tok) (us : List Tok) → tokens_of text ≡ front ++ at ∷ us → from_byte at.start (tokens_of text) ≡ at ∷ us
 from_start text front at us e =

@@ -2,7 +2,7 @@
 use Rattle.std.proofs.Common.{◌≡◌, ℕ, true, List, [], sym, ap, subst, ◌∙◌}
 use Rattle.sn_text_rules.specs.declared.Flaw.{Flaw}
 use Rattle.sn_text_rules.specs.declared.Flaw.TheVariants as kinds
-use Rattle.sn_text_rules.specs.Tokens.{Tok, Read, got, fails}
+use Rattle.sn_text_rules.specs.Tokens.{Tok, Read, got, fails, first_line}
 use Rattle.sn_text_rules.specs.Rules.{kept, FirstFault}
 use Rattle.sn_text_rules.proofs.Faults.{found_of, only_of, none_of, fault_of as first_fault}
 use Rattle.sn_text_rules.proofs.Bounded.{Ended, whole_ok}
@@ -17,7 +17,7 @@ use Rattle.sn_plan_grammar.proofs.TreeStarts.{tree_starts}
 use Rattle.sn_plan_grammar.proofs.TreeBounded.{flaws, tree_whole}
 use Rattle.sn_tree_text.specs.declared.fault.TextFault.{TextFault}
 use Rattle.sn_tree_text.specs.declared.fault.TextFault.TheVariants as faults
-use Rattle.sn_tree_text.specs.Texts.{StandsFor, IsFault, fault_of, line_of, Answers}
+use Rattle.sn_tree_text.specs.Texts.{StandsFor, IsFault, fault_of, Answers}
 
 abbrev pub both : ℕ → List Node → ℕ × List Node
 both cost nodes = (cost, nodes)
@@ -49,7 +49,7 @@ fault_so ts ls (stops.Fault x l) f d g h k =
     let e = here ts ls (fails x (left l)) g h in
     let s = tree_good.stands kept ts (left l) x e in
     let ok = whole_ok tree_whole ts (left l) x d e in
-    subst (λ (r : TextFault). IsFault ts r) (sym (k ∙ ap (λ (us : List Tok). fault_of x (line_of us)) s.head)) (shown ts x s.at.line s.at.column ok (first_fault tree_rule tree_good tree_starts ends ts (left l) s.rest s.at x e s.head))
+    subst (λ (r : TextFault). IsFault ts r) (sym (k ∙ ap (λ (us : List Tok). fault_of x (first_line us)) s.head)) (shown ts x s.at.line s.at.column ok (first_fault tree_rule tree_good tree_starts ends ts (left l) s.rest s.at x e s.head))
 
 pub none_so : (ts ls : List Tok) (e : Stop) (f : TextFault) (cost : ℕ) (nodes : List Node) → ls ≡ ts → Halts e (tree_rule.read kept ls) → Answers e f → StandsFor ts cost nodes → f ≡ faults.Memory
 none_so ts ls stops.NoMemory f cost nodes g h k s = k

@@ -3,7 +3,7 @@
 use Rattle.std.specs.Prelude.{◌≡◌, ◌≢◌, ℕ, List, [], ◌∷◌, Result, Ok, Err}
 use Rattle.sn_text_rules.specs.declared.Flaw.{Flaw}
 use Rattle.sn_text_rules.specs.declared.Flaw.TheVariants as flaws
-use Rattle.sn_text_rules.specs.Tokens.{Tok}
+use Rattle.sn_text_rules.specs.Tokens.{Tok, first_line}
 use Rattle.sn_text_rules.specs.Rules.{Accepts, FirstFault}
 use Rattle.sn_text.specs.Cutting.{tokens_of}
 use Rattle.sn_text.specs.Lexing.{left}
@@ -37,14 +37,10 @@ abbrev pub fault_of : Flaw → ℕ → TextFault
 fault_of flaws.Lex line = faults.Lex line
 fault_of _ line = faults.Expected line
 
-abbrev pub line_of : List Tok → ℕ
-line_of [] = 0
-line_of (t ∷ ts) = t.line
-
 -- what is answered where reading stops
 abbrev pub Answers : Stop → TextFault → Type 0
 Answers stops.NoMemory e = e ≡ faults.Memory
-Answers (stops.Fault x l) e = e ≡ fault_of x (line_of (left l))
+Answers (stops.Fault x l) e = e ≡ fault_of x (first_line (left l))
 
 -- ---- the one reading of a text
 

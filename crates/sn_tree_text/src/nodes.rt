@@ -1,10 +1,10 @@
 //! The nodes of a tree text, and all that stands around them.
 ghost use Rattle.std.specs.Prelude.{◌≡◌, ℕ, List, codes};
 ghost use Rattle.sn_text_rules.specs.Rules.{kept};
-ghost use Rattle.sn_text_rules.specs.Words.{keyword, never, ◌▸◌};
+ghost use Rattle.sn_text_rules.specs.Words.{keyword, never, ◌▸◌, any_number};
 ghost use Rattle.sn_text.specs.Lexing.{left};
 ghost use Rattle.sn_text.specs.Reading.{Reads, ReadsAll, Peeked};
-ghost use Rattle.sn_plan_grammar.specs.TreeGrammar.{any_number, node_rule, begins, nodes_rule, tree_rule};
+ghost use Rattle.sn_plan_grammar.specs.TreeGrammar.{node_rule, begins, nodes_rule, tree_rule};
 ghost use Rattle.sn_plan_grammar.proofs.TreeGoods.{nodes_alike};
 
 use crate::tree::Tree;
@@ -15,11 +15,9 @@ use sn_text::scan::scan;
 use sn_text::stop::Stop;
 use sn_text::words::{end, is_the_word, next_is_word, number, symbol, word};
 use sn_text_rules::Flaw;
+use sn_text_rules::symbols::SEMICOLON;
 use sn_tree_space::node::Node;
 use std::alloc::Global;
-
-/// The semicolon among the symbols.
-const SEMICOLON: u8 = 2;
 
 /// A number after a letter.
 fn lettered<'a>(at: Lexer<'a>, letter: &[u8]) -> Result<(u64, Lexer<'a>), Stop<'a>>

@@ -4,7 +4,8 @@ ghost use Rattle.sn_text.specs.Cutting.{tokens_of};
 ghost use Rattle.sn_text.specs.Lexing.{left};
 ghost use Rattle.sn_tree_space.specs.declared.node.Node.{Node};
 ghost use Rattle.sn_tree_text.specs.Places.{from_byte};
-ghost use Rattle.sn_tree_text.specs.Texts.{StandsFor, IsFault, IsValue, fault_of, line_of, Answers};
+ghost use Rattle.sn_tree_text.specs.Texts.{StandsFor, IsFault, IsValue, fault_of, Answers};
+ghost use Rattle.sn_text_rules.specs.Tokens.{first_line};
 
 use crate::fault::TextFault;
 use crate::nodes::read;
@@ -28,7 +29,7 @@ fn fault(flaw: Flaw, line: u32) -> TextFault
 
 /// The line of the next token.
 fn line_at(at: Lexer<'_>) -> u32
-    ensures { result ≡ line_of (left at.entry) }
+    ensures { result ≡ first_line (left at.entry) }
 {
     let (found, _) = scan(at);
     found.line

@@ -6,7 +6,7 @@ use Rattle.std.proofs.Math.Bridge.{le_prop}
 use Rattle.std.proofs.Math.Logic.{∥∥₁_elim}
 use Rattle.std.specs.List.{AllByRecursion, flat_map, list_any}
 use Rattle.std.specs.Option.{option_map_or}
-use Rattle.sn_base.proofs.Lists.{by_test, nat_same, or_none}
+use Rattle.sn_base.proofs.Lists.{by_test, nat_same, or_none, all_both as both_of}
 use Rattle.sn_base.specs.declared.column.Column.{Column}
 use Rattle.sn_fields.specs.declared.field.Field.{Field}
 use Rattle.sn_fields.specs.Fields.{with_name, width_of, is_address}
@@ -28,25 +28,23 @@ use Rattle.sn_types.specs.declared.typed_query.TypedBranch.{TypedBranch}
 use Rattle.sn_types.specs.declared.typed_query.TypedQuery.{TypedQuery}
 use Rattle.sn_types.specs.Typing.{behind_branches, typed_ops, typed_branch, typed_query, posts_of, levels_of, field_of}
 use Rattle.sn_types.specs.Typed.{IsTyped, blank_branch, query_at, branch_at}
-use Rattle.sn_types.proofs.Sources.{source_of, none_in_both, none_in_each, later_none, both_of, item_at}
+use Rattle.sn_types.proofs.Sources.{source_of, none_in_both, none_in_each, later_none, item_at}
+use Rattle.sn_base.proofs.Tests.{not_less_is}
 
 -- ---- tests that fail
 
-some_none : {X : Type 0} {x : X} → Some x ≡ None → ⊥
+pub some_none : {X : Type 0} {x : X} → Some x ≡ None → ⊥
 some_none e = cc
 
 pub if_none : (b : Bool) (f : TypeFault) (o : Option TypeFault) → cond b (Some f) o ≡ None → (b ≡ false) × (o ≡ None)
 if_none true f o e = absurd (some_none e)
 if_none false f o e = (refl, e)
 
-not_below : (m n : ℕ) → nat_lt m n ≡ false → n ≤ m
-not_below m n e = ltb-false m n e
-
 -- before the first map no test of a ninth field holds, and no operator needs a map
 few_now : (mapped needs narrow : Bool) (count : ℕ) → mapped ≡ false → ((not mapped && not needs) && nat_lt 8 count || (mapped && narrow)) ≡ false → (not mapped && needs) ≡ false → count ≤ 8
 few_now true needs narrow count m wide none = cc
 few_now false true narrow count m wide none = cc
-few_now false false narrow count m wide none = not_below 8 count (or_none (nat_lt 8 count) false wide).0
+few_now false false narrow count m wide none = not_less_is 8 count (or_none (nat_lt 8 count) false wide).0
 
 -- ---- at most eight fields
 
@@ -99,7 +97,7 @@ level_at None levels level e among = tt
 level_at (Some g) levels level e among =
     let bad = or_none (not (is_address g) || not (are_rising levels)) (list_any (out_of_range (width_of g)) levels) e in
     let out = any_excludes (out_of_range (width_of g)) levels level bad.1 among in
-    not_below (width_of g) level (or_none (level == 0) (nat_lt (width_of g) level) out).1
+    not_less_is (width_of g) level (or_none (level == 0) (nat_lt (width_of g) level) out).1
 
 pub level_fits : (refine : Option Refine) (level : ℕ) → first_fault (refine_places refine) ≡ None → list_any (nat_eq level) (levels_of refine) ≡ true → IfSome (field_of refine) (λ g. level ≤ width_of g)
 level_fits None level none among = tt
@@ -156,11 +154,11 @@ pub few_queries : (window : ℕ) (queries : List TypedQuery) → ∥ IsTyped win
 few_queries window queries t =
     ∥∥₁_elim t le_prop (λ t. let same = ap length t.1.same_queries ∙ length-map t.0.queries typed_query in let most = t.1.limits.count.to_most in omega (arith, same, most))
 
-joined_few : (branches : List Branch) (join : Option Join) → AreJoined branches join → length branches ≤ 2
+pub joined_few : (branches : List Branch) (join : Option Join) → AreJoined branches join → length branches ≤ 2
 joined_few branches None h = omega (arith, h)
 joined_few branches (Some j) h = omega (arith, h.0)
 
-posts_few : (branches : List Branch) (join : Option Join) → AreJoined branches join → length (posts_of join) ≤ 12
+pub posts_few : (branches : List Branch) (join : Option Join) → AreJoined branches join → length (posts_of join) ≤ 12
 posts_few branches None h = lit≤ tt
 posts_few branches (Some j) h = h.1.posts
 

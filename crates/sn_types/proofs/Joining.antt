@@ -5,11 +5,11 @@ use Rattle.std.proofs.lemmas.List.{map-append}
 use Rattle.std.specs.List.{AllByRecursion, list_any, list_all, find}
 use Rattle.std.specs.Cmp.{IsEquivalence}
 use Rattle.std.specs.Cmp.Lexicographic.{nat_list_eq_equiv}
-use Rattle.sn_base.proofs.Lists.{by_test, not_false, map_both, all_append, all_filter, or_none, and_parts}
+use Rattle.sn_base.proofs.Lists.{by_test, not_false, map_both, all_append, all_filter, or_none, and_parts, none_all as fails_for_each}
 use Rattle.sn_base.proofs.FoldedLemmas.{same_row_exact}
 use Rattle.sn_base.specs.declared.column.Column.{Column}
 use Rattle.sn_base.specs.Groups.{Apart, same_row}
-use Rattle.sn_fields.specs.Fields.{fields, name_of}
+use Rattle.sn_fields.specs.Fields.{fields, row_of, name_of}
 use Rattle.sn_query_grammar.specs.declared.ast.Join.{Join}
 use Rattle.sn_query_grammar.specs.declared.ast.Op.{Op}
 use Rattle.sn_query_grammar.specs.declared.ast.Reduce.{Reduce}
@@ -24,24 +24,21 @@ use Rattle.sn_types_faults.specs.Faults.{in_both, wrong_key, wrong_keys, join_to
 use Rattle.sn_types_faults.specs.Walk.{fault_at}
 use Rattle.sn_types_faults.specs.Walk.Place.{JoinLine}
 use Rattle.sn_types.proofs.Facts.{if_none}
-use Rattle.sn_types.proofs.Known.{IsKnown, whole_schema, fails_for_each}
+use Rattle.sn_types.proofs.Known.{IsKnown, whole_schema}
 use Rattle.sn_types.proofs.Schemas.{IsSchema, HasWidth, mapped_whole, reduced_whole, columns_along, named_widths, packet_whole, schema_after}
 use Rattle.sn_types.proofs.Sound.{IsSound, AreSound}
+use Rattle.sn_base.proofs.Tests.{not_to_false}
 
 and_false : (a b : Bool) → a ≡ true → (a && b) ≡ false → b ≡ false
 and_false true b is e = e
 and_false false b is e = cc
-
-not_true_of : (b : Bool) → not b ≡ true → b ≡ false
-not_true_of true e = sym e
-not_true_of false e = refl
 
 -- ---- names are apart along a branch
 
 abbrev pub AreNamed : List Column → Type 0
 AreNamed columns = Apart same_row (map (λ c. c.name) columns)
 
-same_turned : (m n : Name) → same_row m n ≡ same_row n m
+pub same_turned : (m n : Name) → same_row m n ≡ same_row n m
 same_turned m n = let E : IsEquivalence same_row = nat_list_eq_equiv in E.symm m n
 
 apart_last : (names : List Name) (n : Name) → Apart same_row names → list_any (same_row n) names ≡ false → Apart same_row (names ++ n ∷ [])
@@ -111,10 +108,10 @@ unfolding are_apart
 apart_of [] e = tt
 apart_of (n ∷ names) e =
     let parts = and_parts (not (list_any (same_row n) names)) (are_apart names) e in
-    (fails_for_each (same_row n) names (not_true_of (list_any (same_row n) names) parts.0), apart_of names parts.1)
+    (fails_for_each (same_row n) names (not_to_false (list_any (same_row n) names) parts.0), apart_of names parts.1)
 
 fields_apart : Apart same_row (map name_of fields)
-unfolding are_apart
+unfolding are_apart row_of
 fields_apart = apart_of (map name_of fields) refl
 
 pub packet_named : (ops : List Op) → length (packet_fields ops) ≤ 8 → AreNamed (packet_columns ops)

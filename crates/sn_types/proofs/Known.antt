@@ -4,7 +4,7 @@ use Rattle.std.proofs.lemmas.Bool.{ltb-true, le-leb}
 use Rattle.std.proofs.lemmas.List.{length-map}
 use Rattle.std.proofs.lemmas.List.Folds.{list_any-append}
 use Rattle.std.specs.List.{AllByRecursion, flat_map, list_any, find, position, position_or_len}
-use Rattle.sn_base.proofs.Lists.{by_test, or_left, or_right, not_false, all_map, all_weaker, or_none}
+use Rattle.sn_base.proofs.Lists.{by_test, or_left, or_right, not_false, all_map, all_weaker, or_none, all_unmap, all_front, all_rest, all_both}
 use Rattle.std.specs.Cmp.Lexicographic.{bytes_decides}
 use Rattle.sn_base.proofs.FoldedLemmas.{same_row_exact}
 use Rattle.sn_base.specs.declared.column.Column.{Column}
@@ -34,31 +34,9 @@ holds_for_each q (x ∷ xs) e =
     let parts = or_none (not (q x)) (list_any (λ y. not (q y)) xs) e in
     (not_false (q x) parts.0, holds_for_each q xs parts.1)
 
-pub fails_for_each : {X : Type 0} (q : X → Bool) (xs : List X) → list_any q xs ≡ false → AllByRecursion (λ x. q x ≡ false) xs
-fails_for_each q [] e = tt
-fails_for_each q (x ∷ xs) e =
-    let parts = or_none (q x) (list_any q xs) e in
-    (parts.0, fails_for_each q xs parts.1)
-
-all_unmapped : {X Y : Type 0} (P : Y → Type 0) (f : X → Y) (xs : List X) → AllByRecursion P (map f xs) → AllByRecursion (λ x. P (f x)) xs
-all_unmapped P f [] h = tt
-all_unmapped P f (x ∷ xs) h = (h.0, all_unmapped P f xs h.1)
-
-pub all_front : {X : Type 0} (P : X → Type 0) (xs ys : List X) → AllByRecursion P (xs ++ ys) → AllByRecursion P xs
-all_front P [] ys h = tt
-all_front P (x ∷ xs) ys h = (h.0, all_front P xs ys h.1)
-
-pub all_back : {X : Type 0} (P : X → Type 0) (xs ys : List X) → AllByRecursion P (xs ++ ys) → AllByRecursion P ys
-all_back P [] ys h = h
-all_back P (x ∷ xs) ys h = all_back P xs ys h.1
-
 pub all_parts : {X Y : Type 0} (P : Y → Type 0) (f : X → List Y) (xs : List X) → AllByRecursion P (flat_map f xs) → AllByRecursion (λ x. AllByRecursion P (f x)) xs
 all_parts P f [] h = tt
-all_parts P f (x ∷ xs) h = (all_front P (f x) (flat_map f xs) h, all_parts P f xs (all_back P (f x) (flat_map f xs) h))
-
-pub all_both : {X : Type 0} (P Q : X → Type 0) (xs : List X) → AllByRecursion P xs → AllByRecursion Q xs → AllByRecursion (λ x. P x × Q x) xs
-all_both P Q [] h k = tt
-all_both P Q (x ∷ xs) h k = ((h.0, k.0), all_both P Q xs h.1 k.1)
+all_parts P f (x ∷ xs) h = (all_front P (f x) (flat_map f xs) h, all_parts P f xs (all_rest P (f x) (flat_map f xs) h))
 
 -- ---- places
 
@@ -102,7 +80,7 @@ reads_within columns (Ratio a k b) s h = (known_place columns a h.0, known_place
 pub stays_within : (columns : List Column) (w : What) → ShiftsLawfully w → AllByRecursion (IsKnown columns) (names_read w) → StaysWithin (length columns) (typed_op columns w)
 stays_within columns (what.Filter conds) s h =
     all_map (λ (t : TCond). t.col < length columns) (typed_cond columns) conds
-    (all_weaker (λ c. IsKnown columns c.name) (λ c. place_of columns c.name < length columns) (λ c. known_place columns c.name) conds (all_unmapped (IsKnown columns) (λ (c : Cond). c.name) conds h))
+    (all_weaker (λ c. IsKnown columns c.name) (λ c. place_of columns c.name < length columns) (λ c. known_place columns c.name) conds (all_unmap (IsKnown columns) (λ (c : Cond). c.name) conds h))
 stays_within columns (what.Map cols) s h =
     all_map (ReadsWithin (length columns)) (λ (c : MapCol). typed_expr columns c.expr) cols
     (all_weaker (λ c. IsPostExpr c.expr × AllByRecursion (IsKnown columns) (names_in c.expr)) (λ c. ReadsWithin (length columns) (typed_expr columns c.expr)) (λ c both. reads_within columns c.expr both.0 both.1) cols
@@ -110,12 +88,12 @@ stays_within columns (what.Map cols) s h =
 stays_within columns what.Distinct s h = tt
 stays_within columns (what.Reduce r) s h = (
   all_map (λ (k : ℕ). k < length columns) (place_of columns) r.keys (all_weaker (IsKnown columns) (λ n. place_of columns n < length columns) (known_place columns) r.keys (all_front (IsKnown columns) r.keys (r.value ∷ []) h)),
-  known_place columns r.value (all_back (IsKnown columns) r.keys (r.value ∷ []) h).0,
+  known_place columns r.value (all_rest (IsKnown columns) r.keys (r.value ∷ []) h).0,
 )
 
 -- ---- packet rows
 
-same_row_self : (n : Name) → same_name n n ≡ true
+pub same_row_self : (n : Name) → same_name n n ≡ true
 same_row_self n = (bytes_decides n n).1 refl
 
 -- each name is among them

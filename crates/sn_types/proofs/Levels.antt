@@ -3,7 +3,7 @@ use Rattle.std.proofs.Common.{◌≡◌, ℕ, zero, suc, ◌<◌, ◌≤◌, Lis
 use Rattle.std.specs.List.{list_any}
 use Rattle.std.proofs.Math.Bridge.{le_prop}
 use Rattle.std.proofs.Math.Logic.{∥∥₁_elim}
-use Rattle.sn_base.proofs.Lists.{nat_self}
+use Rattle.sn_base.proofs.Lists.{nat_self, or_right}
 use Rattle.sn_query_grammar.specs.declared.ast.Refine.{Refine}
 use Rattle.sn_query_grammar.specs.Limits.{RefineLimits}
 use Rattle.std.specs.Prelude.{IfSome}
@@ -25,12 +25,8 @@ level_some window queries q t lt =
     let some = some_levels s.query.refine s.limits.refine in
     omega (arith, same, some))
 
-or_true : (a b : Bool) → b ≡ true → (a || b) ≡ true
-or_true true b e = refl
-or_true false b e = e
-
 -- what stands at a place is among the items
 pub is_among : (ns : List ℕ) (i : ℕ) → i < length ns → list_any (nat_eq (slice_index ns i)) ns ≡ true
 is_among [] i lt = absurd (omega arith)
 is_among (n ∷ ns) zero lt = ap (λ b. b || list_any (nat_eq n) ns) (nat_self n)
-is_among (n ∷ ns) (suc i) lt = or_true (nat_eq (slice_index ns i) n) (list_any (nat_eq (slice_index ns i)) ns) (is_among ns i (omega arith))
+is_among (n ∷ ns) (suc i) lt = or_right (nat_eq (slice_index ns i) n) (list_any (nat_eq (slice_index ns i)) ns) (is_among ns i (omega arith))

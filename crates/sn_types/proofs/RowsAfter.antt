@@ -5,7 +5,7 @@ use Rattle.std.proofs.Math.Bridge.{le_prop}
 use Rattle.std.proofs.Math.Pow.{pow_mono}
 use Rattle.std.proofs.Math.Nat.{div-mul-le_self}
 use Rattle.std.specs.List.{AllByRecursion, list_all}
-use Rattle.sn_base.proofs.Lists.{all_map, all_weaker, all_filter}
+use Rattle.sn_base.proofs.Lists.{all_map, all_weaker, all_filter, all_front, all_rest as all_back, all_both}
 use Rattle.sn_base.proofs.OnceLemmas.{all_once}
 use Rattle.sn_base.proofs.FoldLemmas.{fold_had}
 use Rattle.sn_base.proofs.FoldedLemmas.{values_had}
@@ -31,7 +31,7 @@ use Rattle.sn_types_faults.specs.Widths.{lawful, fold_of}
 use Rattle.sn_types.specs.Typed.{HasWidths, read_at, packet_row, is_field}
 use Rattle.sn_types.specs.Typing.{typed_cond, typed_expr, typed_op}
 use Rattle.sn_types.specs.Values.{holds, value_of, op_at}
-use Rattle.sn_types.proofs.Known.{IsKnown, all_front, all_back, all_both, all_parts}
+use Rattle.sn_types.proofs.Known.{IsKnown, all_parts}
 use Rattle.sn_types.proofs.RowLemmas.{in_width, map_fits}
 use Rattle.sn_types.proofs.Schemas.{IsSchema, HasWidth, value_width, folded_more, mapped_whole, reduced_columns, reduced_whole}
 use Rattle.sn_types.proofs.Sound.{IsSound}
@@ -90,16 +90,16 @@ field_more fields i d row longer x within below now of =
 
 -- ---- folds
 
-lawful_same : (w : ℕ) → Within 1 64 w → lawful w ≡ w
+pub lawful_same : (w : ℕ) → Within 1 64 w → lawful w ≡ w
 lawful_same w h = omega arith
 
-had_of : (word : FoldWord) (w a : ℕ) → a < 2 ^ lawful w → any_has (fold_of word w) a
+pub had_of : (word : FoldWord) (w a : ℕ) → a < 2 ^ lawful w → any_has (fold_of word w) a
 had_of words.Sum w a h = h
 had_of words.Max w a h = h
 had_of words.Min w a h = h
 had_of words.Or w a h = h
 
-of_had : (word : FoldWord) (w a : ℕ) → any_has (fold_of word w) a → a < 2 ^ lawful w
+pub of_had : (word : FoldWord) (w a : ℕ) → any_has (fold_of word w) a → a < 2 ^ lawful w
 of_had words.Sum w a h = h
 of_had words.Max w a h = h
 of_had words.Min w a h = h

@@ -3,13 +3,13 @@ use Rattle.std.proofs.Common.{◌≡◌, ℕ, suc, ◌-◌, ◌≤◌, ◌<◌, 
 use Rattle.std.proofs.lemmas.Bool.{ltb-false}
 use Rattle.std.proofs.lemmas.List.{length-map}
 use Rattle.std.specs.List.{AllByRecursion, find}
-use Rattle.sn_base.proofs.Lists.{by_test, all_weaker, all_append}
+use Rattle.sn_base.proofs.Lists.{by_test, all_weaker, all_append, filter_keeps, none_all as fails_for_each, all_front, all_rest as all_back}
 use Rattle.sn_base.proofs.FoldedLemmas.{same_row_exact}
 use Rattle.sn_base.specs.declared.column.Column.{Column}
 use Rattle.sn_base.specs.Groups.{Apart, same_row}
 use Rattle.sn_fields.specs.declared.field.Field.{Field}
-use Rattle.sn_fields.specs.declared.field.Field.TheVariants.{PacketLength, EthernetDestination, EthernetSource, EthernetType, VlanId, IpValid, IpLength, IpTimeToLive, IpProtocol, IpSource, IpDestination, TcpValid, TcpSourcePort, TcpDestinationPort, TcpSequence, TcpAcknowledgment, TcpFlags, UdpValid, UdpSourcePort, UdpDestinationPort, UdpLength, IcmpValid, IcmpType, IcmpCode}
 use Rattle.sn_fields.specs.Fields.{width_of}
+use Rattle.sn_fields.proofs.Widths.{width_least, width_most}
 use Rattle.sn_query_grammar.specs.declared.ast.Op.{Op}
 use Rattle.sn_query_grammar.specs.declared.ast.Expr.{Expr}
 use Rattle.sn_query_grammar.specs.declared.ast.Expr.TheVariants.{Const, Copy, Mask, Shift, Sum, Ratio}
@@ -24,14 +24,10 @@ use Rattle.sn_types_faults.specs.Widths.{folded_width}
 use Rattle.sn_types_faults.specs.Columns.{has_column, column_named, expr_width, mapped_column, folded_column, field_column, as_schema, columns_after, packet_columns}
 use Rattle.sn_types_faults.specs.Faults.{is_sum}
 use Rattle.sn_query_grammar.specs.Limits.{Within, FoldWidth}
-use Rattle.sn_types.proofs.Known.{IsKnown, whole_schema, fails_for_each, all_front, all_back}
+use Rattle.sn_types.proofs.Known.{IsKnown, whole_schema}
 use Rattle.sn_types.proofs.Sound.{IsSound, AreSound}
 
 -- ---- names that are apart are no more than the columns that have them
-
-keeps_all : {X : Type 0} (t : X → Bool) (xs : List X) → AllByRecursion (λ x. t x ≡ true) xs → filter t xs ≡ xs
-keeps_all t [] h = refl
-keeps_all t (x ∷ xs) h = ap (λ b. cond b (x ∷ filter t xs) (filter t xs)) h.0 ∙ ap (λ ys. x ∷ ys) (keeps_all t xs h.1)
 
 all_kept : {X : Type 0} (P Q : X → Type 0) (t : X → Bool) → ((x : X) → t x ≡ true → P x → Q x) → (xs : List X) → AllByRecursion P xs → AllByRecursion Q (filter t xs)
 all_kept P Q t w [] h = tt
@@ -53,7 +49,7 @@ apart_kept t (n ∷ names) h =
 others_kept : (k n : Name) (names : List Name) → same_row k n ≡ true → AllByRecursion (λ x. same_row n x ≡ false) names → filter (λ x. not (same_row k x)) names ≡ names
 others_kept k n names is apart =
     let same : n ≡ k = sym (same_row_exact k n is) in
-    keeps_all (λ x. not (same_row k x)) names (all_weaker (λ x. same_row n x ≡ false) (λ x. not (same_row k x) ≡ true) (λ x e. ap not (ap (λ (m : Name). same_row m x) (sym same) ∙ e)) names apart)
+    filter_keeps (λ x. not (same_row k x)) names (all_weaker (λ x. same_row n x ≡ false) (λ x. not (same_row k x) ≡ true) (λ x e. ap not (ap (λ (m : Name). same_row m x) (sym same) ∙ e)) names apart)
 
 -- of names that are apart, at most one is a given one
 one_left : (k : Name) (names : List Name) → Apart same_row names → length names ≤ suc (length (filter (λ x. not (same_row k x)) names))
@@ -97,30 +93,7 @@ pub record IsSchema (columns : List Column) : Type 0 where
   pub widths : AllByRecursion HasWidth columns
 
 field_width : (f : Field) → Within 1 64 (width_of f)
-field_width PacketLength = record { from_least = lit≤ tt; to_most = lit≤ tt }
-field_width EthernetDestination = record { from_least = lit≤ tt; to_most = lit≤ tt }
-field_width EthernetSource = record { from_least = lit≤ tt; to_most = lit≤ tt }
-field_width EthernetType = record { from_least = lit≤ tt; to_most = lit≤ tt }
-field_width VlanId = record { from_least = lit≤ tt; to_most = lit≤ tt }
-field_width IpValid = record { from_least = lit≤ tt; to_most = lit≤ tt }
-field_width IpLength = record { from_least = lit≤ tt; to_most = lit≤ tt }
-field_width IpTimeToLive = record { from_least = lit≤ tt; to_most = lit≤ tt }
-field_width IpProtocol = record { from_least = lit≤ tt; to_most = lit≤ tt }
-field_width IpSource = record { from_least = lit≤ tt; to_most = lit≤ tt }
-field_width IpDestination = record { from_least = lit≤ tt; to_most = lit≤ tt }
-field_width TcpValid = record { from_least = lit≤ tt; to_most = lit≤ tt }
-field_width TcpSourcePort = record { from_least = lit≤ tt; to_most = lit≤ tt }
-field_width TcpDestinationPort = record { from_least = lit≤ tt; to_most = lit≤ tt }
-field_width TcpSequence = record { from_least = lit≤ tt; to_most = lit≤ tt }
-field_width TcpAcknowledgment = record { from_least = lit≤ tt; to_most = lit≤ tt }
-field_width TcpFlags = record { from_least = lit≤ tt; to_most = lit≤ tt }
-field_width UdpValid = record { from_least = lit≤ tt; to_most = lit≤ tt }
-field_width UdpSourcePort = record { from_least = lit≤ tt; to_most = lit≤ tt }
-field_width UdpDestinationPort = record { from_least = lit≤ tt; to_most = lit≤ tt }
-field_width UdpLength = record { from_least = lit≤ tt; to_most = lit≤ tt }
-field_width IcmpValid = record { from_least = lit≤ tt; to_most = lit≤ tt }
-field_width IcmpType = record { from_least = lit≤ tt; to_most = lit≤ tt }
-field_width IcmpCode = record { from_least = lit≤ tt; to_most = lit≤ tt }
+field_width f = record { from_least = width_least f; to_most = width_most f }
 
 field_widths : (fields : List Field) → AllByRecursion HasWidth (map field_column fields)
 field_widths [] = tt

@@ -2,7 +2,7 @@
 -- the limits.
 use Rattle.std.proofs.Common.{◌≡◌, ℕ, ◌≤◌, List, [], ◌∷◌, ◌++◌, map, length, Bool, true, false, not, ◌||◌, ◌&&◌, cond, is_none, Option, None, Some, refl, ap, sym, ◌∙◌, subst}
 use Rattle.std.specs.List.{AllByRecursion, list_any}
-use Rattle.sn_base.proofs.Lists.{by_test, or_right, all_weaker, all_append, or_none}
+use Rattle.sn_base.proofs.Lists.{by_test, or_right, all_weaker, all_append, or_none, none_all as fails_for_each, all_front, all_rest as all_back}
 use Rattle.sn_base.specs.declared.column.Column.{Column}
 use Rattle.sn_base.specs.Groups.{Apart, same_row}
 use Rattle.sn_fields.specs.Fields.{with_name}
@@ -26,7 +26,7 @@ use Rattle.sn_types_faults.specs.Walk.{is_end, ops_at, first_fault, fault_at, br
 use Rattle.sn_types.specs.Typing.{behind_branches, posts_of}
 use Rattle.sn_types.proofs.Sources.{later_none}
 use Rattle.sn_types.proofs.Facts.{if_none, few_packet_fields}
-use Rattle.sn_types.proofs.Known.{IsKnown, packet_known, holds_for_each, fails_for_each, all_front, all_back}
+use Rattle.sn_types.proofs.Known.{IsKnown, packet_known, holds_for_each}
 
 -- ---- limits
 

@@ -10,6 +10,7 @@ use Rattle.sn_types_faults.proofs.WalkLemmas.{first_fault-append}
 use Rattle.sn_types.specs.declared.typed_query.TypedQuery.{TypedQuery}
 use Rattle.sn_types.specs.Typing.{typed_query}
 use Rattle.sn_types.specs.Typed.{IsTyped, blank_query, query_at}
+use Rattle.sn_base.proofs.Lists.{all_both}
 
 -- ---- no fault in either of two parts
 
@@ -23,10 +24,6 @@ none_in_both ps qs e = later_none (first_fault ps) (first_fault qs) (sym (first_
 pub none_in_each : {X : Type 0} (f : X → List Place) (xs : List X) → first_fault (flat_map f xs) ≡ None → AllByRecursion (λ x. first_fault (f x) ≡ None) xs
 none_in_each f [] e = tt
 none_in_each f (x ∷ xs) e = let parts = none_in_both (f x) (flat_map f xs) e in (parts.0, none_in_each f xs parts.1)
-
-pub both_of : {X : Type 0} (P Q : X → Type 0) (xs : List X) → AllByRecursion P xs → AllByRecursion Q xs → AllByRecursion (λ x. P x × Q x) xs
-both_of P Q [] h k = tt
-both_of P Q (x ∷ xs) h k = ((h.0, k.0), both_of P Q xs h.1 k.1)
 
 -- an item of a map comes from an item
 pub item_at : {X Y : Type 0} (f : X → Y) (P : X → Type 0) (d : Y) (xs : List X) (i : ℕ) → AllByRecursion P xs → i < length (map f xs)
@@ -53,7 +50,7 @@ sourced queries q s = record { query = s.0; limits = s.1.0; no_fault = s.1.1; is
 source_in : (sources : List Query) (q : ℕ) → AllByRecursion QueryLimits sources → first_fault (flat_map query_places sources) ≡ None → q < length (map typed_query sources) → Source (map typed_query sources) q
 unfolding HasSource
 source_in sources q limits none lt =
-    sourced (map typed_query sources) q (item_at typed_query HasSource blank_query sources q (both_of QueryLimits (λ x. first_fault (query_places x) ≡ None) sources limits (none_in_each query_places sources none)) lt)
+    sourced (map typed_query sources) q (item_at typed_query HasSource blank_query sources q (all_both QueryLimits (λ x. first_fault (query_places x) ≡ None) sources limits (none_in_each query_places sources none)) lt)
 
 pub source_of : (window : ℕ) (queries : List TypedQuery) (q : ℕ) → IsTyped window queries → q < length queries → Source queries q
 source_of window queries q t lt =

@@ -1,7 +1,7 @@
 -- Typed files are well formed.
 use Rattle.std.proofs.Common.{◌≡◌, ℕ, List, [], ◌∷◌, ◌++◌, Option, None, refl, sym, subst}
 use Rattle.std.specs.List.{AllByRecursion, flat_map}
-use Rattle.sn_base.proofs.Lists.{all_map, all_weaker}
+use Rattle.sn_base.proofs.Lists.{all_map, all_weaker, all_both as both_of}
 use Rattle.sn_base.specs.declared.column.Column.{Column}
 use Rattle.sn_query_grammar.specs.declared.ast.Query.{Query}
 use Rattle.sn_query_grammar.specs.declared.ast.Branch.{Branch}
@@ -17,7 +17,7 @@ use Rattle.sn_types.specs.Typing.{typed_ops, schemas_along, behind_branches, typ
 use Rattle.sn_types.specs.Typed.{IsTyped}
 use Rattle.sn_types.specs.WellFormed.{StayWithin, IsWellFormedBranch, IsWellFormedQuery}
 use Rattle.sn_types_faults.specs.Columns.{packet_columns}
-use Rattle.sn_types.proofs.Sources.{none_in_both, none_in_each, both_of}
+use Rattle.sn_types.proofs.Sources.{none_in_both, none_in_each}
 use Rattle.sn_types.proofs.Facts.{few_packet_fields}
 use Rattle.sn_types.proofs.Known.{ShiftsLawfully, stays_within}
 use Rattle.sn_types.proofs.Sound.{OpLimits, AreSound, sound_branch, sound_posts}

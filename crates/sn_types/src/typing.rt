@@ -3,7 +3,8 @@ ghost use Rattle.std.specs.Prelude.{◌≡◌, ◌≤◌, IfOk, length, map};
 ghost use Rattle.std.specs.List.{AllByRecursion};
 ghost use Rattle.sn_query_grammar.specs.Limits.{BranchLimits, QueryLimits};
 ghost use Rattle.sn_types_faults.specs.Walk.{scope_end};
-ghost use Rattle.sn_types.specs.Typing.{typed_ops, schemas_along, typed_branch, behind_branches, join_keys, posts_of, field_of, levels_of, carried_place, typed_query};
+ghost use Rattle.sn_types.specs.Typing.{typed_ops, schemas_along, typed_branch, behind_branches, join_keys, posts_of, field_of, levels_of, carried_place};
+ghost use Rattle.sn_types.specs.Typing.{typed_query};
 
 use crate::cuts::greatest_cut;
 use crate::resolve::{typed_keys, typed_op};

@@ -47,7 +47,13 @@ scope_after scope what = record {
 
 -- what is known after the join line
 abbrev pub scope_joined : Scope → Scope → Join → Scope
-scope_joined left right join = record { mapped = true; read = []; columns = as_schema (joined_columns join.keys left.columns right.columns); carried = left.carried }
+scope_joined left right join = record {
+  mapped = true;
+  read = [];
+  columns = as_schema
+      (joined_columns join.keys left.columns right.columns);
+  carried = left.carried;
+}
 
 -- what is known after operators
 abbrev pub scope_end : Scope → List Op → Scope

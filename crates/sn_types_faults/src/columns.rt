@@ -3,7 +3,8 @@ ghost use Rattle.std.specs.Prelude.{◌≡◌, ◌++◌, ◌∷◌, [], ◌<◌,
 ghost use Rattle.std.specs.List.{find, position};
 ghost use Rattle.sn_fields.specs.Fields.{name_of};
 ghost use Rattle.sn_types_faults.specs.Names.{same_name, is_in};
-ghost use Rattle.sn_types_faults.specs.Columns.{has_column, place_of, column_named, expr_width, expr_address, mapped_column, folded_column, as_schema, columns_after, field_column, packet_columns, others, joined_columns};
+ghost use Rattle.sn_types_faults.specs.Columns.{has_column, place_of, column_named, expr_width, expr_address, mapped_column, folded_column, as_schema};
+ghost use Rattle.sn_types_faults.specs.Columns.{columns_after, field_column, packet_columns, others, joined_columns};
 
 use crate::names::{is_in, packet_fields};
 use crate::widths::{constant_width, folded_width};

@@ -4,7 +4,10 @@ ghost use Rattle.std.specs.List.{list_any, list_all, count_by};
 ghost use Rattle.sn_fields.specs.Fields.{with_name};
 ghost use Rattle.sn_types_faults.specs.Names.{fields_among, names_read};
 ghost use Rattle.sn_types_faults.specs.Columns.{has_column};
-ghost use Rattle.sn_types_faults.specs.Faults.{reads_fields, unknown_field, unknown_column, ninth_field, narrow_sum, too_wide, no_map, refine_lost, refine_filter, ends_unmapped, wrong_relax, wrong_levels, operator_fault, are_rising, out_of_range, wrong_field_levels, wrong_refine, refine_fault, in_both, join_too_wide, join_loses, wrong_key, wrong_keys, join_fault};
+ghost use Rattle.sn_types_faults.specs.Faults.{reads_fields, unknown_field, unknown_column, ninth_field, narrow_sum, too_wide, no_map, refine_lost};
+ghost use Rattle.sn_types_faults.specs.Faults.{refine_filter, ends_unmapped, wrong_relax, wrong_levels, operator_fault, are_rising, out_of_range};
+ghost use Rattle.sn_types_faults.specs.Faults.{wrong_field_levels, wrong_refine, refine_fault, in_both, join_too_wide, join_loses, wrong_key, wrong_keys};
+ghost use Rattle.sn_types_faults.specs.Faults.{join_fault};
 
 use crate::carried::{filters, loses};
 use crate::columns::{column_named, has_column, joined_columns, others};

@@ -7,7 +7,7 @@ ghost use Rattle.sn_types_faults.specs.Names.{is_in, names_in, names_read, is_ma
 use sn_base::memory::Memory;
 use sn_base::name::Name;
 use sn_base::seq::Seq;
-use sn_fields::field::{FIELDS, Field};
+use sn_fields::field::{FIELDS, Field, FieldRow};
 use sn_query_grammar::ast::{Cond, Expr, MapCol, Op, Reduce, What};
 use std::alloc::Global;
 
@@ -132,13 +132,13 @@ fn names_field(names: &[Name], field: Field) -> bool
     names.iter().any(|name| name.as_bytes() == field.name())
 }
 
-fn named_of(alloc: Global, table: &[Field], names: &[Name]) -> Result<Seq<Field>, Memory>
-    ensures { IfOk result (λ fields. fields ≡ filter (λ f. is_in (name_of f) names.now) table.now) }
+fn named_of(alloc: Global, table: &[FieldRow], names: &[Name]) -> Result<Seq<Field>, Memory>
+    ensures { IfOk result (λ fields. fields ≡ filter (λ f. is_in (name_of f) names.now) (map (λ row. row.0) table.now)) }
 {
     let mut fields = Seq::new(alloc);
-    for field in table {
-        if names_field(names, *field) {
-            fields.push(*field)?;
+    for row in table {
+        if names_field(names, row.0) {
+            fields.push(row.0)?;
         }
     }
     Ok(fields)

@@ -2,7 +2,8 @@
 ghost use Rattle.std.specs.Prelude.{◌≡◌, IfOk};
 ghost use Rattle.std.specs.List.{flat_map};
 ghost use Rattle.std.specs.Option.{option_map};
-ghost use Rattle.sn_types_faults.specs.Walk.{scope_before, scope_after, scope_joined, scope_end, is_end, operator_places, refine_levels, refine_places, branch_places, branch_end, ops_at, join_places, query_places, walk, carried_along, first_fault};
+ghost use Rattle.sn_types_faults.specs.Walk.{scope_before, scope_after, scope_joined, scope_end, is_end, operator_places, refine_levels, refine_places};
+ghost use Rattle.sn_types_faults.specs.Walk.{branch_places, branch_end, ops_at, join_places, query_places, walk, carried_along, first_fault};
 
 use crate::carried::carried_after;
 use crate::columns::{as_schema, columns_after, joined_columns, packet_columns};

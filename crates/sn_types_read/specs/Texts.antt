@@ -52,7 +52,8 @@ IsTextFault text fault = (found : ParseFault) × IsFault (tokens_of text) found 
 
 -- the grammar gives the text a file, whose first place with a fault of types has this one
 abbrev pub IsFileFault : List ℕ → QueryFault → Type 0
-IsFileFault text fault = (file : QueryFile) × (found : TypeFault) × Accepts file_rule (tokens_of text) file × (first_fault (walk file) ≡ Some found) × (type_fault found ≡ refused.Fault fault)
+IsFileFault text fault = (file : QueryFile) × (found : TypeFault) × Accepts file_rule (tokens_of text) file × (first_fault (walk file) ≡ Some found)
+    × (type_fault found ≡ refused.Fault fault)
 
 abbrev pub IsRefusedFor : List ℕ → Refused → Type 0
 IsRefusedFor text (refused.Fault fault) = IsTextFault text fault ⊎ IsFileFault text fault

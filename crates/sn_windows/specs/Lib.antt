@@ -3,3 +3,4 @@ pub mod Numbering
 pub mod NumberingOf
 pub mod Blocks
 pub mod Laws
+pub mod Rising

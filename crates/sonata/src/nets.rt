@@ -31,7 +31,8 @@ pub fn top_with_nets<I: Inputs, O: Sink, E: Sink>(
     // tree of bounds that shows that no plan that fits costs less on the first capture, and for each window of the second one exactly
     // the answers of the unsplit queries refined along the plan, with the number of items that were sent.
     ensures headline { (nodes schedule : ℕ) → Spells (texts words.now) (Command.Live nodes schedule false) →
-        KeepsHeadline (word_at (texts words.now) 1) (word_at (texts words.now) 2) (word_at (texts words.now) 3) (word_at (texts words.now) 4) nodes (around I.Inputs O.Sink E.Sink files.old out.old err.old) result (around I.Inputs O.Sink E.Sink files.new out.new err.new) }
+        KeepsHeadline (word_at (texts words.now) 1) (word_at (texts words.now) 2) (word_at (texts words.now) 3) (word_at (texts words.now) 4) nodes
+        (around I.Inputs O.Sink E.Sink files.old out.old err.old) result (around I.Inputs O.Sink E.Sink files.new out.new err.new) }
 
     // Nets report their answers as they are.
     ensures told { ⟦<Net as Machine>⟧.told ≡ as_they_are }
@@ -39,21 +40,26 @@ pub fn top_with_nets<I: Inputs, O: Sink, E: Sink>(
     // So what a machine answers is printed as it is: by `run SWITCH QUERIES PLAN CAPTURE`, with `--csv` or without it,
     ensures run { (csv : Bool) → Spells (texts words.now) (Command.Run csv) →
         IsCommandRun (word_at (texts words.now) 2 ∷ word_at (texts words.now) 1 ∷ word_at (texts words.now) 3 ∷ word_at (texts words.now) 4 ∷ [])
-        (Run as_they_are csv (word_at (texts words.now) 1) (word_at (texts words.now) 2) (word_at (texts words.now) 3) (word_at (texts words.now) 4)) (around I.Inputs O.Sink E.Sink files.old out.old err.old) result (around I.Inputs O.Sink E.Sink files.new out.new err.new) }
+        (Run as_they_are csv (word_at (texts words.now) 1) (word_at (texts words.now) 2) (word_at (texts words.now) 3) (word_at (texts words.now) 4))
+        (around I.Inputs O.Sink E.Sink files.old out.old err.old) result (around I.Inputs O.Sink E.Sink files.new out.new err.new) }
 
     // by `live SWITCH QUERIES TRAIN CAPTURE` without `--trace`,
     ensures live { (nodes schedule : ℕ) → Spells (texts words.now) (Command.Live nodes schedule false) →
         IsCommandRun (word_at (texts words.now) 2 ∷ word_at (texts words.now) 1 ∷ word_at (texts words.now) 3 ∷ word_at (texts words.now) 4 ∷ [])
-        (Live as_they_are (word_at (texts words.now) 1) (word_at (texts words.now) 2) (word_at (texts words.now) 3) (word_at (texts words.now) 4) nodes) (around I.Inputs O.Sink E.Sink files.old out.old err.old) result (around I.Inputs O.Sink E.Sink files.new out.new err.new) }
+        (Live as_they_are (word_at (texts words.now) 1) (word_at (texts words.now) 2) (word_at (texts words.now) 3) (word_at (texts words.now) 4) nodes)
+        (around I.Inputs O.Sink E.Sink files.old out.old err.old) result (around I.Inputs O.Sink E.Sink files.new out.new err.new) }
 
     // with it,
     ensures traced { (nodes schedule : ℕ) → Spells (texts words.now) (Command.Live nodes schedule true) →
         IsCommandRun (word_at (texts words.now) 2 ∷ word_at (texts words.now) 1 ∷ word_at (texts words.now) 3 ∷ word_at (texts words.now) 4 ∷ [])
-        (TracedLive schedule as_they_are (word_at (texts words.now) 1) (word_at (texts words.now) 2) (word_at (texts words.now) 3) (word_at (texts words.now) 4) nodes) (around I.Inputs O.Sink E.Sink files.old out.old err.old) result (around I.Inputs O.Sink E.Sink files.new out.new err.new) }
+        (TracedLive schedule as_they_are (word_at (texts words.now) 1) (word_at (texts words.now) 2) (word_at (texts words.now) 3)
+        (word_at (texts words.now) 4) nodes) (around I.Inputs O.Sink E.Sink files.old out.old err.old) result
+        (around I.Inputs O.Sink E.Sink files.new out.new err.new) }
 
     // and by `job NUMBER`.
     ensures job { (number : ℕ) → Spells (texts words.now) (Command.Job number) →
-        IsCommandRun [] (Job as_they_are number) (around I.Inputs O.Sink E.Sink files.old out.old err.old) result (around I.Inputs O.Sink E.Sink files.new out.new err.new) }
+        IsCommandRun [] (Job as_they_are number) (around I.Inputs O.Sink E.Sink files.old out.old err.old) result
+        (around I.Inputs O.Sink E.Sink files.new out.new err.new) }
 {
     top::<Net, I, O, E>(alloc, words, files, out, err)
 }

@@ -13,11 +13,12 @@ use Rattle.sn_command.specs.Runs.{Runs}
 use Rattle.sn_command.specs.Stages.{Does}
 use Rattle.sn_command_capture.specs.Capture.{WindowsOf}
 use Rattle.sn_command_capture.specs.Gathering.{Gathering, after, all_closed, closing, none_gathered, Stops, taken}
-use Rattle.sn_command_capture.specs.Wording.{Closed, Window, Wording}
+use Rattle.sn_command_capture.specs.Wording.{Closed, Wording}
 use Rattle.sn_command_capture.proofs.StandLemmas.{ok_weaker, seen_same}
 use Rattle.sn_command_capture.proofs.StreamLemmas.{runs_memory}
 use Rattle.sn_command_capture.proofs.TurnLemmas.{leads_first, follows_first, packet_goes, packet_stops, end_stops, error_stops, read_on}
 use Rattle.sn_command_capture.proofs.capture.write_windows.Goals as goal
+use Rattle.sn_windows.specs.Rising.{Window}
 
 pub returns-in_err-reader-clause-runs : goal.returns-in_err-reader-clause-runs
 returns-in_err-reader-clause-runs g c = let p = err_from_is_err_and c.from_residual.result c.from_residual.ensures.1 in rw (p.1, p.2) ([], runs_memory _ _ _, tt)

@@ -3,8 +3,9 @@ use Rattle.std.proofs.Math.Nat.{mod-lt}
 use Rattle.sn_core_net.specs.Steps.{IsOneOf}
 use Rattle.sn_core_drive.specs.Schedules.{enabled_events, events_of, may_happen}
 use Rattle.sn_core_drive.proofs.Listing.{got_known, got_passes, none_enabled}
-use Rattle.sn_core_drive.proofs.Owing.{goes_on, is_none_none}
+use Rattle.sn_core_drive.proofs.Owing.{goes_on}
 use Rattle.sn_core_drive.proofs.picking.pick.Goals as goal
+use Rattle.sn_base.proofs.Lists.{none_is as is_none_none}
 
 some_number : (n : ℕ) → (n ≡ 0 → ⊥) → 0 < n
 some_number zero h = absurd (h refl)

@@ -1,72 +1,38 @@
-use Rattle.std.proofs.Common.{◌≡◌, ℕ, ◌+◌, ◌<◌, ◌≤◌, ◌++◌, List, length, map, take, get_or, ap, sym, subst, ◌∙◌, arith}
-use Rattle.std.specs.List.{AllByRecursion}
-use Rattle.std.proofs.lemmas.List.{length-take, take_all}
-use Rattle.sn_plan_fit.specs.Fits.{AreEntriesOf, PieceFits, PiecesFit}
-use Rattle.sn_plan_grammar.specs.declared.plan.Entry.{Entry}
-use Rattle.sn_plan_grammar.specs.declared.plan.Piece.{Piece}
-use Rattle.sn_types.specs.declared.typed_query.TypedQuery.{TypedQuery}
-use Rattle.sn_emit.specs.Making.{CanMake}
-use Rattle.sn_emit.specs.Plans.{Placed, pieces_from, placed}
-use Rattle.sn_emit.proofs.PlanFacts.{few_entries, plan_can}
-use Rattle.sn_emit.proofs.PlanLanes.{pieces_more}
-use Rattle.sn_core_net.specs.Making.{AreNewHolders}
+use Rattle.std.proofs.Common.{◌≡◌, ◌++◌, ◌∷◌, [], List, length, map, refl, ap, sym, ◌∙◌, append_assoc, append-nil, arith}
+use Rattle.std.specs.Vec.Iter.{into_iter_items}
+use Rattle.std.proofs.lemmas.List.{map-append}
+use Rattle.circular_buffer.specs.Buffer.{Buffer}
+use Rattle.sn_emit.specs.declared.sender.Sender.{Sender}
+use Rattle.sn_report.specs.declared.frame.Frame.{Frame}
+use Rattle.sn_core_net.specs.Holders.{with_ring}
 use Rattle.sn_core_net.specs.declared.holder.Holder.{Holder}
 use Rattle.sn_core_net.proofs.making.holders.Goals as goal
 
-pub push_holders-requires-clause-can : goal.push_holders-requires-clause-can
-push_holders-requires-clause-can c =
-    let t = c.args.t.now in
-    let s = c.args.s.now in
-    let queries : List TypedQuery = t.queries in
-    let q = c.loop-entry.q in
-    let e : Entry = c.entry-item.result in
-    let same = c.as_slice-entry-items.ensures in
-    let paths = subst (AreEntriesOf queries) (sym same) c.requires.fits.paths in
-    let fits = subst (PiecesFit (PieceFits s) queries) (sym same) c.requires.fits.pieces in
-    let can = plan_can t.window_us queries s t.typed c.requires.switch c.as_slice-entry-items.result.now paths fits c.loop-entry.entry-index e c.loop-entry-test.true c.entry-item.is in
-    subst (λ (ps : List Piece). AllByRecursion (λ p. CanMake queries (placed q c.as_slice-path.result.now p)) ps) (sym c.as_slice.ensures)
-    (subst (λ (path : List ℕ). AllByRecursion (λ p. CanMake queries (placed q path p)) e.pieces) (sym c.as_slice-path.ensures.value)
-    (subst (λ (n : ℕ). AllByRecursion (λ p. CanMake queries (placed n e.levels p)) e.pieces) (sym c.loop-entry.invariant.counted) can))
+nothing_left : {X : Type 0} (xs : List X) → length xs ≡ 0 → xs ≡ []
+nothing_left [] e = refl
+nothing_left (x ∷ xs) e = absurd (omega (arith, e))
 
-pub overflow_add-q : goal.overflow_add-q
-overflow_add-q c =
-    let t = c.args.t.now in
-    let few = few_entries t.window_us t.queries c.args.s.now t.typed c.requires.switch c.args.plan.now.entries c.requires.fits.paths in
-    let lt = c.loop-entry-test.true in
-    omega (arith, few, lt, ap length c.as_slice-entry-items.ensures, c.loop-entry.invariant.counted)
-
-pub loop-entry-preserved : goal.loop-entry-preserved
-loop-entry-preserved c =
-    let queries : List TypedQuery = c.args.t.now.queries in
-    let depth = c.args.s.now.chain in
-    let room = c.args.room in
-    let es : List Entry = c.args.plan.now.entries in
-    let i = c.loop-entry.entry-index in
-    let e : Entry = c.entry-item.result in
-    let same = c.as_slice-entry-items.ensures in
-    let lt : i < length es = subst (λ (xs : List Entry). i < length xs) same c.loop-entry-test.true in
-    let at : e ≡ get_or es i e = subst (λ (xs : List Entry). e ≡ get_or xs i e) same c.entry-item.is in
-    let count : length (take i es) ≡ i = omega (arith, lt, length-take i es) in
-    let path = c.as_slice-path.result.now in
-    let pieces = c.as_slice.result.now in
-    let before : List Placed = pieces_from 0 (take i es) in
-    let own : map (placed c.loop-entry.q path) pieces ≡ map (placed i e.levels) e.pieces =
-    ap (λ (n : ℕ). map (placed n path) pieces) c.loop-entry.invariant.counted
-    ∙ ap (λ (p : List ℕ). map (placed i p) pieces) c.as_slice-path.ensures.value
-    ∙ ap (map (placed i e.levels)) c.as_slice.ensures in
+pub loop-sender-preserved : goal.loop-sender-preserved
+loop-sender-preserved c =
+    let at = c.loop-sender in
+    let s : Sender = c.in-Some.sender in
+    let steps : into_iter_items at.sender-iterator ≡ s ∷ into_iter_items c.next.new.self = c.in-Some.ensures.steps.0 in
+    let count = at.invariant.count in
+    let gone = c.in-Some.ensures.steps.1 in
+    let short = ap length steps in
     record {
-      counted = ap (λ (n : ℕ). n + 1) c.loop-entry.invariant.counted;
-      lanes = subst (λ (xs : List Placed). AreNewHolders queries depth room xs c.push_holders.new.lanes) (ap (λ (xs : List Placed). before ++ xs) own ∙ pieces_more es i e lt at count)
-          (c.in_ok-push_holders.ensures before c.loop-entry.invariant.lanes);
+      rest = append_assoc at.yielded (s ∷ []) (into_iter_items c.next.new.self) ∙ ap (λ ss. at.yielded ++ ss) (sym steps) ∙ at.invariant.rest;
+      count = omega (arith, count, gone, short);
+      lanes = c.in_ok-push.ensures.ok ∙ ap (λ (hs : List Holder). hs ++ record { sender = s; ring = c.in_ok-ring.ring } ∷ []) at.invariant.lanes
+          ∙ ap (λ (b : Buffer Frame). map (with_ring c.args.room) at.yielded ++ record { sender = s; ring = b } ∷ []) c.in_ok-ring.ensures
+          ∙ sym (map-append (with_ring c.args.room) at.yielded (s ∷ []));
     }
 
 pub returns : goal.returns
 returns c =
-    let t = c.args.t.now in
-    let s = c.args.s.now in
-    let es : List Entry = c.args.plan.now.entries in
-    let i = c.loop-entry.entry-index in
-    let end : length es ≤ i = subst (λ (xs : List Entry). length xs ≤ i) c.as_slice-entry-items.ensures c.loop-entry-test.false in
-    let whole = take_all i es end in
-    subst (λ (hs : List Holder). AreNewHolders t.queries s.chain c.args.room (pieces_from 0 es) hs) (sym c.into_vec.ensures)
-    (subst (λ (xs : List Entry). AreNewHolders t.queries s.chain c.args.room (pieces_from 0 xs) c.loop-entry.lanes) whole c.loop-entry.invariant.lanes)
+    let at = c.loop-sender in
+    let none = c.in-None.ensures.steps in
+    let empty : into_iter_items at.sender-iterator ≡ [] = nothing_left (into_iter_items at.sender-iterator) (sym at.invariant.count ∙ none.0) in
+    let all : at.yielded ≡ c.args.senders.items =
+    sym (append-nil at.yielded) ∙ ap (λ ss. at.yielded ++ ss) (sym empty) ∙ at.invariant.rest ∙ c.into_iter-sender-iterator.ensures.into_iter_gives.0 in
+    c.into_vec.ensures ∙ at.invariant.lanes ∙ ap (map (with_ring c.args.room)) all

@@ -1,7 +1,11 @@
-use Rattle.std.proofs.Common.{◌≡◌, take}
-use Rattle.sn_emit.specs.Plans.{pieces_from}
-use Rattle.sn_core_net.specs.Making.{AreNewHolders}
+use Rattle.std.proofs.Common.{◌≡◌, ◌++◌, length, map}
+use Rattle.std.specs.Vec.Iter.{into_iter_items, into_iter_len}
+use Rattle.sn_core_net.specs.Holders.{with_ring}
 use Rattle.sn_core_net.proofs.making.holders.Given as goal
 
-abbrev pub invariant-loop-entry : goal.invariant-loop-entry
-invariant-loop-entry l = record { counted : l.q ≡ l.entry-index; lanes : AreNewHolders l.t.queries l.s.chain l.room (pieces_from 0 (take l.entry-index l.plan.entries)) l.lanes }
+abbrev pub invariant-loop-sender : goal.invariant-loop-sender
+invariant-loop-sender l = record {
+  rest : l.yielded ++ into_iter_items l.sender-iterator ≡ into_iter_items l.initial.sender-iterator;
+  count : into_iter_len l.sender-iterator ≡ length (into_iter_items l.sender-iterator);
+  lanes : l.lanes ≡ map (with_ring l.room) l.yielded;
+}

@@ -2,7 +2,7 @@ use Rattle.std.proofs.Common.{◌≡◌, ℕ, ◌+◌, ◌≤◌, ◌<◌, ◌^�
 use Rattle.std.proofs.lemmas.Bool.{eqb-false, eqb-true}
 use Rattle.std.proofs.lemmas.Nat.{one_shl}
 use Rattle.sn_plan_choices.specs.declared.costs.CostTable.{CostTable}
-use Rattle.sn_refine.specs.Steps.{Given, IsPathOf}
+use Rattle.sn_refine.specs.Steps.{IsPathOf}
 use Rattle.sn_types.specs.declared.typed_query.TypedQuery.{TypedQuery}
 use Rattle.sn_types.specs.Typed.{query_at}
 use Rattle.sn_cost.specs.Adding.{Adds}
@@ -11,6 +11,7 @@ use Rattle.sn_cost.specs.Training.{of_fronts}
 use Rattle.sn_cost.proofs.Fronts.{few_fronts, four_levels, front_path, next_front, none_front, some_front}
 use Rattle.sn_cost.proofs.build.add_query.Goals as goal
 use Rattle.sn_cost.proofs.build.add_query.Goals.{then-not-is_empty+in_ok-add_front, else-not-is_empty}
+use Rattle.sn_windows.specs.Rising.{Window}
 
 pub overflow_cast-prefix-end : goal.overflow_cast-prefix-end
 overflow_cast-prefix-end c =
@@ -48,7 +49,7 @@ pub loop-prefix-preserved : goal.loop-prefix-preserved
 loop-prefix-preserved c =
     let a = c.args in
     let query : TypedQuery = query_at a.t.now.queries a.q in
-    let given : List Given = trained a.numbers.now a.tuples.now in
+    let given : List Window = trained a.numbers.now a.tuples.now in
     let i : ℕ = c.loop-prefix.prefix in
     let front : c.in_ok-front.front ≡ front_of i query.levels = c.in_ok-front.ensures ∙ ap (front_of i) c.levels-levels.ensures in
     let whole = c.as_slice.ensures in
@@ -72,7 +73,7 @@ returns c =
     let a = c.args in
     let t = a.t.now in
     let query : TypedQuery = query_at t.queries a.q in
-    let given : List Given = trained a.numbers.now a.tuples.now in
+    let given : List Window = trained a.numbers.now a.tuples.now in
     let levels : List ℕ = c.levels-levels.result.now in
     let few = four_levels t.window_us t.queries a.q t.typed c.requires.query in
     let short : length levels ≤ 4 = omega (arith, few, ap length c.levels-levels.ensures) in

@@ -11,9 +11,10 @@ use Rattle.sn_types.proofs.RowsAfter.{AreOf}
 use Rattle.sn_ops.specs.Flow.{AllFit, FrontsFit}
 use Rattle.sn_ops.specs.Joins.{joined}
 use Rattle.sn_ops.proofs.Queries.{CanBeJoined, query_joined, query_posts, query_posts_final}
-use Rattle.sn_ops.proofs.Steps.{all_front, ok_weaker}
+use Rattle.sn_ops.proofs.Steps.{ok_weaker}
 use Rattle.sn_ops.proofs.plain.join_branches.Goals as goal
 use Rattle.sn_ops.proofs.plain.join_branches.Goals.{After-as_slice}
+use Rattle.sn_base.proofs.Lists.{all_front}
 
 posts_are : (c : After-as_slice) → c.as_slice.result.now ≡ (query_at c.args.t.now.queries c.args.q).posts
 posts_are c = c.as_slice.ensures ∙ ap (λ (x : TypedQuery). x.posts) c.query.ensures

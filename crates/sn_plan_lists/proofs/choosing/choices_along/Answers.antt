@@ -3,9 +3,9 @@ use Rattle.std.specs.List.{AllByRecursion}
 use Rattle.sn_plan_lists.specs.Bounds.{HasBounds}
 use Rattle.sn_plan_lists.specs.Chosen.{plan_choices}
 use Rattle.sn_plan_lists.proofs.Counts.{HavePieces, have_pieces, here_pieces}
-use Rattle.sn_plan_lists.proofs.NamedPieces.{all_get}
 use Rattle.sn_plan_lists.proofs.TypedBounds.{typed_bounds}
 use Rattle.sn_plan_lists.proofs.choosing.choices_along.Goals as goal
+use Rattle.sn_types.proofs.Items.{of_item as all_get}
 
 pub loop-query-init : goal.loop-query-init
 loop-query-init c =

@@ -5,9 +5,9 @@ use Rattle.sn_plan_choices.specs.Costs.{entry_in}
 use Rattle.sn_plan_lists.specs.Bounds.{HasBounds}
 use Rattle.sn_plan_lists.specs.Costs.{plan_cost}
 use Rattle.sn_plan_lists.proofs.Counts.{HavePieces, have_pieces, here_pieces}
-use Rattle.sn_plan_lists.proofs.NamedPieces.{all_get}
 use Rattle.sn_plan_lists.proofs.TypedBounds.{typed_bounds}
 use Rattle.sn_plan_lists.proofs.costing.cost_along.Goals as goal
+use Rattle.sn_types.proofs.Items.{of_item as all_get}
 
 pub loop-query-init : goal.loop-query-init
 loop-query-init c =

@@ -1,9 +1,9 @@
 use Rattle.std.proofs.Common.{sym, subst}
 use Rattle.std.specs.List.{AllByRecursion}
 use Rattle.sn_plan_lists.specs.Bounds.{HasBounds}
-use Rattle.sn_plan_lists.proofs.NamedPieces.{all_get}
 use Rattle.sn_plan_lists.proofs.TypedBounds.{typed_bounds}
 use Rattle.sn_plan_lists.proofs.naming.entries_at.Goals as goal
+use Rattle.sn_types.proofs.Items.{of_item as all_get}
 
 pub entry_at-requires-clause-bounds : goal.entry_at-requires-clause-bounds
 entry_at-requires-clause-bounds c =

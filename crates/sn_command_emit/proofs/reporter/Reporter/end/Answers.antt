@@ -13,10 +13,10 @@ returns-clause-text c = λ closed tuples h.
 pub returns-clause-closed : goal.returns-clause-closed
 returns-clause-closed c = λ closed tuples h.
     let a = c.args.self.now in
-    let d = c.end_window.new.driver in
+    let d = c.close.new.self in
     let e = c.in_ok-answers.ensures in
     let answers = c.in_ok-answers.answers in
     let are = answers_are (plan_of a) a.driver h.driver a.last c.args.number tuples h.widths h.work answers e.window e.answers in
-    closed_idle a closed c.args.number tuples h d answers _ are (driver_after (plan_of a) a.driver h.driver d e.queries c.end_window.ensures.sources e.count)
+    closed_idle a closed c.args.number tuples h d answers _ are (driver_after (plan_of a) a.driver h.driver d e.queries c.close.ensures.sources e.count)
     (idle_after (plan_of a) a.driver h.driver a.last c.args.number tuples h.widths h.work d.emitter d.engine.lanes.items h.lanes e.empty)
     (ap (λ (v : Vec ℕ Global). v.items) c.replace-sent.ensures.after ∙ c.new.ensures.items)

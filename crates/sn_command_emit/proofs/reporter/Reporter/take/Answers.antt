@@ -3,7 +3,7 @@ use Rattle.sn_command_emit.proofs.reporter.Reporter.take.Goals as goal
 
 pub returns-clause-given : goal.returns-clause-given
 returns-clause-given c =
-    let e = c.give_packet.ensures in
-    on_five c.give_packet.result e.work e.sent e.unread e.lanes e.count
+    let e = c.packet.ensures in
+    on_five c.packet.result e.work e.sent e.unread e.lanes e.count
     (λ work sent unread lanes count closed number tuples h.
-    given_hand c.args.self.now c.give_packet.new.driver c.give_packet.new.text c.args.tuple.now closed number tuples h c.widths.ensures work sent unread lanes count e.queries e.sources)
+    given_hand c.args.self.now c.packet.new.self c.packet.new.wire c.args.tuple.now closed number tuples h c.widths.ensures work sent unread lanes count e.queries e.sources)

@@ -1,12 +1,13 @@
 use Rattle.std.proofs.Common.{◌≡◌, ℕ, List, length, ap, ◌∙◌}
 use Rattle.sn_command_capture.proofs.StandLemmas.{ok_weaker}
-use Rattle.sn_command_capture.specs.Wording.{Closed, Window}
+use Rattle.sn_command_capture.specs.Wording.{Closed}
 use Rattle.sn_command_job.specs.Summary.{summary, summary_text}
 use Rattle.sn_command_job.specs.Summing.{IsAtWork, IsIdle}
 use Rattle.sn_command_job.proofs.SummingLemmas.{all_sent, all_shown}
 use Rattle.sn_command_run.specs.Along.{plan_of}
 use Rattle.sn_command_run.specs.Planned.{told_emitted_in}
 use Rattle.sn_command_job.proofs.summing.SummingAnswering.last.Goals as goal
+use Rattle.sn_windows.specs.Rising.{Window}
 
 pub returns : goal.returns
 returns g c =

@@ -1,6 +1,6 @@
 use Rattle.std.proofs.Common.{◌≡◌, ◌<◌, ℕ, List, [], ◌∷◌, ◌++◌, ap, length, subst, sym}
 use Rattle.sn_command_capture.proofs.StandLemmas.{ok_weaker}
-use Rattle.sn_command_capture.specs.Wording.{Window}
+use Rattle.sn_windows.specs.Rising.{Window}
 use Rattle.sn_command_run.specs.declared.form.Form.{Form}
 use Rattle.sn_command_run.specs.Along.{IsAtHand, plan_of}
 use Rattle.sn_command_run.specs.Planned.{Planned, Telling, told_at, wording_in}

@@ -1,10 +1,11 @@
 use Rattle.std.proofs.Common.{◌≡◌, ℕ, List, length}
 use Rattle.sn_command_capture.proofs.StandLemmas.{ok_weaker}
-use Rattle.sn_command_capture.specs.Wording.{Closed, Window}
+use Rattle.sn_command_capture.specs.Wording.{Closed}
 use Rattle.sn_command_run.specs.Along.{IsAtHand, IsIdle, plan_of}
 use Rattle.sn_command_run.specs.Planned.{Planned, Telling, told_emitted_in, wording_in}
 use Rattle.sn_command_run.proofs.HandLemmas.{all_emitted}
 use Rattle.sn_command_run.proofs.answering.AlongAnswering.last.Goals as goal
+use Rattle.sn_windows.specs.Rising.{Window}
 
 pub returns : goal.returns
 returns g c =

@@ -1,5 +1,5 @@
 use Rattle.std.proofs.Common.{◌≡◌, ℕ, List, [], refl, ◌∙◌}
-use Rattle.sn_command_capture.specs.Wording.{Window}
+use Rattle.sn_windows.specs.Rising.{Window}
 use Rattle.sn_command_run.specs.Along.{plan_of}
 use Rattle.sn_command_run.specs.declared.form.Form.{Form}
 use Rattle.sn_command_run.specs.declared.form.Form.TheVariants as forms

@@ -1,12 +1,13 @@
 use Rattle.std.proofs.Common.{◌≡◌, ℕ, List, ◌++◌, Some, ap₂, length, ◌∙◌}
 use Rattle.sn_command_capture.proofs.StandLemmas.{ok_weaker}
-use Rattle.sn_command_capture.specs.Wording.{Closed, Window}
+use Rattle.sn_command_capture.specs.Wording.{Closed}
 use Rattle.sn_out.specs.Text.{damage_line, total_line}
 use Rattle.sn_command_run.specs.Along.{plan_of}
 use Rattle.sn_command_run.specs.TraceWatching.{IsAtWork, IsIdle}
 use Rattle.sn_command_run.specs.TraceWording.{traced_wording}
 use Rattle.sn_command_run.proofs.AtWork.{all_sent, last_lines_are}
 use Rattle.sn_command_run.proofs.trace_answering.TracedAnswering.last.Goals as goal
+use Rattle.sn_windows.specs.Rising.{Window}
 
 pub returns : goal.returns
 returns g c =

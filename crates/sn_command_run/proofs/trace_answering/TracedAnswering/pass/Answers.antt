@@ -1,6 +1,6 @@
 use Rattle.std.proofs.Common.{◌≡◌, ◌<◌, ℕ, List, [], ◌∷◌, ◌++◌, true, ap, ap₂, length, ◌∙◌}
 use Rattle.sn_command_capture.proofs.StandLemmas.{ok_weaker}
-use Rattle.sn_command_capture.specs.Wording.{Window}
+use Rattle.sn_windows.specs.Rising.{Window}
 use Rattle.sn_out.specs.Text.{block_text}
 use Rattle.sn_command_run.specs.Along.{plan_of}
 use Rattle.sn_command_run.specs.Planned.{Planned}

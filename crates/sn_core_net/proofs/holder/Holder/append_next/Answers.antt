@@ -1,24 +1,31 @@
-use Rattle.std.proofs.Common.{◌∙◌, ap, true}
+use Rattle.std.proofs.Common.{◌∙◌, [], ◌∷◌, ◌++◌, map, ap, List, Bool}
+use Rattle.std.proofs.lemmas.List.{map-append}
 use Rattle.circular_buffer.specs.Buffer.{Buffer}
 use Rattle.sn_core.specs.declared.supply.Frame.{Frame}
 use Rattle.sn_core_net.specs.Settled.{settled}
-use Rattle.sn_pipe.specs.Pipes.{PipeState}
+use Rattle.sn_emit.specs.declared.sender.Sender.{Sender}
+use Rattle.sn_report.specs.declared.frame.Frame.{Frame as Report}
 use Rattle.sn_report.specs.declared.frame.Item.{Item}
+use Rattle.sn_core_net.specs.Reports.{frame_of}
 use Rattle.sn_core_net.specs.declared.holder.Holder.{Holder}
 use Rattle.sn_core_net.specs.States.{lane_of}
-use Rattle.sn_core_net.proofs.Reading.{end_next, row_next}
+use Rattle.sn_core_net.proofs.Reading.{next_is, own_more, some_left}
 use Rattle.sn_core_net.proofs.holder.Holder.append_next.Goals as goal
 
 pub returns-in-Some-clause-lane : goal.returns-in-Some-clause-lane
 returns-in-Some-clause-lane c = λ queries intakes sources x.
     let h : Holder = c.args.self.now in
-    let q : PipeState = c.read_out_next.new.self in
-    ap (λ (b : Buffer (Frame Item)). record (lane_of h x) { pipe = settled q; ring = b.items }) c.append.ensures
-    ∙ row_next queries intakes sources h q x c.read_out_next.ensures.rest c.read_out_next.ensures.left c.in-Some.item c.in-Some.ensures.item
+    let t : Sender = c.read_out.new.self in
+    let f : Report = c.in-Some.frame in
+    ap (λ (b : Buffer Report). record (lane_of h x) { pipe = settled t.pipe; ended = t.ended; ring = map frame_of b.items }) c.append.ensures
+    ∙ ap (λ (fs : List (Frame Item)). record (lane_of h x) { pipe = settled t.pipe; ended = t.ended; ring = fs }) (map-append frame_of h.ring.items (f ∷ []))
+    ∙ ap (λ (e : Bool). record (lane_of h x) { pipe = settled t.pipe; ended = e; ring = map frame_of h.ring.items ++ frame_of f ∷ [] }) c.read_out.ensures.ended
+    ∙ next_is queries intakes sources h t.pipe x c.read_out.ensures.rest c.in-Some.ensures.frame.rows c.args.window f c.requires.runs c.in-Some.ensures.frame.first
+
+pub returns-in-Some-clause-own : goal.returns-in-Some-clause-own
+returns-in-Some-clause-own c = λ own.
+    let h : Holder = c.args.self.now in
+    own_more h.sender c.args.window c.in-Some.frame h.ring.items c.append.new.ring.items c.requires.runs c.in-Some.ensures.frame.first (ap (λ (b : Buffer Report). b.items) c.append.ensures) own
 
 pub returns-in-None-clause-lane : goal.returns-in-None-clause-lane
-returns-in-None-clause-lane c = λ queries intakes sources x.
-    let h : Holder = c.args.self.now in
-    let q : PipeState = c.read_out_next.new.self in
-    ap (λ (b : Buffer (Frame Item)). record (lane_of h x) { pipe = settled q; ended = true; ring = b.items }) c.append-in-None.ensures
-    ∙ end_next queries intakes sources h q x c.read_out_next.ensures.rest c.read_out_next.ensures.left c.in-None.ensures.item
+returns-in-None-clause-lane c = λ queries intakes sources x. some_left c.args.self.now.sender c.args.window c.requires.runs c.in-None.ensures.frame.first

@@ -4,6 +4,7 @@ use Rattle.sn_base.proofs.Lists.{map_both}
 use Rattle.sn_core.specs.Events.{after_event}
 use Rattle.sn_core.specs.Needs.{first_need_that_fails}
 use Rattle.sn_core.specs.declared.event.Event.TheVariants as event
+use Rattle.sn_core.specs.declared.supply.Window.{Window}
 use Rattle.sn_core.specs.declared.supply.Window.TheVariants.{Begun, Closed}
 use Rattle.sn_engine_lockstep.specs.Sources.{prefixes_in}
 use Rattle.sn_engine.specs.Answers.{answers_of}
@@ -13,8 +14,9 @@ use Rattle.sn_core_net.specs.PlanWorkings.{workings_of}
 use Rattle.sn_types.specs.declared.answers.Answers.{Answers}
 use Rattle.sn_types.specs.declared.typed_query.TypedQuery.{TypedQuery}
 use Rattle.sn_core_net.specs.declared.net.Net.{Net}
-use Rattle.sn_core_net.specs.Facts.{AreKnown, are_named, names_of}
+use Rattle.sn_core_net.specs.Facts.{AreKnown, are_named, are_own, names_of}
 use Rattle.sn_core_net.specs.Nets.{state, works}
+use Rattle.sn_core_net.specs.Reports.{window_number}
 use Rattle.sn_core_net.specs.States.{state_of}
 use Rattle.sn_core_net.proofs.Both.{Set}
 use Rattle.sn_core_net.proofs.Changes.{close_changes}
@@ -45,6 +47,7 @@ invariant_of-self c =
       roomy = net.roomy;
       named = ap (are_named (names_of net.lanes.items)) empty ∙ net.named;
       unread = refl;
+      own = sym (ap (λ (w : Window). are_own (window_number w) net.lanes.items) c.requires.begun) ∙ net.own;
       agreed = refl;
       known = subst (λ (qs : List TypedQuery). AreKnown qs net.sources) (sym c.empty.ensures.queries) net.known;
       standing = event_stands net.engine.t.queries c.empty.new.self.t.queries xs ys net.sources c.empty.ensures.queries empty (state net)

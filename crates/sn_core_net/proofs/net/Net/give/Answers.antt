@@ -7,10 +7,11 @@ use Rattle.sn_core.specs.declared.supply.Supply.{Supply}
 use Rattle.sn_core.specs.declared.supply.Window.{Window}
 use Rattle.sn_engine.specs.declared.intake.Intake.{Intake}
 use Rattle.sn_core_net.specs.declared.net.Net.{Net}
-use Rattle.sn_core_net.specs.Facts.{are_unread, ends_agree, may_be_read}
+use Rattle.sn_core_net.specs.Facts.{are_own, are_unread, ends_agree, may_be_read}
 use Rattle.sn_core_net.specs.Nets.{state, works}
+use Rattle.sn_core_net.specs.Reports.{window_number}
 use Rattle.sn_core_net.specs.States.{state_of}
-use Rattle.sn_core_net.proofs.Facts.{give_stands, given_ends, given_unread}
+use Rattle.sn_core_net.proofs.Facts.{give_stands, given_ends, given_own, given_unread}
 use Rattle.sn_core_net.proofs.net.Net.give.Goals as goal
 
 pub invariant_of-self : goal.invariant_of-self
@@ -26,6 +27,8 @@ invariant_of-self c =
       roomy = net.roomy;
       named = net.named;
       unread = subst (λ (w : Window). (may_be_read w (Some next) || are_unread net.lanes.items) ≡ true) (sym is) (given_unread net.window net.held next (are_unread net.lanes.items) c.requires.wants net.unread);
+      own = subst (λ (w : Window). are_own (window_number w) net.lanes.items ≡ true) (sym is)
+          (∥∥₁_elim net.standing (Bool-set (are_own (window_number (window_from net.window next)) net.lanes.items) true) (λ h. given_own (works net) net.lanes.items xs net.matched net.held net.window next h.stands net.own));
       agreed = subst (λ (w : Window). ends_agree w xs ≡ true) (sym is)
           (∥∥₁_elim net.standing (Bool-set (ends_agree (window_from net.window next) xs) true) (λ h. given_ends (works net) net.lanes.items xs net.matched net.held net.window next h.stands net.agreed));
       known = net.known;

@@ -10,14 +10,16 @@ use Rattle.sn_engine.specs.Intakes.{emptied}
 use Rattle.sn_engine.specs.declared.intake.Intake.{Intake}
 use Rattle.sn_core_net.specs.declared.holder.Holder.{Holder}
 use Rattle.sn_core_net.specs.declared.net.Net.{Net}
-use Rattle.sn_core_net.specs.Facts.{are_named, are_roomy, are_unread, ends_agree, may_be_read, names_of}
+use Rattle.sn_core_net.specs.Facts.{are_named, are_own, are_roomy, are_unread, ends_agree, may_be_read, names_of}
 use Rattle.sn_core_net.specs.Holders.{all_begun}
 use Rattle.sn_core_net.specs.Nets.{state, works}
+use Rattle.sn_core_net.specs.Reports.{window_number}
 use Rattle.sn_core_net.specs.States.{state_of}
-use Rattle.sn_core_net.proofs.Both.{Set, length_begun, names_begun, roomy_begun, unread_begun}
+use Rattle.sn_core_net.proofs.Both.{Set, length_begun, names_begun, own_begun, roomy_begun, unread_begun}
 use Rattle.sn_core_net.proofs.Changes.{install_changes}
-use Rattle.sn_core_net.proofs.Facts.{closed_ends, event_stands, right_true}
+use Rattle.sn_core_net.proofs.Facts.{closed_ends, closed_own, event_stands}
 use Rattle.sn_core_net.proofs.net.Net.install.Goals as goal
+use Rattle.sn_base.proofs.Lists.{or_right as right_true}
 
 changed : (net : Net) (window : Window) (closed : ℕ) (lanes : List Holder) (installs : List Set) → net.window ≡ Closed closed → lanes ≡ all_begun net.lanes.items (kept_for_held closed net.installs.items net.held) → window ≡ window_of_held net.held → installs ≡ [] →
     state_of net.room net.held window lanes net.engine.lanes.items installs net.waiting ≡ after_event (works net) (state net) event.Install
@@ -29,6 +31,9 @@ changed net window closed lanes installs is begun next none =
 
 ends : (net : Net) (window : Window) (closed : ℕ) → net.window ≡ Closed closed → ends_agree window net.engine.lanes.items ≡ true
 ends net window closed is = ∥∥₁_elim net.standing (Bool-set (ends_agree window net.engine.lanes.items) true) (λ h. closed_ends (works net) net.lanes.items net.engine.lanes.items net.matched net.held net.window window closed is h.stands)
+
+own : (net : Net) (n closed : ℕ) → net.window ≡ Closed closed → are_own n net.lanes.items ≡ true
+own net n closed is = ∥∥₁_elim net.standing (Bool-set (are_own n net.lanes.items) true) (λ h. closed_own (works net) net.lanes.items net.engine.lanes.items net.matched net.held net.window n closed is h.stands)
 
 pub invariant_of-self : goal.invariant_of-self
 invariant_of-self c =
@@ -46,6 +51,7 @@ invariant_of-self c =
       roomy = ap (are_roomy net.room) begun ∙ roomy_begun net.room hs kepts ∙ net.roomy;
       named = ap (λ (names : List Lane). are_named names (map emptied xs)) (ap names_of begun ∙ names_begun hs kepts) ∙ net.named;
       unread = right_true (may_be_read window net.held) (are_unread lanes) (ap are_unread begun ∙ unread_begun hs kepts);
+      own = ap (are_own (window_number window)) begun ∙ own_begun (window_number window) hs kepts ∙ own net (window_number window) closed c.in-Closed.is;
       agreed = ends net window closed c.in-Closed.is;
       known = net.known;
       standing = event_stands net.engine.t.queries net.engine.t.queries xs xs net.sources refl refl (state net) (state_of net.room net.held window lanes xs c.clear.new.self.items net.waiting) event.Install net.standing c.requires

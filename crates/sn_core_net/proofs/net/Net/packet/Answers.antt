@@ -9,14 +9,16 @@ use Rattle.sn_engine.specs.declared.intake.Intake.{Intake}
 use Rattle.sn_base.specs.declared.lane.Lane.{Lane}
 use Rattle.sn_core_net.specs.declared.holder.Holder.{Holder}
 use Rattle.sn_core_net.specs.declared.net.Net.{Net}
-use Rattle.sn_core_net.specs.Facts.{are_named, are_roomy, are_unread, may_be_read, names_of}
+use Rattle.sn_core_net.specs.Facts.{are_named, are_own, are_roomy, are_unread, may_be_read, names_of}
 use Rattle.sn_core_net.specs.Holders.{all_took}
 use Rattle.sn_core_net.specs.Nets.{state, works}
+use Rattle.sn_core_net.specs.Reports.{window_number}
 use Rattle.sn_core_net.specs.States.{state_of}
-use Rattle.sn_core_net.proofs.Both.{length_took, names_took, roomy_took, unread_took}
+use Rattle.sn_core_net.proofs.Both.{length_took, names_took, own_took, roomy_took, unread_took}
 use Rattle.sn_core_net.proofs.Changes.{packet_changes, packet_may}
-use Rattle.sn_core_net.proofs.Facts.{event_stands, packet_unread, right_true}
+use Rattle.sn_core_net.proofs.Facts.{event_stands, packet_unread}
 use Rattle.sn_core_net.proofs.net.Net.packet.Goals as goal
+use Rattle.sn_base.proofs.Lists.{or_right as right_true}
 
 unread : (net : Net) → first_need_that_fails (state net) event.Packet ≡ None → are_unread net.lanes.items ≡ true
 unread net may =
@@ -47,6 +49,7 @@ invariant_of-self c =
       roomy = ap (are_roomy net.room) new ∙ roomy_took net.room tuple hs ∙ net.roomy;
       named = ap (λ (names : List Lane). are_named names (map emptied xs)) (ap names_of new ∙ names_took tuple hs) ∙ net.named;
       unread = right_true (may_be_read net.window None) (are_unread c.take_in_all.new.lanes.items) (ap are_unread new ∙ unread_took tuple hs ∙ unread net c.requires);
+      own = ap (are_own (window_number net.window)) new ∙ own_took (window_number net.window) tuple hs net.own;
       agreed = net.agreed;
       known = net.known;
       standing = event_stands net.engine.t.queries net.engine.t.queries xs xs net.sources refl refl (state net) (state_of net.room None net.window c.take_in_all.new.lanes.items xs net.installs.items net.waiting) event.Packet net.standing c.requires

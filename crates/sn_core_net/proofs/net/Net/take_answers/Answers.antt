@@ -16,6 +16,7 @@ invariant_of-self c =
       roomy = net.roomy;
       named = net.named;
       unread = net.unread;
+      own = net.own;
       agreed = net.agreed;
       known = net.known;
       standing = subst (λ (o : Option Answers). ∥ IsNet (works net) (state_of net.room net.held net.window net.lanes.items net.engine.lanes.items net.installs.items o) ∥₁) (sym c.take.ensures.after)

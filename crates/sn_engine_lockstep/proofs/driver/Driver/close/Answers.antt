@@ -4,7 +4,7 @@ use Rattle.sn_engine_lockstep.proofs.Beginning.{done_emptied}
 use Rattle.sn_engine_lockstep.proofs.driver.Driver.close.Goals as goal
 
 pub returns-clause-empty : goal.returns-clause-empty
-returns-clause-empty c = λ typed_for depth pieces kept tuples t can widths w lanes.
+returns-clause-empty g c = λ typed_for depth pieces kept tuples t can widths w lanes.
     let queries = c.args.self.now.engine.t.queries in
     record {
       apart = w.apart;

@@ -1,5 +1,5 @@
 use Rattle.std.proofs.Common.{rules, ◌≡◌, ◌<◌, ◌^◌, ℕ, List, slice_index, subst, Bool, true, false, arith}
-use Rattle.sn_fields.specs.Fields.{number_of, width_of}
+use Rattle.sn_fields.specs.Fields.{number_of, row_of, width_of}
 use Rattle.sn_fields.specs.Tuples.{where_present}
 use Rattle.sn_fields.specs.declared.field.Field.{Field}
 use Rattle.sn_fields.specs.declared.field.Field.TheVariants.{PacketLength, EthernetDestination, EthernetSource, EthernetType, VlanId, IpValid, IpLength, IpTimeToLive, IpProtocol, IpSource, IpDestination, TcpValid, TcpSourcePort, TcpDestinationPort, TcpSequence, TcpAcknowledgment, TcpFlags, UdpValid, UdpSourcePort, UdpDestinationPort, UdpLength, IcmpValid, IcmpType, IcmpCode}
@@ -13,6 +13,7 @@ as_seen : {xs ys : List ℕ} → xs ≡ ys → (field : Field) → slice_index x
 as_seen e field h = subst (λ (numbers : List ℕ). slice_index numbers (number_of field) < 2 ^ width_of field) e h
 
 pub returns : goal.returns
+unfolding row_of
 returns c PacketLength = search rules
 returns c EthernetDestination = as_seen c.self.view_is EthernetDestination c.self.invariant.0
 returns c EthernetSource = as_seen c.self.view_is EthernetSource c.self.invariant.1

@@ -1,0 +1,9 @@
+use Rattle.std.proofs.Common.{ℕ, subst}
+use Rattle.sn_core_net.specs.Steps.{IsOneOf}
+use Rattle.sn_core_net.proofs.Zips.{length_lanes}
+use Rattle.sn_core_drive.proofs.is_machine.NetMachine.happen.Goals as goal
+
+pub happen-requires-clause-lane : goal.happen-requires-clause-lane
+happen-requires-clause-lane c =
+    let net = c.args.self.now in
+    subst (λ (n : ℕ). IsOneOf n c.args.event) (length_lanes net.lanes.items net.engine.lanes.items net.matched) c.requires.lane

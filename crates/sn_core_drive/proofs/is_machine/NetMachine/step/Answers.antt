@@ -1,9 +1,0 @@
-use Rattle.std.proofs.Common.{ℕ, subst}
-use Rattle.sn_core_net.specs.Steps.{IsOneOf}
-use Rattle.sn_core_net.proofs.Zips.{length_lanes}
-use Rattle.sn_core_drive.proofs.is_machine.NetMachine.step.Goals as goal
-
-pub step-requires : goal.step-requires
-step-requires c =
-    let net = c.args.self.now in
-    subst (λ (n : ℕ). IsOneOf n c.args.event) (length_lanes net.lanes.items net.engine.lanes.items net.matched) c.requires

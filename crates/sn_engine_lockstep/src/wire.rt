@@ -1,0 +1,38 @@
+//! Who is told of the frames that lanes send.
+ghost use Rattle.std.specs.Prelude.{◌≡◌, ◌++◌, ℕ, List, OnOk};
+ghost use Rattle.sn_emit.specs.Making.{CanEncode};
+ghost use Rattle.sn_report.specs.declared.frame.Frame.{Frame as Framed};
+
+use sn_base::bytes::push_bytes;
+use sn_base::memory::Memory;
+use sn_report::encode::{MOST_BYTES, encode};
+use sn_report::frame::Frame;
+
+/// What is told of each frame that a lane sends, once the engine has taken it.
+pub trait Wire {
+    /// What was told so far.
+    ghost told: { Self → List ℕ };
+
+    /// What is told of one frame.
+    ghost word: { Framed → List ℕ };
+
+    /// Tells of a frame, after those before.
+    fn sent(&mut self, frame: &Frame) -> Result<(), Memory>
+        requires { CanEncode frame.now }
+        ensures { OnOk result (told self.new ≡ told self.old ++ word frame.now) };
+}
+
+/// The bytes of the frames, one after another.
+impl Wire for Vec<u8> {
+    ghost use Rattle.sn_report.specs.Frames.{spelling};
+
+    ghost told = { λ text. text.items };
+
+    ghost word = { spelling };
+
+    fn sent(&mut self, frame: &Frame) -> Result<(), Memory> {
+        let mut spelled = [0; MOST_BYTES];
+        let length = encode(frame, &mut spelled);
+        push_bytes(self, &spelled[..length])
+    }
+}
