@@ -4,10 +4,11 @@
     sonata plain QUERIES CAPTURE | keys.py --queries QUERIES --capture CAPTURE
     keys.py today.txt --queries tour.query --capture today.pcap --local
 
-    port_scan 198.51.100.7 10.1.5.5: windows 5..10, 2026-11-28 00:00:05+00:00 to 2026-11-28 00:00:11+00:00, 6 of them, ports at most 150
+    port_scan 198.51.100.7 10.1.5.5: windows 5..10, 2026-11-28 00:00:05.000308+00:00 to 2026-11-28 00:00:11.000308+00:00, 6 of them, ports at most 150
 
-Keys are those of the finest level of each query, its own in the query file's order and the first to be answered first. The second time is the end of the last
-window. A key is the keys of a query's join or last reduce, and the number is its last column. Answers are those of `plain`, `run`, `finish` and `live`, and
+Keys are those of the finest level of each query, its own in the query file's order and the first to be answered first. The times are those at which the
+first window begins and the last one ends, so what was found may begin and end up to a window inside of them, and outside where it was below the query's
+threshold: packets.py tells it of the packets. A key is the keys of a query's join or last reduce, and the number is its last column. Answers are those of `plain`, `run`, `finish` and `live`, and
 CSV. Needs nothing but Python."""
 
 import argparse
@@ -41,7 +42,7 @@ def main():
     order, named = {query.name: place for place, query in enumerate(queries)}, {query.name: query.columns[-1][0] + ' ' for query in queries}
     for (query, key), (first, last, count, greatest) in sorted(findings(given.answers, queries).items(), key=lambda one: (order.get(one[0][0], 0), one[1][0])):
         span = '%d' % first if first == last else '%d..%d' % (first, last)
-        print('%s %s: windows %s, %s to %s, %d of them%s' % (query, key, span, clock.at(first, 'seconds'), clock.at(last + 1, 'seconds'), count,
+        print('%s %s: windows %s, %s to %s, %d of them%s' % (query, key, span, clock.at(first), clock.at(last + 1), count,
                                                              '' if greatest is None else ', %sat most %d' % (named.get(query, ''), greatest)))
     return 0
 

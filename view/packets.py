@@ -1,12 +1,16 @@
 #!/usr/bin/env python3
-"""Takes the packets of a finding out of a capture: those of a window, or of several, that pass a filter in tcpdump's words.
+"""Takes the packets of a finding out of a capture: those of the whole capture, of a window or of several, that pass a filter in tcpdump's words.
 
     packets.py today.pcap --window-us 1000000 --window 4 'host 10.20.0.80' -o finding.pcap
     packets.py today.pcap --queries tour.query --window 3..5 'dst host 10.20.0.80 and tcp[tcpflags] == tcp-syn' -o finding.pcap
     packets.py today.pcap --queries tour.query --window 4 'host 10.20.0.80'
+    packets.py today.pcap 'src host 198.51.100.7' -o attacker.pcap
 
-Without -o tcpdump prints them. A record is in the window that `sonata` counts it in: by the time since the first record, and never backwards. Without
-a filter all packets of the windows are taken. Needs tcpdump: on Debian `apt-get install tcpdump`."""
+    900 of 24,300 packets, 2026-11-29 00:00:08.372054+00:00 to 2026-11-29 00:00:14.365387+00:00
+
+Without -o tcpdump prints them; with it a line tells how many they are of those in the windows, and the times of the first and the last of them in UTC.
+Without --window the whole capture is looked at: windows that were answered lack an attack's edges. A record is in the window that `sonata` counts it in:
+by the time since the first record, and never backwards. Without a filter all packets are taken. Needs tcpdump: on Debian `apt-get install tcpdump`."""
 
 import argparse
 import re
@@ -31,14 +35,14 @@ def windows_of(text):
 
 
 def taken(file, out, window, first, last):
-    """Copy the records of some windows after the capture's header, and count them."""
+    """Copy the records of some windows after the capture's header, and count them. Without a last window those of all from the first one on."""
     header, order, unit = cut.opened(file)
     out.write(header)
     start, number, count = None, 0, 0
     for time, record in cut.records(file, order, unit):
         start = time if start is None else start
         number = max(number, (time - start) // (window * 1000))
-        if number > last:
+        if last is not None and number > last:
             break
         if number >= first:
             out.write(record)
@@ -46,11 +50,13 @@ def taken(file, out, window, first, last):
     return count
 
 
-def records_of(name):
-    """How many records a capture has."""
+def told(name, count):
+    """How many records a capture has of so many, and the times of its first and its last one."""
     with open(name, 'rb') as file:
         _, order, unit = cut.opened(file)
-        return sum(1 for _ in cut.records(file, order, unit))
+        found = [time for time, _ in cut.records(file, order, unit)]
+    line = '%s of %s packets' % (format(len(found), ','), format(count, ','))
+    return line + (', %s to %s' % (times.text(found[0] // 1000), times.text(found[-1] // 1000)) if found else '')
 
 
 def filtered(file, given):
@@ -74,19 +80,22 @@ def main():
     words = argparse.ArgumentParser(description=__doc__, formatter_class=argparse.RawDescriptionHelpFormatter)
     words.add_argument('capture')
     words.add_argument('filter', nargs='?', help='an expression of tcpdump')
-    words.add_argument('--window', type=windows_of, required=True, metavar='W', help='the number of the window, or the first and the last as 3..5')
-    length = words.add_mutually_exclusive_group(required=True)
+    words.add_argument('--window', type=windows_of, metavar='W', help='the number of the window, or the first and the last as 3..5; without it the whole capture')
+    length = words.add_mutually_exclusive_group()
     length.add_argument('--window-us', type=cut.count_from(1), metavar='N', help='the length of a window in microseconds')
     length.add_argument('--queries', help='the query file, for the length of a window')
     words.add_argument('-o', '--output', metavar='OUT', help='the capture to write; without it the packets are printed')
     given = words.parse_intermixed_args()
+    if given.window and not given.queries and not given.window_us:
+        words.error('--window needs --queries or --window-us')
+    first, last = given.window or (0, None)
     if not shutil.which('tcpdump'):
         sys.exit(PACKAGE)
     try:
         with open(given.capture, 'rb') as file, tempfile.TemporaryFile() as part:
-            count = taken(file, part, given.window_us or times.window_of(given.queries), *given.window)
+            count = taken(file, part, given.window_us or (times.window_of(given.queries) if given.queries else 1), first, last)
             if not count:
-                sys.exit('%s: no record in window %s' % (given.capture, '..'.join(map(str, dict.fromkeys(given.window)))))
+                sys.exit('%s: no record%s' % (given.capture, ' in window %s' % '..'.join(map(str, dict.fromkeys(given.window))) if given.window else ''))
             part.flush()
             filtered(part, given)
     except OSError as fault:
@@ -94,7 +103,7 @@ def main():
     except struct.error:
         sys.exit('%s: no capture of classic pcap' % given.capture)
     if given.output:
-        print('%s of %s packets' % (format(records_of(given.output), ','), format(count, ',')))
+        print(told(given.output, count))
     return 0
 
 

@@ -27,6 +27,12 @@ def window_of(name):
     return texts.accepted(name, grammar.parse)[0]
 
 
+def text(microseconds, local=False):
+    """A time since 1970 as text with its zone."""
+    time = EPOCH + datetime.timedelta(microseconds=microseconds)
+    return (time.astimezone() if local else time).isoformat(sep=' ', timespec='microseconds')
+
+
 def add_options(words):
     words.add_argument('--capture', help='the capture that was answered: its first record begins window 0')
     words.add_argument('--first', type=float, metavar='SECONDS', help='the time of its first record instead, in seconds since 1970 (UTC)')
@@ -45,7 +51,6 @@ class Clock:
         self.window = given.window_us or window_of(given.queries)
         self.local = given.local
 
-    def at(self, number, parts='microseconds'):
+    def at(self, number):
         """The time at which a window begins, as text with its zone."""
-        time = EPOCH + datetime.timedelta(microseconds=self.first + number * self.window)
-        return (time.astimezone() if self.local else time).isoformat(sep=' ', timespec=parts)
+        return text(self.first + number * self.window, self.local)
