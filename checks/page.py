@@ -93,6 +93,9 @@ class Page:
         self.must(self.soon(shown.replace('return ', 'return !')), 'Enter does not close the tree')
 
     def open_way(self):
+        # A page whose tree is left out has no way.
+        if self.script('return document.querySelector("#tree").childElementCount === 0'):
+            return
         self.script('document.querySelector("#way").focus()')
         self.press(self.keys.ENTER)
         self.must(self.soon('return document.querySelector("#tree .P") !== null'), 'the way does not lead to the plan')

@@ -8,7 +8,8 @@ and filter, the commands and the checksums of all files, and what is proved and 
 and --reports give what `run` and `emit` wrote, in their place, and --unchecked leaves `check` out, which the page then says.
 
 PLANTREE is what `sonata plan` printed. A page of a tree of 10,000 nodes and of a day of windows stays below 2 MB: of more than 3,000 keys those are shown
-that were answered in most windows, and of many windows several share a column."""
+that were answered in most windows, and of many windows several share a column. A tree of more than 20,000 nodes is left out, and the page says so;
+--whole-tree puts it in, which takes minutes for 500,000 nodes, and 7 MB. A line on standard error says so."""
 
 import argparse
 import collections
@@ -30,7 +31,7 @@ import times
 import tree
 
 TEMPLATE = os.path.join(os.path.dirname(os.path.abspath(__file__)), 'report.html')
-COLUMNS, KEYS = 120, 3000
+COLUMNS, KEYS, NODES = 120, 3000, 20000
 
 
 def checksum(name):
@@ -75,7 +76,21 @@ def tree_data(queries, switch, nodes):
     data = {'letters': ''.join(node.letter for node in order), 'bounds': [node.number or 0 for node in order], 'choices': [number(node.choice) for node in order],
             'children': [len(node.children) for node in order], 'limits': [number(node.limit) if node.limit else 0 for node in order],
             'below': [sum(node.below.values()) for node in order], 'plan': [place for place, node in enumerate(order) if node.to_plan]}
-    return dict(data, words=list(words)), root.below
+    return dict(data, words=list(words))
+
+
+def tree_words(given, nodes):
+    """How many nodes the tree has, and of which kinds; and that it isn't shown, where it is left out."""
+    count = collections.Counter(letter for letter, _ in nodes)
+    line = '%s nodes: %s, and the plan.' % (format(len(nodes), ','), ', '.join('%s %s' % (format(count[letter], ','), tree.WORDS[letter]) for letter in 'EBX'))
+    if is_shown(given, nodes):
+        return line
+    return line + ' They are left out of this page, since they are more than %s; <code>report.py --whole-tree</code> puts them in, and %s has them as text.' % (
+        format(NODES, ','), html.escape(os.path.basename(given.certificate)))
+
+
+def is_shown(given, nodes):
+    return given.whole_tree or len(nodes) <= NODES
 
 
 def columns_of(windows):
@@ -187,7 +202,10 @@ def made(given, answers, reports, damage):
     switch, queries = texts.read_switch(given.switch), texts.read_queries(given.queries)
     plan, cost, nodes = texts.read_certificate(given.certificate)
     texts.shaped(queries, plan)
-    data, below = tree_data(queries, switch, nodes)
+    if len(nodes) > NODES:
+        print('a tree of %s nodes: %s' % (format(len(nodes), ','), 'this takes a while' if given.whole_tree else 'left out, --whole-tree puts it in'),
+              file=sys.stderr, flush=True)
+    data = tree_data(queries, switch, nodes) if is_shown(given, nodes) else None
     rows, count = read_answers(answers)
     _, windows, counts = emitted.counted(given.certificate, reports)
     count = max(count, 1 + max(windows + [-1]))
@@ -201,7 +219,7 @@ def made(given, answers, reports, damage):
         'capture': html.escape(os.path.basename(given.capture)), 'windows': format(len(windows), ','), 'sent': format(sum(counts.values()), ','),
         'damage': html.escape('The capture is damaged: %s.' % damage) if damage else '', 'layout': layout_svg(switch, queries, plan),
         'plan': html.escape('\n'.join(texts.plans.lines(plan))), 'switch': html.escape(texts.held(given.switch).decode(errors='replace')),
-        'nodes': '%s nodes: %s' % (format(len(nodes), ','), ', '.join('%s %s' % (format(below[letter], ','), tree.WORDS[letter]) for letter in 'EBX')),
+        'nodes': tree_words(given, nodes), 'with': '' if data else ' hidden',
         'charts': ''.join(sent_svg(plan, windows, counts, q, count) for q in range(len(plan))),
         'per': '' if columns_of(count) == 1 else ' A column is %d windows.' % columns_of(count),
         'kept': kept_words(keys),
@@ -222,6 +240,7 @@ def main():
     words.add_argument('--answers', help='what `sonata run` printed, where it is there already')
     words.add_argument('--reports', help='what `sonata emit` wrote, where it is there already')
     words.add_argument('--unchecked', action='store_true', help='leave `sonata check` out')
+    words.add_argument('--whole-tree', action='store_true', help='show the tree also where it has more than %s nodes' % format(NODES, ','))
     programs.add_option(words)
     given = words.parse_args()
     pictures.drawing()

@@ -28,7 +28,14 @@ class Costs:
 
     def __init__(self, queries, switch, windows):
         self.queries, self.switch, self.windows = queries, switch, windows
-        self.seen, self.counts = {}, {}
+        self.seen, self.counts, self.known = {}, {}, {}
+
+    def options(self, query, branch):
+        """The options of a branch of one of the queries, worked out once."""
+        key = id(query), branch
+        if key not in self.known:
+            self.known[key] = options(self.switch, query, branch)
+        return self.known[key]
 
     def kept(self, q, front):
         """For each window the tuples that the last level of a front of a path sees, and the rows that it answers."""
@@ -54,7 +61,7 @@ class Costs:
         return self.counts[key]
 
     def least(self, q, front, branch):
-        return min(self.entry(q, front, branch, option) for option in options(self.switch, self.queries[q], branch))
+        return min(self.entry(q, front, branch, option) for option in self.options(self.queries[q], branch))
 
 
 @dataclass
@@ -92,8 +99,7 @@ class Partial:
             pass
 
     def read_piece(self, query, piece, rest):
-        switch = self.costs.switch
-        found = options(switch, query, piece.branch)
+        switch, found = self.costs.switch, self.costs.options(query, piece.branch)
         self.follow = 0, len(found)
         piece.option = found[next(rest)]
         for _ in range(self.tables(query, piece)[1]):

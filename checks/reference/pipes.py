@@ -19,7 +19,14 @@ def max_cut(operators):
 
 
 def schemas(query, number):
-    """The columns (name, width, address mark) before each operator of a branch, and at its end."""
+    """The columns (name, width, address mark) before each operator of a branch, and at its end. A typed query doesn't change, so they are kept with it."""
+    known = vars(query).setdefault('known_schemas', {})
+    if number not in known:
+        known[number] = worked_schemas(query, number)
+    return known[number]
+
+
+def worked_schemas(query, number):
     at = Branch(query, query.branches[number][-1])
     fields = [(name, WIDTHS[name], name in ADDRESSES) for name in sorted(query.read[number], key=NUMBERS.get)]
     found = []
