@@ -6,18 +6,22 @@
 
 The plan goes to standard output, and a sentence to standard error: 'sends 2,600; none sends fewer than 2,381'. The first number is what `sonata run` says
 of the plan on TRAIN. The second is the bound of `sonata plan --nodes N`, or its cost where the search ends. So both are numbers of `sonata`, and nothing of
-the integer program has to be believed: what each piece would send is counted by `sonata emit`, and `run` refuses a plan that doesn't fit."""
+the integer program has to be believed: what each piece would send is counted by `sonata emit`, and `run` refuses a plan that doesn't fit.
+
+The counting takes longest, a run of `sonata emit` for each option of a piece; standard error tells every few seconds how far it is."""
 
 import argparse
 import collections
 import os
 import sys
 import tempfile
+import time
 
 import entries
 import programs
 from texts import costs, plans
 
+EVERY = 5
 PACKAGE = 'Needs scipy: on Debian `apt-get install python3-scipy`, and the distribution\'s own /usr/bin/python3.'
 
 
@@ -194,6 +198,21 @@ def sentence(sends, least):
     return 'sends %s; none sends fewer than %s' % (format(sends, ','), format(least, ','))
 
 
+class Teller:
+    """Tells on standard error every few seconds how much is counted, on a terminal in one line, and then that the integer program works."""
+
+    def __init__(self, seconds):
+        self.seconds, self.last, self.told = seconds, time.monotonic(), False
+
+    def __call__(self, done):
+        now, terminal = time.monotonic(), sys.stderr.isatty()
+        if terminal or now - self.last >= EVERY:
+            print('%scounting: %3.0f %%' % ('\r' * terminal, 100 * done), end='' if terminal else '\n', file=sys.stderr, flush=True)
+            self.last, self.told = now, True
+        if done == 1 and self.told:
+            print('%sthe integer program has at most %g seconds' % ('\n' * terminal, self.seconds), file=sys.stderr, flush=True)
+
+
 def main():
     words = argparse.ArgumentParser(description=__doc__ + '\n\n' + PACKAGE, formatter_class=argparse.RawDescriptionHelpFormatter)
     words.add_argument('switch')
@@ -207,11 +226,7 @@ def main():
         words.error('--seconds and --nodes are above 0')
     names = given.switch, given.queries, given.train
     programs.readable(*names)
-
-    def told(done):
-        if sys.stderr.isatty():
-            print('\rcounting: %3.0f %%' % (100 * done), end='\n' if done == 1 else '', file=sys.stderr)
-    text, sends, _ = planned(given.sonata, names, given.seconds, told)
+    text, sends, _ = planned(given.sonata, names, given.seconds, Teller(given.seconds))
     sys.stdout.write(text)
     sys.stdout.flush()
     print(sentence(sends, programs.searched(given.sonata, *names, given.nodes)[1]), file=sys.stderr)
