@@ -32,22 +32,33 @@ step 'python3 $top/view/keys.py plain.txt --queries eight.query --capture today.
 step 'sonata plain eight.query yesterday.pcap | python3 $top/view/keys.py --queries eight.query --capture yesterday.pcap'
 
 echo '# Which packets?'
+step "tcpdump -nn -r yesterday.pcap 'tcp[tcpflags] == tcp-syn' 2> /dev/null | awk '{ split(\$3, a, \".\"); print a[1] \".\" a[2] \".0.0/16\" }' | sort -u | tee networks.txt"
+outside=$(sed 's/.*/ and not src net &/' networks.txt | tr -d '\n')
 while read -r query rest; do
     key=${rest%%:*} windows=$(grep -o 'windows [0-9.]*' <<< "$rest" | cut -d ' ' -f 2)
-    case $query in
-        port_scan) filter="src host ${key% *} and dst host ${key#* }" ;;
-        *) filter="dst host $key" ;;
-    esac
-    step "python3 \$top/view/packets.py today.pcap --queries eight.query --window $windows '$filter' -o $query-${key// /-}.pcap
-tcpdump -nn -r $query-${key// /-}.pcap 2> /dev/null | awk '{ sub(/\.[0-9]+\$/, \"\", \$3); print \$3 }' | sort | uniq -c | sort -rn | head -n 1"
+    if [ "$query" = port_scan ]; then
+        filter="src host ${key% *}"
+    else
+        # Where one source sent most of it in the windows, it is the attacker. Else the sources are drawn, and only those count that weren't clients yesterday.
+        step "python3 \$top/view/packets.py today.pcap --queries eight.query --window $windows 'dst host $key' -o some.pcap
+tcpdump -nn -r some.pcap 2> /dev/null | awk '{ sub(/\.[0-9]+\$/, \"\", \$3); print \$3 }' | sort | uniq -c | sort -rn | head -n 1 | tee source.txt"
+        read -r most source < source.txt
+        filter="dst host $key and tcp[tcpflags] == tcp-syn$outside"
+        [ $((2 * most)) -gt "$(tcpdump -nn -r some.pcap 2> /dev/null | wc -l)" ] && filter="src host $source"
+    fi
+    step "python3 \$top/view/packets.py today.pcap '$filter' -o $query-${key// /-}.pcap"
 done < keys.txt
 
 echo '# How sure is the plan?'
+step "awk '/^window/ { print } /^query/ { on = /newly_opened|port_scan|slow_connections/ } on' eight.query > refined.query
+sed 's/refine ip.dst: 8, 16, 32/refine ip.dst: 16, 32/; s/at (8: [0-9]*, /at (/g' refined.query > three.query
+sed '/refine/d; s/ at ([^)]*)//g' refined.query > flat.query"
+for it in three flat; do
+    step "sonata plan ordinary.switch $it.query yesterday.pcap --nodes 1000000 > $it.plan && sonata check ordinary.switch $it.query yesterday.pcap $it.plan"
+    step "sonata run ordinary.switch $it.query $it.plan today.pcap > $it.txt; tail -n 1 $it.txt; python3 \$top/view/keys.py $it.txt --queries $it.query --capture today.pcap | cut -d : -f 1 | diff - <(grep -E '^(newly_opened|port_scan|slow_connections) ' keys.txt | cut -d : -f 1) && echo same keys"
+done
 step '/usr/bin/python3 $top/view/some_plan.py ordinary.switch eight.query yesterday.pcap > some.plan'
 step 'sonata run ordinary.switch eight.query some.plan today.pcap > run.txt; tail -n 1 run.txt'
-step "awk '/^window/ { print } /^query/ { on = /newly_opened|port_scan|slow_connections/ } on' eight.query | sed '/refine/d; s/ at ([^)]*)//g' > three.query"
-step 'sonata plan ordinary.switch three.query yesterday.pcap > three.plan; sonata check ordinary.switch three.query yesterday.pcap three.plan'
-step 'sonata run ordinary.switch three.query three.plan today.pcap > three.txt; tail -n 1 three.txt; python3 $top/view/keys.py three.txt --queries three.query --capture today.pcap | diff - <(grep -E "^(newly_opened|port_scan|slow_connections) " keys.txt) && echo same'
 
 echo "# All commands: $((whole / 1000000000)) seconds. What was hidden:"
 cat truth.txt
