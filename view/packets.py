@@ -80,7 +80,7 @@ def main():
     words = argparse.ArgumentParser(description=__doc__, formatter_class=argparse.RawDescriptionHelpFormatter)
     words.add_argument('capture')
     words.add_argument('filter', nargs='?', help='an expression of tcpdump')
-    words.add_argument('--window', type=windows_of, metavar='W', help='the number of the window, or the first and the last as 3..5; without it the whole capture')
+    words.add_argument('--window', type=windows_of, metavar='W', help='the window, or the first and the last as 3..5; without it the whole capture')
     length = words.add_mutually_exclusive_group()
     length.add_argument('--window-us', type=cut.count_from(1), metavar='N', help='the length of a window in microseconds')
     length.add_argument('--queries', help='the query file, for the length of a window')
