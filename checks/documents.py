@@ -126,7 +126,10 @@ def main():
     words.add_argument('documents', nargs='*', default=['QUERIES.md'] + SESSIONS, help='of QUERIES.md, %s (default: all)' % ', '.join(SESSIONS))
     given = words.parse_args()
     found = []
-    for name in given.documents:
+    for path in given.documents:
+        name = os.path.basename(path)
+        if name != 'QUERIES.md' and name not in SESSIONS:
+            words.error('%s is none of QUERIES.md, %s' % (path, ', '.join(SESSIONS)))
         missing = unbuilt(given.sonata, name) if name in SESSIONS else []
         if missing:
             print('%s: left out, the program has no %s' % (name, ', '.join(missing)))
