@@ -86,7 +86,7 @@ seen_from query windows path (Some last) kept (suc v) j within above between rem
 
 -- ---- one window
 
-row_refined : (query : TypedQuery) (windows : Windows) (path : List ℕ) (last : Option ℕ) (kept : List Set) (w : ℕ) (tuples : List (List ℕ)) (j : ℕ) → j < length path → windows w ≡ Some tuples
+pub row_refined : (query : TypedQuery) (windows : Windows) (path : List ℕ) (last : Option ℕ) (kept : List Set) (w : ℕ) (tuples : List (List ℕ)) (j : ℕ) → j < length path → windows w ≡ Some tuples
     → IsAbove last w → NoneBetween windows last w → Remembers query windows path last kept → rows_at query path (kept_at last kept w) tuples j ≡ refined_rows query windows path j w
 row_refined query windows path last kept w tuples zero within is above between remembers = sym (ap (level_rows query (slice_index path 0)) is)
 row_refined query windows path last kept w tuples (suc j) within is above between remembers =

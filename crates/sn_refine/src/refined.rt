@@ -44,7 +44,8 @@ fn follows(last: Option<u64>, w: u64) -> bool
     }
 }
 
-fn sorted(rows: Seq<Row>) -> Result<Seq<Row>, Memory>
+/// Rows in order.
+pub fn sorted(rows: Seq<Row>) -> Result<Seq<Row>, Memory>
     ensures { IfOk result (λ sorted. sorted ≡ sorted_rows rows) }
 {
     let mut rows = rows.into_vec();
@@ -55,7 +56,7 @@ fn sorted(rows: Seq<Row>) -> Result<Seq<Row>, Memory>
 }
 
 /// The answers at a level to all tuples.
-fn first_rows(
+pub fn first_rows(
     alloc: Global,
     t: &Typed,
     q: u32,
@@ -187,6 +188,37 @@ impl Refined {
         Ok(parts)
     }
 
+    /// What `window` would answer, and the prefixes that it would keep. Nothing changes.
+    pub fn answers(
+        &self,
+        t: &Typed,
+        w: u64,
+        tuples: &[Tuple],
+    ) -> Result<(Seq<Part>, Seq<Members>), Memory>
+        requires path { IsPathOf t.now.queries self.now.query self.now.path }
+        requires above { IsAbove self.now.last w }
+        ensures parts { IfOk result (λ both. both.0 ≡
+            parts_in self.now.query (query_at t.now.queries self.now.query) self.now.path (kept_at self.now.last self.now.kept w) tuples.now) }
+        ensures kept { IfOk result (λ both. both.1 ≡ kept_of (query_at t.now.queries self.now.query) self.now.path both.0) }
+    {
+        let levels = self.path.as_slice().len();
+        let parts = self.parts(t, w, tuples, levels)?;
+        let coarser = levels.saturating_sub(1);
+        let kept = prefixes_of(self.alloc, t, self.query, &parts.as_slice()[..coarser])?;
+        Ok((parts, kept))
+    }
+
+    /// A window was answered, of which these prefixes are kept.
+    pub fn keep(&mut self, w: u64, kept: Seq<Members>)
+        ensures kept { self.new.kept ≡ kept }
+        ensures last { self.new.last ≡ Some w }
+        ensures query { self.new.query ≡ self.old.query }
+        ensures path { self.new.path ≡ self.old.path }
+    {
+        self.kept = kept;
+        self.last = Some(w);
+    }
+
     /// The answers at each level of the path in a window. A level after the first sees those tuples alone whose prefix
     /// the level before it answered in window `w - 1`; that is none where window `w - 1` wasn't given. An `Err` changes
     /// nothing.
@@ -201,12 +233,8 @@ impl Refined {
         ensures query { self.new.query ≡ self.old.query }
         ensures path { self.new.path ≡ self.old.path }
     {
-        let levels = self.path.as_slice().len();
-        let parts = self.parts(t, w, tuples, levels)?;
-        let coarser = levels.saturating_sub(1);
-        let kept = prefixes_of(self.alloc, t, self.query, &parts.as_slice()[..coarser])?;
-        self.kept = kept;
-        self.last = Some(w);
+        let (parts, kept) = self.answers(t, w, tuples)?;
+        self.keep(w, kept);
         Ok(parts)
     }
 

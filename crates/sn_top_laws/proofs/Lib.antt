@@ -10,11 +10,8 @@ pub mod LaneLemmas
 pub mod ReplayLemmas
 pub mod CallLemmas
 pub mod CutLemmas
-pub mod CountLemmas
 pub mod TupleBags
 pub mod ShiftLemmas
-pub mod CarriedRows
-pub mod CarriedQueries
 pub mod EventLines
 pub mod EventTexts
 pub mod ItemCounts

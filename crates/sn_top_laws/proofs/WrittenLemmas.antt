@@ -70,10 +70,10 @@ use Rattle.sn_types_read.specs.Texts as query_texts
 use Rattle.sn_types_read.specs.Texts.{Queries}
 use Rattle.sn_query_grammar.specs.Limits.{Within}
 use Rattle.sn_windows.specs.Blocks.{most_records}
-use Rattle.sn_top_laws.specs.Counts.{KeepsCounts, KeepsQueryCounts}
+use Rattle.sn_refine_laws.specs.Counts.{KeepsCounts, KeepsQueryCounts}
 use Rattle.sn_top_laws.specs.Written.{IsKeptBeside, IsPlanTree, PrintsTotal, SaysYes, SendsCost, yes_of}
 use Rattle.sn_top_laws.proofs.CostBounds.{HaveFewOps, lower_small, trained_few, tree_small}
-use Rattle.sn_top_laws.proofs.CountLemmas.{counts}
+use Rattle.sn_refine_laws.proofs.CountLemmas.{counts}
 use Rattle.sn_top_laws.proofs.FitPlans.{fit_entries}
 use Rattle.sn_top_laws.proofs.ItemCounts.{most}
 use Rattle.sn_top_laws.proofs.PlanFits.{AreEntries, plan_fine, plan_in_grammar}

@@ -1,8 +1,6 @@
 pub mod Real
 pub mod Replayed
 pub mod Calls
-pub mod Carried
-pub mod Counts
 pub mod Cuts
 pub mod Events
 pub mod TracedHeadline

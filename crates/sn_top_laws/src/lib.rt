@@ -3,8 +3,6 @@
 #![tactic(auto)]
 
 pub mod bags;
-pub mod carried;
-pub mod counts;
 pub mod cuts;
 pub mod levels;
 pub mod pipes;

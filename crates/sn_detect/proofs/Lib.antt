@@ -1,0 +1,4 @@
+pub mod NoFalse
+pub mod Stepping
+pub mod StayLemmas
+pub mod LookLemmas

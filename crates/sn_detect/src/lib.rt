@@ -1,0 +1,9 @@
+//! What refinement sees of the answers of a query, and when.
+#![tactic(auto)]
+
+pub mod detect;
+mod finding;
+pub mod look;
+pub mod monotone;
+mod rows;
+pub mod stay;

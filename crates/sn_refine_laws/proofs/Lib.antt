@@ -1,0 +1,17 @@
+pub mod CountLemmas
+pub mod CarriedRows
+pub mod CarriedQueries
+pub mod Filtering
+pub mod Within
+pub mod Changed
+pub mod Coarser
+pub mod Behind
+pub mod Reading
+pub mod Thresholds
+pub mod Splitting
+pub mod Levels
+pub mod Queries
+pub mod Prefixes
+pub mod Sorting
+pub mod Windows
+pub mod Items

@@ -1,0 +1,7 @@
+pub mod Counts
+pub mod Carried
+pub mod Carrying
+pub mod Masking
+pub mod Monotone
+pub mod Told
+pub mod Dropping

@@ -1,5 +1,0 @@
-use Rattle.sn_top_laws.proofs.CountLemmas.{counts}
-use Rattle.sn_top_laws.proofs.counts.typed_files_keep_counts.Goals as goal
-
-pub returns : goal.returns
-returns c = counts
