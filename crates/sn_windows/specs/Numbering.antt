@@ -14,6 +14,10 @@ pub record Numbering : Type 0 where
 abbrev pub begun : ℕ → Numbering
 begun window = record { window = window; first = None; number = 0; count = 0 }
 
+-- before any record, where window 0 begins at this time
+abbrev pub begun_at : ℕ → ℕ → Numbering
+begun_at time window = record { window = window; first = Some time; number = 0; count = 0 }
+
 -- the time that windows are counted from, once a record at this time came
 abbrev pub next_first : Numbering → ℕ → ℕ
 next_first s time = unwrap_or s.first time

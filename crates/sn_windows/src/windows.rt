@@ -32,7 +32,7 @@ fn end_of(first: u64, number: u64, window_ns: u64) -> u64
 }
 
 impl Windows {
-    ghost use Rattle.sn_windows.specs.Numbering.{next_number, next_count, stepped, begun};
+    ghost use Rattle.sn_windows.specs.Numbering.{next_number, next_count, stepped, begun, begun_at};
     ghost use Rattle.sn_windows.specs.NumberingOf.{numbering};
 
     /// Windows of this many nanoseconds. The first record's time begins window 0.
@@ -43,6 +43,20 @@ impl Windows {
         Windows {
             window_ns,
             first: None,
+            number: 0,
+            count: 0,
+            end: 0,
+        }
+    }
+
+    /// Windows of this many nanoseconds. This time begins window 0.
+    pub fn starting(t0: u64, window_ns: u64) -> Windows
+        requires { 1 ≤ window_ns }
+        ensures { numbering result ≡ begun_at t0 window_ns }
+    {
+        Windows {
+            window_ns,
+            first: Some(t0),
             number: 0,
             count: 0,
             end: 0,
