@@ -17,7 +17,7 @@ import sys
 
 import pictures
 import texts
-from texts import costs, plans
+from texts import costs
 
 PACKAGE = 'Needs graphviz: on Debian `apt-get install graphviz`.'
 FILLS = {'E': '#e8eef7', 'B': '#eeeeee', 'X': '#f6dcdc', 'P': '#cfe8d5'}
@@ -65,23 +65,17 @@ def register_of(before, partial):
 
 def broken_limit(partial):
     """The limit of the switch that a partial plan breaks, in words."""
-    switch, registers, metadata = partial.costs.switch, [], 0
-    for q, piece in partial.pieces:
-        if piece.option is None:
-            continue
-        query = partial.costs.queries[q]
-        if partial.is_past_end(query, piece):
-            return 'the tables of %s reach past the last stage' % texts.piece_name(query, piece)
-        whole = plans.Piece(piece.level, piece.branch, piece.option[0], piece.option[1], piece.stages + [-1] * 8)
-        registers += [one for one in plans.registers_of(switch, query, whole) if one[0] >= 0]
-        metadata += plans.metadata_of(query, whole)
-    for stage in range(switch.stages):
-        here = [bits for other, bits in registers if other == stage]
-        if len(here) > switch.actions:
-            return 'stage %d would have %d registers of %d' % (stage, len(here), switch.actions)
-        if sum(here) > switch.bits:
-            return 'stage %d would have %s bits of %s' % (stage, format(sum(here), ','), format(switch.bits, ','))
-    return 'the metadata would have %d bits of %d' % (metadata, switch.meta) if metadata > switch.meta else 'no limit: this node is wrong'
+    switch, broken = partial.costs.switch, partial.broken_limit()
+    if broken is None:
+        return 'no limit: this node is wrong'
+    limit, where, found = broken
+    if limit == 'stages':
+        return 'the tables of %s reach past the last stage' % texts.piece_name(*where)
+    if limit == 'actions':
+        return 'stage %d would have %d registers of %d' % (where, found, switch.actions)
+    if limit == 'bits':
+        return 'stage %d would have %s bits of %s' % (where, format(found, ','), format(switch.bits, ','))
+    return 'the metadata would have %d bits of %d' % (found, switch.meta)
 
 
 def built(queries, switch, nodes):

@@ -149,20 +149,28 @@ class Partial:
         behind = len(tables) - 1 - tables.index(registers - 1)
         return piece.stages[-1] + behind > self.costs.switch.stages - 1
 
-    def is_broken(self):
+    def broken_limit(self):
+        """The first limit of the switch that the partial plan breaks, where, and what was found there; none where all are kept."""
         switch, registers, metadata = self.costs.switch, [], 0
         for q, piece in self.pieces:
             if piece.option is None:
                 continue
             query = self.costs.queries[q]
             if self.is_past_end(query, piece):
-                return True
+                return 'stages', (query, piece), None
             whole = plans.Piece(piece.level, piece.branch, piece.option[0], piece.option[1], piece.stages + [-1] * 8)
             registers += [one for one in plans.registers_of(switch, query, whole) if one[0] >= 0]
             metadata += plans.metadata_of(query, whole)
-        full = any(len(here) > switch.actions or sum(here) > switch.bits
-                   for here in ([bits for other, bits in registers if other == stage] for stage in range(switch.stages)))
-        return full or metadata > switch.meta
+        for stage in range(switch.stages):
+            here = [bits for other, bits in registers if other == stage]
+            if len(here) > switch.actions:
+                return 'actions', stage, len(here)
+            if sum(here) > switch.bits:
+                return 'bits', stage, sum(here)
+        return ('meta', None, metadata) if metadata > switch.meta else None
+
+    def is_broken(self):
+        return self.broken_limit() is not None
 
     def plan(self):
         """The entries of a complete list."""
