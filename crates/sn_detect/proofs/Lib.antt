@@ -2,3 +2,4 @@ pub mod NoFalse
 pub mod Stepping
 pub mod StayLemmas
 pub mod LookLemmas
+pub mod OneList

@@ -3,6 +3,7 @@
 
 pub mod detect;
 mod finding;
+pub mod law;
 pub mod look;
 pub mod monotone;
 mod rows;
