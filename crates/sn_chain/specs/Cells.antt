@@ -3,6 +3,7 @@ use Rattle.std.specs.Prelude.{◌≡◌, ℕ, ◌*◌, ◌≤◌, List, [], map,
 use Rattle.std.specs.List.{AllByRecursion}
 use Rattle.sn_base.specs.Groups.{Row}
 use Rattle.sn_chain.specs.Chain.{KeysStand}
+use Rattle.sn_chain.specs.Limits.{largest_register}
 
 -- a cell: the round in which it was taken, the key that took it, and the fold of the key's values
 pub record Cell : Type 0 where
@@ -39,7 +40,7 @@ pub record AreCells (has : ℕ → Type 0) (depth slots round : ℕ) (cells : Li
   pub some_depth : 1 ≤ depth
   pub most_depth : depth ≤ 4
   pub some_slots : 1 ≤ slots
-  pub most_slots : slots ≤ 65536
+  pub most_slots : slots ≤ largest_register
   pub first_round : 1 ≤ round
   pub long : length cells ≡ depth * slots
   pub each : AllByRecursion (IsCell has round) cells

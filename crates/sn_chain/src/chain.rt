@@ -3,6 +3,7 @@ ghost use Rattle.std.specs.Prelude.{◌≡◌, ◌≤◌, ℕ, length, IfOk, IfS
 ghost use Rattle.std.specs.Option.{ForSome};
 ghost use Rattle.sn_base.specs.Groups.{Row};
 ghost use Rattle.sn_chain.specs.Chain.{AreSlots, KeysStand, empty_chain, after_offer, answer_at, holder, vacancy};
+ghost use Rattle.sn_chain.specs.Limits.{largest_register};
 ghost use Rattle.sn_chain.specs.Registers.{cell};
 
 use crate::cells::Cells;
@@ -13,6 +14,9 @@ use sn_base::memory::Memory;
 use sn_base::row::Row;
 use std::alloc::Global;
 use std::marker::Model;
+
+/// The most slots of a register.
+pub const LARGEST_REGISTER: u64 = 65536;
 
 /// A chain of one to four registers with equally many slots each, which folds values by key. A key takes
 /// the first of its slots that is free, one in each register, and keeps it until the chain is cleared.
@@ -39,13 +43,13 @@ impl<F: Fold> Model for Chain<F> {
 }
 
 impl<F: Fold> Chain<F> {
-    /// An empty chain of `depth` registers with `slots` slots each, 1 to 4 and 1 to 65536. All memory that
+    /// An empty chain of `depth` registers with `slots` slots each, 1 to 4 and 1 to [`LARGEST_REGISTER`]. All memory that
     /// the chain ever needs is taken here.
     pub fn make(alloc: Global, fold: F, depth: u32, slots: u32) -> Result<Chain<F>, Memory>
         requires some_depth { 1 ≤ depth }
         requires most_depth { depth ≤ 4 }
         requires some_slots { 1 ≤ slots }
-        requires most_slots { slots ≤ 65536 }
+        requires most_slots { slots ≤ largest_register }
         ensures { IfOk result (λ chain. chain ≡ empty_chain fold depth slots) }
     {
         Chain::make_in_round(alloc, fold, depth, slots, 1)
@@ -62,7 +66,7 @@ impl<F: Fold> Chain<F> {
         requires some_depth { 1 ≤ depth }
         requires most_depth { depth ≤ 4 }
         requires some_slots { 1 ≤ slots }
-        requires most_slots { slots ≤ 65536 }
+        requires most_slots { slots ≤ largest_register }
         requires first_round { 1 ≤ round }
         ensures { IfOk result (λ chain. chain ≡ empty_chain fold depth slots) }
     {

@@ -5,6 +5,7 @@ ghost use Rattle.sn_base.specs.Groups.{same_row};
 ghost use Rattle.sn_base.specs.Slot.{slot};
 ghost use Rattle.sn_chain.specs.Cells.{all_shown_by};
 ghost use Rattle.sn_chain.specs.Chain.{AreSlots, place_for, places_of};
+ghost use Rattle.sn_chain.specs.Limits.{largest_register};
 ghost use Rattle.sn_chain.specs.Found.{found_at, IsWithin};
 ghost use Rattle.sn_chain.specs.Registers.{held_place, empty_place};
 
@@ -26,7 +27,7 @@ pub(crate) enum Found {
 fn place(register: u32, key: &Row, slots: u32, known: Option<&[u32; 4]>) -> usize
     requires register { register < 4 }
     requires some { 1 ≤ slots }
-    requires most { slots ≤ 65536 }
+    requires most { slots ≤ largest_register }
     requires known { ForSome known (λ at. slice_index at.now register ≡ slot register key.now slots) }
     ensures value { result ≡ place_for slots key.now register }
     ensures within { result < register * slots + slots }
@@ -51,7 +52,7 @@ pub(crate) fn look(
 ) -> Found
     requires depth { depth ≤ 4 }
     requires some { 1 ≤ slots }
-    requires most { slots ≤ 65536 }
+    requires most { slots ≤ largest_register }
     requires cells { length cells.now ≡ depth * slots }
     requires known { ForSome known (λ at. AreSlots depth slots key.now at.now) }
     ensures found { result ≡ found_at (held_place same_row (all_shown_by round cells.now) (places_of depth slots key.now) key.now)

@@ -167,7 +167,7 @@ abbrev follow : {A B : Type 0} → Outcome A → (A → Outcome B) → Outcome B
 follow o f = followed_by o.text o.end f
 
 -- records are counted that have the number of the current window
-counted_here : (some same : Bool) (count : ℕ) → 4194304 ≤ cond (some && same) count 0 → (some ≡ true) × (same ≡ true) × (4194304 ≤ count)
+counted_here : (some same : Bool) (count : ℕ) → most_records ≤ cond (some && same) count 0 → (some ≡ true) × (same ≡ true) × (most_records ≤ count)
 counted_here true true count h = (refl, refl, h)
 counted_here true false count h = absurd (omega arith)
 counted_here false same count h = absurd (omega arith)
@@ -198,7 +198,7 @@ module _ (wording : Wording) (shown : Packet → List ℕ)
   pub record Holds (g : Gathering) (held : List Packet) : Type 0 where
     pub tuples : g.tuples ≡ map shown held
     pub count : is_some g.numbering.first ≡ true → g.numbering.count ≡ length held
-    pub few : length held ≤ 4194304
+    pub few : length held ≤ most_records
     pub some : g.numbering.first ≡ None → (held ≡ []) × (g.numbering.number ≡ 0)
     pub held_some : is_some g.numbering.first ≡ true → 0 < length held
     pub rising : AreRising None (with_hand g)
@@ -223,7 +223,7 @@ module _ (wording : Wording) (shown : Packet → List ℕ)
       ∙ ap (λ (qs : List Packet). (n, map shown qs) ∷ windows_in shown (drop (first_run ys) ys)) (hand_records n (h ∷ hs))
       ∙ ap (λ (xs : List (ℕ × Packet)). held_window n (h ∷ hs) ∷ windows_in shown xs) (hand_back n h hs zs none)
 
-  held_few : (held : List Packet) → length held ≤ 4194304 → nat_lt most_records (length (map shown held)) ≡ false
+  held_few : (held : List Packet) → length held ≤ most_records → nat_lt most_records (length (map shown held)) ≡ false
   held_few held few = let long : length (map shown held) ≡ length held = length-map held shown in le-ltb most_records (length (map shown held)) (omega arith)
 
   some_behind : (l : Last) (z : ℕ × Packet) (zs : List (ℕ × Packet)) → ends_large l (windows_in shown (z ∷ zs)) ≡ false
@@ -231,7 +231,7 @@ module _ (wording : Wording) (shown : Packet → List ℕ)
   some_behind last.TooLarge z zs = refl
 
   -- the capture isn't refused in the current window
-  unfinished_next : (closed : List Window) (n : ℕ) (h : Packet) (hs : List Packet) (z : ℕ × Packet) (zs : List (ℕ × Packet)) (l : Last) → n < z.0 → AtLeast z.0 zs → Rises zs → length (h ∷ hs) ≤ 4194304
+  unfinished_next : (closed : List Window) (n : ℕ) (h : Packet) (hs : List Packet) (z : ℕ × Packet) (zs : List (ℕ × Packet)) (l : Last) → n < z.0 → AtLeast z.0 zs → Rises zs → length (h ∷ hs) ≤ most_records
       → unfinished_in wording l closed (windows_in shown (at_hand n (h ∷ hs) ++ z ∷ zs)) ≡ unfinished_in wording l (closed_with closed n (h ∷ hs)) (windows_in shown (z ∷ zs))
   unfinished_next closed n h hs z zs l lt least rises few =
       let more : List Window = windows_in shown (z ∷ zs) in
@@ -241,7 +241,7 @@ module _ (wording : Wording) (shown : Packet → List ℕ)
       ∙ ap (λ b. cond b (wording.unfinished closed n (take most_records tuples)) (unfinished_in wording l (closed_with closed n (h ∷ hs)) more)) others
 
   -- it is, since the current window has too many records
-  unfinished_large : (closed : List Window) (n : ℕ) (held : List Packet) (p : Packet) (zs : List (ℕ × Packet)) (l : Last) → length held ≡ 4194304 → AtLeast n zs → Rises zs
+  unfinished_large : (closed : List Window) (n : ℕ) (held : List Packet) (p : Packet) (zs : List (ℕ × Packet)) (l : Last) → length held ≡ most_records → AtLeast n zs → Rises zs
       → unfinished_in wording l closed (windows_in shown (at_hand n held ++ (n, p) ∷ zs)) ≡ wording.unfinished closed n (map shown held)
   unfinished_large closed n [] p zs l many least rises = absurd (omega arith)
   unfinished_large closed n (h ∷ hs) p zs l many least rises =
@@ -274,7 +274,7 @@ module _ (wording : Wording) (shown : Packet → List ℕ)
       ∙ ap (wording.unfinished closed n) kept
 
   -- it is, since the capture has too many bytes
-  unfinished_last : (closed : List Window) (n : ℕ) (held : List Packet) → length held ≤ 4194304 → unfinished_in wording last.TooLarge closed (windows_in shown (at_hand n held)) ≡ unfinished_of wording n closed (map shown held)
+  unfinished_last : (closed : List Window) (n : ℕ) (held : List Packet) → length held ≤ most_records → unfinished_in wording last.TooLarge closed (windows_in shown (at_hand n held)) ≡ unfinished_of wording n closed (map shown held)
   unfinished_last closed n [] few = refl
   unfinished_last closed n (h ∷ hs) few =
       let long : length (map shown (h ∷ hs)) ≡ length (h ∷ hs) = length-map (h ∷ hs) shown in
@@ -287,7 +287,7 @@ module _ (wording : Wording) (shown : Packet → List ℕ)
   unfinished_some closed n (h ∷ hs) some = refl
 
   -- the current window has its block, and the others are left
-  hand_next : (closed : List Window) (n : ℕ) (h : Packet) (hs : List Packet) (zs : List (ℕ × Packet)) → AreRising None (closed_with closed n (h ∷ hs)) → Behind n zs → AtLeast n zs → Rises zs → length (h ∷ hs) ≤ 4194304
+  hand_next : (closed : List Window) (n : ℕ) (h : Packet) (hs : List Packet) (zs : List (ℕ × Packet)) → AreRising None (closed_with closed n (h ∷ hs)) → Behind n zs → AtLeast n zs → Rises zs → length (h ∷ hs) ≤ most_records
       → left_outcome wording shown closed (at_hand n (h ∷ hs) ++ zs) ≡ put_before (packet_block closed n (h ∷ hs)) (left_outcome wording shown (closed_with closed n (h ∷ hs)) zs)
   hand_next closed n h hs zs rising behind least rises few =
       let held : List Packet = h ∷ hs in
@@ -308,7 +308,7 @@ module _ (wording : Wording) (shown : Packet → List ℕ)
   ended_behind (last.Ended ending) text o more = with_behind ending text o.text o.end more
   ended_behind last.TooLarge text o more = ap refused_behind (append_assoc text o.text more)
 
-  windows_next : (closed : List Window) (n : ℕ) (h : Packet) (hs : List Packet) (z : ℕ × Packet) (zs : List (ℕ × Packet)) (l : Last) → AreRising None (closed_with closed n (h ∷ hs)) → n < z.0 → AtLeast z.0 zs → Rises zs → length (h ∷ hs) ≤ 4194304
+  windows_next : (closed : List Window) (n : ℕ) (h : Packet) (hs : List Packet) (z : ℕ × Packet) (zs : List (ℕ × Packet)) (l : Last) → AreRising None (closed_with closed n (h ∷ hs)) → n < z.0 → AtLeast z.0 zs → Rises zs → length (h ∷ hs) ≤ most_records
       → windows_left closed (at_hand n (h ∷ hs) ++ z ∷ zs) l ≡ put_before (packet_block closed n (h ∷ hs)) (windows_left (closed_with closed n (h ∷ hs)) (z ∷ zs) l)
   windows_next closed n h hs z zs l rising lt least rises few =
       let rest : List (ℕ × Packet) = cut l (z ∷ zs) in
@@ -320,7 +320,7 @@ module _ (wording : Wording) (shown : Packet → List ℕ)
       ∙ ended_behind l (packet_block closed n (h ∷ hs)) (left_outcome wording shown (closed_with closed n (h ∷ hs)) rest) (unfinished_in wording l (closed_with closed n (h ∷ hs)) (windows_in shown (z ∷ zs)))
 
   -- the current window has too many records
-  hand_large : (closed : List Window) (n : ℕ) (held : List Packet) (p : Packet) (zs : List (ℕ × Packet)) → 4194304 ≤ length held → AtLeast n zs → Rises zs → left_outcome wording shown closed (at_hand n held ++ (n, p) ∷ zs) ≡ silent (Err (Refused TooLarge))
+  hand_large : (closed : List Window) (n : ℕ) (held : List Packet) (p : Packet) (zs : List (ℕ × Packet)) → most_records ≤ length held → AtLeast n zs → Rises zs → left_outcome wording shown closed (at_hand n held ++ (n, p) ∷ zs) ≡ silent (Err (Refused TooLarge))
   hand_large closed n [] p zs many least rises = absurd (omega arith)
   hand_large closed n (h ∷ hs) p zs many least rises =
       let more : List (ℕ × Packet) = (n, p) ∷ zs in
@@ -329,7 +329,7 @@ module _ (wording : Wording) (shown : Packet → List ℕ)
       let run : run_of n (at_hand n hs ++ more) ≡ length hs + run_of n more = run_held n hs more in
       left_large wording shown closed (at_hand n (h ∷ hs) ++ more) (rises_run n (h ∷ hs) more (omega arith, least) (least, rises)) (omega arith)
 
-  blocks_large : (closed : List Window) (n : ℕ) (held : List Packet) (p : Packet) (zs : List (ℕ × Packet)) (l : Last) (text : List ℕ) → 4194304 ≤ length held → AtLeast n zs → Rises zs
+  blocks_large : (closed : List Window) (n : ℕ) (held : List Packet) (p : Packet) (zs : List (ℕ × Packet)) (l : Last) (text : List ℕ) → most_records ≤ length held → AtLeast n zs → Rises zs
       → ended l (left_outcome wording shown closed (cut l (at_hand n held ++ (n, p) ∷ zs))) text ≡ refused_behind text
   blocks_large closed n held p zs (last.Ended ending) text many least rises = ap (λ (o : Outcome (List Window)). ended (last.Ended ending) o text) (hand_large closed n held p zs many least rises)
   blocks_large closed n held p zs last.TooLarge text many least rises =
@@ -349,7 +349,7 @@ module _ (wording : Wording) (shown : Packet → List ℕ)
       let nothing : before_last ys ≡ [] = below_none n m ys (at_least_run n held ((n, p) ∷ zs) (omega arith, least)) le in
       ap (λ (xs : List (ℕ × Packet)). ended last.TooLarge (left_outcome wording shown closed xs) text) nothing)
 
-  windows_large : (closed : List Window) (n : ℕ) (held : List Packet) (p : Packet) (zs : List (ℕ × Packet)) (l : Last) → length held ≡ 4194304 → AtLeast n zs → Rises zs
+  windows_large : (closed : List Window) (n : ℕ) (held : List Packet) (p : Packet) (zs : List (ℕ × Packet)) (l : Last) → length held ≡ most_records → AtLeast n zs → Rises zs
       → windows_left closed (at_hand n held ++ (n, p) ∷ zs) l ≡ refused_behind (wording.unfinished closed n (map shown held))
   windows_large closed n held p zs l many least rises =
       blocks_large closed n held p zs l (unfinished_in wording l closed (windows_in shown (at_hand n held ++ (n, p) ∷ zs))) (omega arith) least rises
@@ -374,7 +374,7 @@ module _ (wording : Wording) (shown : Packet → List ℕ)
       ∙ ap (λ (text : List ℕ). text_end text (closed_with g.closed n (p ∷ ps), ending)) (append-nil (packet_block g.closed n (p ∷ ps))))
 
   -- a record goes to the current window
-  holds_more : (g : Gathering) (held : List Packet) (p : Packet) → Holds g held → next_count g.numbering p.time < 4194304 → (next_number g.numbering p.time == g.numbering.number) ≡ true
+  holds_more : (g : Gathering) (held : List Packet) (p : Packet) → Holds g held → next_count g.numbering p.time < most_records → (next_number g.numbering p.time == g.numbering.number) ≡ true
       → Holds (joined g p.time (shown p)) (held ++ p ∷ [])
   holds_more g held p h few same =
       let long : length (held ++ p ∷ []) ≡ length held + 1 = length-append held (p ∷ []) in
@@ -449,20 +449,20 @@ module _ (wording : Wording) (shown : Packet → List ℕ)
       let next : Outcome Gathering = text_end (hand_text wording g) (begins g p.time (shown p)) in
       let many : Outcome Gathering = refused wording g in
       let on : Gathering → Outcome (List Window × Ending) = λ next. left_of wording shown next ps l in
-      by_test (nat_le 4194304 count)
+      by_test (nat_le most_records count)
       (λ is.
-      let much : 4194304 ≤ count = leb-true 4194304 count is in
+      let much : most_records ≤ count = leb-true most_records count is in
       let known = counted_here (is_some g.numbering.first) (number == n) g.numbering.count much in
       let same : number ≡ n = eqb-true number n known.1 in
       let long : g.numbering.count ≡ length held = h.count known.0 in
-      let full : length held ≡ 4194304 = let c = known.2 in let few = h.few in omega arith in
+      let full : length held ≡ most_records = let c = known.2 in let few = h.few in omega arith in
       ap (λ (b : Bool). follow (cond b many (cond (number == n) more next)) on) is
       ∙ ap (λ (ts : List (List ℕ)). refused_behind (unfinished_of wording n g.closed ts)) h.tuples
       ∙ ap refused_behind (unfinished_some g.closed n held (omega arith))
       ∙ sym (ap (λ (k : ℕ). windows_left g.closed (at_hand n held ++ (k, p) ∷ zs) l) same
       ∙ windows_large g.closed n held p zs l full (at_least_le n number (omega arith) zs least) rises))
       (λ isnt.
-      let few : count < 4194304 = leb-false 4194304 count isnt in
+      let few : count < most_records = leb-false most_records count isnt in
       by_test (number == n)
       (λ is.
       let same : number ≡ n = eqb-true number n is in

@@ -18,6 +18,7 @@ use Rattle.sn_command_capture.specs.Wording.{Wording}
 use Rattle.sn_command_capture.proofs.RisingLemmas.{rising_next, rising_other}
 use Rattle.sn_command_capture.proofs.StreamLemmas.{after_here, after_next}
 use Rattle.sn_windows.specs.Rising.{AreRising, Window}
+use Rattle.sn_windows.specs.Blocks.{most_records}
 
 -- what holds where all went well
 pub ok_weaker : {X Y : Type 0} (P Q : X → Type 0) (r : Result X Y) → ((x : X) → P x → Q x) → IfOk r P → IfOk r Q
@@ -58,11 +59,11 @@ module _ (hand : List Window → ℕ → List (List ℕ) → Type 0) (kept : Gat
   adds_hand wording at_hand here there answer e some f =
       subst (λ (n : ℕ). Runs [] (Adds (wording.block (g.closed ++ (n, g.tuples) ∷ []) n g.tuples)) here answer there) (e ∙ sym number_is) (f g.closed g.tuples some (at_number at_hand e))
 
-  pub few_here : (time : ℕ) → next_count (numbering kept.windows) time < 4194304 → next_count g.numbering time < 4194304
-  few_here time few = subst (λ n. next_count n time < 4194304) (sym s.numbering) few
+  pub few_here : (time : ℕ) → next_count (numbering kept.windows) time < most_records → next_count g.numbering time < most_records
+  few_here time few = subst (λ n. next_count n time < most_records) (sym s.numbering) few
 
-  pub many_here : (time : ℕ) → 4194304 ≤ next_count (numbering kept.windows) time → 4194304 ≤ next_count g.numbering time
-  many_here time many = subst (λ n. 4194304 ≤ next_count n time) (sym s.numbering) many
+  pub many_here : (time : ℕ) → most_records ≤ next_count (numbering kept.windows) time → most_records ≤ next_count g.numbering time
+  many_here time many = subst (λ n. most_records ≤ next_count n time) (sym s.numbering) many
 
   pub same_here : (time : ℕ) → next_number (numbering kept.windows) time ≡ kept.windows.number → next_number g.numbering time ≡ g.numbering.number
   same_here time same = ap (λ n. next_number n time) s.numbering ∙ same ∙ sym number_is

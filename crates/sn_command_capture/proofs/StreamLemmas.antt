@@ -45,6 +45,7 @@ use Rattle.sn_pcap.proofs.ToldLemmas.{at_told}
 use Rattle.sn_command_capture.proofs.GatherLemmas.{left_of, put_before, text_end, followed_by, gathered_all}
 use Rattle.sn_windows.specs.Rising.{Window}
 use Rattle.sn_base.proofs.Tests.{by_order as below_or_not}
+use Rattle.sn_windows.specs.Blocks.{most_records}
 
 -- a run of a stage is one of another that allows no more over the files that are known
 pub runs_told : {A : Type 0} {names : List (List ℕ)} {from to : Stage A} {before now : World} {answer : Result A Refusal}
@@ -341,8 +342,8 @@ module _ (wording : Wording) (g : Gathering) (time : ℕ) (shown : List ℕ) whe
   abbrev few_taken : Outcome Gathering
   few_taken = if next_number g.numbering time == g.numbering.number then silent (Ok (joined g time shown)) else text_end (hand_text wording g) (begins g time shown)
 
-  few_is : next_count g.numbering time < 4194304 → taken wording g time shown ≡ few_taken
-  few_is few = ap (λ (b : Bool). if b then refused wording g else few_taken) (lt-leb 4194304 (next_count g.numbering time) few)
+  few_is : next_count g.numbering time < most_records → taken wording g time shown ≡ few_taken
+  few_is few = ap (λ (b : Bool). if b then refused wording g else few_taken) (lt-leb most_records (next_count g.numbering time) few)
 
   pub after_here : next_number g.numbering time ≡ g.numbering.number → after g time shown ≡ joined g time shown
   after_here same = ap (λ (b : Bool). if b then joined g time shown else begins g time shown) (eq-eqb (next_number g.numbering time) g.numbering.number same)
@@ -351,36 +352,36 @@ module _ (wording : Wording) (g : Gathering) (time : ℕ) (shown : List ℕ) whe
   after_next other = ap (λ (b : Bool). if b then joined g time shown else begins g time shown) (ne_eqb (next_number g.numbering time) g.numbering.number other)
 
   -- the current window has too many records
-  pub runs_many : (w later : World) (refusal : Refusal) → 4194304 ≤ next_count g.numbering time → Runs [] (Does (refused {A = Gathering} wording g)) w (Err refusal) later → Runs [] (Does (taken wording g time shown)) w (Err refusal) later
+  pub runs_many : (w later : World) (refusal : Refusal) → most_records ≤ next_count g.numbering time → Runs [] (Does (refused {A = Gathering} wording g)) w (Err refusal) later → Runs [] (Does (taken wording g time shown)) w (Err refusal) later
   runs_many w later refusal many r =
-      let is : taken wording g time shown ≡ refused wording g = ap (λ (b : Bool). if b then refused wording g else few_taken) (le-leb 4194304 (next_count g.numbering time) many) in
+      let is : taken wording g time shown ≡ refused wording g = ap (λ (b : Bool). if b then refused wording g else few_taken) (le-leb most_records (next_count g.numbering time) many) in
       subst (λ (o : Outcome Gathering). Runs [] (Does o) w (Err refusal) later) (sym is) r
 
   -- the record is of the current window
-  pub runs_joined : (w : World) → next_count g.numbering time < 4194304 → next_number g.numbering time ≡ g.numbering.number → Runs [] (Does (taken wording g time shown)) w (Ok (after g time shown)) w
+  pub runs_joined : (w : World) → next_count g.numbering time < most_records → next_number g.numbering time ≡ g.numbering.number → Runs [] (Does (taken wording g time shown)) w (Ok (after g time shown)) w
   runs_joined w few same =
       let is : taken wording g time shown ≡ silent (Ok (joined g time shown)) = few_is few ∙ ap (λ (b : Bool). if b then silent (Ok (joined g time shown)) else text_end (hand_text wording g) (begins g time shown)) (eq-eqb (next_number g.numbering time) g.numbering.number same) in
       subst (λ (o : Outcome Gathering). Runs [] (Does o) w (Ok (after g time shown)) w) (sym (is ∙ ap (λ (v : Gathering). silent (Ok v)) (sym (after_here same)))) (runs_gives (Ok (after g time shown)) w tt)
 
-  begun_is : next_count g.numbering time < 4194304 → (next_number g.numbering time ≡ g.numbering.number → ⊥) → taken wording g time shown ≡ put_before (hand_text wording g) (silent (Ok (begins g time shown)))
+  begun_is : next_count g.numbering time < most_records → (next_number g.numbering time ≡ g.numbering.number → ⊥) → taken wording g time shown ≡ put_before (hand_text wording g) (silent (Ok (begins g time shown)))
   begun_is few other =
       few_is few ∙ ap (λ (b : Bool). if b then silent (Ok (joined g time shown)) else text_end (hand_text wording g) (begins g time shown)) (ne_eqb (next_number g.numbering time) g.numbering.number other)
       ∙ ap (λ (text : List ℕ). text_end text (begins g time shown)) (sym (append-nil (hand_text wording g)))
 
   -- it begins the next one, and the block of the current one went out; then all went well, or memory ran out
-  pub runs_begun : (w later : World) → next_count g.numbering time < 4194304 → (next_number g.numbering time ≡ g.numbering.number → ⊥) → Runs [] (Adds (hand_text wording g)) w (Ok tt) later
+  pub runs_begun : (w later : World) → next_count g.numbering time < most_records → (next_number g.numbering time ≡ g.numbering.number → ⊥) → Runs [] (Adds (hand_text wording g)) w (Ok tt) later
       → Runs [] (Does (taken wording g time shown)) w (Ok (after g time shown)) later
   runs_begun w later few other r =
       subst (λ (o : Outcome Gathering). Runs [] (Does o) w (Ok (after g time shown)) later) (sym (begun_is few other ∙ ap (λ (v : Gathering). put_before (hand_text wording g) (silent (Ok v))) (sym (after_next other))))
       (text_then (hand_text wording g) (silent (Ok (after g time shown))) r (runs_gives (Ok (after g time shown)) later tt))
 
-  pub runs_wanting : (w later : World) → next_count g.numbering time < 4194304 → (next_number g.numbering time ≡ g.numbering.number → ⊥) → Runs [] (Adds (hand_text wording g)) w (Ok tt) later
+  pub runs_wanting : (w later : World) → next_count g.numbering time < most_records → (next_number g.numbering time ≡ g.numbering.number → ⊥) → Runs [] (Adds (hand_text wording g)) w (Ok tt) later
       → Runs [] (Does (taken wording g time shown)) w (Err Memory) later
   runs_wanting w later few other r =
       subst (λ (o : Outcome Gathering). Runs [] (Does o) w (Err Memory) later) (sym (begun_is few other)) (text_then (hand_text wording g) (silent (Ok (begins g time shown))) r (runs_chance _ later))
 
   -- the block of the current one couldn't go out, or the next one couldn't be begun
-  pub runs_unwritten : (w later : World) (refusal : Refusal) → next_count g.numbering time < 4194304 → (next_number g.numbering time ≡ g.numbering.number → ⊥) → Runs [] (Adds (hand_text wording g)) w (Err refusal) later
+  pub runs_unwritten : (w later : World) (refusal : Refusal) → next_count g.numbering time < most_records → (next_number g.numbering time ≡ g.numbering.number → ⊥) → Runs [] (Adds (hand_text wording g)) w (Err refusal) later
       → Runs [] (Does (taken wording g time shown)) w (Err refusal) later
   runs_unwritten w later refusal few other r =
       subst (λ (o : Outcome Gathering). Runs [] (Does o) w (Err refusal) later) (sym (begun_is few other)) (text_stops (hand_text wording g) (silent (Ok (begins g time shown))) r)
@@ -449,8 +450,8 @@ module _ (wording : Wording) (number : ℕ) (closed : List Window) (ending : End
   runs_unclosed tuples w later refusal some r =
       subst (λ (o : Outcome (List Window × Ending)). Runs [] (Does o) w (Err refusal) later) (sym (some_closing tuples some)) (text_stops (wording.block (shut tuples) number tuples) (silent (Ok (all_of number closed tuples, ending))) r)
 
-pub few_of : (count : ℕ) → (4194304 ≤ count → false ≡ true) → count < 4194304
-few_of count many = below_or_not count 4194304 (λ few. few) (λ more. absurd (false≢true (many more)))
+pub few_of : (count : ℕ) → (most_records ≤ count → false ≡ true) → count < most_records
+few_of count many = below_or_not count most_records (λ few. few) (λ more. absurd (false≢true (many more)))
 
 -- how records end never refuses the queries or the switch
 pub ending_may : (ending : Ending) → MayCome 0 (ending_verdict ending)

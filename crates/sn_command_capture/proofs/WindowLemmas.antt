@@ -10,7 +10,7 @@ use Rattle.sn_command.specs.declared.fault.Fault.TheVariants.{TooLarge}
 use Rattle.sn_command.specs.declared.refusal.Refusal.TheVariants.{Refused}
 use Rattle.sn_command.specs.Outcomes.{Outcome, silent}
 use Rattle.sn_windows.specs.Windows.{in_window, record_at, windows_of, run_of, first_run, first_number}
-use Rattle.sn_windows.specs.Blocks.{most_records, is_few, all_few, blocks}
+use Rattle.sn_windows.specs.Blocks.{is_few, all_few, blocks, most_records}
 use Rattle.sn_windows.proofs.RunLemmas.{Above, Rises, blocks_step, drop_rises, few_here, few_step, once_above, run_above, run_is, run_isnt, windows_step}
 use Rattle.sn_command_capture.specs.Capture.{block_in, window_in, windows_in}
 use Rattle.sn_command_capture.specs.Wording.{Wording}
@@ -78,7 +78,7 @@ module _ (wording : Wording) (shown : Packet → List ℕ) where
   left_none closed = ap (λ (ws : List Window). silent (Ok ws)) (append-nil closed)
 
   -- the next window has too many records
-  pub left_large : (closed : List Window) (ys : List (ℕ × Packet)) → Rises ys → 4194304 < first_run ys → left_outcome closed ys ≡ silent (Err (Refused TooLarge))
+  pub left_large : (closed : List Window) (ys : List (ℕ × Packet)) → Rises ys → most_records < first_run ys → left_outcome closed ys ≡ silent (Err (Refused TooLarge))
   left_large closed [] r large = absurd (omega arith)
   left_large closed (p ∷ ps) r large =
       let block : ℕ → List Packet → List ℕ = block_in wording shown (closed ++ windows_in shown (p ∷ ps)) in
@@ -92,7 +92,7 @@ module _ (wording : Wording) (shown : Packet → List ℕ) where
       made e f = rw (e, f) refl
 
   -- The next window has few enough records: its block comes first. It depends on no later window.
-  pub left_next : (closed : List Window) (ys : List (ℕ × Packet)) → Rises ys → 0 < length ys → first_run ys ≤ 4194304 → (number : ℕ) (packets : List Packet) → number ≡ first_number ys → packets ≡ map record_at (take (first_run ys) ys)
+  pub left_next : (closed : List Window) (ys : List (ℕ × Packet)) → Rises ys → 0 < length ys → first_run ys ≤ most_records → (number : ℕ) (packets : List Packet) → number ≡ first_number ys → packets ≡ map record_at (take (first_run ys) ys)
       → AreRising None (closed ++ (number, map shown packets) ∷ [])
       → ((more : List Window) → AreRising None (closed ++ (number, map shown packets) ∷ more) → wording.block (closed ++ (number, map shown packets) ∷ more) number (map shown packets) ≡ wording.block (closed ++ (number, map shown packets) ∷ []) number (map shown packets))
       → left_outcome closed ys ≡ record {

@@ -98,7 +98,7 @@ ends_large last.TooLarge [] = true
 ends_large last.TooLarge (w ∷ ws) = false
 
 -- What stands of the current window where the capture is refused, after some windows that were closed: it's the first of
--- the others with too many records, of which the first 4194304 came. Where none has, and the capture has too many bytes, it's
+-- the others with too many records, of which as many came as it may have. Where none has, and the capture has too many bytes, it's
 -- the last one.
 abbrev pub unfinished_in : Wording → Last → List Window → List Window → List ℕ
 unfinished_in wording end closed [] = []

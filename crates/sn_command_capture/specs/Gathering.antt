@@ -17,6 +17,7 @@ use Rattle.sn_command_capture.specs.Capture.{read_refusal}
 use Rattle.sn_command_capture.specs.Wording.{Wording}
 use Rattle.sn_command_capture.specs.declared.gathered.Gathered.{Gathered}
 use Rattle.sn_windows.specs.Rising.{AreRising, Window}
+use Rattle.sn_windows.specs.Blocks.{most_records}
 
 -- the numbering of the windows, the tuples of the current one, and the windows that were closed
 pub record Gathering : Type 0 where
@@ -67,7 +68,7 @@ after g time tuple = if is_here g time then joined g time tuple else begins g ti
 -- one goes out. Where the current window would have too many records, the capture is refused.
 abbrev pub taken : Wording → Gathering → ℕ → List ℕ → Outcome Gathering
 taken wording g time tuple =
-    if nat_le 4194304 (next_count g.numbering time) then refused wording g
+    if nat_le most_records (next_count g.numbering time) then refused wording g
     else (if is_here g time then silent (Ok (joined g time tuple)) else record { text = hand_text wording g; end = Ok (begins g time tuple) })
 
 -- The records end: the block of the current window goes out, if there is one.

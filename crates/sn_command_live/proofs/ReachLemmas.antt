@@ -70,20 +70,20 @@ abbrev made : {A : Type 0} → List ℕ → Result A Refusal → Outcome A
 made text end = record { text = text; end = end }
 
 module _ (shown : Packet → List ℕ) (ps : List (ℕ × Packet)) where
-  few_from : (ns : List ℕ) → AllByRecursion (λ (w : Window). length w.1 ≤ 4194304) (map (window_in shown ps) ns) → list_all (λ n. is_few n ps) ns ≡ true
+  few_from : (ns : List ℕ) → AllByRecursion (λ (w : Window). length w.1 ≤ most_records) (map (window_in shown ps) ns) → list_all (λ n. is_few n ps) ns ≡ true
   few_from [] h = refl
   few_from (n ∷ ns) h =
       let many = length-map (in_window n ps) shown in
-      let low : length (in_window n ps) ≤ 4194304 = let few = h.0 in omega arith in
-      ap (λ b. b && list_all (λ n. is_few n ps) ns) (le-leb (length (in_window n ps)) 4194304 low) ∙ few_from ns h.1
+      let low : length (in_window n ps) ≤ most_records = let few = h.0 in omega arith in
+      ap (λ b. b && list_all (λ n. is_few n ps) ns) (le-leb (length (in_window n ps)) most_records low) ∙ few_from ns h.1
 
 module _ (wording : Wording) (window : ℕ) (capture : List ℕ) (files : ByName (List ℕ)) (file : List ℕ) (windows : List Window) (ending : Ending) where
-  pub answered_given : get files capture ≡ Some file → IsCapture window file windows ending → AllByRecursion (λ (w : Window). length w.1 ≤ 4194304) windows → last_of file ending ≡ last.Ended ending
+  pub answered_given : get files capture ≡ Some file → IsCapture window file windows ending → AllByRecursion (λ (w : Window). length w.1 ≤ most_records) windows → last_of file ending ≡ last.Ended ending
       → Answered wording window capture files (record { text = wording.first ++ (flat_map (λ (w : Window). wording.block windows w.0 w.1) windows ++ wording.last windows ending); end = refusing (ending_verdict ending) })
   answered_given has is few end =
       let shown = packet_tuple is.header.link (within file) in
       let ps = numbered time_of window is.packets in
-      let all : all_few ps ≡ true = few_from shown ps (windows_of ps) (subst (λ (ws : List Window). AllByRecursion (λ (w : Window). length w.1 ≤ 4194304) ws) is.are few) in
+      let all : all_few ps ≡ true = few_from shown ps (windows_of ps) (subst (λ (ws : List Window). AllByRecursion (λ (w : Window). length w.1 ≤ most_records) ws) is.are few) in
       let whole : Whole capture files (silent (Ok file)) = ap silent (sym (ap known_bytes has)) in
       let head : Head capture files (silent (Ok is.header)) = then_given [] file (silent (Ok is.header)) whole (ap (λ (h : Result Header HeadFault). silent (refusing (named faults.Head h))) (sym is.accepted)) in
       let found : Found = record { packets = is.packets; ending = ending } in

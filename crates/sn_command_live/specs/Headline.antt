@@ -34,6 +34,7 @@ use Rattle.sn_command.specs.Worlds.{AnyRose, OutRose}
 use Rattle.sn_switch.specs.declared.switch.Switch.{Switch}
 use Rattle.sn_tree_text.specs.Printing.{nodes_text, tree_text}
 use Rattle.sn_command_live.specs.Captures.{IsCapture, IsHeld}
+use Rattle.sn_windows.specs.Blocks.{most_records}
 
 -- what a plan costs on a capture with these windows: how many items all its pieces send of them
 abbrev pub cost_on : List Window → Queries → Switch → List Entry → ℕ
@@ -64,12 +65,12 @@ pub record AreAccepted (switch queries train capture : List ℕ) (files : ByName
   pub is_first : IsCapture (window_ns read) first_file first first_ending
   pub is_second : IsCapture (window_ns read) second_file second ending
 
--- The limits are kept: the first capture has at most 4194304 records, so has each window of the second one, whose records end within 2^40 bytes; and
--- the tree of the first of the plans that cost least has at most this many nodes that are expanded.
+-- The limits are kept: the first capture has no more records than a window may have, nor has a window of the second one,
+-- whose records end within 2^40 bytes; and the tree of the first of the plans that cost least has at most this many nodes that are expanded.
 pub record KeepsLimits {switch queries train capture : List ℕ} {files : ByName (List ℕ)} {ending : Ending}
     (given : AreAccepted switch queries train capture files ending) (nodes : ℕ) : Type 0 where
-  pub few_records : length given.is_first.packets ≤ 4194304
-  pub few_each : AllByRecursion (λ (w : Window). length w.1 ≤ 4194304) given.second
+  pub few_records : length given.is_first.packets ≤ most_records
+  pub few_each : AllByRecursion (λ (w : Window). length w.1 ≤ most_records) given.second
   pub within_bytes : last_of given.second_file ending ≡ Ended ending
   pub within_budget : (choices : List ℕ) → IsFirstLeast (trained_plans given.limits given.read.queries given.first) choices
       → count_expands any_bound (tree_of (trained_plans given.limits given.read.queries given.first) choices) ≤ nodes

@@ -8,6 +8,7 @@ use Rattle.sn_windows.specs.Numbering.{Numbering, begun, next_number, next_count
 use Rattle.sn_windows.proofs.NumberLemmas.{numbered_is, numbers_rise, as_many}
 use Rattle.sn_windows.proofs.RunLemmas.{Rises}
 use Rattle.sn_command_training.specs.Training.{NeverFall}
+use Rattle.sn_windows.specs.Blocks.{most_records}
 
 pub after_push : (s : Numbering) (times : List ℕ) (t : ℕ) → after s (times ++ t ∷ []) ≡ stepped (after s times) t
 after_push s [] t = refl
@@ -46,7 +47,7 @@ module _ {X : Type 0} (time : X → ℕ) where
 
 -- the records one after another, of which the first n came
 module _ {X : Type 0} (time : X → ℕ) (window : ℕ) (xs : List X) (i : ℕ) (s : Numbering) (stands : s ≡ after (begun window) (map time (take i xs))) (some : i < length xs) where
-  pub none_too_many : length xs ≤ 4194304 → (t : ℕ) → 4194304 ≤ next_count s t → ⊥
+  pub none_too_many : length xs ≤ most_records → (t : ℕ) → most_records ≤ next_count s t → ⊥
   none_too_many few t many =
       let within : next_count s t ≤ length (map time (take i xs)) = rw stands (next_few window (map time (take i xs)) t) in
       let short : length (map time (take i xs)) ≡ i = length-map (take i xs) time ∙ length-take-le i xs (omega arith) in

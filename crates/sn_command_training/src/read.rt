@@ -7,9 +7,10 @@ ghost use Rattle.sn_command.specs.Desks.{world};
 ghost use Rattle.sn_command.specs.Runs.{Answers, Works};
 ghost use Rattle.sn_command.specs.Stages.{Text};
 ghost use Rattle.sn_command_training.specs.Training.{IsInOrder, JudgedBehind, TrainingIn};
+ghost use Rattle.sn_windows.specs.Blocks.{most_records};
 ghost use Rattle.sn_windows.specs.Windows.{number_at, numbered};
 
-use crate::training::{MOST_RECORDS, Training};
+use crate::training::Training;
 use sn_base::link::Link;
 use sn_base::memory::Memory;
 use sn_base::seq::Seq;
@@ -22,7 +23,7 @@ use sn_io::inputs::Inputs;
 use sn_io::sink::Sink;
 use sn_pcap::header::{Header, head};
 use sn_pcap::packet::{Packet, packets};
-use sn_windows::windows::Windows;
+use sn_windows::windows::{MOST_RECORDS, Windows};
 use std::alloc::Global;
 
 /// The tuples of packets.
@@ -40,7 +41,7 @@ fn tuples(alloc: Global, link: Link, file: &[u8], packets: &[Packet]) -> Result<
 /// The numbers of the packets' windows.
 fn numbers(alloc: Global, window_ns: u64, packets: &[Packet]) -> Result<Seq<u64>, Memory>
     requires some { 1 ≤ window_ns }
-    requires few { length packets.now ≤ 4194304 }
+    requires few { length packets.now ≤ most_records }
     ensures { IfOk result (λ numbers. numbers ≡ map number_at (numbered time_of window_ns packets.now)) }
 {
     let mut windows = Windows::new(window_ns);
@@ -66,7 +67,7 @@ fn judge_records(
     ensures order { IfOk result IsInOrder }
 {
     let (found, _) = packets(alloc, header, file)?;
-    if found.as_slice().len() > MOST_RECORDS {
+    if found.as_slice().len() as u64 > MOST_RECORDS {
         return Err(Refusal::Refused(Fault::TooLarge));
     }
     let tuples = tuples(alloc, header.link, file, found.as_slice())?;
@@ -86,7 +87,7 @@ fn judge_training(alloc: Global, window_ns: u64, file: &[u8]) -> Result<Training
     }
 }
 
-/// Reads a training capture of at most 2^30 bytes and 4194304 records, whose windows have this many nanoseconds. Its whole
+/// Reads a training capture of at most 2^30 bytes and [`MOST_RECORDS`] records, whose windows have this many nanoseconds. Its whole
 /// records count, however they end.
 pub fn read_training<I: Inputs, O: Sink>(
     alloc: Global,

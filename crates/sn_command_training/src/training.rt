@@ -3,9 +3,6 @@
 use sn_base::seq::Seq;
 use sn_fields::tuple::Tuple;
 
-/// The most records of a training capture.
-pub const MOST_RECORDS: usize = 4194304;
-
 /// What a plan is trained on: the tuples of a capture's packets, in their order, and for each the number of its window.
 #[derive(Drop)]
 pub struct Training {

@@ -12,9 +12,9 @@ use Rattle.sn_cost.specs.Entries.{front_of}
 use Rattle.sn_base.proofs.Lists.{by_test, nat_same, nat_self, not_true, filter_short}
 use Rattle.sn_plan_choices.specs.declared.costs.CostTable.{CostTable}
 use Rattle.sn_plan_choices.specs.Costs.{HasPlaces, IsPlace, OthersStay, entry_in}
-use Rattle.sn_cost_counts.specs.Fitting.{most_rows}
 use Rattle.sn_cost.specs.Adding.{Adds, AreSmall, Entries, HasRoom, of_branches, of_counts, where_so}
 use Rattle.sn_base.proofs.Tests.{not_less}
+use Rattle.sn_windows.specs.Blocks.{most_records}
 
 -- ---- numbers where a test holds
 
@@ -155,7 +155,7 @@ all_added a b q prefix n counts i le so_far = record {
   places = so_far.places;
 }
 
-pub small_at : (counts : List ℕ) (option : ℕ) → AreSmall counts → slice_index counts option ≤ 13 * most_rows
+pub small_at : (counts : List ℕ) (option : ℕ) → AreSmall counts → slice_index counts option ≤ 13 * most_records
 small_at [] option h = omega arith
 small_at (n ∷ counts) zero h = h.0
 small_at (n ∷ counts) (suc option) h = small_at counts option h.1

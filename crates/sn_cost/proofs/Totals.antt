@@ -7,12 +7,12 @@ use Rattle.sn_switch.specs.declared.switch.Switch.{Switch}
 use Rattle.sn_types.specs.declared.typed_query.TypedQuery.{TypedQuery}
 use Rattle.sn_plan_choices.specs.declared.costs.CostTable.{CostTable}
 use Rattle.sn_plan_choices.specs.Costs.{HasPlaces, IsPlace, entry_in}
-use Rattle.sn_cost_counts.specs.Fitting.{most_rows}
 use Rattle.sn_refine.specs.Refined.{Windows}
 use Rattle.sn_windows.specs.Rising.{Window}
 use Rattle.sn_cost.specs.Adding.{Adds, AreSmall, of_branches, where_so}
 use Rattle.sn_cost.specs.Training.{added, window_counts}
 use Rattle.sn_cost.proofs.Growing.{place_on, small_at, three, zeros}
+use Rattle.sn_windows.specs.Blocks.{most_records}
 
 module _ (s : Switch) (q : ℕ) (query : TypedQuery) (windows : Windows) (prefix : ℕ) (front : List ℕ) where
   -- what these windows add
@@ -23,7 +23,7 @@ module _ (s : Switch) (q : ℕ) (query : TypedQuery) (windows : Windows) (prefix
   pub record Counted (first : CostTable) (all rest : List Window) (done : ℕ) (table : CostTable) : Type 0 where
     pub left : (q' prefix' b option : ℕ) → IsPlace first q' prefix' b option → entry_in table q' prefix' b option + more rest q' prefix' b option ≡ entry_in first q' prefix' b option + more all q' prefix' b option
     pub places : (queries : ℕ) → HasPlaces first queries → HasPlaces table queries
-    pub small : (b option : ℕ) → IsPlace first q prefix b option → entry_in table q prefix b option ≤ done * (13 * most_rows)
+    pub small : (b option : ℕ) → IsPlace first q prefix b option → entry_in table q prefix b option ≤ done * (13 * most_records)
 
   where_most : (c d e : Bool) (n m : ℕ) → n ≤ m → where_so c (where_so d (where_so e n)) ≤ m
   where_most true true true n m le = le
@@ -50,8 +50,8 @@ module _ (s : Switch) (q : ℕ) (query : TypedQuery) (windows : Windows) (prefix
         omega (arith, grown, before, most, lt);
   }
     where
-      by_branch : (b option : ℕ) → of_branches q prefix (length query.branches) counts q prefix b option ≤ 13 * most_rows
+      by_branch : (b option : ℕ) → of_branches q prefix (length query.branches) counts q prefix b option ≤ 13 * most_records
       by_branch b option =
           by_test (nat_lt b (length query.branches))
-          (λ is. where_most (nat_eq q q) (nat_eq prefix prefix) (nat_lt b (length query.branches)) (slice_index (counts b) option) (13 * most_rows) (small_at (counts b) option (small b (ltb-true b (length query.branches) is))))
+          (λ is. where_most (nat_eq q q) (nat_eq prefix prefix) (nat_lt b (length query.branches)) (slice_index (counts b) option) (13 * most_records) (small_at (counts b) option (small b (ltb-true b (length query.branches) is))))
           (λ isnt. let z = zeros (nat_eq q q) (nat_eq prefix prefix) true (where_so (nat_lt b (length query.branches)) (slice_index (counts b) option)) (ap (λ c. where_so c (slice_index (counts b) option)) isnt) in omega (arith, z))

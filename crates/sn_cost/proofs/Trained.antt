@@ -5,7 +5,6 @@ use Rattle.sn_switch.specs.declared.switch.Switch.{Switch}
 use Rattle.sn_types.specs.declared.typed_query.TypedQuery.{TypedQuery}
 use Rattle.sn_plan_choices.specs.declared.costs.CostTable.{CostTable}
 use Rattle.sn_plan_choices.specs.Costs.{HasPlaces}
-use Rattle.sn_cost_counts.specs.Fitting.{most_rows}
 use Rattle.sn_refine.specs.Steps.{Set, kept_at, kept_of, parts_in, windows_of}
 use Rattle.sn_refine.specs.declared.refined.Refined.{Refined}
 use Rattle.sn_cost.specs.Adding.{Adds, HasRoom, kept_counts, of_branches}
@@ -17,6 +16,7 @@ use Rattle.sn_cost.proofs.Seeing.{Going, going_on, same_counts}
 use Rattle.sn_cost.proofs.Growing.{zeros}
 use Rattle.sn_cost.proofs.Totals.{Counted, more, next_window}
 use Rattle.sn_windows.specs.Rising.{IsAbove, Window}
+use Rattle.sn_windows.specs.Blocks.{most_records}
 
 module _ (s : Switch) (q : ℕ) (query : TypedQuery) (prefix : ℕ) (front numbers : List ℕ) (tuples : List (List ℕ)) (first : CostTable) where
   abbrev pub all : List Window
@@ -63,7 +63,7 @@ module _ (s : Switch) (q : ℕ) (query : TypedQuery) (prefix : ℕ) (front numbe
   above_next done last kept table lt same never so_far =
       (subst (Going s q query (windows_of all) front last kept) (step_at numbers tuples done (equal_ahead (drop done numbers)) lt same never refl) so_far.going).rises.0
 
-  pub room_next : (done : ℕ) (last : Option ℕ) (kept : List Set) (table : CostTable) → done < length numbers → length numbers ≤ most_rows → HasPlaces first (q + 1) → prefix < 16 → TrainedTo done last kept table → (b : ℕ) → b < 2 → HasRoom table q prefix b
+  pub room_next : (done : ℕ) (last : Option ℕ) (kept : List Set) (table : CostTable) → done < length numbers → length numbers ≤ most_records → HasPlaces first (q + 1) → prefix < 16 → TrainedTo done last kept table → (b : ℕ) → b < 2 → HasRoom table q prefix b
   room_next done last kept table lt few has of_prefix so_far b of_branch = λ option below.
       let small = so_far.counted.small b option (record { of_query = has; of_prefix = of_prefix; of_branch = of_branch; of_option = below }) in
       omega (arith, small, lt, few)

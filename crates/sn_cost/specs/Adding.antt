@@ -8,9 +8,9 @@ use Rattle.sn_types.specs.Typed.{branch_of}
 use Rattle.sn_plan_choices.specs.declared.costs.CostTable.{CostTable}
 use Rattle.sn_plan_choices.specs.Costs.{HasPlaces, IsPlace, entry_in}
 use Rattle.sn_cost_counts.specs.Counts.{counts_of}
-use Rattle.sn_cost_counts.specs.Fitting.{most_rows}
 use Rattle.sn_ops.specs.Packets.{packet_rows}
 use Rattle.sn_ops.specs.declared.packets.Kept.{Kept}
+use Rattle.sn_windows.specs.Blocks.{most_records}
 
 abbrev pub Entries : Type 0
 Entries = ℕ → ℕ → ℕ → ℕ → ℕ
@@ -26,10 +26,10 @@ pub record Adds (old new : CostTable) (more : Entries) : Type 0 where
 
 -- the entries of a branch at a front have room for the counts of one more window
 abbrev pub HasRoom : CostTable → ℕ → ℕ → ℕ → Type 0
-HasRoom table q prefix b = (option : ℕ) → option < 256 → entry_in table q prefix b option + 13 * most_rows ≤ 2 ^ 56
+HasRoom table q prefix b = (option : ℕ) → option < 256 → entry_in table q prefix b option + 13 * most_records ≤ 2 ^ 56
 
 abbrev pub AreSmall : List ℕ → Type 0
-AreSmall counts = AllByRecursion (λ n. n ≤ 13 * most_rows) counts
+AreSmall counts = AllByRecursion (λ n. n ≤ 13 * most_records) counts
 
 -- the counts of one branch, at a front
 abbrev pub of_counts : ℕ → ℕ → ℕ → List ℕ → Entries

@@ -3,7 +3,6 @@ ghost use Rattle.std.specs.Prelude.{◌≡◌, ◌<◌, ◌≤◌, ◌+◌, ◌*
 ghost use Rattle.std.specs.List.{AllByRecursion};
 ghost use Rattle.sn_plan_choices.specs.Costs.{HasPlaces};
 ghost use Rattle.sn_cost.specs.Adding.{Adds, AreSmall, HasRoom, of_counts};
-ghost use Rattle.sn_cost_counts.specs.Fitting.{most_rows};
 
 use sn_plan_choices::costs::CostTable;
 

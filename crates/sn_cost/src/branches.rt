@@ -3,10 +3,10 @@ ghost use Rattle.std.specs.Prelude.{◌≡◌, ℕ, ◌<◌, ◌≤◌, ◌+◌,
 ghost use Rattle.std.specs.List.{list_any};
 ghost use Rattle.sn_plan_choices.specs.Costs.{HasPlaces};
 ghost use Rattle.sn_cost.specs.Adding.{Adds, AreSmall, HasRoom, kept_counts, of_branches};
-ghost use Rattle.sn_cost_counts.specs.Fitting.{most_rows};
 ghost use Rattle.sn_ops.specs.Packets.{OfALevel};
 ghost use Rattle.sn_switch.specs.Texts.{IsSwitch};
 ghost use Rattle.sn_types.specs.Typed.{query_at};
+ghost use Rattle.sn_windows.specs.Blocks.{most_records};
 
 use crate::adding::add_counts;
 use sn_base::memory::Memory;
@@ -33,7 +33,7 @@ pub(crate) fn add_branches(
     requires query { q < length t.now.queries }
     requires level { list_any (nat_eq level) (query_at t.now.queries q).levels ≡ true }
     requires kept { OfALevel (query_at t.now.queries q) kept }
-    requires few { length tuples.now ≤ most_rows }
+    requires few { length tuples.now ≤ most_records }
     requires places { HasPlaces table.old (q + 1) }
     requires prefix { prefix < 16 }
     requires room { (b : ℕ) → b < 2 → HasRoom table.old q prefix b }

@@ -7,6 +7,7 @@ ghost use Rattle.sn_cost.specs.Entries.{IsPiece, entry_count, trained};
 ghost use Rattle.sn_cost.specs.Training.{IsFresh, NeverFall, of_fronts};
 ghost use Rattle.sn_switch.specs.Texts.{IsSwitch};
 ghost use Rattle.sn_types.specs.Typed.{branch_at, query_at};
+ghost use Rattle.sn_windows.specs.Blocks.{most_records};
 
 use crate::front::front_of;
 use crate::train::add_front;
@@ -28,7 +29,7 @@ fn add_query(
     requires switch { IsSwitch s.now }
     requires query { q < length t.now.queries }
     requires same { length tuples.now ≡ length numbers.now }
-    requires few { length numbers.now ≤ 4194304 }
+    requires few { length numbers.now ≤ most_records }
     requires never_fall { NeverFall numbers.now }
     requires places { HasPlaces table.old (q + 1) }
     requires fresh { (prefix : ℕ) → IsFresh table.old q prefix }
@@ -47,15 +48,15 @@ fn add_query(
 
 /// The cost table of training windows. Each entry, of a query, a front of a path, a branch and an option, is the number of
 /// items that the piece sends over all windows, on the tuples that the level before on the front admits. `numbers` has
-/// the number of each tuple's window: as many as there are tuples, at most 4194304, and never falling. A window without a
-/// tuple answers nothing, so a level after the first sees nothing in the window after it.
+/// the number of each tuple's window: as many as there are tuples, no more than a window may have records, and never falling.
+/// A window without a tuple answers nothing, so a level after the first sees nothing in the window after it.
 ///
 /// # Errors
 /// Out of memory.
 pub fn build(t: &Typed, s: &Switch, tuples: &[Tuple], numbers: &[u64]) -> Result<CostTable, Memory>
     requires switch { IsSwitch s.now }
     requires same { length tuples.now ≡ length numbers.now }
-    requires few { length numbers.now ≤ 4194304 }
+    requires few { length numbers.now ≤ most_records }
     requires never_fall { NeverFall numbers.now }
     ensures places { IfOk result (λ table. HasPlaces table (length t.now.queries)) }
     ensures entries { IfOk result (λ table. (q prefix b n : ℕ) → IsPiece s.now t.now.queries q prefix b n →

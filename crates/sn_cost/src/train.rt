@@ -6,11 +6,11 @@ ghost use Rattle.sn_plan_choices.specs.Costs.{HasPlaces};
 ghost use Rattle.sn_cost.specs.Adding.{Adds, HasRoom, kept_counts, of_branches};
 ghost use Rattle.sn_cost.specs.Entries.{trained};
 ghost use Rattle.sn_cost.specs.Training.{AddsWindow, IsFresh, IsKept, NeverFall, of_front};
-ghost use Rattle.sn_cost_counts.specs.Fitting.{most_rows};
 ghost use Rattle.sn_refine.specs.Steps.{IsPathOf, kept_at, kept_of, parts_in};
 ghost use Rattle.sn_switch.specs.Texts.{IsSwitch};
 ghost use Rattle.sn_types.specs.Typed.{query_at};
 ghost use Rattle.sn_windows.specs.Rising.{IsAbove};
+ghost use Rattle.sn_windows.specs.Blocks.{most_records};
 
 use crate::branches::add_branches;
 use crate::run::first_run;
@@ -58,7 +58,7 @@ fn add_window(
     requires path { IsPathOf t.now.queries refined.old.query refined.old.path }
     requires some { 0 < length refined.old.path }
     requires above { IsAbove refined.old.last w }
-    requires few { length tuples.now ≤ most_rows }
+    requires few { length tuples.now ≤ most_records }
     requires places { HasPlaces table.old (refined.old.query + 1) }
     requires prefix { prefix < 16 }
     requires room { (b : ℕ) → b < 2 → HasRoom table.old refined.old.query prefix b }
@@ -102,7 +102,7 @@ pub(crate) fn add_front(
     requires path { IsPathOf t.now.queries q front.now }
     requires some { 0 < length front.now }
     requires same { length tuples.now ≡ length numbers.now }
-    requires few { length numbers.now ≤ most_rows }
+    requires few { length numbers.now ≤ most_records }
     requires never_fall { NeverFall numbers.now }
     requires places { HasPlaces table.old (q + 1) }
     requires prefix { prefix < 16 }

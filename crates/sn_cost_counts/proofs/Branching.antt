@@ -32,13 +32,14 @@ use Rattle.sn_engine_split.proofs.Cuts.{cut_within}
 use Rattle.sn_engine_split.proofs.TypedItems.{grouping, with_fold}
 use Rattle.sn_cost_counts.specs.declared.flow.Flow.{Flow}
 use Rattle.sn_cost_counts.specs.Counts.{counts_of, setting_count}
-use Rattle.sn_cost_counts.specs.Fitting.{AllGo, CanGo, Takes, most_rows}
+use Rattle.sn_cost_counts.specs.Fitting.{AllGo, CanGo, Takes}
 use Rattle.sn_cost_counts.specs.Flows.{counted, counts_from, run, starting, wider}
 use Rattle.sn_plan_choices.specs.Options.{Setting, size_lists}
 use Rattle.sn_cost_counts.specs.Settings.{settings}
 use Rattle.sn_cost_counts.proofs.Counting.{items_counted}
 use Rattle.sn_cost_counts.proofs.Going.{wider_go}
 use Rattle.sn_cost_counts.proofs.Orders.{counts_are, map_flat}
+use Rattle.sn_windows.specs.Blocks.{most_records}
 
 -- ---- a row of a branch's first columns goes through its operators
 
@@ -85,12 +86,12 @@ branch_takes window queries q b level cut rows t lt within of =
 
 -- ---- counts are small
 
-pub counts_small : (depth level : ℕ) (slots : List ℕ) (os : List TOp) (passed : ℕ) (fs : List Flow) → passed + length os ≤ 12 → AllGo level passed os fs → AllByRecursion (λ n. n ≤ 13 * most_rows) (counts_from depth level slots os fs)
+pub counts_small : (depth level : ℕ) (slots : List ℕ) (os : List TOp) (passed : ℕ) (fs : List Flow) → passed + length os ≤ 12 → AllGo level passed os fs → AllByRecursion (λ n. n ≤ 13 * most_records) (counts_from depth level slots os fs)
 counts_small depth level slots [] passed fs le h =
-    all_map (λ n. n ≤ 13 * most_rows) counted fs (all_weaker (CanGo level passed []) (λ f. counted f ≤ 13 * most_rows) (λ f x. let s = x.sent in let r = x.few in omega (arith, s, r, le)) fs h.each)
+    all_map (λ n. n ≤ 13 * most_records) counted fs (all_weaker (CanGo level passed []) (λ f. counted f ≤ 13 * most_records) (λ f x. let s = x.sent in let r = x.few in omega (arith, s, r, le)) fs h.each)
 counts_small depth level slots (op ∷ os) passed fs le h =
-    all_append (λ n. n ≤ 13 * most_rows) (map counted fs) (counts_from depth level slots os (wider depth level slots op fs))
-    (all_map (λ n. n ≤ 13 * most_rows) counted fs (all_weaker (CanGo level passed (op ∷ os)) (λ f. counted f ≤ 13 * most_rows) (λ f x. let s = x.sent in let r = x.few in omega (arith, s, r, le)) fs h.each))
+    all_append (λ n. n ≤ 13 * most_records) (map counted fs) (counts_from depth level slots os (wider depth level slots op fs))
+    (all_map (λ n. n ≤ 13 * most_records) counted fs (all_weaker (CanGo level passed (op ∷ os)) (λ f. counted f ≤ 13 * most_records) (λ f x. let s = x.sent in let r = x.few in omega (arith, s, r, le)) fs h.each))
     (counts_small depth level slots os (suc passed) (wider depth level slots op fs) (omega (arith, le)) (wider_go level passed depth slots op os fs h))
 
 -- ---- they are the counts of all settings
@@ -130,5 +131,5 @@ module _ (depth level : ℕ) (slots : List ℕ) (branch : TypedBranch) (rows : L
 
 -- ---- the rows of a window before the first operator
 
-pub started : (level : ℕ) (os : List TOp) (rows : List Row) → length rows ≤ most_rows → AllByRecursion (Takes level os) rows → AllFit level os [] → AllGo level 0 os (starting rows ∷ [])
+pub started : (level : ℕ) (os : List TOp) (rows : List Row) → length rows ≤ most_records → AllByRecursion (Takes level os) rows → AllFit level os [] → AllGo level 0 os (starting rows ∷ [])
 started level os rows few takes fits = record { operators = fits; each = (record { sent = omega arith; few = few; takes = takes }, tt) }

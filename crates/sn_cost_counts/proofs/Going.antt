@@ -23,8 +23,9 @@ use Rattle.sn_types.specs.declared.typed_op.TReduce.{TReduce}
 use Rattle.sn_types.specs.Cuts.{is_stateful}
 use Rattle.sn_types.specs.Values.{ReadsWithin, holds, op_at, value_of}
 use Rattle.sn_cost_counts.specs.declared.flow.Flow.{Flow}
-use Rattle.sn_cost_counts.specs.Fitting.{AllGo, CanGo, Takes, most_rows}
+use Rattle.sn_cost_counts.specs.Fitting.{AllGo, CanGo, Takes}
 use Rattle.sn_cost_counts.specs.Flows.{counted, counts_from, held_rows, over_distinct, over_reduce, stepped, wider}
+use Rattle.sn_windows.specs.Blocks.{most_records}
 
 -- ---- lengths
 
@@ -126,10 +127,10 @@ held_takes level depth slots r os rows h =
 
 -- ---- one operator
 
-more_sent : (passed sent over rows : ℕ) → sent ≤ passed * most_rows → over ≤ rows → rows ≤ most_rows → sent + over ≤ suc passed * most_rows
+more_sent : (passed sent over rows : ℕ) → sent ≤ passed * most_records → over ≤ rows → rows ≤ most_records → sent + over ≤ suc passed * most_records
 more_sent passed sent over rows a b c = omega (arith, a, b, c)
 
-no_more_sent : (passed sent : ℕ) → sent ≤ passed * most_rows → sent ≤ suc passed * most_rows
+no_more_sent : (passed sent : ℕ) → sent ≤ passed * most_records → sent ≤ suc passed * most_records
 no_more_sent passed sent a = omega (arith, a)
 
 step_goes : (level passed depth slots : ℕ) (op : TOp) (os : List TOp) (f : Flow) → CanGo level passed (op ∷ os) f → CanGo level (suc passed) os (stepped depth slots (op_at level op) f)
@@ -191,14 +192,14 @@ wider_go level passed depth slots op os fs h = record {
 
 -- ---- all of them
 
-pub all_sent : (level m passed : ℕ) (ahead : List TOp) (fs : List Flow) → passed ≤ m → AllGo level passed ahead fs → All (λ (f : Flow). f.sent ≤ m * most_rows) fs
+pub all_sent : (level m passed : ℕ) (ahead : List TOp) (fs : List Flow) → passed ≤ m → AllGo level passed ahead fs → All (λ (f : Flow). f.sent ≤ m * most_records) fs
 all_sent level m passed ahead fs le h =
-    All-from_recursion (λ (f : Flow). f.sent ≤ m * most_rows) fs
-    (all_weaker (CanGo level passed ahead) (λ (f : Flow). f.sent ≤ m * most_rows) (λ f x. let s = x.sent in omega (arith, le, s)) fs h.each)
+    All-from_recursion (λ (f : Flow). f.sent ≤ m * most_records) fs
+    (all_weaker (CanGo level passed ahead) (λ (f : Flow). f.sent ≤ m * most_records) (λ f x. let s = x.sent in omega (arith, le, s)) fs h.each)
 
-pub all_few : (level passed : ℕ) (ahead : List TOp) (fs : List Flow) → AllGo level passed ahead fs → All (λ (f : Flow). length f.rows ≤ most_rows) fs
+pub all_few : (level passed : ℕ) (ahead : List TOp) (fs : List Flow) → AllGo level passed ahead fs → All (λ (f : Flow). length f.rows ≤ most_records) fs
 all_few level passed ahead fs h =
-    All-from_recursion (λ (f : Flow). length f.rows ≤ most_rows) fs (all_weaker (CanGo level passed ahead) (λ (f : Flow). length f.rows ≤ most_rows) (λ f x. x.few) fs h.each)
+    All-from_recursion (λ (f : Flow). length f.rows ≤ most_records) fs (all_weaker (CanGo level passed ahead) (λ (f : Flow). length f.rows ≤ most_records) (λ f x. x.few) fs h.each)
 
 pub all_fit : (level passed : ℕ) (op : TOp) (os : List TOp) (fs : List Flow) → AllGo level passed (op ∷ os) fs → All (λ (f : Flow). Fits op f.rows) fs
 all_fit level passed op os fs h =

@@ -3,10 +3,11 @@ ghost use Rattle.std.specs.Prelude.{◌≡◌, ◌≤◌, ◌<◌, ◌*◌, All,
 ghost use Rattle.std.specs.List.{AllByRecursion, list_any};
 ghost use Rattle.sn_base.specs.Columns.{IsOf};
 ghost use Rattle.sn_cost_counts.specs.Counts.{counts_of, setting_count};
-ghost use Rattle.sn_cost_counts.specs.Fitting.{most_rows};
 ghost use Rattle.sn_cost_counts.specs.Settings.{settings};
 ghost use Rattle.sn_types.specs.Typed.{branch_at, branch_of, first_columns, query_at};
 ghost use Rattle.sn_types.specs.Values.{op_at};
+ghost use Rattle.sn_chain.specs.Limits.{largest_register};
+ghost use Rattle.sn_windows.specs.Blocks.{most_records};
 
 use crate::counts::counts_along;
 use sn_base::memory::Memory;
@@ -35,11 +36,11 @@ pub fn counts_of(
     requires branch { b < length (query_at t.now.queries q).branches }
     requires some_depth { 1 ≤ chain }
     requires most_depth { chain ≤ 4 }
-    requires sizes { All (λ size. (1 ≤ size) × (size ≤ 65536)) slots.now }
-    requires few { length rows ≤ most_rows }
+    requires sizes { All (λ size. (1 ≤ size) × (size ≤ largest_register)) slots.now }
+    requires few { length rows ≤ most_records }
     requires columns { AllByRecursion (IsOf (first_columns (branch_at t.now.queries q b))) rows }
     ensures counts { IfOk result (λ counts. counts ≡ counts_of (branch_at t.now.queries q b) level chain slots.now rows) }
-    ensures small { IfOk result (λ counts. AllByRecursion (λ n. n ≤ 13 * most_rows) counts) }
+    ensures small { IfOk result (λ counts. AllByRecursion (λ n. n ≤ 13 * most_records) counts) }
 {
     let (front, _) = t.operators(q, b).split_at(t.max_cut(q, b) as usize);
     counts_along(alloc, front, level, chain, slots, rows)

@@ -2,9 +2,11 @@
 ghost use Rattle.std.specs.Prelude.{◌≡◌, ◌*◌, ℕ, List, ◌≤◌, ◌<◌, ◌∷◌, [], ◌++◌, All, length, map, IfOk, OnOk};
 ghost use Rattle.std.specs.List.{AllByRecursion};
 ghost use Rattle.sn_cost_counts.specs.Flows.{counted, counts_from, starting, wider};
-ghost use Rattle.sn_cost_counts.specs.Fitting.{AllGo, Takes, most_rows};
+ghost use Rattle.sn_cost_counts.specs.Fitting.{AllGo, Takes};
 ghost use Rattle.sn_ops.specs.Flow.{AllFit};
 ghost use Rattle.sn_types.specs.declared.typed_op.TOp.{TOp};
+ghost use Rattle.sn_chain.specs.Limits.{largest_register};
+ghost use Rattle.sn_windows.specs.Blocks.{most_records};
 
 use crate::flow::Flow;
 use crate::sizes::by_size;
@@ -18,8 +20,8 @@ use std::alloc::Global;
 
 /// Adds how many items each of these makes.
 fn add_counts(flows: &[Flow], counts: &mut Seq<u64>) -> Result<(), Memory>
-    requires sent { All (λ f. f.sent ≤ 13 * most_rows) flows.now }
-    requires few { All (λ f. length f.rows ≤ most_rows) flows.now }
+    requires sent { All (λ f. f.sent ≤ 13 * most_records) flows.now }
+    requires few { All (λ f. length f.rows ≤ most_records) flows.now }
     ensures { OnOk result (counts.new ≡ counts.old ++ map counted flows.now) }
 {
     for flow in flows {
@@ -39,7 +41,7 @@ fn behind(
 ) -> Result<Vec<Flow>, Memory>
     requires some_depth { 1 ≤ depth }
     requires most_depth { depth ≤ 4 }
-    requires sizes { All (λ size. (1 ≤ size) × (size ≤ 65536)) slots.now }
+    requires sizes { All (λ size. (1 ≤ size) × (size ≤ largest_register)) slots.now }
     requires go { (passed : ℕ) × (ahead : List TOp) × (passed < 12) × AllGo level passed (op.now ∷ ahead) flows.items }
     ensures { IfOk result (λ out. out.items ≡ wider depth level slots.now op.now flows.items) }
 {
@@ -75,9 +77,9 @@ pub(crate) fn counts_along(
 ) -> Result<Seq<u64>, Memory>
     requires some_depth { 1 ≤ depth }
     requires most_depth { depth ≤ 4 }
-    requires sizes { All (λ size. (1 ≤ size) × (size ≤ 65536)) slots.now }
+    requires sizes { All (λ size. (1 ≤ size) × (size ≤ largest_register)) slots.now }
     requires operators { length ops.now ≤ 12 }
-    requires few { length rows ≤ most_rows }
+    requires few { length rows ≤ most_records }
     requires takes { AllByRecursion (Takes level ops.now) rows }
     requires fits { AllFit level ops.now [] }
     ensures counts { IfOk result (λ counts. counts ≡ counts_from depth level slots.now ops.now (starting rows ∷ [])) }

@@ -1,7 +1,7 @@
 //! Rows on their way through operators.
 ghost use Rattle.std.specs.Prelude.{◌≡◌, ◌*◌, ◌+◌, ◌≤◌, length};
 ghost use Rattle.sn_cost_counts.specs.Flows.{counted};
-ghost use Rattle.sn_cost_counts.specs.Fitting.{most_rows};
+ghost use Rattle.sn_windows.specs.Blocks.{most_records};
 
 use sn_base::row::Row;
 use sn_base::seq::Seq;
@@ -22,8 +22,8 @@ pub struct Flow {
 impl Flow {
     /// How many items are sent where the prefix ends here.
     pub(crate) fn count(&self) -> u64
-        requires sent { self.now.sent ≤ 13 * most_rows }
-        requires few { length self.now.rows ≤ most_rows }
+        requires sent { self.now.sent ≤ 13 * most_records }
+        requires few { length self.now.rows ≤ most_records }
         ensures { result ≡ counted self.now }
     {
         self.sent + self.rows.as_slice().len() as u64

@@ -3,9 +3,10 @@ ghost use Rattle.std.specs.Prelude.{◌≡◌, ◌≤◌, ◌<◌, IfOk, length}
 ghost use Rattle.std.specs.List.{AllByRecursion};
 ghost use Rattle.sn_chain.specs.Homes.{held_in_order};
 ghost use Rattle.sn_cost_counts.specs.Flows.{held_rows, over_reduce};
-ghost use Rattle.sn_cost_counts.specs.Fitting.{most_rows};
 ghost use Rattle.sn_ops.specs.Flow.{ReduceFits, grouping_of};
 ghost use Rattle.sn_pipe.specs.Windows.{held_row, rows_left};
+ghost use Rattle.sn_chain.specs.Limits.{largest_register};
+ghost use Rattle.sn_windows.specs.Blocks.{most_records};
 
 use crate::offers::{Passed, offer_all};
 use sn_base::any_fold::AnyFold;
@@ -53,8 +54,8 @@ pub(crate) fn reduce(
     requires some_depth { 1 ≤ depth }
     requires most_depth { depth ≤ 4 }
     requires some_slots { 1 ≤ slots }
-    requires most_slots { slots ≤ 65536 }
-    requires few { length rows.now ≤ most_rows }
+    requires most_slots { slots ≤ largest_register }
+    requires few { length rows.now ≤ most_records }
     requires fits { ReduceFits r.now rows.now }
     ensures most { IfOk result (λ passed. passed.over ≤ length rows.now) }
     ensures over { IfOk result (λ passed. passed.over ≡ length (over_reduce depth slots (grouping_of r.now) rows.now)) }

@@ -4,10 +4,11 @@ ghost use Rattle.sn_base.specs.AnyFold.{any_step};
 ghost use Rattle.sn_base.specs.Operators.{key_of, pair_of};
 ghost use Rattle.sn_chain.specs.Chain.{after_offers};
 ghost use Rattle.sn_cost_counts.specs.Flows.{first_rows, over_distinct};
-ghost use Rattle.sn_cost_counts.specs.Fitting.{most_rows};
 ghost use Rattle.sn_cost_counts.specs.Overs.{overs_of};
 ghost use Rattle.sn_ops.specs.Flow.{ReduceFits, grouping_of};
 ghost use Rattle.sn_pipe.specs.Stages.{is_new, is_over};
+ghost use Rattle.sn_chain.specs.Limits.{largest_register};
+ghost use Rattle.sn_windows.specs.Blocks.{most_records};
 
 use sn_base::any_fold::AnyFold;
 use sn_base::fold::Or;
@@ -58,8 +59,8 @@ pub(crate) fn distinct(
     requires some_depth { 1 ≤ depth }
     requires most_depth { depth ≤ 4 }
     requires some_slots { 1 ≤ slots }
-    requires most_slots { slots ≤ 65536 }
-    requires few { length rows.now ≤ most_rows }
+    requires most_slots { slots ≤ largest_register }
+    requires few { length rows.now ≤ most_records }
     ensures most { IfOk result (λ passed. passed.over ≤ length rows.now) }
     ensures over { IfOk result (λ passed. passed.over ≡ length (over_distinct depth slots rows.now)) }
     ensures rows { IfOk result (λ passed. passed.rows ≡ first_rows depth slots rows.now) }
@@ -85,7 +86,7 @@ pub(crate) fn distinct(
 pub(crate) fn offer_all(chain: &mut Chain<AnyFold>, rows: &[Row], r: &TReduce) -> u64
     requires fold { chain.old.fold ≡ r.now.fold }
     requires fits { ReduceFits r.now rows.now }
-    requires few { length rows.now ≤ most_rows }
+    requires few { length rows.now ≤ most_records }
     ensures most { result ≤ length rows.now }
     ensures over { result ≡ length (overs_of r.now chain.old rows.now) }
     ensures after { chain.new ≡ after_offers any_step chain.old (map (pair_of (grouping_of r.now)) rows.now) }

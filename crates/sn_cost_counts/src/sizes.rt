@@ -2,10 +2,11 @@
 ghost use Rattle.std.specs.Prelude.{◌≡◌, ◌*◌, ◌≤◌, ◌++◌, All, length, map, true, IfOk, OnOk};
 ghost use Rattle.std.specs.List.{flat_map};
 ghost use Rattle.sn_cost_counts.specs.Flows.{stepped};
-ghost use Rattle.sn_cost_counts.specs.Fitting.{most_rows};
 ghost use Rattle.sn_ops.specs.Flow.{Fits};
 ghost use Rattle.sn_types.specs.Cuts.{is_stateful};
 ghost use Rattle.sn_types.specs.Values.{op_at};
+ghost use Rattle.sn_chain.specs.Limits.{largest_register};
+ghost use Rattle.sn_windows.specs.Blocks.{most_records};
 
 use crate::flow::Flow;
 use crate::held::reduce;
@@ -20,10 +21,10 @@ fn behind(alloc: Global, op: &TOp, depth: u32, slots: u32, flow: &Flow) -> Resul
     requires some_depth { 1 ≤ depth }
     requires most_depth { depth ≤ 4 }
     requires some_slots { 1 ≤ slots }
-    requires most_slots { slots ≤ 65536 }
+    requires most_slots { slots ≤ largest_register }
     requires fits { Fits op.now flow.now.rows }
-    requires sent { flow.now.sent ≤ 12 * most_rows }
-    requires few { length flow.now.rows ≤ most_rows }
+    requires sent { flow.now.sent ≤ 12 * most_records }
+    requires few { length flow.now.rows ≤ most_records }
     ensures { IfOk result (λ next. next ≡ stepped depth slots (op_at 0 op.now) flow.now) }
 {
     match op {
@@ -61,10 +62,10 @@ fn add_sizes(
     requires stateful { is_stateful op.now ≡ true }
     requires some_depth { 1 ≤ depth }
     requires most_depth { depth ≤ 4 }
-    requires sizes { All (λ size. (1 ≤ size) × (size ≤ 65536)) slots.now }
+    requires sizes { All (λ size. (1 ≤ size) × (size ≤ largest_register)) slots.now }
     requires fits { Fits op.now flow.now.rows }
-    requires sent { flow.now.sent ≤ 12 * most_rows }
-    requires few { length flow.now.rows ≤ most_rows }
+    requires sent { flow.now.sent ≤ 12 * most_records }
+    requires few { length flow.now.rows ≤ most_records }
     ensures { OnOk result (out.new.items ≡ out.old.items ++ map (λ size. stepped depth size (op_at 0 op.now) flow.now) slots.now) }
 {
     for size in slots {
@@ -87,10 +88,10 @@ pub(crate) fn by_size(
     requires stateful { is_stateful op.now ≡ true }
     requires some_depth { 1 ≤ depth }
     requires most_depth { depth ≤ 4 }
-    requires sizes { All (λ size. (1 ≤ size) × (size ≤ 65536)) slots.now }
+    requires sizes { All (λ size. (1 ≤ size) × (size ≤ largest_register)) slots.now }
     requires fits { All (λ f. Fits op.now f.rows) flows.now }
-    requires sent { All (λ f. f.sent ≤ 12 * most_rows) flows.now }
-    requires few { All (λ f. length f.rows ≤ most_rows) flows.now }
+    requires sent { All (λ f. f.sent ≤ 12 * most_records) flows.now }
+    requires few { All (λ f. length f.rows ≤ most_records) flows.now }
     ensures { IfOk result (λ out. out.items ≡ flat_map (λ f. map (λ size. stepped depth size (op_at 0 op.now) f) slots.now) flows.now) }
 {
     let mut out = Vec::new(alloc);

@@ -3,6 +3,7 @@
 use Rattle.std.specs.Prelude.{◌≡◌, ◌≤◌, ◌<◌, List, length, take, true, All, nat_eq}
 use Rattle.std.specs.List.{list_any}
 use Rattle.sn_base.specs.declared.lane.Lane.{Lane}
+use Rattle.sn_chain.specs.Limits.{largest_register}
 use Rattle.sn_plan_fit.specs.Paths.{place_in}
 use Rattle.sn_pipe.specs.Pipes.{IsCoarser}
 use Rattle.sn_types.specs.declared.typed_query.TypedQuery.{TypedQuery}
@@ -25,7 +26,7 @@ pub record CanMake (queries : List TypedQuery) (x : Placed) : Type 0 where
   pub level : list_any (nat_eq x.piece.level) (query_at queries x.query).levels ≡ true
   pub before : IsCoarser (query_at queries x.query) (level_before x.path x.piece.level)
   pub cut : x.piece.cut ≤ (branch_at queries x.query x.piece.branch).max_cut
-  pub sizes : All (λ size. (1 ≤ size) × (size ≤ 65536)) x.piece.slots
+  pub sizes : All (λ size. (1 ≤ size) × (size ≤ largest_register)) x.piece.slots
   pub enough : stateful (take x.piece.cut (branch_at queries x.query x.piece.branch).ops) ≤ length x.piece.slots
   pub few : x.query ≤ 7
   pub short : place_in x.path x.piece.level ≤ 3

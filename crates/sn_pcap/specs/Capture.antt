@@ -73,6 +73,10 @@ pub record Accepts (file : List ℕ) (header : Header) : Type 0 where
 
 -- A record at an offset n: seconds 4 bytes, fraction 4, captured length 4, wire length 4, and the captured bytes.
 
+-- the most bytes that a record may have captured
+abbrev pub most_captured : ℕ
+most_captured = 262144
+
 -- the captured length
 abbrev pub captured : Header → List ℕ → ℕ → ℕ
 captured header file n = number_at header.big 4 file (n + 8)
@@ -91,7 +95,7 @@ HasHeader file n = n + 16 ≤ length file
 
 -- a record stands whole, with a lawful captured length
 pub record HasRecord (header : Header) (file : List ℕ) (n : ℕ) : Type 0 where
-  pub lawful : captured header file n ≤ 262144
+  pub lawful : captured header file n ≤ most_captured
   pub stands : n + 16 + captured header file n ≤ length file
 
 -- the records of a file from offset n on: their packets, and how they end
@@ -101,9 +105,9 @@ pub data Records (header : Header) (file : List ℕ) : ℕ → List Packet → E
   -- some bytes, but fewer than a record's header has
   short_header : (n : ℕ) → n < length file → length file < n + 16 → Records header file n [] (Cut n)
   -- a record's header with too large a captured length
-  too_large : (n : ℕ) → HasHeader file n → 262144 < captured header file n → Records header file n [] (Bad n)
+  too_large : (n : ℕ) → HasHeader file n → most_captured < captured header file n → Records header file n [] (Bad n)
   -- a record's header with a lawful captured length, but fewer bytes after it
-  short_packet : (n : ℕ) → HasHeader file n → captured header file n ≤ 262144 → length file < n + 16 + captured header file n → Records header file n [] (Cut n)
+  short_packet : (n : ℕ) → HasHeader file n → captured header file n ≤ most_captured → length file < n + 16 + captured header file n → Records header file n [] (Cut n)
   -- a whole record: its packet, and then the records after it
   whole : (n : ℕ) (packets : List Packet) (ending : Ending) → HasRecord header file n → Records header file (n + 16 + captured header file n) packets ending
       → Records header file n (packet_at header file n ∷ packets) ending
@@ -114,10 +118,10 @@ pub record HasRecords (header : Header) (file : List ℕ) (n : ℕ) : Type 0 whe
   pub ending : Ending
   pub are : Records header file n packets ending
 
--- a packet's bytes stand within the file, and are at most 262144
+-- a packet's bytes stand within the file, and are no more than a record may have
 pub record IsWithin (file : List ℕ) (packet : Packet) : Type 0 where
   pub stands : packet.at + packet.cap ≤ length file
-  pub most : packet.cap ≤ 262144
+  pub most : packet.cap ≤ most_captured
 
 -- the captured bytes of a packet
 abbrev pub bytes_of : List ℕ → Packet → List ℕ

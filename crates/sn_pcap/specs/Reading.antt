@@ -15,7 +15,7 @@ use Rattle.sn_pcap.specs.declared.seen.Next.{Next}
 use Rattle.sn_pcap.specs.declared.seen.Next.TheVariants as next
 use Rattle.sn_pcap.specs.declared.seen.Last.{Last}
 use Rattle.sn_pcap.specs.declared.seen.Last.TheVariants as last
-use Rattle.sn_pcap.specs.Capture.{Records, HasRecord, packet_at, captured, bytes_of}
+use Rattle.sn_pcap.specs.Capture.{Records, HasRecord, packet_at, captured, bytes_of, most_captured}
 
 -- the bytes of a capture that are read: its first 2^40
 abbrev pub within : List ℕ → List ℕ
@@ -127,7 +127,7 @@ Takes file (packet ∷ packets) last answer seen now = TakesPacket file packet p
 
 -- over any file: a lawful packet is given, and the offset is after its record, within the first 2^40 bytes
 pub record MovesOn (before : ReaderState) (seen : Seen) (now : ReaderState) : Type 0 where
-  pub lawful : seen.cap ≤ 262144
+  pub lawful : seen.cap ≤ most_captured
   pub len : seen.len ≡ min seen.cap 128
   pub offset : now.offset ≡ before.offset + 16 + seen.cap
   pub most : now.offset ≤ 2 ^ 40

@@ -6,7 +6,7 @@ use Rattle.sn_pcap.specs.declared.packet.Ending.{Ending}
 use Rattle.sn_pcap.specs.declared.packet.Ending.TheVariants.{Clean, Cut}
 use Rattle.sn_pcap.specs.declared.seen.Last.{Last}
 use Rattle.sn_pcap.specs.declared.seen.Seen.{Seen}
-use Rattle.sn_pcap.specs.Capture.{Records, HasRecord, packet_at}
+use Rattle.sn_pcap.specs.Capture.{Records, HasRecord, packet_at, most_captured}
 use Rattle.sn_pcap.specs.Reading.{within, last_of, IsSeen}
 
 -- how a file ends of which too few bytes stand from an offset on
@@ -31,6 +31,6 @@ pub record IsNextEnd (header : Header) (file : List ℕ) (n : ℕ) (last : Last)
 
 -- a packet is lawful, and its record ends within the most that are read
 pub record IsLawful (n : ℕ) (seen : Seen) : Type 0 where
-  pub lawful : seen.cap ≤ 262144
+  pub lawful : seen.cap ≤ most_captured
   pub len : seen.len ≡ min seen.cap 128
   pub most : n + 16 + seen.cap ≤ 2 ^ 40

@@ -22,12 +22,13 @@ pub struct Buffer {
 
 impl Model for Buffer {
     ghost use Rattle.std.specs.Prelude.{◌≡◌, ◌≤◌, ◌-◌, ℕ, List, length, take, drop};
+    ghost use Rattle.sn_pcap.specs.declared.buffer.TheConstants.{BUFFER_BYTES};
 
     ghost Value = { List ℕ };
 
     ghost view = { λ a. take (a.end - a.start) (drop a.start a.bytes.items) };
 
-    ghost invariant = { λ a. (length a.bytes.items ≡ 65536) × ((a.start ≤ a.end) × (a.end ≤ 65536)) };
+    ghost invariant = { λ a. (length a.bytes.items ≡ BUFFER_BYTES) × ((a.start ≤ a.end) × (a.end ≤ BUFFER_BYTES)) };
 }
 
 /// Moves the bytes of a range to the front.
@@ -73,20 +74,18 @@ impl Buffer {
     pub fn new(alloc: Global) -> Result<Buffer, Memory>
         ensures { IfOk result (λ buffer. buffer ≡ []) }
     {
-        match vec![in alloc; 0; BUFFER_BYTES] {
-            Ok(bytes) => Ok(Buffer {
-                bytes,
-                start: 0,
-                end: 0,
-            }),
-            Err(_) => Err(Memory),
-        }
+        let bytes = vec![in alloc; 0; BUFFER_BYTES]?;
+        Ok(Buffer {
+            bytes,
+            start: 0,
+            end: 0,
+        })
     }
 
     /// How many bytes are held.
     pub fn len(&self) -> usize
         ensures len { result ≡ length self.now }
-        ensures most { result ≤ 65536 }
+        ensures most { result ≤ BUFFER_BYTES }
     {
         self.end - self.start
     }
@@ -123,10 +122,10 @@ impl Buffer {
         name: &str,
         at: u64,
     ) -> Result<usize, InputFault>
-        requires { length self.old < 65536 }
+        requires { length self.old < BUFFER_BYTES }
         ensures kept { take (length self.old) self.new ≡ self.old }
         ensures more { IfOk result (λ n. length self.new ≡ length self.old + n) }
-        ensures most { length self.new ≤ 65536 }
+        ensures most { length self.new ≤ BUFFER_BYTES }
         ensures err { OnErr result (self.new ≡ self.old) }
         ensures bytes { IfOk result (λ n. IfSome (told_file (I.told files.old) name.now) (λ file. self.new ≡ self.old ++ take n (drop at file))) }
         ensures stand { IfOk result (λ n. IfSome (told_file (I.told files.old) name.now) (λ file. n ≤ length file - at)) }

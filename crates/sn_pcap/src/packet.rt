@@ -37,7 +37,7 @@ pub enum Ending {
     Clean,
     /// At this offset stand some bytes, but fewer than the record there needs.
     Cut(u64),
-    /// At this offset stands a record's header that states more than 262144 captured bytes.
+    /// At this offset stands a record's header that states more than [`MOST_CAPTURED`] bytes.
     Bad(u64),
 }
 

@@ -59,7 +59,7 @@ fn fill<I: Inputs>(
     offset: u64,
     want: usize,
 ) -> Result<(), InputFault>
-    requires room { want ≤ 65536 }
+    requires room { want ≤ BUFFER_BYTES }
     requires most { offset ≤ 2 ^ 40 }
     ensures kept { take (length buffer.old) buffer.new ≡ buffer.old }
     ensures holds { IfSome (told_file (I.told files.old) name.now) (λ file. HoldsAt file offset buffer.old → HoldsAt file offset buffer.new) }
@@ -140,9 +140,9 @@ fn stands<I: Inputs>(
     ensures holds { IfSome (told_file (I.told files.old) name.now) (λ file. HoldsAt file offset buffer.old → HoldsAt file offset buffer.new) }
     ensures count { IfOk result (λ count. IfSome (told_file (I.told files.old) name.now) (λ file. HoldsAt file offset buffer.old →
         count ≡ min want (length file - offset))) }
-    ensures held { IfOk result (λ count. min count 65536 ≤ length buffer.new) }
+    ensures held { IfOk result (λ count. min count BUFFER_BYTES ≤ length buffer.new) }
     ensures most { IfOk result (λ count. count ≤ want) }
-    ensures unknown { length buffer.old < min want 65536 → get (I.faults files.old) name.now ≡ None → IsErrOf result InputFault.Missing }
+    ensures unknown { length buffer.old < min want BUFFER_BYTES → get (I.faults files.old) name.now ≡ None → IsErrOf result InputFault.Missing }
     ensures told { I.told files.new ≡ I.told files.old }
     ensures faults { OnlyRises name.now (I.faults files.old) (I.faults files.new) }
     ensures missing { IsErrOf result InputFault.Missing → get (I.faults files.old) name.now ≡ None }
@@ -185,7 +185,7 @@ fn short<I: Inputs>(
         (λ last. IfSome (told_file (I.told files.old) name.now) (λ file. HoldsAt file offset buffer.old → IsShort file offset need last))) }
     ensures whole { IfOk result (λ short. short ≡ None →
         IfSome (told_file (I.told files.old) name.now) (λ file. HoldsAt file offset buffer.old → offset + need ≤ length (within file))) }
-    ensures held { IfOk result (λ short. short ≡ None → min need 65536 ≤ length buffer.new) }
+    ensures held { IfOk result (λ short. short ≡ None → min need BUFFER_BYTES ≤ length buffer.new) }
     ensures limit { IfOk result (λ short. short ≡ None → offset + need ≤ 2 ^ 40) }
     ensures unknown { length buffer.old ≡ 0 → get (I.faults files.old) name.now ≡ None → IsErrOf result InputFault.Missing }
     ensures told { I.told files.new ≡ I.told files.old }
@@ -217,7 +217,7 @@ fn short_when_read<I: Inputs>(
         (λ last. IfSome (told_file (I.told files.old) name.now) (λ file. HoldsAt file offset buffer.old → IsShort file offset need last))) }
     ensures whole { IfOk result (λ short. short ≡ None →
         IfSome (told_file (I.told files.old) name.now) (λ file. HoldsAt file offset buffer.old → offset + need ≤ length (within file))) }
-    ensures held { IfOk result (λ short. short ≡ None → min need 65536 ≤ length buffer.new) }
+    ensures held { IfOk result (λ short. short ≡ None → min need BUFFER_BYTES ≤ length buffer.new) }
     ensures limit { IfOk result (λ short. short ≡ None → offset + need ≤ 2 ^ 40) }
     ensures unknown { length buffer.old ≡ 0 → get (I.faults files.old) name.now ≡ None → IsErrOf result InputFault.Missing }
     ensures told { I.told files.new ≡ I.told files.old }

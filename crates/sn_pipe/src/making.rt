@@ -2,6 +2,7 @@
 ghost use Rattle.std.specs.Prelude.{◌≡◌, ◌≤◌, ◌<◌, [], ◌∷◌, All, IfOk, length, slice_index};
 ghost use Rattle.sn_types.specs.Cuts.{size_at, stateful};
 ghost use Rattle.sn_pipe.specs.Making.{AreStagesOf, IsStageOf};
+ghost use Rattle.sn_chain.specs.Limits.{largest_register};
 
 use crate::stage::Stage;
 use sn_base::fold::Or;
@@ -18,7 +19,7 @@ fn stage_of(alloc: Global, op: &TOp, depth: u32, slots: u32) -> Result<Stage, Me
     requires some_depth { 1 ≤ depth }
     requires most_depth { depth ≤ 4 }
     requires some_slots { 1 ≤ slots }
-    requires most_slots { slots ≤ 65536 }
+    requires most_slots { slots ≤ largest_register }
     ensures { IfOk result (λ s. IsStageOf op.now depth slots s) }
 {
     match op {
@@ -41,9 +42,9 @@ fn sizes_of(op: &TOp) -> usize
 
 /// The size at a place of the list, if it is that long.
 fn size_in(sizes: &[u32], place: usize) -> u32
-    requires { All (λ size. (1 ≤ size) × (size ≤ 65536)) sizes.now }
+    requires { All (λ size. (1 ≤ size) × (size ≤ largest_register)) sizes.now }
     ensures some { 1 ≤ result }
-    ensures most { result ≤ 65536 }
+    ensures most { result ≤ largest_register }
     ensures size { place < length sizes.now → result ≡ slice_index sizes.now place }
 {
     if place < sizes.len() { sizes[place] } else { 1 }
@@ -59,7 +60,7 @@ pub(crate) fn stages_of(
 ) -> Result<Seq<Stage>, Memory>
     requires some_depth { 1 ≤ depth }
     requires most_depth { depth ≤ 4 }
-    requires sizes { All (λ size. (1 ≤ size) × (size ≤ 65536)) sizes.now }
+    requires sizes { All (λ size. (1 ≤ size) × (size ≤ largest_register)) sizes.now }
     requires few { length ops.now ≤ 12 }
     requires enough { stateful ops.now ≤ length sizes.now }
     ensures { IfOk result (λ stages. AreStagesOf ops.now depth (size_at ops.now sizes.now) stages) }

@@ -8,6 +8,7 @@ ghost use Rattle.sn_pipe.specs.Pipes.{IsCoarser, IsNewPipe, after_tuple, is_let_
 ghost use Rattle.sn_pipe.specs.Prefixes.{left_in};
 ghost use Rattle.sn_pipe.specs.Stages.{cleared};
 ghost use Rattle.sn_types.specs.Typed.{branch_at, query_at};
+ghost use Rattle.sn_chain.specs.Limits.{largest_register};
 
 use crate::prefix::Prefix;
 use sn_base::members::Members;
@@ -95,7 +96,7 @@ impl Pipe {
         requires cut { cut ≤ (branch_at t.now.queries q b).max_cut }
         requires some_depth { 1 ≤ chain }
         requires most_depth { chain ≤ 4 }
-        requires sizes { All (λ size. (1 ≤ size) × (size ≤ 65536)) slots.now }
+        requires sizes { All (λ size. (1 ≤ size) × (size ≤ largest_register)) slots.now }
         requires enough { stateful (take cut (branch_at t.now.queries q b).ops) ≤ length slots.now }
         ensures { IfOk result (λ pipe. IsNewPipe (query_at t.now.queries q) b level coarser (take cut (branch_at t.now.queries q b).ops) chain slots.now pipe) }
     {

@@ -6,6 +6,7 @@ ghost use Rattle.sn_pipe.specs.Making.{AreStagesOf};
 ghost use Rattle.sn_pipe.specs.Passing.{CanBeRead, CanPass};
 ghost use Rattle.sn_pipe.specs.Prefixes.{left_in};
 ghost use Rattle.sn_pipe.specs.Stages.{cleared, item_from, stages_after};
+ghost use Rattle.sn_chain.specs.Limits.{largest_register};
 
 use crate::making::stages_of;
 use crate::reading::next_item;
@@ -53,7 +54,7 @@ impl Prefix {
     ) -> Result<Prefix, Memory>
         requires some_depth { 1 ≤ depth }
         requires most_depth { depth ≤ 4 }
-        requires sizes { All (λ size. (1 ≤ size) × (size ≤ 65536)) sizes.now }
+        requires sizes { All (λ size. (1 ≤ size) × (size ≤ largest_register)) sizes.now }
         requires few { length ops.now ≤ 12 }
         requires enough { stateful ops.now ≤ length sizes.now }
         requires can { CanBeRead ops.now }

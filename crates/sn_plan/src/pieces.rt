@@ -12,6 +12,7 @@ use crate::lists::{full_at, numbers, small_number};
 use crate::plan::Piece;
 use crate::short::Short;
 use sn_base::seq::Seq;
+use sn_chain::chain::LARGEST_REGISTER;
 use sn_text::list::{Items, further};
 use sn_text::place::Lexer;
 use sn_text::stop::Stop;
@@ -25,7 +26,7 @@ fn both<'a>(alloc: Global, at: Lexer<'a>) -> Result<((Short, Short), Lexer<'a>),
     ensures { Reads result (both_rule.read kept (left at.entry)) }
 {
     let rest = word(at, b"slots")?;
-    let (slots, rest) = numbers(alloc, 2, 1, 65536, rest)?;
+    let (slots, rest) = numbers(alloc, 2, 1, LARGEST_REGISTER, rest)?;
     let rest = word(rest, b"stages")?;
     let (stages, rest) = numbers(alloc, 8, 0, 31, rest)?;
     Ok(((slots, stages), rest))

@@ -7,6 +7,7 @@ use Rattle.sn_text_rules.specs.declared.symbols.TheConstants.{SEMICOLON, COMMA}
 use Rattle.sn_text_rules.specs.Tokens.{Lexeme, word, finish}
 use Rattle.sn_text_rules.specs.Rules.{Rule, pair, embedded, renamed, maybe, many, series}
 use Rattle.sn_text_rules.specs.Words.{same, is_word, is_symbol, leaf, word_by, keyword, sign, number_in, full, ◌▸◌, ◌◂◌}
+use Rattle.sn_chain.specs.Limits.{largest_register}
 use Rattle.sn_plan_grammar.specs.declared.plan.Plan.{Plan}
 use Rattle.sn_plan_grammar.specs.declared.plan.Entry.{Entry}
 use Rattle.sn_plan_grammar.specs.declared.plan.Piece.{Piece}
@@ -45,7 +46,7 @@ from_sizes x = with_sizes x.0 x.1
 
 -- "slots" NUM { "," NUM } "stages" NUM { "," NUM }
 unfoldable pub both_rule : Rule Sizes
-both_rule = keyword (codes "slots") ▸ pair (numbers 2 1 65536) (keyword (codes "stages") ▸ numbers 8 0 31)
+both_rule = keyword (codes "slots") ▸ pair (numbers 2 1 largest_register) (keyword (codes "stages") ▸ numbers 8 0 31)
 
 -- [ "slots" NUM { "," NUM } "stages" NUM { "," NUM } ]
 unfoldable pub sizes_rule : Rule Sizes

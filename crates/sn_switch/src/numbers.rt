@@ -9,6 +9,7 @@ ghost use Rattle.sn_switch_grammar.specs.Grammar.{within, one_number, below, siz
 ghost use Rattle.sn_switch_grammar.proofs.Goods.{size_listed};
 
 use sn_base::seq::Seq;
+use sn_chain::chain::LARGEST_REGISTER;
 use sn_switch_grammar::item::Setting;
 use sn_text::commas::{Commas, list};
 use sn_text::place::{Lexer, Piece};
@@ -69,7 +70,7 @@ fn size_of(piece: Piece<'_>, taken: &[u64]) -> Result<u64, Flaw>
 {
     match piece {
         Piece::Number(number) => {
-            if number >= 1 && number <= 65536 && is_above(number, taken) {
+            if number >= 1 && number <= LARGEST_REGISTER && is_above(number, taken) {
                 Ok(number)
             } else {
                 Err(Flaw::Range)

@@ -15,6 +15,6 @@ pub struct Switch {
     pub meta: u32,
     /// Registers in the chain of a stateful operator, 1 to 4.
     pub chain: u32,
-    /// The sizes that a register may have, in slots: one to four, rising, each 1 to 65536.
+    /// The sizes that a register may have, in slots: one to four, rising, each 1 to [`sn_chain::chain::LARGEST_REGISTER`].
     pub slots: Seq<u32>,
 }

@@ -10,6 +10,7 @@ ghost use Rattle.sn_switch_grammar.specs.Wholes.{numbers_in, first_of, IsIn};
 ghost use Rattle.sn_switch.specs.declared.switch.Switch.{Switch};
 ghost use Rattle.sn_switch.specs.Texts.{IsSwitch, switch_in, StandsFor, IsFault, IsValue, fault_of, Answers};
 ghost use Rattle.sn_text_rules.specs.Tokens.{first_line};
+ghost use Rattle.sn_chain.specs.Limits.{largest_register};
 
 use crate::fault::SwitchFault;
 use crate::read::read;
@@ -52,7 +53,7 @@ fn number_in(items: &[Item], setting: Setting) -> u64
 }
 
 fn sizes_in(alloc: Global, numbers: &[u64]) -> Result<Seq<u32>, Memory>
-    requires { All (λ n. IsIn 1 65536 n) numbers.now }
+    requires { All (λ n. IsIn 1 largest_register n) numbers.now }
     ensures { IfOk result (λ sizes. sizes ≡ numbers.now) }
 {
     let mut sizes = Seq::new(alloc);

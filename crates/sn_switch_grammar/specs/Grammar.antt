@@ -8,6 +8,7 @@ use Rattle.sn_text_rules.specs.declared.symbols.TheConstants.{SEMICOLON}
 use Rattle.sn_text_rules.specs.Tokens.{Lexeme, number, finish}
 use Rattle.sn_text_rules.specs.Rules.{Rule, anything, pair_on, embedded, renamed, many}
 use Rattle.sn_text_rules.specs.Words.{wrong, leaf, number_by, sign, first, with_second, never, commas, ◌◂◌}
+use Rattle.sn_chain.specs.Limits.{largest_register}
 use Rattle.sn_switch_grammar.specs.declared.item.Setting.{Setting}
 use Rattle.sn_switch_grammar.specs.declared.item.Setting.TheVariants as settings
 use Rattle.sn_switch_grammar.specs.declared.item.Item.{Item}
@@ -42,9 +43,9 @@ one_number low high = embedded alone lone (number_by (within low high))
 abbrev pub below : ℕ → ℕ → Bool
 below n m = nat_lt m n
 
--- a size is 1 to 65536 and above those before it
+-- a size is what a register may have, and above those before it
 abbrev pub size_test : List ℕ → ℕ → Option Flaw
-size_test seen n = if nat_le 1 n && nat_le n 65536 && list_all (below n) seen then None else Some Range
+size_test seen n = if nat_le 1 n && nat_le n largest_register && list_all (below n) seen then None else Some Range
 
 -- what stands where a fifth size would begin
 abbrev pub past_size : Lexeme → Flaw

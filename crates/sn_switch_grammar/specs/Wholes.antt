@@ -3,6 +3,7 @@
 use Rattle.std.specs.Prelude.{ℕ, ◌≤◌, List, [], ◌∷◌, length, Option, Some, None}
 use Rattle.std.specs.List.{AllByRecursion, find}
 use Rattle.sn_base.specs.Rising.{IsRising}
+use Rattle.sn_chain.specs.Limits.{largest_register}
 use Rattle.sn_switch_grammar.specs.declared.item.Setting.{Setting}
 use Rattle.sn_switch_grammar.specs.declared.item.Item.{Item}
 use Rattle.sn_switch_grammar.specs.Settings.{sets}
@@ -22,9 +23,9 @@ first_of (n ∷ ns) = n
 abbrev pub IsIn : ℕ → ℕ → ℕ → Type 0
 IsIn low high n = (low ≤ n) × (n ≤ high)
 
--- one to four sizes of 1 to 65536, strictly rising
+-- one to four sizes that a register may have, strictly rising
 pub record IsSizes (ns : List ℕ) : Type 0 where
   pub some : 1 ≤ length ns
   pub most : length ns ≤ 4
-  pub range : AllByRecursion (λ n. IsIn 1 65536 n) ns
+  pub range : AllByRecursion (λ n. IsIn 1 largest_register n) ns
   pub rising : IsRising ns

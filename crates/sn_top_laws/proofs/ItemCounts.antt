@@ -14,10 +14,11 @@ use Rattle.sn_report.specs.declared.frame.Item.{Item}
 use Rattle.sn_report.specs.declared.frame.Tag.{Tag}
 use Rattle.sn_report.specs.declared.frame.Tag.TheVariants.{At, Partial}
 use Rattle.sn_base.proofs.Lists.{filter_short}
+use Rattle.sn_windows.specs.Blocks.{most_records}
 
 -- the most rows of a window
 abbrev pub most : ℕ
-most = 4194304
+most = most_records
 
 -- ---- lists that don't grow
 

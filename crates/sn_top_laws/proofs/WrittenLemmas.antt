@@ -69,7 +69,6 @@ use Rattle.sn_types.specs.declared.typed_query.TypedQuery.{TypedQuery}
 use Rattle.sn_types_read.specs.Texts as query_texts
 use Rattle.sn_types_read.specs.Texts.{Queries}
 use Rattle.sn_query_grammar.specs.Limits.{Within}
-use Rattle.sn_windows.specs.Blocks.{most_records}
 use Rattle.sn_refine_laws.specs.Counts.{KeepsCounts, KeepsQueryCounts}
 use Rattle.sn_top_laws.specs.Written.{IsKeptBeside, IsPlanTree, PrintsTotal, SaysYes, SendsCost, yes_of}
 use Rattle.sn_top_laws.proofs.CostBounds.{HaveFewOps, lower_small, trained_few, tree_small}
@@ -79,6 +78,7 @@ use Rattle.sn_top_laws.proofs.ItemCounts.{most}
 use Rattle.sn_top_laws.proofs.PlanFits.{AreEntries, plan_fine, plan_in_grammar}
 use Rattle.sn_top_laws.proofs.PlanTexts.{read_back}
 use Rattle.sn_top_laws.proofs.QueryNames.{read_levels}
+use Rattle.sn_windows.specs.Blocks.{most_records}
 
 -- ---- a stage that gave a value
 
@@ -363,8 +363,8 @@ module _ (show : Shows) (switch queries train written : List ℕ) (nodes : ℕ) 
   abbrev along : Planned
   along = planned k.read k.limits c.plan
 
-  each_few : AllByRecursion (λ (w : Window). length w.1 ≤ 4194304) capture.windows
-  each_few = subst (λ (ws : List Window). AllByRecursion (λ (w : Window). length w.1 ≤ 4194304) ws) capture.trained (trained_few k.training.numbers k.training.tuples tuples_few)
+  each_few : AllByRecursion (λ (w : Window). length w.1 ≤ most_records) capture.windows
+  each_few = subst (λ (ws : List Window). AllByRecursion (λ (w : Window). length w.1 ≤ most_records) ws) capture.trained (trained_few k.training.numbers k.training.tuples tuples_few)
 
   abbrev pub due : Outcome (Unit {0})
   due = record { text = flat_map (λ (w : Window). plan_block along capture.windows w.0 w.1) capture.windows ++ plan_lines along capture.windows capture.ending; end = refusing (ending_verdict capture.ending) }

@@ -1,6 +1,7 @@
 //! Windows of records, numbered by time.
 ghost use Rattle.std.specs.Prelude.{◌≡◌, ◌+◌, ◌*◌, ◌↔◌, ◌≤◌, ◌<◌, IfOk, OnOk, OnErr, IsErr};
 ghost use Rattle.std.specs.Option.{ForNone, ForSome};
+ghost use Rattle.sn_windows.specs.Blocks.{most_records};
 
 /// A window with too many records.
 #[derive(Clone, Copy, Debug, PartialEq, Eq)]
@@ -19,7 +20,7 @@ pub struct Windows {
     /// A record before this time, in nanoseconds, is in the current window. 0 before any record.
     pub(crate) end: u64,
     ghost some: { 1 ≤ window_ns },
-    ghost few: { count ≤ 4194304 },
+    ghost few: { count ≤ most_records },
     ghost unbegun: { ForNone first (end ≡ 0) },
     ghost at_hand: { ForSome first (λ time. end ≤ time + (number + 1) * window_ns) },
 }
@@ -71,11 +72,11 @@ impl Windows {
     }
 
     /// The number of the window of the next record: the greatest over it and all records before it.
-    /// `TooMany` exactly at record 4194305 of one window.
+    /// `TooMany` exactly where that window has [`MOST_RECORDS`] records without this one.
     pub fn next_number(&mut self, time: u64) -> Result<u64, TooMany>
         ensures number { IfOk result (λ n. n ≡ next_number (numbering self.old) time) }
         ensures after { OnOk result (numbering self.new ≡ stepped (numbering self.old) time) }
-        ensures too_many { IsErr result ↔ (4194304 ≤ next_count (numbering self.old) time) }
+        ensures too_many { IsErr result ↔ (most_records ≤ next_count (numbering self.old) time) }
         ensures unchanged { OnErr result (numbering self.new ≡ numbering self.old) }
     {
         if time < self.end {
@@ -100,7 +101,7 @@ impl Windows {
     fn count_one(&mut self) -> Result<u64, TooMany>
         ensures number { IfOk result (λ n. n ≡ self.old.number) }
         ensures after { OnOk result (numbering self.new ≡ record (numbering self.old) { count = self.old.count + 1 }) }
-        ensures too_many { IsErr result ↔ (4194304 ≤ self.old.count) }
+        ensures too_many { IsErr result ↔ (most_records ≤ self.old.count) }
         ensures unchanged { OnErr result (numbering self.new ≡ numbering self.old) }
     {
         if self.count >= MOST_RECORDS {

@@ -7,7 +7,7 @@ use Rattle.sn_types.specs.declared.typed_op.TOp.{TOp}
 use Rattle.sn_types.specs.declared.typed_query.TypedBranch.{TypedBranch}
 use Rattle.sn_types.specs.Typed.{branch_at}
 use Rattle.sn_types.proofs.Facts.{few_ops}
-use Rattle.sn_cost_counts.specs.Fitting.{Takes, most_rows}
+use Rattle.sn_cost_counts.specs.Fitting.{Takes}
 use Rattle.sn_cost_counts.specs.Flows.{counts_from, starting}
 use Rattle.sn_cost_counts.proofs.Branching.{all_counts, branch_takes, counts_small, started}
 use Rattle.sn_cost_counts.proofs.Going.{if_ok}
@@ -15,6 +15,7 @@ use Rattle.sn_pipe.proofs.Fronts.{cut_within}
 use Rattle.sn_pipe.proofs.Takes.{fit_front}
 use Rattle.sn_engine_split.proofs.Typed.{cut_of}
 use Rattle.sn_cost_counts.proofs.branch.counts_of.Goals as goal
+use Rattle.sn_windows.specs.Blocks.{most_records}
 
 pub split_at-requires : goal.split_at-requires
 split_at-requires c =
@@ -64,6 +65,6 @@ returns-clause-small c =
     let takes = branch_takes t.window_us t.queries a.q a.b a.level c.max_cut.result a.rows t.typed c.requires.query c.requires.branch c.requires.columns in
     let fits = fit_front a.level c.max_cut.result branch.ops [] (branch_fit t.window_us t.queries a.q a.b a.level [] t.typed c.requires.query c.requires.branch tt) in
     if_ok c.counts_along.result (λ (counts : List ℕ). counts ≡ counts_from a.chain a.level a.slots.now c.split_at.result.0.now (starting a.rows ∷ [])) _
-    (λ counts is. subst (AllByRecursion (λ n. n ≤ 13 * most_rows)) (sym (is ∙ ap (λ (xs : List TOp). counts_from a.chain a.level a.slots.now xs (starting a.rows ∷ [])) front))
+    (λ counts is. subst (AllByRecursion (λ n. n ≤ 13 * most_records)) (sym (is ∙ ap (λ (xs : List TOp). counts_from a.chain a.level a.slots.now xs (starting a.rows ∷ [])) front))
     (counts_small a.chain a.level a.slots.now os 0 (starting a.rows ∷ []) few (started a.level os a.rows c.requires.few takes fits)))
     c.counts_along.ensures.counts
