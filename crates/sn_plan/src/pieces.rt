@@ -26,7 +26,7 @@ fn both<'a>(alloc: Global, at: Lexer<'a>) -> Result<((Short, Short), Lexer<'a>),
     ensures { Reads result (both_rule.read kept (left at.entry)) }
 {
     let rest = word(at, b"slots")?;
-    let (slots, rest) = numbers(alloc, 2, 1, LARGEST_REGISTER, rest)?;
+    let (slots, rest) = numbers(alloc, 2, 1, LARGEST_REGISTER as u32, rest)?;
     let rest = word(rest, b"stages")?;
     let (stages, rest) = numbers(alloc, 8, 0, 31, rest)?;
     Ok(((slots, stages), rest))
