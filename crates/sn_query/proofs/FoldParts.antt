@@ -112,3 +112,9 @@ reduce_is ts us vs ws keys e f g = rw (e, f, g) (nested_is keys ((fold_rule keys
 
 pub reduce_reads : (ts us vs ws : List Tok) (keys : List Name) (r : Result (Reduce × Lexer) Stop) → reduce_word.read kept ts ≡ got tt us → keys_rule.read kept us ≡ got keys vs → (sign 7).read kept vs ≡ got tt ws → Reads r (fold_read keys ws) → Reads r (reduce_rule.read kept ts)
 reduce_reads ts us vs ws keys r e f g h = subst (Reads r) (sym (reduce_is ts us vs ws keys e f g)) h
+
+-- ---- the cases of the functions that read a fold
+
+pub ruleset fold_cases = (sum_value, sum_no_word, sum_no_column, sum_no_width, sum_no_number, other_value, other_no_word, other_no_column)
+
+pub ruleset reduce_cases = (reduce_no_word, reduce_no_keys, reduce_no_colon, reduce_reads)

@@ -425,3 +425,26 @@ fold_sum keys ts h = ap (λ r. bind r (λ x us. got (fold_to keys x) us)) (picke
 pub fold_other : (keys : List Name) (ts : List Tok) → Peeked false (is_word (codes "sum")) ts → fold_read keys ts ≡ bind ((others_rule keys).read kept ts) (λ x us. got (to_other keys x) us)
 unfolding fold_rule
 fold_other keys ts h = ap (λ r. bind r (λ x us. got (fold_to keys x) us)) (passed_over W ((sum_rule keys).read kept) ((others_rule keys).read kept) ts h) ∙ then_part ((others_rule keys).read kept ts) rights (fold_to keys)
+
+-- ---- the cases of each function that reads one of several
+
+pub ruleset expr_cases = (expr_number_value, expr_number_halt, expr_no_name, expr_mask_value, expr_mask_halt, expr_shift_value, expr_shift_halt, expr_copy)
+
+pub ruleset post_expr_cases = (
+  post_expr_number_value,
+  post_expr_number_halt,
+  post_expr_no_name,
+  post_expr_mask_value,
+  post_expr_mask_halt,
+  post_expr_shift_value,
+  post_expr_shift_halt,
+  post_expr_sum_value,
+  post_expr_sum_halt,
+  post_expr_ratio_value,
+  post_expr_ratio_halt,
+  post_expr_copy,
+)
+
+pub ruleset what_cases = (what_filter_value, what_filter_halt, what_map_value, what_map_halt, what_distinct_value, what_distinct_halt, what_reduce_value, what_reduce_halt)
+
+pub ruleset post_what_cases = (post_filter_value, post_filter_halt, post_map_value, post_map_halt)

@@ -73,7 +73,7 @@ fn column<'a>(at: Lexer<'a>, keys: &[Name]) -> Result<(Name, Lexer<'a>), Stop<'a
     Ok((value, rest))
 }
 
-#[tactic(auto, using(crate::proofs::FoldParts::sum_value, crate::proofs::FoldParts::sum_no_word, crate::proofs::FoldParts::sum_no_column, crate::proofs::FoldParts::sum_no_width, crate::proofs::FoldParts::sum_no_number, crate::proofs::FoldParts::other_value, crate::proofs::FoldParts::other_no_word, crate::proofs::FoldParts::other_no_column))]
+#[tactic(auto, using(crate::proofs::FoldParts::fold_cases))]
 fn fold<'a>(keys: Seq<Name>, at: Lexer<'a>) -> Result<(Reduce, Lexer<'a>), Stop<'a>>
     ensures { Reads result (fold_read keys (left at.entry)) }
 {
@@ -114,7 +114,7 @@ fn fold<'a>(keys: Seq<Name>, at: Lexer<'a>) -> Result<(Reduce, Lexer<'a>), Stop<
 }
 
 /// A fold over the rows with equal keys, and the place after it.
-#[tactic(auto, using(crate::proofs::FoldParts::reduce_no_word, crate::proofs::FoldParts::reduce_no_keys, crate::proofs::FoldParts::reduce_no_colon, crate::proofs::FoldParts::reduce_reads))]
+#[tactic(auto, using(crate::proofs::FoldParts::reduce_cases))]
 pub(crate) fn reduce<'a>(alloc: Global, at: Lexer<'a>) -> Result<(Reduce, Lexer<'a>), Stop<'a>>
     ensures { Reads result (reduce_rule.read kept (left at.entry)) }
 {

@@ -1,4 +1,6 @@
-//! Maps and their columns.
+//! Maps and their columns, before a join and after it. Each function reads a part of the text by the production above it, and
+//! gives what it has read with the place after it. Where that holds a name, a `match` hands a stop on: the borrow rules of
+//! contracts have no form for the question mark there.
 ghost use Rattle.std.specs.Prelude.{◌≡◌, List};
 ghost use Rattle.sn_text_rules.specs.declared.Flaw.{Flaw};
 ghost use Rattle.sn_text_rules.specs.Rules.{kept};
@@ -20,6 +22,7 @@ use sn_text_rules::Flaw;
 use sn_text_rules::symbols::{AND, OVER, PLUS, SHIFT, TIMES};
 use std::alloc::Global;
 
+/// `"&" NUM`: the bits that are kept of a column.
 fn mask<'a>(at: Lexer<'a>) -> Result<(u64, Lexer<'a>), Stop<'a>>
     ensures { Reads result (mask_rule.read kept (left at.entry)) }
 {
@@ -28,6 +31,7 @@ fn mask<'a>(at: Lexer<'a>) -> Result<(u64, Lexer<'a>), Stop<'a>>
     Ok((number, rest))
 }
 
+/// `">>" NUM`: by how many bits a column is shifted.
 fn shift<'a>(at: Lexer<'a>) -> Result<(u32, Lexer<'a>), Stop<'a>>
     ensures { Reads result (shift_rule.read kept (left at.entry)) }
 {
@@ -36,6 +40,7 @@ fn shift<'a>(at: Lexer<'a>) -> Result<(u32, Lexer<'a>), Stop<'a>>
     Ok((bits as u32, rest))
 }
 
+/// `"+" NAME`: the column that is added.
 fn plus<'a>(at: Lexer<'a>) -> Result<(Name, Lexer<'a>), Stop<'a>>
     ensures { Reads result (plus_rule.read kept (left at.entry)) }
 {
@@ -47,6 +52,7 @@ fn plus<'a>(at: Lexer<'a>) -> Result<(Name, Lexer<'a>), Stop<'a>>
     Ok((name, rest))
 }
 
+/// `"*" NUM "/" NAME`: the factor, and the column that divides.
 fn ratio<'a>(at: Lexer<'a>) -> Result<((u64, Name), Lexer<'a>), Stop<'a>>
     ensures { Reads result (ratio_rule.read kept (left at.entry)) }
 {
@@ -60,8 +66,8 @@ fn ratio<'a>(at: Lexer<'a>) -> Result<((u64, Name), Lexer<'a>), Stop<'a>>
     Ok(((factor, name), rest))
 }
 
-/// What a column holds before a join.
-#[tactic(auto, using(crate::proofs::Picks::expr_number_value, crate::proofs::Picks::expr_number_halt, crate::proofs::Picks::expr_no_name, crate::proofs::Picks::expr_mask_value, crate::proofs::Picks::expr_mask_halt, crate::proofs::Picks::expr_shift_value, crate::proofs::Picks::expr_shift_halt, crate::proofs::Picks::expr_copy))]
+/// `NUM | NAME [ "&" NUM | ">>" NUM ]`: what a column holds before a join.
+#[tactic(auto, using(crate::proofs::Picks::expr_cases))]
 fn expr<'a>(at: Lexer<'a>) -> Result<(Expr, Lexer<'a>), Stop<'a>>
     ensures { Reads result (expr_rule.read kept (left at.entry)) }
 {
@@ -84,8 +90,8 @@ fn expr<'a>(at: Lexer<'a>) -> Result<(Expr, Lexer<'a>), Stop<'a>>
     Ok((Expr::Copy(name), rest))
 }
 
-/// What a column holds after a join.
-#[tactic(auto, using(crate::proofs::Picks::post_expr_number_value, crate::proofs::Picks::post_expr_number_halt, crate::proofs::Picks::post_expr_no_name, crate::proofs::Picks::post_expr_mask_value, crate::proofs::Picks::post_expr_mask_halt, crate::proofs::Picks::post_expr_shift_value, crate::proofs::Picks::post_expr_shift_halt, crate::proofs::Picks::post_expr_sum_value, crate::proofs::Picks::post_expr_sum_halt, crate::proofs::Picks::post_expr_ratio_value, crate::proofs::Picks::post_expr_ratio_halt, crate::proofs::Picks::post_expr_copy))]
+/// `NUM | NAME [ "&" NUM | ">>" NUM | "+" NAME | "*" NUM "/" NAME ]`: what a column holds after a join.
+#[tactic(auto, using(crate::proofs::Picks::post_expr_cases))]
 fn post_expr<'a>(at: Lexer<'a>) -> Result<(Expr, Lexer<'a>), Stop<'a>>
     ensures { Reads result (post_expr_rule.read kept (left at.entry)) }
 {
@@ -122,6 +128,7 @@ fn post_expr<'a>(at: Lexer<'a>) -> Result<(Expr, Lexer<'a>), Stop<'a>>
     Ok((Expr::Copy(name), rest))
 }
 
+/// What a column holds before a join, `"as"`, and its name, which none of the taken columns has.
 #[tactic(auto, unfolding(sn_query_grammar::specs::Grammar::col_rule))]
 fn col<'a>(taken: &[MapCol], at: Lexer<'a>) -> Result<(MapCol, Lexer<'a>), Stop<'a>>
     ensures { Reads result ((col_rule (col_names taken.now)).read kept (left at.entry)) }
@@ -138,6 +145,7 @@ fn col<'a>(taken: &[MapCol], at: Lexer<'a>) -> Result<(MapCol, Lexer<'a>), Stop<
     Ok((MapCol { expr, name }, rest))
 }
 
+/// What a column holds after a join, `"as"`, and its name, which none of the taken columns has.
 #[tactic(auto, unfolding(sn_query_grammar::specs::Grammar::post_col_rule))]
 fn post_col<'a>(taken: &[MapCol], at: Lexer<'a>) -> Result<(MapCol, Lexer<'a>), Stop<'a>>
     ensures { Reads result ((post_col_rule (col_names taken.now)).read kept (left at.entry)) }
@@ -154,6 +162,9 @@ fn post_col<'a>(taken: &[MapCol], at: Lexer<'a>) -> Result<(MapCol, Lexer<'a>), 
     Ok((MapCol { expr, name }, rest))
 }
 
+/// The most columns of a map.
+const MOST_COLUMNS: usize = 8;
+
 /// The columns of a map before a join.
 struct ColItems;
 
@@ -169,7 +180,7 @@ impl Commas for ColItems {
     ghost laws = { col_listed };
 
     fn is_full(count: usize) -> bool {
-        is_full_at(count, 8)
+        is_full_at(count, MOST_COLUMNS)
     }
 
     fn past(piece: Piece<'_>) -> Flaw {
@@ -200,7 +211,7 @@ impl Commas for PostColItems {
     ghost laws = { post_col_listed };
 
     fn is_full(count: usize) -> bool {
-        is_full_at(count, 8)
+        is_full_at(count, MOST_COLUMNS)
     }
 
     fn past(piece: Piece<'_>) -> Flaw {
@@ -216,7 +227,7 @@ impl Commas for PostColItems {
     }
 }
 
-/// A map before a join, and the place after it.
+/// `"map" col { "," col }`, before a join.
 #[tactic(auto, unfolding(sn_query_grammar::specs::Grammar::map_rule))]
 pub(crate) fn map<'a>(alloc: Global, at: Lexer<'a>) -> Result<(Seq<MapCol>, Lexer<'a>), Stop<'a>>
     ensures { Reads result (map_rule.read kept (left at.entry)) }
@@ -226,7 +237,7 @@ pub(crate) fn map<'a>(alloc: Global, at: Lexer<'a>) -> Result<(Seq<MapCol>, Lexe
     Ok((cols, rest))
 }
 
-/// A map after a join, and the place after it.
+/// `"map" col { "," col }`, after a join.
 #[tactic(auto, unfolding(sn_query_grammar::specs::Grammar::post_map_rule))]
 pub(crate) fn post_map<'a>(
     alloc: Global,

@@ -25,7 +25,7 @@ use sn_text_rules::Flaw;
 use sn_text_rules::symbols::BAR;
 use std::alloc::Global;
 
-#[tactic(auto, using(crate::proofs::Picks::what_filter_value, crate::proofs::Picks::what_filter_halt, crate::proofs::Picks::what_map_value, crate::proofs::Picks::what_map_halt, crate::proofs::Picks::what_distinct_value, crate::proofs::Picks::what_distinct_halt, crate::proofs::Picks::what_reduce_value, crate::proofs::Picks::what_reduce_halt))]
+#[tactic(auto, using(crate::proofs::Picks::what_cases))]
 fn what<'a>(alloc: Global, at: Lexer<'a>) -> Result<(What, Lexer<'a>), Stop<'a>>
     ensures { Reads result (what_rule.read kept (left at.entry)) }
 {
@@ -100,7 +100,7 @@ pub(crate) fn ops<'a>(alloc: Global, at: Lexer<'a>) -> Result<(Seq<Op>, Lexer<'a
     further(alloc, &OpItems, items, rest)
 }
 
-#[tactic(auto, using(crate::proofs::Picks::post_filter_value, crate::proofs::Picks::post_filter_halt, crate::proofs::Picks::post_map_value, crate::proofs::Picks::post_map_halt))]
+#[tactic(auto, using(crate::proofs::Picks::post_what_cases))]
 fn post_what<'a>(alloc: Global, at: Lexer<'a>) -> Result<(What, Lexer<'a>), Stop<'a>>
     ensures { Reads result (post_what_rule.read kept (left at.entry)) }
 {

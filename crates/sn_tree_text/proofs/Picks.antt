@@ -128,3 +128,6 @@ chosen_value ts a vs h0 h1 h2 e = (chosen ts h0 h1 h2).value a vs e
 
 pub chosen_halt : (ts : List Tok) (x : Stop) → Peeked false (is_word (codes "X")) ts → Peeked false (is_word (codes "E")) ts → Peeked false (is_word (codes "B")) ts → Halts x ((keyword (codes "P") ▸ any_number).read kept ts) → Halts x (node_rule.read kept ts)
 chosen_halt ts x h0 h1 h2 e = (chosen ts h0 h1 h2).halt x e
+
+-- the cases of a node
+pub ruleset node_cases = (broken_value, broken_halt, expand_value, expand_halt, bound_value, bound_halt, chosen_value, chosen_halt)

@@ -28,7 +28,7 @@ fn lettered<'a>(at: Lexer<'a>, letter: &[u8]) -> Result<(u64, Lexer<'a>), Stop<'
     Ok((number, rest))
 }
 
-#[tactic(auto, using(crate::proofs::Picks::broken_value, crate::proofs::Picks::broken_halt, crate::proofs::Picks::expand_value, crate::proofs::Picks::expand_halt, crate::proofs::Picks::bound_value, crate::proofs::Picks::bound_halt, crate::proofs::Picks::chosen_value, crate::proofs::Picks::chosen_halt))]
+#[tactic(auto, using(crate::proofs::Picks::node_cases))]
 fn node<'a>(at: Lexer<'a>) -> Result<(Node, Lexer<'a>), Stop<'a>>
     ensures { Reads result (node_rule.read kept (left at.entry)) }
 {
