@@ -59,13 +59,9 @@ impl Cells {
             value,
             front: [0; 3],
         };
-        let Ok(heads) = Vec::from_elem(alloc, head, count) else {
-            return Err(Memory);
-        };
-        match Vec::from_elem(alloc, [0; 5], count) {
-            Ok(tails) => Ok(Cells { heads, tails }),
-            Err(_) => Err(Memory),
-        }
+        let heads = Vec::from_elem(alloc, head, count)?;
+        let tails = Vec::from_elem(alloc, [0; 5], count)?;
+        Ok(Cells { heads, tails })
     }
 
     /// Whether a cell holds a key in a round. The columns are compared where they lie.

@@ -74,8 +74,6 @@ pub fn sorted_value(
     ensures columns { IfOk result (λ rows. AllByRecursion (IsOf (final_columns (query_at t.now.queries q))) rows) }
 {
     let mut rows = query_value(alloc, t, q, level, left, right)?.into_vec();
-    match rows.sort() {
-        Ok(()) => Ok(Seq::from_vec(rows)),
-        Err(_) => Err(Memory),
-    }
+    rows.sort()?;
+    Ok(Seq::from_vec(rows))
 }

@@ -49,10 +49,8 @@ pub fn sorted(rows: Seq<Row>) -> Result<Seq<Row>, Memory>
     ensures { IfOk result (λ sorted. sorted ≡ sorted_rows rows) }
 {
     let mut rows = rows.into_vec();
-    match rows.sort() {
-        Ok(()) => Ok(Seq::from_vec(rows)),
-        Err(_) => Err(Memory),
-    }
+    rows.sort()?;
+    Ok(Seq::from_vec(rows))
 }
 
 /// The answers at a level to all tuples.
@@ -113,16 +111,14 @@ impl Refined {
         ensures kept { IfOk result (λ refined. refined.kept ≡ []) }
     {
         let _queries = t.queries();
-        match path.to_vec(alloc) {
-            Ok(levels) => Ok(Refined {
-                alloc,
-                query: q,
-                path: Seq::from_vec(levels),
-                last: None,
-                kept: Seq::new(alloc),
-            }),
-            Err(_) => Err(Memory),
-        }
+        let levels = path.to_vec(alloc)?;
+        Ok(Refined {
+            alloc,
+            query: q,
+            path: Seq::from_vec(levels),
+            last: None,
+            kept: Seq::new(alloc),
+        })
     }
 
     /// The prefixes that the level at a place answered in the window before this one.

@@ -8,13 +8,13 @@ use Rattle.sn_base.proofs.SortLemmas.{bag_of_permutation, sorted_is}
 use Rattle.sn_types.specs.Typed.{final_columns, query_at}
 use Rattle.sn_engine.proofs.query.sorted_value.Goals as goal
 
-pub returns-in-Ok-clause-rows : goal.returns-in-Ok-clause-rows
-returns-in-Ok-clause-rows c =
-    c.from_vec.ensures ∙ sorted_is c.into_vec-rows.result.items c.sort.new.self.items c.sort.ensures.permutation c.in-Ok.ensures.sorted
+pub returns-clause-rows : goal.returns-clause-rows
+returns-clause-rows c =
+    c.from_vec.ensures ∙ sorted_is c.into_vec-rows.result.items c.sort.new.self.items c.sort.ensures.permutation c.in_ok-sort.ensures.sorted
     ∙ ap sorted_rows (c.into_vec-rows.ensures ∙ c.in_ok-query_value.ensures.rows)
 
-pub returns-in-Ok-clause-columns : goal.returns-in-Ok-clause-columns
-returns-in-Ok-clause-columns c =
+pub returns-clause-columns : goal.returns-clause-columns
+returns-clause-columns c =
     let P = IsOf (final_columns (query_at c.args.t.now.queries c.args.q)) in
     let before = c.into_vec-rows.result.items in
     let found = subst (λ (rows : List Row). AllByRecursion P rows) (sym c.into_vec-rows.ensures) c.in_ok-query_value.ensures.columns in

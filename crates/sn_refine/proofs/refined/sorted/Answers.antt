@@ -3,7 +3,7 @@ use Rattle.sn_base.specs.Sorted.{sorted_rows}
 use Rattle.sn_base.proofs.SortLemmas.{sorted_is}
 use Rattle.sn_refine.proofs.refined.sorted.Goals as goal
 
-pub returns-in-Ok : goal.returns-in-Ok
-returns-in-Ok c =
-    c.from_vec.ensures ∙ sorted_is c.into_vec-rows.result.items c.sort.new.self.items c.sort.ensures.permutation c.in-Ok.ensures.sorted
+pub returns : goal.returns
+returns c =
+    c.from_vec.ensures ∙ sorted_is c.into_vec-rows.result.items c.sort.new.self.items c.sort.ensures.permutation c.in_ok-sort.ensures.sorted
     ∙ ap sorted_rows c.into_vec-rows.ensures
