@@ -41,7 +41,7 @@ pub trait Machine: Sized + Drop {
     /// What machines of this kind report of answers.
     ghost told: { Found → Found };
 
-    /// The machine of a plan that fits, with room for this many frames in each lane, 1 to 65536. Nothing was given to it.
+    /// The machine of a plan that fits, with room for this many frames in each lane, at least 1. Nothing was given to it.
     fn make(t: &Typed, s: &Switch, plan: &Plan, room: u32) -> Result<Self, Memory>
         requires switch { IsSwitch s.now }
         requires fits { Fits t.now.queries s.now plan.now.entries }

@@ -26,7 +26,7 @@ fn append(ring: &mut HeapCircularBuffer<Frame>, frame: Frame)
 }
 
 impl Holder {
-    ghost use Rattle.std.specs.Prelude.{false, nat_lt, slice_get, true};
+    ghost use Rattle.std.specs.Prelude.{false, nat_lt, true};
     ghost use Rattle.std.specs.List.{list_all};
     ghost use Rattle.sn_core.specs.Events.{with_next};
     ghost use Rattle.sn_engine_lockstep.specs.declared.source.Source.{Source};
@@ -68,16 +68,6 @@ impl Holder {
         match self.sender.read_out(window) {
             Some(frame) => append(&mut self.ring, frame),
             None => {}
-        }
-    }
-
-    /// Its first frame.
-    pub(crate) fn first(&self) -> Option<Frame>
-        ensures { result ≡ slice_get self.now.ring.items 0 }
-    {
-        match self.ring.front() {
-            Some(frame) => Some(*frame),
-            None => None,
         }
     }
 

@@ -54,7 +54,7 @@ fn holders(alloc: Global, senders: Vec<Sender>, room: u32) -> Result<Vec<Holder>
 }
 
 impl Net {
-    /// The net of a plan that fits, with room for this many frames in each lane, 1 to 65536. Nothing was given to it.
+    /// The net of a plan that fits, with room for this many frames in each lane, at least 1. Nothing was given to it.
     pub fn make(t: &Typed, s: &Switch, plan: &Plan, room: u32) -> Result<Net, Memory>
         requires switch { IsSwitch s.now }
         requires fits { Fits t.now.queries s.now plan.now.entries }

@@ -138,11 +138,11 @@ impl Net {
         ensures err { OnErr result (state self.new ≡ state self.old) }
         ensures works { works self.new ≡ works self.old }
     {
-        let frame = match self.lanes[lane as usize].first() {
+        let frame = match self.lanes[lane as usize].ring.front() {
             Some(frame) => frame,
             None => return Ok(()),
         };
-        take(&mut self.engine, &frame)?;
+        take(&mut self.engine, frame)?;
         self.lanes[lane as usize].ring.pop_front();
         Ok(())
     }

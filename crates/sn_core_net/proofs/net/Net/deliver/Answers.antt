@@ -76,6 +76,21 @@ returns-in-None-clause-ok c =
 pub invariant_of-self : goal.invariant_of-self
 invariant_of-self c =
     let net : Net = c.args.self.now in
+    record {
+      matched = net.matched;
+      few = net.few;
+      roomy = net.roomy;
+      named = net.named;
+      unread = net.unread;
+      own = net.own;
+      agreed = net.agreed;
+      known = net.known;
+      standing = net.standing;
+    }
+
+pub invariant_of-self-in-Break-1 : goal.invariant_of-self-in-Break-1
+invariant_of-self-in-Break-1 c =
+    let net : Net = c.args.self.now in
     let same : c.take.new.engine.lanes.items ≡ net.engine.lanes.items = c.in_err-take.ensures.err in
     record {
       matched = net.matched ∙ sym (ap (λ (zs : List Intake). length zs) same);
@@ -101,23 +116,23 @@ invariant_of-self-2 c =
     let within : n < length hs = c.requires.lane in
     let ring : Buffer Report = c.pop_front.new.self in
     let next : Holder = record h { ring = ring } in
-    let r : Reported net h c.in-Some.frame = reported net n h c.index.result.now c.in-Some.frame within own c.index.ensures c.in-Some.ensures in
-    let by : ys ≡ after_frame net.engine.lanes.items c.in-Some.frame = c.in_ok-take.ensures.ok in
+    let r : Reported net h c.in-Some.frame.now = reported net n h c.index.result.now c.in-Some.frame.now within own c.index.ensures c.in-Some.ensures in
+    let by : ys ≡ after_frame net.engine.lanes.items c.in-Some.frame.now = c.in_ok-take.ensures.ok in
     record {
-      matched = length-set hs n next ∙ net.matched ∙ sym (count net n h c.in-Some.frame ys within own r by);
+      matched = length-set hs n next ∙ net.matched ∙ sym (count net n h c.in-Some.frame.now ys within own r by);
       few = subst (λ (k : ℕ). k < 2 ^ 32) (sym (length-set hs n next)) net.few;
       roomy = all_set (λ k. k.ring.capacity == net.room) hs n next net.roomy
           (ap (λ (b : Buffer Report). b.capacity == net.room) c.pop_front.ensures.items ∙ ap (λ (k : Holder). k.ring.capacity == net.room) own ∙ all_at (λ k. k.ring.capacity == net.room) hs n h net.roomy within);
-      named = ap₂ are_named (names_set hs n h next within (ap (λ (k : Holder). k.sender.lane) own)) (empty net n h c.in-Some.frame ys within own r by) ∙ net.named;
+      named = ap₂ are_named (names_set hs n h next within (ap (λ (k : Holder). k.sender.lane) own)) (empty net n h c.in-Some.frame.now ys within own r by) ∙ net.named;
       unread = or_kept (may_be_read net.window net.held) (are_unread hs) (are_unread (set hs n next)) net.unread
           (λ e. all_set (λ k. k.sender.pipe.prefix.place == 0) hs n next e (ap (λ (k : Holder). k.sender.pipe.prefix.place == 0) own ∙ all_at (λ k. k.sender.pipe.prefix.place == 0) hs n h e within));
       own = all_set (λ k. list_all (is_own k.sender.lane (window_number net.window)) k.ring.items) hs n next net.own
           (ap (λ (b : Buffer Report). list_all (is_own h.sender.lane (window_number net.window)) b.items) c.pop_front.ensures.items
           ∙ all_dropped (is_own h.sender.lane (window_number net.window)) 1 h.ring.items (ap (λ (k : Holder). list_all (is_own k.sender.lane (window_number net.window)) k.ring.items) own ∙ all_at (λ k. list_all (is_own k.sender.lane (window_number net.window)) k.ring.items) hs n h net.own within));
-      agreed = agreed net n h c.in-Some.frame ys within own r by;
+      agreed = agreed net n h c.in-Some.frame.now ys within own r by;
       known = subst (λ (qs : List TypedQuery). AreKnown qs net.sources) (sym c.take.ensures.queries) net.known;
-      standing = event_stands net.engine.t.queries c.take.new.engine.t.queries net.engine.lanes.items ys net.sources c.take.ensures.queries (empty net n h c.in-Some.frame ys within own r by) (state net)
-          (state_of net.room net.held net.window (set hs n next) ys net.installs.items net.waiting) (event.Deliver n) net.standing c.requires.may (changed net n h c.in-Some.frame ys within own r by ring c.pop_front.ensures.items);
+      standing = event_stands net.engine.t.queries c.take.new.engine.t.queries net.engine.lanes.items ys net.sources c.take.ensures.queries (empty net n h c.in-Some.frame.now ys within own r by) (state net)
+          (state_of net.room net.held net.window (set hs n next) ys net.installs.items net.waiting) (event.Deliver n) net.standing c.requires.may (changed net n h c.in-Some.frame.now ys within own r by ring c.pop_front.ensures.items);
     }
 
 pub returns-clause-ok : goal.returns-clause-ok
@@ -126,8 +141,8 @@ returns-clause-ok c =
     let n : ℕ = c.args.lane in
     let h : Holder = c.index_mut.result.now in
     let own : h ≡ get_or net.lanes.items n h = c.index_mut.ensures.value in
-    let r : Reported net h c.in-Some.frame = reported net n h c.index.result.now c.in-Some.frame c.requires.lane own c.index.ensures c.in-Some.ensures in
-    changed net n h c.in-Some.frame c.take.new.engine.lanes.items c.requires.lane own r c.in_ok-take.ensures.ok c.pop_front.new.self c.pop_front.ensures.items
+    let r : Reported net h c.in-Some.frame.now = reported net n h c.index.result.now c.in-Some.frame.now c.requires.lane own c.index.ensures c.in-Some.ensures in
+    changed net n h c.in-Some.frame.now c.take.new.engine.lanes.items c.requires.lane own r c.in_ok-take.ensures.ok c.pop_front.new.self c.pop_front.ensures.items
 
 pub returns-clause-works : goal.returns-clause-works
 returns-clause-works c =
@@ -135,5 +150,5 @@ returns-clause-works c =
     let n : ℕ = c.args.lane in
     let h : Holder = c.index_mut.result.now in
     let own : h ≡ get_or net.lanes.items n h = c.index_mut.ensures.value in
-    let r : Reported net h c.in-Some.frame = reported net n h c.index.result.now c.in-Some.frame c.requires.lane own c.index.ensures c.in-Some.ensures in
-    ap₂ (λ (qs : List TypedQuery) (es : List Intake). workings_of qs es net.sources) c.take.ensures.queries (empty net n h c.in-Some.frame c.take.new.engine.lanes.items c.requires.lane own r c.in_ok-take.ensures.ok)
+    let r : Reported net h c.in-Some.frame.now = reported net n h c.index.result.now c.in-Some.frame.now c.requires.lane own c.index.ensures c.in-Some.ensures in
+    ap₂ (λ (qs : List TypedQuery) (es : List Intake). workings_of qs es net.sources) c.take.ensures.queries (empty net n h c.in-Some.frame.now c.take.new.engine.lanes.items c.requires.lane own r c.in_ok-take.ensures.ok)
