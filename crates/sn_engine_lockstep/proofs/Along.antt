@@ -1,5 +1,5 @@
 -- Windows one after another get the refined answers along the plan.
-use Rattle.std.proofs.Common.{◌≡◌, ℕ, zero, suc, ◌+◌, ◌<◌, List, [], ◌∷◌, ◌++◌, ◌&&◌, ◌==◌, map, length, sum, Bool, true, false, cond, Option, Some, None, slice_get, slice_index, refl, ap, sym, ◌∙◌, subst, arith, eq-eqb}
+use Rattle.std.proofs.Common.{◌≡◌, ℕ, zero, suc, ◌+◌, ◌<◌, List, [], ◌∷◌, ◌++◌, ◌&&◌, ◌==◌, map, length, sum, true, false, cond, Option, Some, None, slice_get, slice_index, refl, ap, sym, ◌∙◌, subst, arith, eq-eqb}
 use Rattle.std.specs.List.{AllByRecursion, find, range_with_len}
 use Rattle.std.specs.Option.{option_map, option_map_or}
 use Rattle.std.specs.FinSet as set
@@ -24,7 +24,7 @@ use Rattle.sn_types.specs.declared.typed_query.TypedQuery.{TypedQuery}
 use Rattle.sn_types.specs.Typed.{query_at}
 use Rattle.sn_engine_lockstep.specs.declared.source.Source.{Source}
 use Rattle.sn_engine_lockstep.specs.Sources.{is_part, kept_in, rows_found, source_at, source_of}
-use Rattle.sn_engine_lockstep.specs.Windows.{Follows, Remembers, count_of, parts_from, piece_count, plan_answers, refined_from, window_answers}
+use Rattle.sn_engine_lockstep.specs.Windows.{Follows, Measure, Remembers, count_all, measured, parts_from, piece_count, piece_measure, plan_answers, refined_from, window_answers}
 use Rattle.sn_engine_lockstep.proofs.Apart.{levels_known, place_is, rising_index}
 use Rattle.sn_engine_lockstep.proofs.Changes.{all_get}
 use Rattle.sn_engine_lockstep.proofs.Finding.{find_behind, find_front, find_number}
@@ -112,7 +112,7 @@ module _ (queries : List TypedQuery) (windows : Windows) (es : List Entry) (q : 
 
 -- ---- one window
 
-module _ (queries : List TypedQuery) (depth : ℕ) (windows : Windows) (w : ℕ) (tuples : List (List ℕ)) (kept : Source → Set) (is : windows w ≡ Some tuples) where
+module _ (queries : List TypedQuery) (depth : ℕ) (windows : Windows) (w : ℕ) (tuples : List (List ℕ)) (kept : Source → Set) (is : windows w ≡ Some tuples) (m : Measure) where
   abbrev kept_before : ℕ → List ℕ → ℕ → Set
   kept_before q path j = kept (source_at q (Some (slice_index path j)))
 
@@ -140,22 +140,22 @@ module _ (queries : List TypedQuery) (depth : ℕ) (windows : Windows) (w : ℕ)
       ap (option_map (answered (query_at queries q) (slice_index path j) (before (refined_rows (query_at queries q) windows path j) w))) is
       ∙ ap Some (sym (held_answered (query_at queries q) (slice_index path j) (before (refined_rows (query_at queries q) windows path j) w) (kept_before q path j) tuples (right j (omega (arith, lt)))))
 
-  count_right : (q : ℕ) (path : List ℕ) (p : Piece) → IsRight q path → is_among path p.level ≡ true → length (items_of queries depth (placed q path p) (kept (source_of (placed q path p))) tuples) ≡ piece_count queries depth windows w (placed q path p)
+  count_right : (q : ℕ) (path : List ℕ) (p : Piece) → IsRight q path → is_among path p.level ≡ true → m (placed q path p) (items_of queries depth (placed q path p) (kept (source_of (placed q path p))) tuples) ≡ piece_measure m queries depth windows w (placed q path p)
   count_right q path p right known =
-      ap length (items_seen queries depth q path p kept tuples)
-      ∙ sym (ap (count_of queries depth (placed q path p)) (seen_right q path (place_in path p.level) right (place_is path p.level known).within))
+      ap (m (placed q path p)) (items_seen queries depth q path p kept tuples)
+      ∙ sym (ap (measured m queries depth (placed q path p)) (seen_right q path (place_in path p.level) right (place_is path p.level known).within))
 
   counts_right : (q : ℕ) (path : List ℕ) (ps : List Piece) → IsRight q path → AllByRecursion (λ (p : Piece). is_among path p.level ≡ true) ps
-      → map (λ x. length (items_of queries depth x (kept (source_of x)) tuples)) (map (placed q path) ps) ≡ map (piece_count queries depth windows w) (map (placed q path) ps)
+      → map (λ x. m x (items_of queries depth x (kept (source_of x)) tuples)) (map (placed q path) ps) ≡ map (piece_measure m queries depth windows w) (map (placed q path) ps)
   counts_right q path [] right known = refl
   counts_right q path (p ∷ ps) right known =
-      ap (λ n. n ∷ map (λ x. length (items_of queries depth x (kept (source_of x)) tuples)) (map (placed q path) ps)) (count_right q path p right known.0)
-      ∙ ap (λ ns. piece_count queries depth windows w (placed q path p) ∷ ns) (counts_right q path ps right known.1)
+      ap (λ n. n ∷ map (λ x. m x (items_of queries depth x (kept (source_of x)) tuples)) (map (placed q path) ps)) (count_right q path p right known.0)
+      ∙ ap (λ ns. piece_measure m queries depth windows w (placed q path p) ∷ ns) (counts_right q path ps right known.1)
 
   -- the entries from a number on
   record AreRight (n : ℕ) (es : List Entry) : Type 0 where
     parts : parts_from queries kept tuples n es ≡ refined_from queries windows w n es
-    counts : map (λ x. length (items_of queries depth x (kept (source_of x)) tuples)) (pieces_from n es) ≡ map (piece_count queries depth windows w) (pieces_from n es)
+    counts : map (λ x. m x (items_of queries depth x (kept (source_of x)) tuples)) (pieces_from n es) ≡ map (piece_measure m queries depth windows w) (pieces_from n es)
 
   entries_right : (n : ℕ) (es : List Entry) → ((i : ℕ) (e : Entry) → slice_get es i ≡ Some e → IsRight (n + i) e.levels) → AllByRecursion (λ (e : Entry). AllByRecursion (λ (p : Piece). is_among e.levels p.level ≡ true) e.pieces) es → AreRight n es
   entries_right n [] right known = record { parts = refl; counts = refl }
@@ -163,13 +163,13 @@ module _ (queries : List TypedQuery) (depth : ℕ) (windows : Windows) (w : ℕ)
       let here : IsRight n e.levels = subst (λ m. IsRight m e.levels) none_more (right 0 e refl) in
       let rest = entries_right (suc n) es (λ i f at. subst (λ m. IsRight m f.levels) (moved i) (right (suc i) f at)) known.1 in
       let own = map (placed n e.levels) e.pieces in
-      let sent : Placed → ℕ = λ x. length (items_of queries depth x (kept (source_of x)) tuples) in
+      let sent : Placed → ℕ = λ x. m x (items_of queries depth x (kept (source_of x)) tuples) in
       record {
         parts = ap (λ ps. ps ++ parts_from queries kept tuples (suc n) es) (parts_right n e.levels here) ∙ ap (λ ps. refined_parts n (query_at queries n) windows e.levels w ++ ps) rest.parts;
         counts = map-append sent own (pieces_from (suc n) es)
             ∙ ap (λ ns. ns ++ map sent (pieces_from (suc n) es)) (counts_right n e.levels e.pieces here known.0)
-            ∙ ap (λ ns. map (piece_count queries depth windows w) own ++ ns) rest.counts
-            ∙ sym (map-append (piece_count queries depth windows w) own (pieces_from (suc n) es));
+            ∙ ap (λ ns. map (piece_measure m queries depth windows w) own ++ ns) rest.counts
+            ∙ sym (map-append (piece_measure m queries depth windows w) own (pieces_from (suc n) es));
       }
     where
       none_more : n + 0 ≡ n
@@ -190,21 +190,33 @@ entries_rise [] (e ∷ es) h = absurd h
 entries_rise (q ∷ queries) [] h = absurd h
 entries_rise (q ∷ queries) (e ∷ es) h = let entry : IsEntryOf q e = h.0 in (entry.path.rising, entries_rise queries es h.1)
 
--- what a window that follows gives, where the answers before it were those along the plan
-pub window_right : (queries : List TypedQuery) (depth : ℕ) (es : List Entry) (windows : Windows) (last : Option Answers) (w : ℕ) (tuples : List (List ℕ)) → AreEntriesOf queries es → windows w ≡ Some tuples → Follows windows last w → Remembers queries es windows last
-    → window_answers queries depth es (kept_in queries last w) w tuples ≡ plan_answers queries depth es windows w
-window_right queries depth es windows last w tuples h is f r =
+-- what is counted of the items that the pieces send in a window that follows, where the answers before it were those along the plan
+right_along : (queries : List TypedQuery) (depth : ℕ) (es : List Entry) (windows : Windows) (last : Option Answers) (w : ℕ) (tuples : List (List ℕ)) (m : Measure) → AreEntriesOf queries es → (is : windows w ≡ Some tuples) → Follows windows last w → Remembers queries es windows last
+    → AreRight queries depth windows w tuples (kept_in queries last w) is m 0 es
+right_along queries depth es windows last w tuples m h is f r =
     let rise = entries_rise queries es h in
-    let right = entries_right queries depth windows w tuples (kept_in queries last w) is 0 es
+    entries_right queries depth windows w tuples (kept_in queries last w) is m 0 es
     (λ i e at j lt. ap (λ n. kept_in queries last w (source_at n (Some (slice_index e.levels j)))) (from i)
     ∙ kept_right queries windows es i e at (all_get (λ (e : Entry). IsRising e.levels) es i e rise at) last w j lt f r
     ∙ ap (λ n. prefixes_of (query_at queries n) (before (refined_rows (query_at queries n) windows e.levels j) w)) (sym (from i)))
-    (entries_known queries es h) in
-    ap (λ n. with n (parts_from queries (kept_in queries last w) tuples 0 es)) (ap sum right.counts)
-    ∙ ap (with (sum (map (piece_count queries depth windows w) (pieces_from 0 es)))) right.parts
+    (entries_known queries es h)
   where
     from : (i : ℕ) → 0 + i ≡ i
     from i = omega arith
 
+pub measure_right : (queries : List TypedQuery) (depth : ℕ) (es : List Entry) (windows : Windows) (last : Option Answers) (w : ℕ) (tuples : List (List ℕ)) (m : Measure) → AreEntriesOf queries es → windows w ≡ Some tuples → Follows windows last w → Remembers queries es windows last
+    → sum (map (λ x. m x (items_of queries depth x (kept_in queries last w (source_of x)) tuples)) (pieces_from 0 es)) ≡ sum (map (piece_measure m queries depth windows w) (pieces_from 0 es))
+measure_right queries depth es windows last w tuples m h is f r =
+    let right : AreRight queries depth windows w tuples (kept_in queries last w) is m 0 es = right_along queries depth es windows last w tuples m h is f r in
+    ap sum right.counts
+
+-- what it gives
+pub window_right : (queries : List TypedQuery) (depth : ℕ) (es : List Entry) (windows : Windows) (last : Option Answers) (w : ℕ) (tuples : List (List ℕ)) → AreEntriesOf queries es → windows w ≡ Some tuples → Follows windows last w → Remembers queries es windows last
+    → window_answers queries depth es (kept_in queries last w) w tuples ≡ plan_answers queries depth es windows w
+window_right queries depth es windows last w tuples h is f r =
+    let right : AreRight queries depth windows w tuples (kept_in queries last w) is count_all 0 es = right_along queries depth es windows last w tuples count_all h is f r in
+    ap (λ n. with n (parts_from queries (kept_in queries last w) tuples 0 es)) (measure_right queries depth es windows last w tuples count_all h is f r)
+    ∙ ap (with (sum (map (piece_count queries depth windows w) (pieces_from 0 es)))) right.parts
+  where
     with : ℕ → List Part → Answers
     with n parts = record { window = w; emitted = n; parts = parts }

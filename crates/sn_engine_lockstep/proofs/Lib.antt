@@ -10,3 +10,5 @@ pub mod Parts
 pub mod Beginning
 pub mod Along
 pub mod Laws
+pub mod Earlies
+pub mod Driving

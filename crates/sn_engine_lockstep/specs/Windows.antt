@@ -1,12 +1,12 @@
 -- to be believed
 -- What a plan answers in a window, and how many items it sends.
-use Rattle.std.specs.Prelude.{◌≡◌, ◌<◌, ℕ, zero, suc, List, [], ◌∷◌, ◌++◌, map, length, sum, slice_index, Option, None, Some}
-use Rattle.std.specs.Option.{option_map}
+use Rattle.std.specs.Prelude.{◌≡◌, ◌<◌, ℕ, suc, List, [], ◌∷◌, ◌++◌, map, length, sum, slice_index, Option, None, Some}
 use Rattle.sn_emit.specs.Plans.{Placed, items_of, pieces_from}
 use Rattle.sn_plan_fit.specs.Paths.{place_in}
 use Rattle.sn_plan_grammar.specs.declared.plan.Entry.{Entry}
-use Rattle.sn_refine.specs.Refined.{Windows, answered, before, refined_parts, seen_at}
+use Rattle.sn_refine.specs.Refined.{Windows, refined_parts, seen_at}
 use Rattle.sn_refine.specs.Steps.{Set, parts_in}
+use Rattle.sn_report.specs.declared.frame.Item.{Item}
 use Rattle.sn_engine_split.specs.Branches.{branch_items}
 use Rattle.sn_types.specs.declared.answers.Answers.{Answers}
 use Rattle.sn_types.specs.declared.answers.Part.{Part}
@@ -42,13 +42,26 @@ abbrev pub refined_from : List TypedQuery → Windows → ℕ → ℕ → List E
 refined_from queries windows w q [] = []
 refined_from queries windows w q (e ∷ es) = refined_parts q (query_at queries q) windows e.levels w ++ refined_from queries windows w (suc q) es
 
+-- what is counted of the items that a piece sends, and that of the tuples that its level sees
+abbrev pub Measure : Type 0
+Measure = Placed → List Item → ℕ
+
+abbrev pub measured : Measure → List TypedQuery → ℕ → Placed → Option (List (List ℕ)) → ℕ
+measured m queries depth x None = 0
+measured m queries depth x (Some seen) = m x (branch_items (query_at queries x.query) x.piece.branch x.piece.level None x.piece.cut depth x.piece.slots seen)
+
+abbrev pub piece_measure : Measure → List TypedQuery → ℕ → Windows → ℕ → Placed → ℕ
+piece_measure m queries depth windows w x = measured m queries depth x (seen_at (query_at queries x.query) windows x.path (place_in x.path x.piece.level) w)
+
 -- how many items a piece sends of the tuples that its level sees
+abbrev pub count_all : Measure
+count_all x found = length found
+
 abbrev pub count_of : List TypedQuery → ℕ → Placed → Option (List (List ℕ)) → ℕ
-count_of queries depth x None = 0
-count_of queries depth x (Some seen) = length (branch_items (query_at queries x.query) x.piece.branch x.piece.level None x.piece.cut depth x.piece.slots seen)
+count_of queries depth x seen = measured count_all queries depth x seen
 
 abbrev pub piece_count : List TypedQuery → ℕ → Windows → ℕ → Placed → ℕ
-piece_count queries depth windows w x = count_of queries depth x (seen_at (query_at queries x.query) windows x.path (place_in x.path x.piece.level) w)
+piece_count queries depth windows w x = piece_measure count_all queries depth windows w x
 
 -- The answers of a plan in a window: the refined answers of its queries along their paths, and the number of the items that its
 -- pieces send.

@@ -2,19 +2,21 @@
 ghost use Rattle.std.specs.Prelude.{◌≡◌, ◌<◌, ◌≤◌, ◌++◌, ◌∷◌, [], ℕ, List, length, map, IfOk, OnOk};
 ghost use Rattle.std.specs.List.{AllByRecursion, flat_map};
 ghost use Rattle.sn_engine_lockstep.specs.declared.source.Source.{Source};
+ghost use Rattle.sn_engine_lockstep.specs.Early.{early_total};
 ghost use Rattle.sn_engine_lockstep.specs.Sources.{kept_in, source_of, sources_of};
 ghost use Rattle.sn_engine_lockstep.specs.Work.{AreAtWork, AreIdle, AreUnread, done, frames_given};
 ghost use Rattle.sn_emit.specs.Making.{CanMake};
 ghost use Rattle.sn_emit.specs.Plans.{AreLanesOf, AreNewLanes, Placed, pieces_from};
 ghost use Rattle.sn_emit.specs.Senders.{frames_left};
 ghost use Rattle.sn_engine.specs.Answers.{parts_of};
-ghost use Rattle.sn_engine.specs.Intakes.{intakes_of, total};
+ghost use Rattle.sn_engine.specs.Intakes.{emptied, intakes_of, total};
 ghost use Rattle.sn_plan_fit.specs.Fits.{Fits};
 ghost use Rattle.sn_refine.specs.Steps.{Set};
 ghost use Rattle.sn_switch.specs.Texts.{IsSwitch};
 ghost use Rattle.sn_types.specs.Typed.{HasWidths, IsTyped};
 ghost use Rattle.sn_types.specs.declared.typed_query.TypedQuery.{TypedQuery};
 
+use crate::early::early_total;
 use crate::lanes::{begin_lanes, close, drain_lanes, give_lanes};
 use crate::source::{Source, sources};
 use crate::wire::Wire;
@@ -108,6 +110,51 @@ impl Driver {
         give_lanes(&mut self.emitter, &mut self.engine, wire, tuple)
     }
 
+    /// Reads all lanes out. The engine takes what they send, and the wire is told of it. Then the engine holds all items of the
+    /// window.
+    pub fn drain<W: Wire>(&mut self, wire: &mut W, window: u64) -> Result<(), Memory>
+        ensures items { OnOk result ((typed_for depth : ℕ) (queries : List TypedQuery) (pieces : List Placed) (kept : Source → Set)
+            (tuples : List (List ℕ)) →
+            ∥ IsTyped typed_for queries ∥₁ → AllByRecursion (CanMake queries) pieces → AllByRecursion HasWidths tuples →
+            AreAtWork queries depth pieces kept tuples self.old.emitter self.old.engine.lanes.items →
+            self.new.engine.lanes.items ≡ map (done queries depth kept tuples window) pieces) }
+        ensures sent { OnOk result (W.told wire.new ≡ W.told wire.old ++ flat_map W.word (flat_map (λ s. frames_left s window) self.old.emitter)) }
+        ensures lanes { OnOk result ((queries : List TypedQuery) (depth : ℕ) (pieces : List Placed) → AreLanesOf queries depth pieces self.old.emitter →
+            AreLanesOf queries depth pieces self.new.emitter) }
+        ensures count { OnOk result (length self.new.emitter ≡ length self.old.emitter) }
+        ensures queries { self.new.engine.t.queries ≡ self.old.engine.t.queries }
+        ensures sources { self.new.sources ≡ self.old.sources }
+    {
+        drain_lanes(&mut self.emitter, &mut self.engine, wire, window)
+    }
+
+    /// How many of the items that the engine holds left the switch before the cut of their piece.
+    pub fn early(&self) -> u64
+        ensures { result ≡ early_total self.now.engine.lanes.items }
+    {
+        // so many items at most
+        let _most = self.engine.count;
+        early_total(&self.engine.lanes)
+    }
+
+    /// Answers the window, whose lanes were read out: what the engine holds. It is then empty.
+    pub fn finish(&mut self, window: u64) -> Result<Answers, Memory>
+        ensures window { IfOk result (λ answers. answers.window ≡ window) }
+        ensures emitted { IfOk result (λ answers. answers.emitted ≡ total self.old.engine.lanes.items) }
+        ensures parts { IfOk result (λ answers. answers.parts ≡ parts_of self.old.engine.t.queries self.old.engine.lanes.items) }
+        ensures emptied { OnOk result (self.new.engine.lanes.items ≡ map emptied self.old.engine.lanes.items) }
+        ensures lanes { self.new.emitter ≡ self.old.emitter }
+        ensures queries { self.new.engine.t.queries ≡ self.old.engine.t.queries }
+        ensures sources { self.new.sources ≡ self.old.sources }
+    {
+        let answers = close(&mut self.engine)?;
+        Ok(Answers {
+            window,
+            emitted: answers.emitted,
+            parts: answers.parts,
+        })
+    }
+
     /// Reads all lanes out, and answers the window. The engine takes what they send, and the wire is told of it.
     pub fn close<W: Wire>(&mut self, wire: &mut W, window: u64) -> Result<Answers, Memory>
         ensures window { IfOk result (λ answers. answers.window ≡ window) }
@@ -127,12 +174,7 @@ impl Driver {
         ensures queries { OnOk result (self.new.engine.t.queries ≡ self.old.engine.t.queries) }
         ensures sources { self.new.sources ≡ self.old.sources }
     {
-        drain_lanes(&mut self.emitter, &mut self.engine, wire, window)?;
-        let answers = close(&mut self.engine)?;
-        Ok(Answers {
-            window,
-            emitted: answers.emitted,
-            parts: answers.parts,
-        })
+        self.drain(wire, window)?;
+        self.finish(window)
     }
 }

@@ -3,12 +3,13 @@
 ghost use Rattle.std.specs.Prelude.{◌≡◌, ℕ, List, None, map};
 ghost use Rattle.std.specs.List.{AllByRecursion};
 ghost use Rattle.sn_engine_lockstep.specs.declared.source.Source.{Source};
+ghost use Rattle.sn_engine_lockstep.specs.Early.{early_by, early_total};
 ghost use Rattle.sn_engine_lockstep.specs.Sources.{source_of, sources_of};
 ghost use Rattle.sn_engine_lockstep.specs.Windows.{answers_from, parts_from, plan_answers, sent_by};
 ghost use Rattle.sn_engine_lockstep.specs.Work.{AreIdle, done};
 ghost use Rattle.sn_emit.specs.declared.sender.Sender.{Sender};
 ghost use Rattle.sn_emit.specs.Making.{CanMake};
-ghost use Rattle.sn_emit.specs.Plans.{AreNewLanes, pieces_from};
+ghost use Rattle.sn_emit.specs.Plans.{AreNewLanes, Placed, pieces_from};
 ghost use Rattle.sn_engine.specs.Answers.{parts_of};
 ghost use Rattle.sn_engine.specs.Intakes.{intakes_of, total};
 ghost use Rattle.sn_plan_fit.specs.Fits.{AreEntriesOf, Fits};
@@ -31,7 +32,8 @@ pub fn new_drivers_are_idle()
 {}
 
 /// What `close` answers is, query by query and level by level, the answer to the tuples with the prefixes that the lanes
-/// admit, and the number of the items of all pieces: whatever the cuts, chains and sizes.
+/// admit, and the number of the items of all pieces: whatever the cuts, chains and sizes. Early are those that leave the switch
+/// before the cut of their piece.
 pub fn answers_are_those_of_the_window()
     ensures parts { (typed_for depth window : ℕ) (queries : List TypedQuery) (entries : List Entry) (kept : Source → Set) (tuples : List (List ℕ)) →
         ∥ IsTyped typed_for queries ∥₁ → AreEntriesOf queries entries → AllByRecursion (CanMake queries) (pieces_from 0 entries) →
@@ -41,6 +43,8 @@ pub fn answers_are_those_of_the_window()
         ∥ IsTyped typed_for queries ∥₁ → AreEntriesOf queries entries → AllByRecursion (CanMake queries) (pieces_from 0 entries) →
         AllByRecursion HasWidths tuples →
         total (map (done queries depth kept tuples window) (pieces_from 0 entries)) ≡ sent_by queries depth (pieces_from 0 entries) kept tuples }
+    ensures early { (queries : List TypedQuery) (depth window : ℕ) (kept : Source → Set) (tuples : List (List ℕ)) (pieces : List Placed) →
+        early_total (map (done queries depth kept tuples window) pieces) ≡ early_by queries depth pieces kept tuples }
 {}
 
 /// Windows that are given by rising number, each with the prefixes that the one before it answered, get the refined answers

@@ -2,6 +2,7 @@
 #![tactic(auto)]
 
 pub mod driver;
+mod early;
 mod lanes;
 pub mod law;
 pub mod source;
