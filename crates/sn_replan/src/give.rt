@@ -1,0 +1,52 @@
+//! The tuples of a window, given to a driver.
+ghost use Rattle.std.specs.Prelude.{◌≡◌, [], ℕ, List, length, OnOk};
+ghost use Rattle.std.specs.List.{AllByRecursion};
+ghost use Rattle.sn_emit.specs.Plans.{AreLanesOf, Placed};
+ghost use Rattle.sn_engine_lockstep.specs.declared.source.Source.{Source};
+ghost use Rattle.sn_engine_lockstep.specs.Work.{AreAtWork, AreUnread};
+ghost use Rattle.sn_refine.specs.Steps.{Set};
+ghost use Rattle.sn_types.specs.declared.typed_query.TypedQuery.{TypedQuery};
+ghost use Rattle.sn_types.specs.Typed.{HasWidths};
+
+use sn_base::memory::Memory;
+use sn_engine_lockstep::driver::Driver;
+use sn_engine_lockstep::wire::Wire;
+use sn_fields::tuple::Tuple;
+use sn_report::frame::Frame;
+
+/// No one is told of the frames.
+#[derive(Drop)]
+pub(crate) struct Unheard;
+
+impl Wire for Unheard {
+    ghost use Rattle.std.specs.Prelude.{[]};
+
+    ghost told = { λ wire. [] };
+
+    ghost word = { λ frame. [] };
+
+    fn sent(&mut self, _: &Frame) -> Result<(), Memory> {
+        Ok(())
+    }
+}
+
+/// Gives the tuples of the window that was begun, in their order.
+pub(crate) fn give(driver: &mut Driver, tuples: &[Tuple]) -> Result<(), Memory>
+    requires { AreUnread driver.old.emitter }
+    ensures work { OnOk result ((queries : List TypedQuery) (depth : ℕ) (pieces : List Placed) (kept : Source → Set) →
+        AreAtWork queries depth pieces kept [] driver.old.emitter driver.old.engine.lanes.items →
+        AreAtWork queries depth pieces kept tuples.now driver.new.emitter driver.new.engine.lanes.items) }
+    ensures widths { OnOk result (AllByRecursion HasWidths tuples.now) }
+    ensures lanes { OnOk result ((queries : List TypedQuery) (depth : ℕ) (pieces : List Placed) → AreLanesOf queries depth pieces driver.old.emitter →
+        AreLanesOf queries depth pieces driver.new.emitter) }
+    ensures count { OnOk result (length driver.new.emitter ≡ length driver.old.emitter) }
+    ensures queries { driver.new.engine.t.queries ≡ driver.old.engine.t.queries }
+    ensures sources { driver.new.sources ≡ driver.old.sources }
+{
+    let mut wire = Unheard;
+    for tuple in tuples {
+        tuple.widths();
+        driver.packet(&mut wire, tuple)?;
+    }
+    Ok(())
+}
