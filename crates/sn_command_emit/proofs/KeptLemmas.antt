@@ -17,7 +17,8 @@ use Rattle.sn_plan_grammar.specs.declared.plan.Piece.{Piece}
 use Rattle.sn_refine.specs.Refined.{Windows, before, refined_rows}
 use Rattle.sn_refine.specs.Steps.{prefixes_of, windows_of}
 use Rattle.sn_refine.proofs.Windows.{above_last, earlier, here, later}
-use Rattle.sn_command_run.specs.Along.{last_from, last_of}
+use Rattle.sn_engine_lockstep.specs.Known.{last_from}
+use Rattle.sn_command_run.specs.Along.{last_of}
 use Rattle.sn_command_run.specs.Planned.{Planned}
 use Rattle.sn_types.specs.declared.answers.Answers.{Answers}
 use Rattle.sn_types.specs.declared.typed_query.TypedQuery.{TypedQuery}

@@ -25,7 +25,7 @@ use Rattle.sn_report.specs.declared.frame.Frame.{Frame}
 use Rattle.sn_report.specs.Frames.{spelling}
 use Rattle.sn_command_run.specs.Planned.{Planned}
 use Rattle.sn_command_run.proofs.AlongLemmas.{last_more, rising_again}
-use Rattle.sn_command_emit.proofs.DriverLemmas.{begun_at, driver_after}
+use Rattle.sn_engine_lockstep.proofs.Driving.{begun_at, driver_after}
 use Rattle.sn_switch.specs.declared.switch.Switch.{Switch}
 use Rattle.sn_switch.specs.Texts.{IsSwitch}
 use Rattle.sn_types.specs.declared.answers.Answers.{Answers}
@@ -119,7 +119,7 @@ pub given_hand : (a : Reporter) (d : Driver) (sent : Vec ℕ Global) (tuple : Li
     → AreUnread d.emitter → ((qs : List TypedQuery) (depth : ℕ) (xs : List Placed) → AreLanesOf qs depth xs a.driver.emitter → AreLanesOf qs depth xs d.emitter) → length d.emitter ≡ length a.driver.emitter
     → d.engine.t.queries ≡ a.driver.engine.t.queries → d.sources ≡ a.driver.sources → IsAtHand (with_sent a d sent) closed number (tuples ++ tuple ∷ [])
 given_hand a d sent tuple closed number tuples h width work bytes unread lanes count queries sources = record {
-  driver = driver_after (plan_of a) a.driver h.driver d queries sources count;
+  driver = driver_after a.typed.queries a.depth a.plan.entries a.driver h.driver d queries sources count;
   work = work a.typed.queries a.depth (pieces_from 0 a.plan.entries) (kept_in a.typed.queries a.last number) tuples h.work;
   lanes = lanes a.typed.queries a.depth (pieces_from 0 a.plan.entries) h.lanes;
   unread = unread;
@@ -135,8 +135,8 @@ pub begin_hand : (a : Reporter) (d : Driver) (number : ℕ) (closed : List Windo
     → AreUnread d.emitter → ((qs : List TypedQuery) (depth : ℕ) (xs : List Placed) → AreLanesOf qs depth xs a.driver.emitter → AreLanesOf qs depth xs d.emitter) → length d.emitter ≡ length a.driver.emitter
     → d.engine.t.queries ≡ a.driver.engine.t.queries → d.sources ≡ a.driver.sources → IsAtHand (with_sent a d a.sent) closed number []
 begin_hand a d number closed idle rising work unread lanes count queries sources = record {
-  driver = driver_after (plan_of a) a.driver idle.driver d queries sources count;
-  work = begun_at (plan_of a) a.driver idle.driver a.last number d.emitter d.engine.lanes.items idle.lanes work;
+  driver = driver_after a.typed.queries a.depth a.plan.entries a.driver idle.driver d queries sources count;
+  work = begun_at a.typed.queries a.depth a.plan.entries a.driver idle.driver a.last number d.emitter d.engine.lanes.items idle.lanes work;
   lanes = lanes a.typed.queries a.depth (pieces_from 0 a.plan.entries) idle.lanes.lanes;
   unread = unread;
   widths = tt;

@@ -4,18 +4,17 @@ use Rattle.std.specs.Prelude.{◌≡◌, ℕ, List, [], ◌∷◌, ◌++◌, len
 use Rattle.std.specs.List.{AllByRecursion, flat_map, range_with_len}
 use Rattle.sn_windows.specs.Rising.{AreRising, Window}
 use Rattle.sn_engine_lockstep.specs.declared.driver.Driver.{Driver}
-use Rattle.sn_engine_lockstep.specs.Sources.{kept_in, source_of, sources_of}
+use Rattle.sn_engine_lockstep.specs.Driving as driving
+use Rattle.sn_engine_lockstep.specs.Sources.{kept_in, source_of}
 use Rattle.sn_engine_lockstep.specs.Work.{AreAtWork, AreIdle, AreUnread}
-use Rattle.sn_emit.specs.Making.{CanMake}
 use Rattle.sn_emit.specs.Plans.{AreLanesOf, Placed, pieces_from}
-use Rattle.sn_plan_fit.specs.Fits.{AreEntriesOf}
 use Rattle.sn_refine.specs.Steps.{Set}
 use Rattle.sn_report.specs.Frames.{spelling}
 use Rattle.sn_command_run.specs.Along.{last_of}
 use Rattle.sn_command_run.specs.Planned.{Planned}
 use Rattle.sn_types.specs.declared.answers.Answers.{Answers}
 use Rattle.sn_types.specs.declared.typed_query.TypedQuery.{TypedQuery}
-use Rattle.sn_types.specs.Typed.{HasWidths, IsTyped}
+use Rattle.sn_types.specs.Typed.{HasWidths}
 use Rattle.sn_command_emit.specs.declared.reporter.Reporter.{Reporter}
 use Rattle.sn_command_emit.specs.Sent.{packet_frames}
 
@@ -23,15 +22,9 @@ use Rattle.sn_command_emit.specs.Sent.{packet_frames}
 abbrev pub plan_of : Reporter → Planned
 plan_of a = record { queries = a.typed.queries; depth = a.depth; entries = a.plan.entries }
 
--- the plan is one of typed queries, and the driver is that of the plan
-pub record IsDriverOf (p : Planned) (d : Driver) : Type 0 where
-  pub typed_for : ℕ
-  pub typed : ∥ IsTyped typed_for p.queries ∥₁
-  pub entries : AreEntriesOf p.queries p.entries
-  pub can : AllByRecursion (CanMake p.queries) (pieces_from 0 p.entries)
-  pub queries : d.engine.t.queries ≡ p.queries
-  pub sources : d.sources ≡ sources_of 0 p.entries
-  pub many : length d.sources ≡ length d.emitter
+-- the driver is that of the plan
+abbrev pub IsDriverOf : Planned → Driver → Type 0
+IsDriverOf p d = driving.IsDriverOf p.queries p.entries d
 
 -- the prefixes that the lane of a piece admits, where these are the answers of the last window
 abbrev pub kept_now : List TypedQuery → Option Answers → ℕ → Placed → Set

@@ -5,12 +5,13 @@ use Rattle.std.proofs.lemmas.List.Sums.{sum_by-append, sum_by-cons}
 use Rattle.sn_base.proofs.Lists.{map_both}
 use Rattle.sn_windows.specs.Rising.{AreRising, Window}
 use Rattle.sn_engine_lockstep.specs.Sources.{kept_in}
-use Rattle.sn_engine_lockstep.specs.Windows.{answers_from, plan_answers, window_answers}
+use Rattle.sn_engine_lockstep.specs.Windows.{window_answers}
+use Rattle.sn_engine_lockstep.proofs.Driving as driving
+use Rattle.sn_engine_lockstep.proofs.Driving.{one_more}
 use Rattle.sn_engine_lockstep.proofs.Laws.{all_windows}
 use Rattle.sn_plan_fit.specs.Fits.{AreEntriesOf}
-use Rattle.sn_refine.specs.Steps.{windows_of}
 use Rattle.sn_types.specs.declared.answers.Answers.{Answers}
-use Rattle.sn_command_run.specs.Along.{answers_of, last_from, last_of, sent_in, told_of}
+use Rattle.sn_command_run.specs.Along.{answers_of, last_of, sent_in, told_of}
 use Rattle.sn_command_run.specs.Planned.{Planned, Telling, answers_at, told_at, told_emitted_in}
 
 pub rising_front : (before : Option ℕ) (closed more : List Window) → AreRising before (closed ++ more) → AreRising before closed
@@ -21,19 +22,7 @@ pub rising_again : (before : Option ℕ) (closed : List Window) (number : ℕ) (
 rising_again before [] number tuples other r = r
 rising_again before (w ∷ ws) number tuples other r = (r.0, rising_again (Some w.0) ws number tuples other r.1)
 
--- ---- the last one
-
-abbrev end_of : Answers → List Answers → Answers
-end_of d [] = d
-end_of d (a ∷ xs) = end_of a xs
-
-end_is : (d : Answers) (xs : List Answers) (x : Answers) → end_of d (xs ++ x ∷ []) ≡ x
-end_is d [] x = refl
-end_is d (a ∷ xs) x = end_is a xs x
-
-pub last_is : (before : Option Answers) (xs : List Answers) (x : Answers) → last_from before (xs ++ x ∷ []) ≡ Some x
-last_is before [] x = refl
-last_is before (a ∷ xs) x = last_is (Some a) xs x
+-- ---- how many were sent
 
 sum_end : (xs : List Answers) (x : Answers) → sum (map (λ (a : Answers). a.emitted) (xs ++ x ∷ [])) ≡ sum (map (λ (a : Answers). a.emitted) xs) + x.emitted
 sum_end xs x =
@@ -46,20 +35,12 @@ module _ (p : Planned) where
   abbrev pub next_answers : List Window → ℕ → List (List ℕ) → Answers
   next_answers closed number tuples = window_answers p.queries p.depth p.entries (kept_in p.queries (last_of p closed) number) number tuples
 
-  pub one_more : (last : Option Answers) (closed : List Window) (number : ℕ) (tuples : List (List ℕ))
-      → answers_from p.queries p.depth p.entries last (closed ++ (number, tuples) ∷ [])
-      ≡ answers_from p.queries p.depth p.entries last closed ++ window_answers p.queries p.depth p.entries (kept_in p.queries (last_from last (answers_from p.queries p.depth p.entries last closed)) number) number tuples ∷ []
-  one_more last [] number tuples = refl
-  one_more last (w ∷ closed) number tuples =
-      let first : Answers = window_answers p.queries p.depth p.entries (kept_in p.queries last w.0) w.0 w.1 in
-      ap (λ (xs : List Answers). first ∷ xs) (one_more (Some first) closed number tuples)
-
   pub last_more : (closed : List Window) (number : ℕ) (tuples : List (List ℕ)) → last_of p (closed ++ (number, tuples) ∷ []) ≡ Some (next_answers closed number tuples)
-  last_more closed number tuples = ap (last_from None) (one_more None closed number tuples) ∙ last_is None (answers_of p closed) (next_answers closed number tuples)
+  last_more closed number tuples = driving.last_more p.queries p.depth p.entries closed number tuples
 
   -- what is reported of them
   pub told_more : (told : Telling) (closed : List Window) (number : ℕ) (tuples : List (List ℕ)) → told_of told p (closed ++ (number, tuples) ∷ []) ≡ told_of told p closed ++ told (next_answers closed number tuples) ∷ []
-  told_more told closed number tuples = ap (map told) (one_more None closed number tuples) ∙ map-append told (answers_of p closed) (next_answers closed number tuples ∷ [])
+  told_more told closed number tuples = ap (map told) (one_more p.queries p.depth p.entries None closed number tuples) ∙ map-append told (answers_of p closed) (next_answers closed number tuples ∷ [])
 
   pub sent_more : (told : Telling) (closed : List Window) (number : ℕ) (tuples : List (List ℕ)) → sent_in told p (closed ++ (number, tuples) ∷ []) ≡ sent_in told p closed + (told (next_answers closed number tuples)).emitted
   sent_more told closed number tuples = ap (λ (xs : List Answers). sum (map (λ (a : Answers). a.emitted) xs)) (told_more told closed number tuples) ∙ sum_end (told_of told p closed) (told (next_answers closed number tuples))
@@ -67,13 +48,7 @@ module _ (p : Planned) where
   -- they are the answers along the plan
   pub next_right : (closed : List Window) (number : ℕ) (tuples : List (List ℕ)) → AreEntriesOf p.queries p.entries → AreRising None (closed ++ (number, tuples) ∷ [])
       → next_answers closed number tuples ≡ answers_at p (closed ++ (number, tuples) ∷ []) number
-  next_right closed number tuples h rising =
-      let all : List Window = closed ++ (number, tuples) ∷ [] in
-      let right : Window → Answers = λ g. plan_answers p.queries p.depth p.entries (windows_of all) g.0 in
-      let now : Answers = next_answers closed number tuples in
-      let e : answers_of p closed ++ now ∷ [] ≡ map right closed ++ right (number, tuples) ∷ [] =
-      sym (one_more None closed number tuples) ∙ all_windows p.queries p.depth p.entries all h rising ∙ map-append right closed ((number, tuples) ∷ []) in
-      sym (end_is now (answers_of p closed) now) ∙ ap (end_of now) e ∙ end_is now (map right closed) (right (number, tuples))
+  next_right closed number tuples h rising = driving.next_right p.queries p.depth p.entries closed number tuples h rising
 
   pub told_right : (told : Telling) (closed : List Window) → AreEntriesOf p.queries p.entries → AreRising None closed → told_of told p closed ≡ map (λ (w : Window). told_at told p closed w.0) closed
   told_right told closed h rising = ap (map told) (all_windows p.queries p.depth p.entries closed h rising) ∙ map_both (λ (w : Window). answers_at p closed w.0) told closed

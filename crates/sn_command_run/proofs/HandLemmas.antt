@@ -25,7 +25,8 @@ use Rattle.sn_types.specs.declared.typed_query.TypedQuery.{TypedQuery}
 use Rattle.sn_types.specs.Typed.{HasWidths}
 use Rattle.sn_engine_lockstep.specs.Sources.{kept_in}
 use Rattle.sn_command_run.specs.declared.along.Along.{Along}
-use Rattle.sn_command_run.specs.Along.{IsAtHand, IsFed, IsIdle, IsSound, IsUsed, Owes, last_from, last_of, plan_of, sent_in, supplies_of, told_of}
+use Rattle.sn_engine_lockstep.specs.Known.{last_from}
+use Rattle.sn_command_run.specs.Along.{IsAtHand, IsFed, IsIdle, IsSound, IsUsed, Owes, last_of, plan_of, sent_in, supplies_of, told_of}
 use Rattle.sn_command_run.specs.Planned.{Planned, Telling, told_at, told_emitted_in}
 use Rattle.sn_command_run.proofs.AlongLemmas.{next_answers, next_right, rising_again, rising_front, sent_more, sent_right}
 use Rattle.sn_command_run.proofs.MachineLemmas.{end_told, found_is, tuple_owes, tuple_told}

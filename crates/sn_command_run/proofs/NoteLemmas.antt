@@ -5,8 +5,8 @@ use Rattle.sn_core_drive.specs.Schedules.{answers_in}
 use Rattle.sn_core_drive.specs.declared.note.Note.{Note}
 use Rattle.sn_core_drive.specs.declared.note.Note.TheVariants.{Happened, Told}
 use Rattle.sn_types.specs.declared.answers.Answers.{Answers}
-use Rattle.sn_command_run.specs.Along.{last_from}
-use Rattle.sn_command_run.proofs.AlongLemmas.{last_is}
+use Rattle.sn_engine_lockstep.specs.Known.{last_from}
+use Rattle.sn_engine_lockstep.proofs.Driving.{last_is}
 
 in_both : (xs ys : List Note) → answers_in (xs ++ ys) ≡ answers_in xs ++ answers_in ys
 in_both [] ys = refl

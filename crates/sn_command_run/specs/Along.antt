@@ -12,6 +12,7 @@ use Rattle.sn_core.specs.declared.supply.Supply.{Supply}
 use Rattle.sn_core.specs.declared.supply.Supply.TheVariants.{Numbered}
 use Rattle.sn_core.specs.declared.supply.Window.TheVariants.{Begun, Idle}
 use Rattle.sn_core_drive.specs.declared.machine.Machine.{Ghosts as MachineOf}
+use Rattle.sn_engine_lockstep.specs.Known.{last_from}
 use Rattle.sn_engine_lockstep.specs.Windows.{answers_from, plan_answers}
 use Rattle.sn_plan_fit.specs.Fits.{AreEntriesOf}
 use Rattle.sn_core_net.specs.States.{State, Works}
@@ -25,11 +26,6 @@ use Rattle.sn_command_run.specs.Planned.{Planned, Telling}
 -- the plan
 abbrev pub plan_of : {M : Type 0} → Along M → Planned
 plan_of a = record { queries = a.typed.queries; depth = a.depth; entries = a.plan.entries }
-
--- the last one of answers
-abbrev pub last_from : Option Answers → List Answers → Option Answers
-last_from before [] = before
-last_from before (a ∷ later) = last_from (Some a) later
 
 -- what windows are answered, one after another
 abbrev pub answers_of : Planned → List Window → List Answers

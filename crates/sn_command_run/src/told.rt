@@ -1,7 +1,7 @@
 //! What a machine reported while it was driven.
 ghost use Rattle.std.specs.Prelude.{◌≡◌, None};
 ghost use Rattle.sn_core_drive.specs.Schedules.{answers_in};
-ghost use Rattle.sn_command_run.specs.Along.{last_from};
+ghost use Rattle.sn_engine_lockstep.specs.Known.{last_from};
 
 use sn_base::seq::Seq;
 use sn_core_drive::note::Note;

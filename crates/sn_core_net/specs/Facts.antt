@@ -1,17 +1,14 @@
 -- serves proofs
 -- What holds of every net besides what its state says.
-use Rattle.std.specs.Prelude.{ℕ, ◌<◌, List, [], ◌∷◌, length, map, Bool, true, false, not, ◌&&◌, ◌==◌, Option}
-use Rattle.std.specs.List.{AllByRecursion, AllByRecursion-prop, list_all}
-use Rattle.std.proofs.Math.Bridge.{le_prop}
+use Rattle.std.specs.Prelude.{ℕ, List, [], ◌∷◌, map, Bool, true, false, not, ◌&&◌, ◌==◌, Option}
+use Rattle.std.specs.List.{list_all}
 use Rattle.sn_base.specs.declared.lane.Lane.{Lane}
 use Rattle.sn_core.specs.Needs.{is_over}
 use Rattle.sn_core.specs.declared.supply.Supply.{Supply}
 use Rattle.sn_core.specs.declared.supply.Window.{Window}
 use Rattle.sn_core.specs.declared.supply.Window.TheVariants.{Idle, Begun, Closed}
-use Rattle.sn_engine_lockstep.specs.declared.source.Source.{Source}
 use Rattle.sn_engine.specs.Intakes.{agrees, is_lane}
 use Rattle.sn_engine.specs.declared.intake.Intake.{Intake}
-use Rattle.sn_types.specs.declared.typed_query.TypedQuery.{TypedQuery}
 use Rattle.sn_core_net.specs.Reports.{is_own}
 use Rattle.sn_core_net.specs.declared.holder.Holder.{Holder}
 
@@ -48,10 +45,3 @@ are_roomy room hs = list_all (λ h. h.ring.capacity == room) hs
 -- each frame that a lane holds is one of its own in this window
 abbrev pub are_own : ℕ → List Holder → Bool
 are_own window hs = list_all (λ h. list_all (is_own h.sender.lane window) h.ring.items) hs
-
--- each source is of a query that is there
-abbrev pub AreKnown : List TypedQuery → List Source → Type 0
-AreKnown queries sources = AllByRecursion (λ (source : Source). source.query < length queries) sources
-
-pub are_known_prop : (queries : List TypedQuery) (sources : List Source) → IsProp (AreKnown queries sources)
-are_known_prop queries sources = AllByRecursion-prop (λ (source : Source). source.query < length queries) (λ source. le_prop) sources

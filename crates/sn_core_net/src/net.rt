@@ -2,7 +2,8 @@
 ghost use Rattle.std.specs.Prelude.{◌≡◌, ◌<◌, ◌^◌, ◌||◌, length, map, true};
 ghost use Rattle.sn_core.specs.Standing.{IsNet};
 ghost use Rattle.sn_engine.specs.Intakes.{emptied};
-ghost use Rattle.sn_core_net.specs.Facts.{AreKnown, are_known_prop, are_named, are_own, are_roomy, are_unread, ends_agree, may_be_read, names_of};
+ghost use Rattle.sn_core_net.specs.Facts.{are_named, are_own, are_roomy, are_unread, ends_agree, may_be_read, names_of};
+ghost use Rattle.sn_engine_lockstep.specs.Known.{AreKnown, are_known_prop};
 ghost use Rattle.sn_core_net.specs.Reports.{window_number};
 ghost use Rattle.sn_core_net.specs.States.{state_of, works_of};
 

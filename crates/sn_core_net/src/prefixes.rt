@@ -1,7 +1,7 @@
 //! The prefixes that answers keep for the lanes.
 ghost use Rattle.std.specs.Prelude.{◌≡◌, map, IfOk};
 ghost use Rattle.sn_engine_lockstep.specs.Sources.{prefixes_in};
-ghost use Rattle.sn_core_net.specs.Facts.{AreKnown};
+ghost use Rattle.sn_engine_lockstep.specs.Known.{AreKnown};
 
 use sn_base::members::Members;
 use sn_base::memory::Memory;

@@ -1,6 +1,6 @@
 use Rattle.std.proofs.Common.{◌≡◌, None, length}
 use Rattle.sn_core_drive.specs.Schedules.{answers_in}
-use Rattle.sn_command_run.specs.Along.{last_from}
+use Rattle.sn_engine_lockstep.specs.Known.{last_from}
 use Rattle.sn_command_run.proofs.told.last_told.Given as goal
 
 abbrev pub invariant-notes : goal.invariant-notes

@@ -1,10 +1,10 @@
-use Rattle.sn_command_emit.proofs.DriverLemmas.{known_of, on_four}
-use Rattle.sn_command_emit.specs.Reporting.{plan_of}
+use Rattle.sn_engine_lockstep.proofs.Driving.{known_of}
+use Rattle.sn_command_emit.proofs.DriverLemmas.{on_four}
 use Rattle.sn_command_emit.proofs.StateLemmas.{begin_hand}
 use Rattle.sn_command_emit.proofs.reporter.Reporter.begin.Goals as goal
 
 pub begin-requires-clause-known : goal.begin-requires-clause-known
-begin-requires-clause-known c = known_of (plan_of c.args.self.now) c.args.self.now.driver c.requires.1.driver
+begin-requires-clause-known c = let a = c.args.self.now in known_of a.typed.queries a.depth a.plan.entries a.driver c.requires.1.driver
 
 pub returns-clause-begun : goal.returns-clause-begun
 returns-clause-begun c =

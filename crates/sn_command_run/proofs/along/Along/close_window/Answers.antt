@@ -4,7 +4,7 @@ use Rattle.sn_core.specs.declared.supply.Supply.TheVariants.{End}
 use Rattle.sn_core_drive.specs.Schedules.{answers_in}
 use Rattle.sn_out.specs.Text.{IsPartOf}
 use Rattle.sn_types.specs.declared.answers.Answers.{Answers}
-use Rattle.sn_command_run.specs.Along.{last_from}
+use Rattle.sn_engine_lockstep.specs.Known.{last_from}
 use Rattle.sn_command_run.proofs.HandLemmas.{Found, answers_fit, answers_right, end_found, end_idle, none_told, one_told, used_end, used_wants}
 use Rattle.sn_command_run.proofs.along.Along.close_window.Goals as goal
 

@@ -4,7 +4,7 @@ use Rattle.sn_core.specs.declared.supply.Supply.TheVariants.{Numbered}
 use Rattle.sn_core_drive.specs.Schedules.{answers_in}
 use Rattle.sn_out.specs.Text.{IsPartOf}
 use Rattle.sn_types.specs.declared.answers.Answers.{Answers}
-use Rattle.sn_command_run.specs.Along.{last_from}
+use Rattle.sn_engine_lockstep.specs.Known.{last_from}
 use Rattle.sn_command_run.proofs.HandLemmas.{Found, answers_fit, answers_right, none_told, one_told, pass_found, pass_hand, used_earlier, used_wants}
 use Rattle.sn_command_run.proofs.along.Along.pass_window.Goals as goal
 

@@ -6,6 +6,7 @@ use Rattle.sn_core.specs.Needs.{first_need_that_fails}
 use Rattle.sn_core.specs.declared.event.Event.TheVariants as event
 use Rattle.sn_core.specs.declared.supply.Window.{Window}
 use Rattle.sn_core.specs.declared.supply.Window.TheVariants.{Begun, Closed}
+use Rattle.sn_engine_lockstep.specs.Known.{AreKnown}
 use Rattle.sn_engine_lockstep.specs.Sources.{prefixes_in}
 use Rattle.sn_engine.specs.Answers.{answers_of}
 use Rattle.sn_engine.specs.Intakes.{emptied}
@@ -14,7 +15,7 @@ use Rattle.sn_core_net.specs.PlanWorkings.{workings_of}
 use Rattle.sn_types.specs.declared.answers.Answers.{Answers}
 use Rattle.sn_types.specs.declared.typed_query.TypedQuery.{TypedQuery}
 use Rattle.sn_core_net.specs.declared.net.Net.{Net}
-use Rattle.sn_core_net.specs.Facts.{AreKnown, are_named, are_own, names_of}
+use Rattle.sn_core_net.specs.Facts.{are_named, are_own, names_of}
 use Rattle.sn_core_net.specs.Nets.{state, works}
 use Rattle.sn_core_net.specs.Reports.{window_number}
 use Rattle.sn_core_net.specs.States.{state_of}

@@ -6,6 +6,7 @@ use Rattle.std.specs.List.{list_all}
 use Rattle.sn_core.specs.Nets as core
 use Rattle.sn_core.specs.Events.{after_event, change_at}
 use Rattle.sn_core.specs.declared.event.Event.TheVariants as event
+use Rattle.sn_engine_lockstep.specs.Known.{AreKnown}
 use Rattle.sn_engine_lockstep.specs.Work.{taken}
 use Rattle.sn_engine.specs.Intakes.{after_frame, emptied}
 use Rattle.sn_engine.specs.declared.intake.Intake.{Intake}
@@ -16,7 +17,7 @@ use Rattle.sn_report.specs.declared.frame.Item.{Item}
 use Rattle.sn_types.specs.declared.typed_query.TypedQuery.{TypedQuery}
 use Rattle.sn_core_net.specs.declared.holder.Holder.{Holder}
 use Rattle.sn_core_net.specs.declared.net.Net.{Net}
-use Rattle.sn_core_net.specs.Facts.{AreKnown, are_named, are_unread, ends_agree, may_be_read, names_of}
+use Rattle.sn_core_net.specs.Facts.{are_named, are_unread, ends_agree, may_be_read, names_of}
 use Rattle.sn_core_net.specs.Nets.{state, works}
 use Rattle.sn_core_net.specs.States.{state_of}
 use Rattle.sn_core_net.specs.Reports.{frame_of, is_own, report_of, window_number}

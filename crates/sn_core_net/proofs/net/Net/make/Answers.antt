@@ -8,6 +8,7 @@ use Rattle.sn_core.specs.Standing.{IsNet}
 use Rattle.sn_core.specs.declared.supply.Window.TheVariants.{Idle}
 use Rattle.sn_engine_lockstep.proofs.Beginning.{has_shape, sources_are}
 use Rattle.sn_engine_lockstep.proofs.Laws.{made_known, new_idle, plan_made}
+use Rattle.sn_engine_lockstep.specs.Known.{AreKnown}
 use Rattle.sn_engine_lockstep.specs.Sources.{source_of, sources_of}
 use Rattle.sn_engine_lockstep.specs.Work.{AreApart, intake_of}
 use Rattle.sn_engine_lockstep.specs.declared.source.Source.{Source}
@@ -26,7 +27,7 @@ use Rattle.sn_report.specs.declared.frame.Item.{Item}
 use Rattle.sn_types.proofs.Facts.{few_queries}
 use Rattle.sn_types.specs.declared.typed_query.TypedQuery.{TypedQuery}
 use Rattle.sn_core_net.specs.declared.holder.Holder.{Holder}
-use Rattle.sn_core_net.specs.Facts.{AreKnown, are_named, are_own, are_roomy, are_unread, names_of}
+use Rattle.sn_core_net.specs.Facts.{are_named, are_own, are_roomy, are_unread, names_of}
 use Rattle.sn_core_net.specs.Holders.{with_ring}
 use Rattle.sn_core_net.specs.States.{State, Works, lanes_of, state_of, works_of}
 use Rattle.sn_core_net.proofs.Both.{Set}
