@@ -8,6 +8,8 @@ mod cuts;
 #[cfg(test)]
 mod engine;
 #[cfg(test)]
+mod epochs;
+#[cfg(test)]
 mod frames;
 #[cfg(test)]
 mod lanes;
