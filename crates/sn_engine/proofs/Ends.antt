@@ -14,7 +14,7 @@ use Rattle.sn_engine.specs.declared.fault.TakeFault.{TakeFault}
 use Rattle.sn_engine.specs.declared.fault.TakeFault.TheVariants.{Stranger, AfterEnd, Window}
 use Rattle.sn_engine.specs.declared.intake.Intake.{Intake}
 use Rattle.sn_engine.specs.Answers.{window_of}
-use Rattle.sn_engine.specs.Intakes.{intake_for, intakes_of, is_lane, with_item, with_end, emptied, has_ended, agrees, first_open, EndsAgree}
+use Rattle.sn_engine.specs.Intakes.{intake_for, intakes_of, is_lane, with_item, with_end, emptied, shared, has_ended, agrees, first_open, EndsAgree}
 use Rattle.sn_base.specs.Changed.{with_first}
 use Rattle.sn_engine.specs.Taking.{is_above, end_fault, take_fault}
 use Rattle.sn_engine.proofs.Firsts.{found_none}
@@ -60,6 +60,18 @@ plan_agrees es = open_agree (intakes_of 0 es) (open_of 0 es)
 open_emptied : (lanes : List Intake) → AllByRecursion (λ (x : Intake). x.end ≡ None) (map emptied lanes)
 open_emptied [] = tt
 open_emptied (x ∷ lanes) = (refl, open_emptied lanes)
+
+-- ends are the same where several switches send
+any_shared : (window : ℕ) (lanes : List Intake) → list_any (has_ended window) (map shared lanes) ≡ list_any (has_ended window) lanes
+any_shared window [] = refl
+any_shared window (x ∷ lanes) = ap (λ b. has_ended window x || b) (any_shared window lanes)
+
+all_shared : (window : ℕ) (lanes : List Intake) → list_all (agrees window) (map shared lanes) ≡ list_all (agrees window) lanes
+all_shared window [] = refl
+all_shared window (x ∷ lanes) = ap (λ b. agrees window x && b) (all_shared window lanes)
+
+pub shared_agree : (lanes : List Intake) → EndsAgree lanes → EndsAgree (map shared lanes)
+shared_agree lanes h window ended = all_shared window lanes ∙ h window (sym (any_shared window lanes) ∙ ended)
 
 pub emptied_agree : (lanes : List Intake) → EndsAgree (map emptied lanes)
 emptied_agree lanes = open_agree (map emptied lanes) (open_emptied lanes)

@@ -9,7 +9,7 @@ use Rattle.sn_base.specs.declared.lane.Lane.{Lane}
 use Rattle.sn_plan_grammar.specs.declared.plan.Entry.{Entry}
 use Rattle.sn_plan_grammar.specs.declared.plan.Piece.{Piece}
 use Rattle.sn_report.specs.declared.frame.Item.{Item}
-use Rattle.sn_engine_split.specs.Branches.{IsItemOf, is_tag_of, tag_columns}
+use Rattle.sn_engine_split.specs.Branches.{IsItemOf, tag_columns}
 use Rattle.sn_types.specs.declared.typed_query.TypedBranch.{TypedBranch}
 use Rattle.sn_types.specs.declared.typed_query.TypedQuery.{TypedQuery}
 use Rattle.sn_types.specs.Typed.{IsTyped, query_at, branch_at}
@@ -17,11 +17,11 @@ use Rattle.sn_plan_fit.specs.Fits.{AreEntriesOf, IsEntryOf, HasShape}
 use Rattle.sn_plan_fit.proofs.Bounds.{few_in_all}
 use Rattle.sn_plan_fit.specs.Paths.{Place, piece_place, level_places, places}
 use Rattle.sn_engine.specs.declared.intake.Intake.{Intake}
-use Rattle.sn_engine.specs.Intakes.{intake_for, intakes_of, is_lane, items_at, with_item, with_end, emptied, total, IsIntake, AreIntakes}
+use Rattle.sn_engine.specs.Intakes.{intake_for, intakes_of, is_lane, items_at, with_item, with_end, emptied, shared, total, IsIntake, AreIntakes}
 use Rattle.sn_base.specs.Changed.{with_first}
 use Rattle.sn_engine.proofs.Firsts.{all_changed, all_found, all_kept, sum_changed, sum_cons}
 use Rattle.sn_engine.proofs.Columns.{columns_of}
-use Rattle.sn_engine.specs.Taking.{has_columns, row_fault, take_fault}
+use Rattle.sn_engine.specs.Taking.{has_columns, is_tag_on, row_fault, take_fault}
 use Rattle.sn_engine.specs.declared.fault.TakeFault.{TakeFault}
 use Rattle.sn_engine.specs.declared.fault.TakeFault.TheVariants.{Stranger, Width, AfterEnd}
 use Rattle.sn_report.specs.declared.frame.Frame.TheVariants as frames
@@ -141,6 +141,16 @@ pub emptied_none : (lanes : List Intake) → total (map emptied lanes) ≡ 0
 emptied_none [] = refl
 emptied_none (x ∷ lanes) = let rest = emptied_none lanes in let both = sum_cons (λ (y : Intake). length y.items) (emptied x) (map emptied lanes) in omega (arith, rest, both)
 
+pub shared_sound : (queries : List TypedQuery) (lanes : List Intake) → AreIntakes queries lanes → AreIntakes queries (map shared lanes)
+shared_sound queries [] h = tt
+shared_sound queries (x ∷ lanes) h = (record { query = h.0.query; branch = h.0.branch; each = h.0.each }, shared_sound queries lanes h.1)
+
+pub shared_same : (lanes : List Intake) → total (map shared lanes) ≡ total lanes
+shared_same [] = refl
+shared_same (x ∷ lanes) =
+    sum_cons (λ (y : Intake). length y.items) (shared x) (map shared lanes) ∙ ap (λ n. length x.items + n) (shared_same lanes)
+    ∙ sym (sum_cons (λ (y : Intake). length y.items) x lanes)
+
 -- all items of a vector, changed in place
 pub whole_again : (change : Intake → Intake) (lanes : List Intake) (n : ℕ) → n ≡ length lanes → take n (map change lanes ++ drop (length (map change lanes)) lanes) ≡ map change lanes
 whole_again change lanes n count =
@@ -162,7 +172,7 @@ takes_item : (queries : List TypedQuery) (x : Intake) (item : Item) → row_faul
 takes_item queries x item none =
     let b = branch_at queries x.query x.branch in
     columns_of (tag_columns b.schemas item.tag) item.row
-    (width_of (is_tag_of b.ops x.cut item.tag) (has_columns (tag_columns b.schemas item.tag) item.row) (cond (is_some x.end) (Some AfterEnd) None) none)
+    (width_of (is_tag_on x.shared b.ops x.cut item.tag) (has_columns (tag_columns b.schemas item.tag) item.row) (cond (is_some x.end) (Some AfterEnd) None) none)
 
 record Taker (queries : List TypedQuery) (lanes : List Intake) (lane : Lane) (item : Item) : Type 0 where
   x : Intake

@@ -1,15 +1,19 @@
 -- to be believed
 -- Which frames an engine takes.
-use Rattle.std.specs.Prelude.{◌≡◌, ℕ, ◌^◌, List, [], ◌∷◌, Bool, true, false, not, ◌&&◌, ◌⊎◌, nat_lt, is_some, Option, None, Some, Result, Ok, Err}
+use Rattle.std.specs.Prelude.{◌≡◌, ℕ, ◌^◌, List, [], ◌∷◌, Bool, true, false, not, ◌&&◌, ◌⊎◌, nat_lt, ◌==◌, take, is_some, Option, None, Some, Result, Ok, Err}
 use Rattle.std.specs.Prelude.{if◌then◌else◌}
-use Rattle.std.specs.List.{find, list_all}
+use Rattle.std.specs.List.{find, list_all, list_any}
 use Rattle.std.specs.Option.{option_map_or}
 use Rattle.sn_base.specs.Groups.{Row as Numbers}
 use Rattle.sn_base.specs.declared.column.Column.{Column}
 use Rattle.sn_report.specs.declared.frame.Frame.{Frame}
 use Rattle.sn_report.specs.declared.frame.Frame.TheVariants.{Row, End}
 use Rattle.sn_report.specs.declared.frame.Item.{Item}
-use Rattle.sn_engine_split.specs.Branches.{is_tag_of, tag_columns}
+use Rattle.sn_report.specs.declared.frame.Tag.{Tag}
+use Rattle.sn_report.specs.declared.frame.Tag.TheVariants.{At, Partial}
+use Rattle.sn_engine_split.specs.Branches.{is_at_place, is_reduce, is_tag_of, tag_columns}
+use Rattle.sn_types.specs.Cuts.{is_stateful}
+use Rattle.sn_types.specs.declared.typed_op.TOp.{TOp}
 use Rattle.sn_types.specs.declared.typed_query.TypedBranch.{TypedBranch}
 use Rattle.sn_types.specs.declared.typed_query.TypedQuery.{TypedQuery}
 use Rattle.sn_types.specs.Typed.{branch_at}
@@ -33,11 +37,27 @@ abbrev pub is_above : Option ℕ → ℕ → Bool
 is_above None window = true
 is_above (Some closed) window = nat_lt closed window
 
+-- ---- tags
+
+-- the first operator that has registers stands at this place
+abbrev pub is_first_stateful : List TOp → ℕ → Bool
+is_first_stateful os i = is_at_place is_stateful os i && not (list_any is_stateful (take i os))
+
+-- The tags of a prefix that several switches run, each up to the first operator that has registers: At this operator, and Partial of it where
+-- it is a reduce; At the cut where none has registers.
+abbrev pub is_shared_tag : List TOp → ℕ → Tag → Bool
+is_shared_tag os cut (At i) = if list_any is_stateful (take cut os) then is_first_stateful os i else i == cut
+is_shared_tag os cut (Partial i) = nat_lt i cut && is_at_place is_reduce os i && is_first_stateful os i
+
+-- the tags of a lane
+abbrev pub is_tag_on : Bool → List TOp → ℕ → Tag → Bool
+is_tag_on shared os cut tag = if shared then is_shared_tag os cut tag else is_tag_of os cut tag
+
 -- ---- the first refusal
 
 abbrev pub item_fault : TypedBranch → Intake → Item → Option TakeFault
 item_fault branch x item =
-    if not (is_tag_of branch.ops x.cut item.tag) then Some Stranger
+    if not (is_tag_on x.shared branch.ops x.cut item.tag) then Some Stranger
     else if not (has_columns (tag_columns branch.schemas item.tag) item.row) then Some Width
     else if is_some x.end then Some AfterEnd
     else None

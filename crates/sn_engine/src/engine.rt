@@ -2,7 +2,7 @@
 ghost use Rattle.std.specs.Prelude.{◌≡◌, ◌<◌, ◌^◌, length, map, position, slice_get, is_some, true, false, Some, None, IfOk, OnOk, OnErr};
 ghost use Rattle.std.specs.List.{list_all, list_any};
 ghost use Rattle.std.specs.Option.{option_map_or};
-ghost use Rattle.sn_engine.specs.Intakes.{AreIntakes, are_intakes_prop, EndsAgree, ends_agree_prop, total, with_item, with_end, is_lane, after_frame, emptied};
+ghost use Rattle.sn_engine.specs.Intakes.{AreIntakes, are_intakes_prop, EndsAgree, ends_agree_prop, total, with_item, with_end, is_lane, after_frame, emptied, shared};
 ghost use Rattle.sn_engine.specs.Intakes.{has_ended, has_started, intakes_of};
 ghost use Rattle.sn_base.specs.Changed.{with_first};
 ghost use Rattle.sn_engine.specs.Taking.{take_fault, Refuses};
@@ -68,6 +68,15 @@ fn empty_all(lanes: &mut [Intake])
     }
 }
 
+/// From now on several switches send on all lanes.
+fn share_all(lanes: &mut [Intake])
+    ensures { lanes.new ≡ map shared lanes.old }
+{
+    for x in lanes.iter_mut() {
+        x.share();
+    }
+}
+
 impl Engine {
     /// The engine of a plan that has the shape of the queries. Nothing has come, and no window was closed.
     pub fn make(alloc: Global, t: &Typed, plan: &Plan) -> Result<Engine, Memory>
@@ -85,6 +94,29 @@ impl Engine {
             count: 0,
             closed: None,
         })
+    }
+
+    /// The engine of a plan that several switches run. Each stops in a branch at the first operator that has registers, and what it
+    /// sends of this operator has its number: rows of an overflow and the rows that a distinct saw first as `At`, what a reduce
+    /// holds as `Partial`. Nothing has come, and no window was closed.
+    pub fn make_many(alloc: Global, t: &Typed, plan: &Plan) -> Result<Engine, Memory>
+        requires { HasShape t.now.queries plan.now.entries }
+        ensures queries { IfOk result (λ engine. engine.t.queries ≡ t.now.queries) }
+        ensures lanes { IfOk result (λ engine. engine.lanes.items ≡ map shared (intakes_of 0 plan.now.entries)) }
+        ensures closed { IfOk result (λ engine. engine.closed ≡ None) }
+    {
+        let mut engine = Engine::make(alloc, t, plan)?;
+        engine.share();
+        Ok(engine)
+    }
+
+    /// From now on several switches send on all lanes.
+    fn share(&mut self)
+        ensures lanes { self.new.lanes.items ≡ map shared self.old.lanes.items }
+        ensures closed { self.new.closed ≡ self.old.closed }
+        ensures queries { self.new.t.queries ≡ self.old.t.queries }
+    {
+        share_all(&mut self.lanes);
     }
 
     fn take_row(&mut self, lane: Lane, item: &Item) -> Result<(), TakeFault>
@@ -174,6 +206,16 @@ impl Engine {
         empty_all(&mut self.lanes);
         self.count = 0;
         self.closed = Some(window);
+    }
+
+    /// Drops what came since the last close, as if it hadn't come. Takes no memory.
+    pub fn clear(&mut self)
+        ensures emptied { self.new.lanes.items ≡ map emptied self.old.lanes.items }
+        ensures closed { self.new.closed ≡ self.old.closed }
+        ensures queries { self.new.t.queries ≡ self.old.t.queries }
+    {
+        empty_all(&mut self.lanes);
+        self.count = 0;
     }
 
     /// Whether a lane has ended the window. A lane that is no piece of the plan never has.

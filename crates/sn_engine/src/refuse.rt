@@ -2,7 +2,7 @@
 ghost use Rattle.std.specs.Prelude.{◌≡◌, ◌^◌, ◌<◌, ◌&&◌, ℕ, List, Option, length, nat_lt, position, take};
 ghost use Rattle.std.specs.List.{list_any, list_all};
 ghost use Rattle.sn_engine.specs.Intakes.{is_lane, agrees, AreIntakes};
-ghost use Rattle.sn_engine.specs.Taking.{has_columns, is_above, row_fault, end_fault, take_fault, Places};
+ghost use Rattle.sn_engine.specs.Taking.{has_columns, is_above, is_first_stateful, is_shared_tag, is_tag_on, row_fault, end_fault, take_fault, Places};
 ghost use Rattle.sn_report.specs.declared.frame.Frame.TheVariants as Frame;
 ghost use Rattle.sn_types.specs.declared.typed_query.TypedQuery.{TypedQuery};
 ghost use Rattle.sn_engine_split.specs.Branches.{is_distinct, is_reduce, is_at_place, is_tag_of, tag_columns};
@@ -81,6 +81,48 @@ fn is_tag_of(ops: &[TOp], cut: u32, tag: Tag) -> bool
     }
 }
 
+/// Whether one of the first operators has registers.
+fn has_stateful(ops: &[TOp], count: usize) -> bool
+    ensures { result ≡ list_any is_stateful (take count ops.now) }
+{
+    ops.iter().take(count).any(|op| is_stateful(op))
+}
+
+/// Whether the first operator that has registers stands at this place.
+fn is_first_stateful(ops: &[TOp], i: usize) -> bool
+    ensures { result ≡ is_first_stateful ops.now i }
+{
+    is_stateful_at(ops, i) && !has_stateful(ops, i)
+}
+
+fn is_shared_tag(ops: &[TOp], cut: u32, tag: Tag) -> bool
+    ensures { result ≡ is_shared_tag ops.now cut tag }
+{
+    match tag {
+        Tag::At(i) => {
+            if has_stateful(ops, cut as usize) {
+                is_first_stateful(ops, i as usize)
+            } else {
+                i as u32 == cut
+            }
+        }
+        Tag::Partial(i) => {
+            (i as u32) < cut && is_reduce_at(ops, i as usize) && is_first_stateful(ops, i as usize)
+        }
+    }
+}
+
+/// Whether a lane with this cut has a tag.
+fn is_tag_on(shared: bool, ops: &[TOp], cut: u32, tag: Tag) -> bool
+    ensures { result ≡ is_tag_on shared ops.now cut tag }
+{
+    if shared {
+        is_shared_tag(ops, cut, tag)
+    } else {
+        is_tag_of(ops, cut, tag)
+    }
+}
+
 fn has_bits(number: u64, width: u32) -> bool
     ensures { result ≡ nat_lt number (2 ^ width) }
 {
@@ -131,7 +173,7 @@ fn row_fault(t: &Typed, x: &Intake, item: &Item) -> Option<TakeFault>
     ensures { result ≡ row_fault t.now.queries x.now item.now }
 {
     let branch = t.branch(x.query, x.branch);
-    if !is_tag_of(branch.ops.as_slice(), x.cut, item.tag) {
+    if !is_tag_on(x.shared, branch.ops.as_slice(), x.cut, item.tag) {
         Some(TakeFault::Stranger)
     } else if !has_columns(&tag_columns(branch, item.tag), &item.row) {
         Some(TakeFault::Width)
