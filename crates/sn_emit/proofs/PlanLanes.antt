@@ -4,6 +4,7 @@ use Rattle.std.specs.FinSet as set
 use Rattle.std.specs.List.{AllByRecursion}
 use Rattle.std.specs.Ordering.{nat_cmp}
 use Rattle.std.proofs.lemmas.List.{map-append, take_more}
+use Rattle.sn_base.proofs.Lists.{all_front, all_rest, all_unmap}
 use Rattle.sn_plan_grammar.specs.declared.plan.Entry.{Entry}
 use Rattle.sn_plan_grammar.specs.declared.plan.Piece.{Piece}
 use Rattle.sn_pipe.specs.Pipes.{IsNewPipe, PipeState, at_start}
@@ -43,6 +44,23 @@ pub one_piece_more : (done : List Placed) (f : Piece → Placed) (pieces : List 
 one_piece_more done f pieces i p lt at =
     let upto : take (i + 1) pieces ≡ take i pieces ++ p ∷ [] = take_more pieces i p lt ∙ ap (λ o. take i pieces ++ o ∷ []) (sym at) in
     append_assoc done (map f (take i pieces)) (f p ∷ []) ∙ ap (λ ys. done ++ ys) (sym (map-append f (take i pieces) (p ∷ [])) ∙ ap (map f) (sym upto))
+
+-- what holds of all pieces holds of those of an entry
+pub entry_all : (P : Placed → Type 0) (n : ℕ) (es : List Entry) (i : ℕ) (e : Entry) → i < length es → e ≡ get_or es i e → AllByRecursion P (pieces_from n es) → AllByRecursion (λ (p : Piece). P (placed (n + i) e.levels p)) e.pieces
+entry_all P n [] i e lt at h = absurd (omega (arith, lt))
+entry_all P n (f ∷ es) zero e lt at h =
+    subst (λ (g : Entry). AllByRecursion (λ (p : Piece). P (placed (n + 0) g.levels p)) g.pieces) (sym at)
+    (subst (λ (m : ℕ). AllByRecursion (λ (p : Piece). P (placed m f.levels p)) f.pieces) none_more
+    (all_unmap P (placed n f.levels) f.pieces (all_front P (map (placed n f.levels) f.pieces) (pieces_from (suc n) es) h)))
+  where
+    none_more : n ≡ n + 0
+    none_more = omega arith
+entry_all P n (f ∷ es) (suc i) e lt at h =
+    subst (λ (m : ℕ). AllByRecursion (λ (p : Piece). P (placed m e.levels p)) e.pieces) moved
+    (entry_all P (suc n) es i e (omega (arith, lt)) at (all_rest P (map (placed n f.levels) f.pieces) (pieces_from (suc n) es) h))
+  where
+    moved : suc n + i ≡ n + suc i
+    moved = omega arith
 
 -- ---- lanes as they are made
 

@@ -1,8 +1,9 @@
 //! All lanes of a plan.
-ghost use Rattle.std.specs.Prelude.{◌≡◌, ◌≢◌, ℕ, ◌<◌, List, IfOk, IfSome, length, slice_get, slice_set};
+ghost use Rattle.std.specs.Prelude.{◌≡◌, ◌≢◌, ℕ, ◌<◌, ◌≤◌, List, IfOk, IfSome, length, slice_get, slice_set};
+ghost use Rattle.std.specs.List.{AllByRecursion};
 ghost use Rattle.std.specs.Option.{option_map};
 ghost use Rattle.sn_emit.specs.Lanes.{emitted_by};
-ghost use Rattle.sn_emit.specs.Making.{CanEncode};
+ghost use Rattle.sn_emit.specs.Making.{CanEncode, CanMake};
 ghost use Rattle.sn_emit.specs.Plans.{AreLanesOf, AreNewLanes, Placed, pieces_from};
 ghost use Rattle.sn_emit.specs.Runs.{IsReadOut};
 ghost use Rattle.sn_emit.specs.Senders.{row_frame, sender_next, sender_start};
@@ -11,7 +12,7 @@ ghost use Rattle.sn_pipe.specs.Pipes.{item_of};
 ghost use Rattle.sn_switch.specs.Texts.{IsSwitch};
 ghost use Rattle.sn_types.specs.declared.typed_query.TypedQuery.{TypedQuery};
 
-use crate::making::senders;
+use crate::making::senders_of;
 use crate::sender::Sender;
 use sn_base::members::Members;
 use sn_base::memory::Memory;
@@ -64,7 +65,20 @@ impl Emitter {
         requires fits { Fits t.now.queries s.now plan.now.entries }
         ensures { IfOk result (λ lanes. AreNewLanes t.now.queries s.now.chain (pieces_from 0 plan.now.entries) lanes) }
     {
-        let lanes = senders(t, s, plan)?;
+        Emitter::of(t, s.chain, plan)
+    }
+
+    /// The lanes of pieces that can be made, each at the start of a window, with an empty prefix set, where each stateful operator
+    /// has `chain` registers. All memory that they ever need is taken here.
+    pub fn of(t: &Typed, chain: u32, plan: &Plan) -> Result<Emitter, Memory>
+        requires some_depth { 1 ≤ chain }
+        requires most_depth { chain ≤ 4 }
+        requires few { length plan.now.entries ≤ 8 }
+        requires most { length (pieces_from 0 plan.now.entries) ≤ 64 }
+        requires can { AllByRecursion (CanMake t.now.queries) (pieces_from 0 plan.now.entries) }
+        ensures { IfOk result (λ lanes. AreNewLanes t.now.queries chain (pieces_from 0 plan.now.entries) lanes) }
+    {
+        let lanes = senders_of(t, chain, plan)?;
         Ok(Emitter { lanes })
     }
 

@@ -93,18 +93,30 @@ fn push_senders(
     Ok(())
 }
 
+/// The lanes of pieces that can be made, one for each in the plan's order, each at the start of a window, with an empty prefix set,
+/// where each stateful operator has `chain` registers.
+pub fn senders_of(t: &Typed, chain: u32, plan: &Plan) -> Result<Vec<Sender>, Memory>
+    requires some_depth { 1 ≤ chain }
+    requires most_depth { chain ≤ 4 }
+    requires few { length plan.now.entries ≤ 8 }
+    requires can { AllByRecursion (CanMake t.now.queries) (pieces_from 0 plan.now.entries) }
+    ensures { IfOk result (λ lanes. AreNewLanes t.now.queries chain (pieces_from 0 plan.now.entries) lanes.items) }
+{
+    let mut lanes = Seq::new(t.alloc);
+    let mut q = 0;
+    for entry in plan.entries.as_slice() {
+        let path = entry.levels.as_slice();
+        push_senders(&mut lanes, t, chain, q, path, entry.pieces.as_slice())?;
+        q += 1;
+    }
+    Ok(lanes.into_vec())
+}
+
 /// The lanes of a plan that fits, one for each piece in the plan's order, each at the start of a window, with an empty prefix set.
 pub fn senders(t: &Typed, s: &Switch, plan: &Plan) -> Result<Vec<Sender>, Memory>
     requires switch { IsSwitch s.now }
     requires fits { Fits t.now.queries s.now plan.now.entries }
     ensures { IfOk result (λ lanes. AreNewLanes t.now.queries s.now.chain (pieces_from 0 plan.now.entries) lanes.items) }
 {
-    let mut lanes = Seq::new(t.alloc);
-    let mut q = 0;
-    for entry in plan.entries.as_slice() {
-        let path = entry.levels.as_slice();
-        push_senders(&mut lanes, t, s.chain, q, path, entry.pieces.as_slice())?;
-        q += 1;
-    }
-    Ok(lanes.into_vec())
+    senders_of(t, s.chain, plan)
 }
