@@ -85,7 +85,7 @@ first_is c (y ∷ xs) (m ∷ ls) (suc i) x l apart named at lane =
     later (is_lane (name_of x)) c m ls (named.0 (name_of x) ∙ all_get (λ z. is_lane (name_of z) (intake_of y) ≡ false) xs i x apart.0 at)
     ∙ ap (λ zs. m ∷ zs) (first_is c xs ls i x l apart.1 named.1 at lane)
 
-after_is : (lanes : List Intake) (f : Frame) → after_frame lanes f ≡ with_first (is_lane (lane_in f)) (λ l. taken l f) lanes
+pub after_is : (lanes : List Intake) (f : Frame) → after_frame lanes f ≡ with_first (is_lane (lane_in f)) (λ l. taken l f) lanes
 after_is lanes (Row lane item) = refl
 after_is lanes (End lane window) = refl
 

@@ -1,5 +1,5 @@
 -- What the laws say.
-use Rattle.std.proofs.Common.{◌≡◌, ℕ, suc, ◌+◌, ◌<◌, List, [], ◌∷◌, ◌++◌, map, Option, Some, None, length, subst, refl, ap, sym, ◌∙◌, arith}
+use Rattle.std.proofs.Common.{◌≡◌, ℕ, suc, ◌+◌, ◌<◌, ◌≤◌, List, [], ◌∷◌, ◌++◌, map, Option, Some, None, length, subst, refl, ap, sym, ◌∙◌, arith}
 use Rattle.std.specs.List.{AllByRecursion}
 use Rattle.std.proofs.lemmas.List.{map-append}
 use Rattle.sn_base.proofs.Lists.{all_map, all_weaker, map_both}
@@ -9,6 +9,7 @@ use Rattle.sn_emit.specs.Plans.{AreLanesOf, AreNewLanes, Placed, pieces_from, pl
 use Rattle.sn_emit.proofs.PlanFacts.{all_can}
 use Rattle.sn_emit.proofs.PlanLanes.{lanes_count, lanes_of_new}
 use Rattle.sn_engine.specs.declared.intake.Intake.{Intake}
+use Rattle.sn_engine.proofs.Lanes.{as_many_entries}
 use Rattle.sn_engine.specs.Answers.{parts_of}
 use Rattle.sn_engine.specs.Intakes.{intakes_of, total}
 use Rattle.sn_plan_fit.specs.Fits.{AreEntriesOf, Fits}
@@ -18,6 +19,7 @@ use Rattle.sn_refine.specs.Steps.{Set, windows_of}
 use Rattle.sn_refine.proofs.Windows.{above_last, earlier, here, later}
 use Rattle.sn_switch.specs.declared.switch.Switch.{Switch}
 use Rattle.sn_switch.specs.Texts.{IsSwitch}
+use Rattle.sn_types.proofs.Facts.{few_queries}
 use Rattle.sn_types.specs.declared.answers.Answers.{Answers}
 use Rattle.sn_types.specs.declared.answers.Part.{Part}
 use Rattle.sn_types.specs.declared.typed_query.TypedQuery.{TypedQuery}
@@ -54,6 +56,10 @@ new_idle queries depth es senders h new = record {
 
 pub plan_made : (window : ℕ) (queries : List TypedQuery) (s : Switch) (es : List Entry) → ∥ IsTyped window queries ∥₁ → IsSwitch s → Fits queries s es → AllByRecursion (CanMake queries) (pieces_from 0 es)
 plan_made window queries s es t is fits = all_can window queries s t is es fits.paths fits.pieces
+
+-- there are at most eight entries
+pub few_of : (window : ℕ) (queries : List TypedQuery) (es : List Entry) → ∥ IsTyped window queries ∥₁ → AreEntriesOf queries es → length es ≤ 8
+few_of window queries es t h = let many = as_many_entries queries es h in let few = few_queries window queries t in omega (arith, many, few)
 
 -- a source for each lane, of a query that is there
 pub made_many : (queries : List TypedQuery) (depth : ℕ) (es : List Entry) (senders : List Sender) → AreNewLanes queries depth (pieces_from 0 es) senders → length (sources_of 0 es) ≡ length senders

@@ -21,7 +21,8 @@ use Rattle.sn_plan_grammar.specs.declared.plan.Piece.{Piece}
 use Rattle.sn_refine.specs.Refined.{level_rows, part_at}
 use Rattle.sn_refine.specs.Steps.{Set, is_held, parts_in, rows_at}
 use Rattle.sn_report.specs.declared.frame.Item.{Item}
-use Rattle.sn_engine_split.specs.Branches.{AreSplit}
+use Rattle.sn_engine_split.specs.Branches.{AreSplit, query_value}
+use Rattle.sn_base.specs.Sorted.{sorted_rows}
 use Rattle.sn_engine_split.proofs.Queries.{query_split}
 use Rattle.sn_types.specs.declared.answers.Part.{Part}
 use Rattle.sn_types.specs.declared.typed_query.TypedBranch.{TypedBranch}
@@ -105,26 +106,26 @@ map_firsts t f g (x ∷ xs) same =
     ∙ sym (ap (λ b. map g (cond b (x ∷ filter t xs) (filter t xs))) is))
     (λ isnt. ap (λ b. map f (cond b (x ∷ filter t xs) (filter t xs))) isnt ∙ rest ∙ sym (ap (λ b. map g (cond b (x ∷ filter t xs) (filter t xs))) isnt))
 
-module _ (typed_for depth window : ℕ) (queries : List TypedQuery) (kept : Source → Set) (tuples : List (List ℕ)) (pieces : List Placed)
-    (typed : ∥ IsTyped typed_for queries ∥₁) (can : AllByRecursion (CanMake queries) pieces) (apart : AreApart pieces) (widths : AllByRecursion HasWidths tuples) where
+-- Lanes whose items have, at each query and level, the value of what the level sees.
+module _ (typed_for window : ℕ) (queries : List TypedQuery) (kept : Source → Set) (tuples : List (List ℕ)) (pieces : List Placed)
+    (typed : ∥ IsTyped typed_for queries ∥₁) (can : AllByRecursion (CanMake queries) pieces) (apart : AreApart pieces)
+    (shared : Bool) (found : Placed → List Item) (Of : ℕ → List ℕ → ℕ → ℕ → List Item → Type 0)
+    (own : (q : ℕ) (path : List ℕ) (p : Piece) → CanMake queries (placed q path p) → Of q path p.level p.branch (found (placed q path p)))
+    (valued : (q : ℕ) (path : List ℕ) (level : ℕ) (left right : List Item) → q < length queries → Of q path level 0 left → (length (query_at queries q).branches ≡ 2 → Of q path level 1 right)
+    → sorted_rows (query_value (query_at queries q) level left right)
+    ≡ level_rows (query_at queries q) level (Some (seen_by (query_at queries q) path (λ j. kept (source_at q (Some (slice_index path j)))) tuples (place_in path level)))) where
+  abbrev lane : Placed → Intake
+  lane x = record (intake_of x) { shared = shared; items = found x; end = Some window }
+
   abbrev lanes : List Intake
-  lanes = map (done queries depth kept tuples window) pieces
+  lanes = map lane pieces
 
   abbrev kept_before : ℕ → List ℕ → ℕ → Set
   kept_before q path j = kept (source_at q (Some (slice_index path j)))
 
-  seen_widths : (q : ℕ) (path : List ℕ) (place : ℕ) → AllByRecursion HasWidths (seen_by (query_at queries q) path (kept_before q path) tuples place)
-  seen_widths q path zero = widths
-  seen_widths q path (suc j) = all_filter HasWidths (is_held (query_at queries q).field (slice_index path j) (kept_before q path j)) tuples widths
-
-  -- the items of a piece are those of its branch on what its level sees
-  split_of : (q : ℕ) (path : List ℕ) (p : Piece) (level b : ℕ) → CanMake queries (placed q path p) → p.level ≡ level → p.branch ≡ b
-      → AreSplit queries q b level None (seen_by (query_at queries q) path (kept_before q path) tuples (place_in path level)) (items_of queries depth (placed q path p) (kept (source_of (placed q path p))) tuples)
-  split_of q path p level b mine same branch =
-      let found = items_of queries depth (placed q path p) (kept (source_of (placed q path p))) tuples in
-      subst (λ l. AreSplit queries q b l None (seen_by (query_at queries q) path (kept_before q path) tuples (place_in path l)) found) same
-      (subst (λ n. AreSplit queries q n p.level None (seen_by (query_at queries q) path (kept_before q path) tuples (place_in path p.level)) found) branch
-      (record { cut = p.cut; depth = depth; sizes = p.slots; within = mine.cut; same = bag_same (sym (items_seen queries depth q path p kept tuples)) }))
+  of_place : (q : ℕ) (path : List ℕ) (p : Piece) (level b : ℕ) → CanMake queries (placed q path p) → p.level ≡ level → p.branch ≡ b → Of q path level b (found (placed q path p))
+  of_place q path p level b mine same branch =
+      subst (λ l. Of q path l b (found (placed q path p))) same (subst (λ n. Of q path p.level n (found (placed q path p))) branch (own q path p mine))
 
   -- the answer at a level
   abbrev answer_at : ℕ → List ℕ → ℕ → Part
@@ -139,49 +140,48 @@ module _ (typed_for depth window : ℕ) (queries : List TypedQuery) (kept : Sour
     mine : (i : ℕ) (p : Piece) → slice_get e.pieces i ≡ Some p → CanMake queries (placed q e.levels p)
     mine i p at = all_get (CanMake queries) pieces (length front + i) (placed q e.levels p) can (stands i p at)
 
-    found_items : (i : ℕ) (p : Piece) → slice_get e.pieces i ≡ Some p → items_at lanes (name_of (placed q e.levels p)) ≡ items_of queries depth (placed q e.levels p) (kept (source_of (placed q e.levels p))) tuples
-    found_items i p at = ap first_of (find_own (done queries depth kept tuples window) (λ n y. refl) pieces (length front + i) (placed q e.levels p) apart (stands i p at))
+    found_items : (i : ℕ) (p : Piece) → slice_get e.pieces i ≡ Some p → items_at lanes (name_of (placed q e.levels p)) ≡ found (placed q e.levels p)
+    found_items i p at = ap first_of (find_own lane (λ n y. refl) pieces (length front + i) (placed q e.levels p) apart (stands i p at))
 
     -- the items of the second branch at a level
-    second_split : (level : ℕ) → is_among e.levels level ≡ true → length (query_at queries q).branches ≡ 2
-        → AreSplit queries q 1 level None (seen_by (query_at queries q) e.levels (kept_before q e.levels) tuples (place_in e.levels level)) (items_at lanes (lane_at q (place_in e.levels level) 1))
-    second_split level known two =
+    second_of_level : (level : ℕ) → is_among e.levels level ≡ true → length (query_at queries q).branches ≡ 2
+        → Of q e.levels level 1 (items_at lanes (lane_at q (place_in e.levels level) 1))
+    second_of_level level known two =
         let s = second_of (query_at queries q).branches e.levels level two known in
-        let m : Mapped piece_place e.pieces s.place (level, 1) = map_get piece_place e.pieces s.place (level, 1) (ap (λ found. slice_get found s.place) entry.pieces ∙ s.stands) in
+        let m : Mapped piece_place e.pieces s.place (level, 1) = map_get piece_place e.pieces s.place (level, 1) (ap (λ ps. slice_get ps s.place) entry.pieces ∙ s.stands) in
         let p = m.at in
         let l : p.level ≡ level = ap (λ (a : Place). a.0) m.is in
         let b : p.branch ≡ 1 = ap (λ (a : Place). a.1) m.is in
         let name : name_of (placed q e.levels p) ≡ lane_at q (place_in e.levels level) 1 = ap (λ n. lane_at q (place_in e.levels n) p.branch) l ∙ ap (lane_at q (place_in e.levels level)) b in
-        subst (AreSplit queries q 1 level None (seen_by (query_at queries q) e.levels (kept_before q e.levels) tuples (place_in e.levels level)))
+        subst (Of q e.levels level 1)
         (sym (found_items s.place p m.stands) ∙ ap (items_at lanes) name)
-        (split_of q e.levels p level 1 (mine s.place p m.stands) l b)
+        (of_place q e.levels p level 1 (mine s.place p m.stands) l b)
 
-    first_part : (i : ℕ) (p : Piece) → slice_get e.pieces i ≡ Some p → (p.branch == 0) ≡ true → part_of queries lanes (done queries depth kept tuples window (placed q e.levels p)) ≡ answer_at q e.levels p.level
+    first_part : (i : ℕ) (p : Piece) → slice_get e.pieces i ≡ Some p → (p.branch == 0) ≡ true → part_of queries lanes (lane (placed q e.levels p)) ≡ answer_at q e.levels p.level
     first_part i p at first =
         let query = query_at queries q in
         let known = all_get (λ (p : Piece). is_among e.levels p.level ≡ true) e.pieces i p (levels_known query e entry) at in
         let place = place_in e.levels p.level in
         let seen = seen_by query e.levels (kept_before q e.levels) tuples place in
-        let left = items_of queries depth (placed q e.levels p) (kept (source_of (placed q e.levels p))) tuples in
         ap (λ (rows : List Row). made rows)
-        (query_split typed_for queries q p.level None seen left (items_at lanes (lane_at q place 1)) typed lt (seen_widths q e.levels place)
-        (split_of q e.levels p p.level 0 (mine i p at) refl (nat_same p.branch 0 first)) (second_split p.level known)
+        (valued q e.levels p.level (found (placed q e.levels p)) (items_at lanes (lane_at q place 1)) lt
+        (of_place q e.levels p p.level 0 (mine i p at) refl (nat_same p.branch 0 first)) (second_of_level p.level known)
         ∙ ap (λ l. level_rows query l (Some seen)) (sym (place_level e.levels p.level known))
         ∙ sym (rows_seen query e.levels (kept_before q e.levels) tuples place))
       where
         made : List Row → Part
         made rows = record { query = q; level = p.level; rows = rows }
 
-    pub entry_parts : map (part_of queries lanes) (filter (λ (x : Intake). x.branch == 0) (map (done queries depth kept tuples window) (map (placed q e.levels) e.pieces)))
+    pub entry_parts : map (part_of queries lanes) (filter (λ (x : Intake). x.branch == 0) (map lane (map (placed q e.levels) e.pieces)))
         ≡ parts_in q (query_at queries q) e.levels (kept_before q e.levels) tuples
     entry_parts =
-        let lane : Piece → Intake = λ p. done queries depth kept tuples window (placed q e.levels p) in
+        let mine : Piece → Intake = λ p. lane (placed q e.levels p) in
         let first : Piece → Bool = λ p. p.branch == 0 in
         let rows : ℕ → List Row = rows_at (query_at queries q) e.levels (kept_before q e.levels) tuples in
-        ap (λ ls. map (part_of queries lanes) (filter (λ (x : Intake). x.branch == 0) ls)) (map_both (placed q e.levels) (done queries depth kept tuples window) e.pieces)
-        ∙ ap (map (part_of queries lanes)) (sym (filter_map lane (λ (x : Intake). x.branch == 0) e.pieces))
-        ∙ map_both lane (part_of queries lanes) (filter first e.pieces)
-        ∙ map_firsts first (λ p. part_of queries lanes (lane p)) (λ p. answer_at q e.levels p.level) e.pieces first_part
+        ap (λ ls. map (part_of queries lanes) (filter (λ (x : Intake). x.branch == 0) ls)) (map_both (placed q e.levels) lane e.pieces)
+        ∙ ap (map (part_of queries lanes)) (sym (filter_map mine (λ (x : Intake). x.branch == 0) e.pieces))
+        ∙ map_both mine (part_of queries lanes) (filter first e.pieces)
+        ∙ map_firsts first (λ p. part_of queries lanes (mine p)) (λ p. answer_at q e.levels p.level) e.pieces first_part
         ∙ sym (map_both (λ (p : Piece). p.level) (answer_at q e.levels) (filter first e.pieces))
         ∙ ap (map (answer_at q e.levels)) levels
         ∙ along (answer_at q e.levels) (part_at q e.levels rows) 0 e.levels same
@@ -210,7 +210,7 @@ module _ (typed_for depth window : ℕ) (queries : List TypedQuery) (kept : Sour
 
   parts_behind : (left : List TypedQuery) (n : ℕ) (es : List Entry) (front : List Placed) → ((j : ℕ) → query_at queries (n + j) ≡ query_at left j) → n + length left ≡ length queries → AreEntriesOf left es
       → pieces ≡ front ++ pieces_from n es
-      → map (part_of queries lanes) (filter (λ (x : Intake). x.branch == 0) (map (done queries depth kept tuples window) (pieces_from n es))) ≡ parts_from queries kept tuples n es
+      → map (part_of queries lanes) (filter (λ (x : Intake). x.branch == 0) (map lane (pieces_from n es))) ≡ parts_from queries kept tuples n es
   parts_behind [] n [] front same count h whole = refl
   parts_behind [] n (e ∷ es) front same count h whole = absurd h
   parts_behind (query ∷ left) n [] front same count h whole = absurd h
@@ -218,7 +218,6 @@ module _ (typed_for depth window : ℕ) (queries : List TypedQuery) (kept : Sour
       let own = map (placed n e.levels) e.pieces in
       let here : query_at queries n ≡ query = ap (query_at queries) none_more ∙ same 0 in
       let entry : IsEntryOf (query_at queries n) e = subst (λ x. IsEntryOf x e) (sym here) h.0 in
-      let lane = done queries depth kept tuples window in
       let first : Intake → Bool = λ x. x.branch == 0 in
       ap (λ ls. map (part_of queries lanes) (filter first ls)) (map-append lane own (pieces_from (suc n) es))
       ∙ ap (map (part_of queries lanes)) (filter_append first (map lane own) (map lane (pieces_from (suc n) es)))
@@ -233,22 +232,46 @@ module _ (typed_for depth window : ℕ) (queries : List TypedQuery) (kept : Sour
       moved : (j : ℕ) → suc n + j ≡ n + suc j
       moved j = omega arith
 
-  pub all_parts : (es : List Entry) → AreEntriesOf queries es → pieces ≡ pieces_from 0 es → parts_of queries lanes ≡ parts_from queries kept tuples 0 es
-  all_parts es h are =
-      ap (λ xs. map (part_of queries lanes) (filter (λ (x : Intake). x.branch == 0) (map (done queries depth kept tuples window) xs))) are
+  pub parts_are : (es : List Entry) → AreEntriesOf queries es → pieces ≡ pieces_from 0 es → parts_of queries lanes ≡ parts_from queries kept tuples 0 es
+  parts_are es h are =
+      ap (λ xs. map (part_of queries lanes) (filter (λ (x : Intake). x.branch == 0) (map lane xs))) are
       ∙ parts_behind queries 0 es [] (λ j. ap (query_at queries) (from j)) (omega arith) h are
     where
       from : (j : ℕ) → 0 + j ≡ j
       from j = omega arith
+
+-- ---- the lanes of one switch
+
+module _ (typed_for depth window : ℕ) (queries : List TypedQuery) (kept : Source → Set) (tuples : List (List ℕ)) (pieces : List Placed)
+    (typed : ∥ IsTyped typed_for queries ∥₁) (can : AllByRecursion (CanMake queries) pieces) (apart : AreApart pieces) (widths : AllByRecursion HasWidths tuples) where
+  abbrev seen_at : ℕ → List ℕ → ℕ → List (List ℕ)
+  seen_at q path level = seen_by (query_at queries q) path (λ j. kept (source_at q (Some (slice_index path j)))) tuples (place_in path level)
+
+  pub seen_widths : (q : ℕ) (path : List ℕ) (place : ℕ) → AllByRecursion HasWidths (seen_by (query_at queries q) path (λ j. kept (source_at q (Some (slice_index path j)))) tuples place)
+  seen_widths q path zero = widths
+  seen_widths q path (suc j) = all_filter HasWidths (is_held (query_at queries q).field (slice_index path j) (kept (source_at q (Some (slice_index path j))))) tuples widths
+
+  -- the items of a piece are those of its branch on what its level sees
+  abbrev Split : ℕ → List ℕ → ℕ → ℕ → List Item → Type 0
+  Split q path level b found = AreSplit queries q b level None (seen_at q path level) found
+
+  split_own : (q : ℕ) (path : List ℕ) (p : Piece) → CanMake queries (placed q path p) → Split q path p.level p.branch (items_of queries depth (placed q path p) (kept (source_of (placed q path p))) tuples)
+  split_own q path p mine = record { cut = p.cut; depth = depth; sizes = p.slots; within = mine.cut; same = bag_same (sym (items_seen queries depth q path p kept tuples)) }
+
+  pub all_parts : (es : List Entry) → AreEntriesOf queries es → pieces ≡ pieces_from 0 es → parts_of queries (map (done queries depth kept tuples window) pieces) ≡ parts_from queries kept tuples 0 es
+  all_parts es h are =
+      parts_are typed_for window queries kept tuples pieces typed can apart false (λ x. items_of queries depth x (kept (source_of x)) tuples) Split split_own
+      (λ q path level left right lt l r. query_split typed_for queries q level None (seen_at q path level) left right typed lt (seen_widths q path (place_in path level)) l r)
+      es h are
 
   total_from : (xs : List Placed) → total (map (done queries depth kept tuples window) xs) ≡ sent_by queries depth xs kept tuples
   total_from [] = refl
   total_from (x ∷ xs) =
       let lane = done queries depth kept tuples window in
       let count : Placed → ℕ = λ y. length (items_of queries depth y (kept (source_of y)) tuples) in
-      sum_by-cons (λ (l : Intake). length l.items) (lane x) (map lane xs)
+      sum_by-cons (λ (l : Intake). length l.items) (lane x) (map (done queries depth kept tuples window) xs)
       ∙ ap (λ n. count x + n) (total_from xs)
       ∙ sym (sum_by-cons (λ (n : ℕ). n) (count x) (map count xs))
 
-  pub all_sent : total lanes ≡ sent_by queries depth pieces kept tuples
+  pub all_sent : total (map (done queries depth kept tuples window) pieces) ≡ sent_by queries depth pieces kept tuples
   all_sent = total_from pieces

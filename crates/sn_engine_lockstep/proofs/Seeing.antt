@@ -5,12 +5,11 @@ use Rattle.sn_emit.specs.Plans.{items_of, level_before, placed}
 use Rattle.sn_fields.specs.declared.field.Field.{Field}
 use Rattle.sn_plan_fit.specs.Paths.{place_in}
 use Rattle.sn_pipe_items.specs.Items.{items}
-use Rattle.sn_ops.specs.Packets.{is_kept}
-use Rattle.sn_pipe.specs.Pipes.{is_let_in}
+use Rattle.sn_ops.specs.Packets.{is_kept, packet_rows}
+use Rattle.sn_pipe.specs.Pipes.{is_let_in, rows_let_in}
 use Rattle.sn_plan_grammar.specs.declared.plan.Piece.{Piece}
 use Rattle.sn_refine.specs.Steps.{Set, is_held, rows_at}
 use Rattle.sn_refine.specs.Refined.{level_rows}
-use Rattle.sn_report.specs.declared.frame.Item.{Item}
 use Rattle.sn_engine_split.specs.Branches.{branch_items}
 use Rattle.sn_types.specs.Cuts.{size_at}
 use Rattle.sn_types.specs.declared.typed_query.TypedQuery.{TypedQuery}
@@ -72,12 +71,18 @@ module _ (query : TypedQuery) (q : ℕ) (path : List ℕ) (kept : Source → Set
   unfolding let_in
   lets_in level = by_place level (place_in path level) refl
 
+-- the rows that the lane of a piece admits are the packet rows of what its level sees
+pub rows_let_seen : (query : TypedQuery) (q : ℕ) (path : List ℕ) (kept : Source → Set) (tuples : List (List ℕ)) (b level : ℕ)
+    → rows_let_in query b level (level_before path level) (kept (source_at q (level_before path level))) tuples
+    ≡ packet_rows query b level None (seen_by query path (λ j. kept (source_at q (Some (slice_index path j)))) tuples (place_in path level))
+rows_let_seen query q path kept tuples b level =
+    let seen = seen_by query path (λ j. kept (source_at q (Some (slice_index path j)))) tuples (place_in path level) in
+    ap (map (packet_row query.field level (branch_of query b).fields)) (lets_in query q path kept tuples level ∙ sym (all_in (is_kept query.field None) (any_kept query.field) seen))
+
 -- the items of a piece are those of its branch on the tuples that its level sees
 pub items_seen : (queries : List TypedQuery) (depth q : ℕ) (path : List ℕ) (p : Piece) (kept : Source → Set) (tuples : List (List ℕ))
     → items_of queries depth (placed q path p) (kept (source_at q (level_before path p.level))) tuples
     ≡ branch_items (query_at queries q) p.branch p.level None p.cut depth p.slots (seen_by (query_at queries q) path (λ j. kept (source_at q (Some (slice_index path j)))) tuples (place_in path p.level))
 items_seen queries depth q path p kept tuples =
     let query = query_at queries q in
-    let seen = seen_by query path (λ j. kept (source_at q (Some (slice_index path j)))) tuples (place_in path p.level) in
-    let made : List (List ℕ) → List Item = λ ts. items depth (size_at (branch_of query p.branch).ops p.slots) p.cut (map (op_at p.level) (branch_of query p.branch).ops) (map (packet_row query.field p.level (branch_of query p.branch).fields) ts) in
-    ap made (lets_in query q path kept tuples p.level ∙ sym (all_in (is_kept query.field None) (any_kept query.field) seen))
+    ap (items depth (size_at (branch_of query p.branch).ops p.slots) p.cut (map (op_at p.level) (branch_of query p.branch).ops)) (rows_let_seen query q path kept tuples p.branch p.level)

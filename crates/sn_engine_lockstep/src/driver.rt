@@ -10,7 +10,7 @@ ghost use Rattle.sn_emit.specs.Plans.{AreLanesOf, AreNewLanes, Placed, pieces_fr
 ghost use Rattle.sn_emit.specs.Senders.{frames_left};
 ghost use Rattle.sn_engine.specs.Answers.{parts_of};
 ghost use Rattle.sn_engine.specs.Intakes.{emptied, intakes_of, total};
-ghost use Rattle.sn_plan_fit.specs.Fits.{Fits};
+ghost use Rattle.sn_plan_fit.specs.Fits.{Fits, HasShape};
 ghost use Rattle.sn_refine.specs.Steps.{Set};
 ghost use Rattle.sn_switch.specs.Texts.{IsSwitch};
 ghost use Rattle.sn_types.specs.Typed.{HasWidths, IsTyped};
@@ -55,8 +55,25 @@ impl Driver {
         ensures many { IfOk result (λ driver. length driver.sources ≡ length driver.emitter) }
         ensures known { IfOk result (λ driver. AllByRecursion (λ source. source.query < length driver.engine.t.queries) driver.sources) }
     {
+        Driver::of(t, s.chain, plan)
+    }
+
+    /// The lanes and the engine of pieces that can be made, where each stateful operator has `chain` registers. No window was begun.
+    pub fn of(t: &Typed, chain: u32, plan: &Plan) -> Result<Driver, Memory>
+        requires some_depth { 1 ≤ chain }
+        requires most_depth { chain ≤ 4 }
+        requires shape { HasShape t.now.queries plan.now.entries }
+        requires most { length (pieces_from 0 plan.now.entries) ≤ 64 }
+        requires can { AllByRecursion (CanMake t.now.queries) (pieces_from 0 plan.now.entries) }
+        ensures queries { IfOk result (λ driver. driver.engine.t.queries ≡ t.now.queries) }
+        ensures sources { IfOk result (λ driver. driver.sources ≡ sources_of 0 plan.now.entries) }
+        ensures lanes { IfOk result (λ driver. AreNewLanes t.now.queries chain (pieces_from 0 plan.now.entries) driver.emitter) }
+        ensures empty { IfOk result (λ driver. driver.engine.lanes.items ≡ intakes_of 0 plan.now.entries) }
+        ensures many { IfOk result (λ driver. length driver.sources ≡ length driver.emitter) }
+        ensures known { IfOk result (λ driver. AllByRecursion (λ source. source.query < length driver.engine.t.queries) driver.sources) }
+    {
         let sources = sources(t.alloc, plan.entries.as_slice())?;
-        let emitter = Emitter::make(t, s, plan)?;
+        let emitter = Emitter::of(t, chain, plan)?;
         let engine = Engine::make(t.alloc, t, plan)?;
         Ok(Driver {
             alloc: t.alloc,

@@ -36,3 +36,19 @@ impl Wire for Vec<u8> {
         push_bytes(self, &spelled[..length])
     }
 }
+
+/// Nobody is told.
+#[derive(Clone, Copy, Debug)]
+pub struct Nobody;
+
+impl Wire for Nobody {
+    ghost use Rattle.std.specs.Prelude.{[]};
+
+    ghost told = { λ wire. [] };
+
+    ghost word = { λ frame. [] };
+
+    fn sent(&mut self, _frame: &Frame) -> Result<(), Memory> {
+        Ok(())
+    }
+}
