@@ -1,5 +1,7 @@
 //! What an engine takes, and what it answers.
-use crate::texts::{NET, SPREAD, TWO_SLOTS, lane, plan, queries, row, rows, sent};
+use crate::texts::{
+    COUNTS, NET, ONE_SLOT, SPREAD, TWO_SLOTS, lane, plan, queries, row, rows, sent,
+};
 use sn_engine::engine::Engine;
 use sn_engine::fault::{CloseFault, TakeFault};
 use sn_plan_fit::shape;
@@ -128,5 +130,32 @@ fn the_order_of_items_is_free(rt: HostRuntime) -> Result<(), Fail> {
     assert_eq!(rt; other.emitted, 41);
     assert_eq!(rt; rows(&one, 0).len(), 5);
     assert_eq!(rt; rows(&one, 0), rows(&other, 0));
+    Ok(())
+}
+
+#[test]
+fn an_engine_of_many_takes_parts_of_a_first_reduce(rt: HostRuntime) -> Result<(), Fail> {
+    let t = queries(rt.alloc(), COUNTS).expect(&rt, "queries");
+    let plan = plan(rt.alloc(), ONE_SLOT).expect(&rt, "a plan");
+    let Ok(()) = shape(&t, &plan) else {
+        return Err("no shape".into());
+    };
+    let mut engine = Engine::make_many(rt.alloc(), &t, &plan)?;
+    let part = row(&[NET + 1, 2]);
+    let pair = row(&[NET + 1, 1]);
+    assert_eq!(rt; engine.take(&sent(Tag::Partial(1), part)), Ok(()));
+    assert_eq!(rt; engine.take(&sent(Tag::At(1), pair)), Ok(()));
+    assert_eq!(rt;
+        engine.take(&sent(Tag::At(2), pair)),
+        Err(TakeFault::Stranger)
+    );
+    assert_eq!(rt;
+        engine.take(&sent(Tag::At(0), pair)),
+        Err(TakeFault::Stranger)
+    );
+    assert_eq!(rt;
+        engine.take(&sent(Tag::Partial(0), pair)),
+        Err(TakeFault::Stranger)
+    );
     Ok(())
 }
