@@ -5,6 +5,8 @@ along     `run`, `emit` and `finish` with the queries of three.query and the pla
           few.plan, whose registers are of a size that suits it (`fitting`). `emit` drives the lanes by a loop of its own, so `run` over it is what a
           machine costs. The answers of `run` and `finish`
           are compared with those of `plain`, and the text of `run` with that of switch.c, which does by hand what this plan says.
+late      `detect` with the same queries, along the plan of full.plan, whose paths have one level, and along paths of two. It answers each query twice, in one
+          reading.
 training  `plan` and `check` with the queries and the switch of the generated job, at several sizes of the capture. `plan --nodes 1` ends behind the cost
           table, so it is the training alone, and what `plan` takes beyond it is the search and the printing of the tree.
 job       `job 7` against `plain` with its queries on the capture of 8.
@@ -27,7 +29,10 @@ TIGHT_SWITCH = 'stages 4; actions 2; bits 65536; meta 512; chain 2; slots 64, 25
 # Eight queries that want more registers than the tight switch has.
 EIGHT = 'window 1000000\n' + ''.join('query q%d { refine ip.dst: 8, 16, 24, 32; packets | filter ip.len > %d | map ip.dst as d, 1 as n | reduce d: sum(n) width 32 | filter n > %d; }\n'
                                      % (number, 40 + 100 * number, 50 + number) for number in range(8))
-GOALS = {('run', 'plain'): 2, ('emit', 'plain'): 2, ('run', 'emit'): 1.2, ('run fitting', 'plain'): 2, ('emit fitting', 'plain'): 2, ('run fitting', 'emit fitting'): 1.2, ('training', 'plain'): 15, ('job', 'plain'): 40}
+# The three queries of three.query at a coarse level and the finest one.
+TWO_LEVELS = 'plan\n' + ''.join('query %s path 8, 32;\n' % name + ''.join('piece %d %d cut 0;\n' % (level, branch) for level in (8, 32) for branch in range(branches))
+                                for name, branches in (('newconn', 1), ('spread', 1), ('slow', 2)))
+GOALS = {('detect', 'plain'): 2.2, ('run', 'plain'): 2, ('emit', 'plain'): 2, ('run', 'emit'): 1.2, ('run fitting', 'plain'): 2, ('emit fitting', 'plain'): 2, ('run fitting', 'emit fitting'): 1.2, ('training', 'plain'): 15, ('job', 'plain'): 40}
 
 sys.path.insert(0, CHECKS)
 import program  # noqa: E402
@@ -114,6 +119,23 @@ def along(given, measurer, folder):
     return good
 
 
+def late(given, measurer, folder):
+    """Whether `detect` ends along both plans."""
+    good, two = True, written(folder, 'two.plan', TWO_LEVELS)
+    for kind in given.kinds:
+        capture = run.generate(kind, given.packets, given.number, folder)
+        part = Part(given, measurer, folder, 'how late, %s: %d packets' % (kind, given.packets))
+        part.add('plain', 'plain', run.QUERIES, capture)
+        part.add('detect', 'detect', run.QUERIES, PLAN, capture)
+        part.add('detect two levels', 'detect', run.QUERIES, two, capture)
+        run.read_once(capture)
+        part.measure()
+        part.tell(given.packets)
+        good = good and all(one.status == 0 for one in part.found.values())
+        os.remove(capture)
+    return good
+
+
 def written(folder, name, text):
     path = os.path.join(folder, name)
     with open(path, 'w') as file:
@@ -182,18 +204,18 @@ def reading(given, measurer, folder):
     return run.bytes_of(part.outs['plan']) == run.bytes_of(part.outs['reading'])
 
 
-PARTS = {'along': (along, {'run'}), 'training': (training, {'plan'}), 'job': (job, {'job', 'gen'}), 'search': (search, {'plan'}), 'reading': (reading, {'plan'})}
+PARTS = {'along': (along, {'run'}), 'late': (late, {'detect'}), 'training': (training, {'plan'}), 'job': (job, {'job', 'gen'}), 'search': (search, {'plan'}), 'reading': (reading, {'plan'})}
 
 
 def words_given():
     words = argparse.ArgumentParser(description=__doc__, formatter_class=argparse.RawDescriptionHelpFormatter)
     words.add_argument('parts', nargs='*', metavar='PART', default=['along', 'training', 'job'], help='of %s (default: along training job)' % ', '.join(PARTS))
     words.add_argument('--sonata', default=run.USUAL, help='the program to measure (default: the one that this clone built)')
-    words.add_argument('--packets', type=int, default=1000000, help='packets of each capture of `along`')
+    words.add_argument('--packets', type=int, default=1000000, help='packets of each capture of `along` and `late`')
     words.add_argument('--training', type=int, nargs='+', default=[20000, 2000000], metavar='PACKETS', help='packets of training captures (default 20000 2000000)')
     words.add_argument('--number', type=int, default=7, help='the number from which the captures are drawn')
     words.add_argument('--runs', type=int, default=5, help='runs of each command; the least processor time counts (above 500000 packets of training it is one)')
-    words.add_argument('--kinds', nargs='+', default=['few', 'many'], choices=['few', 'many'], help='captures of `along`')
+    words.add_argument('--kinds', nargs='+', default=['few', 'many'], choices=['few', 'many'], help='captures of `along` and `late`')
     words.add_argument('--keep', metavar='FOLDER', help='put outputs there, and leave them')
     given = words.parse_args()
     if set(given.parts) - set(PARTS):

@@ -2,7 +2,7 @@
 """Runs what stands in the documents. Of docs/QUERIES.md the examples: each query with the answer that stands after it, and each refused text with its
 error line. Of README.md and the documents around plans each `sh` block, one after another in a folder of its own as one shell would, with the `shows`
 block that stands after it, where one does; a line `...` there stands for any lines. Blocks of other kinds, as `bash`, aren't run. Of answers that are
-drawn each key must stand in the picture, in the new one and in the one that the document shows. A document is left out
+drawn each key must stand in the picture, and of stays each line, in the new one and in the one that the document shows. A document is left out
 where the program hasn't all its commands; checks/planned.py has them (`documents.py --sonata checks/planned.py`). Without matplotlib and graphviz pictures
 are left out, and without editcap, mergecap, psql, xxd, tcpdump, jq or Dask the blocks that use them."""
 
@@ -23,7 +23,7 @@ PAIR = re.compile(r'```(query|refused)\n(.*?)```\n+```(answer|line)\n(.*?)```', 
 BLOCK = re.compile(r'```sh\n(.*?)```(?:\n+```shows\n(.*?)```)?', re.S)
 # (the README and those around plans: blocks of other kinds than sh, as bash, aren't run)
 SESSIONS = ['README.md', 'FORMATS.md', 'PLANS.md', 'TOUR.md', 'SCALE.md']
-COMMAND = re.compile(r'\bsonata (plain|plan|run|emit|finish|check|live|gen|job) [^-|;&>\n]+( --csv)?')
+COMMAND = re.compile(r'\bsonata (plain|plan|run|emit|finish|detect|check|live|gen|job) [^-|;&>\n]+( --csv)?')
 TOOLS = re.compile(r'^(?:.*\| *)?(editcap|mergecap|reordercap|psql|xxd|jq|tcpdump) ', re.M)
 DASK = re.compile(r'examples/scale/(?:parts|rest)\.py')
 PICTURE = re.compile(r'^/usr/bin/python3 \S*view/(?:layout|tree|emitted|answers|report)\.py .*\n', re.M)
@@ -99,17 +99,17 @@ def try_session(executable, name):
                 continue
             status, found = spoken(commands if pictures else PICTURE.sub('', commands), place)
             good = is_shown(shown, found) if shown else status == 0
-            bad += pictures and good and lacks_keys(commands, place, name)
+            bad += good and lacks_keys(commands, place, name, pictures)
             bad += differs(commands, shown or 'status 0', shown or 'status 0' if good else found)
     return len(blocks), bad
 
 
-def lacks_keys(commands, place, name):
-    """Tell the keys of answers that aren't in the pictures that a block drew of them, and whether there are some."""
+def lacks_keys(commands, place, name, pictures):
+    """Tell the keys of answers and the stays that aren't in the pictures that a block drew of them, and whether there are some."""
     with open(place['PLACE']) as file:
         folder = file.read().strip()
     shown = [os.path.join(TOP, 'docs', link) for link in drawn_keys.LINK.findall(document(name))]
-    keys = drawn_keys.missing(commands, folder, shown)
+    keys = (drawn_keys.missing(commands, folder, shown) if pictures else []) + drawn_keys.missing_stays(commands, folder, shown)
     for key in keys:
         print('%s: no key %s' % (name, key))
     return bool(keys)

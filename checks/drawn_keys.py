@@ -1,4 +1,4 @@
-"""Looks for the keys of answers in the picture that view/answers.py drew of them: each must stand there as it is."""
+"""Looks for the keys of answers in the picture that view/answers.py drew of them, and for stays in that of view/stays.py: each must stand there as it is."""
 
 import collections
 import csv
@@ -10,10 +10,13 @@ import xml.etree.ElementTree
 
 HERE = os.path.dirname(os.path.abspath(__file__))
 sys.path.insert(0, os.path.join(HERE, '..', 'view'))
+import stays  # noqa: E402
 import texts  # noqa: E402
 
 COMMAND = re.compile(r'^/usr/bin/python3 \S*view/answers\.py (.*)$', re.M)
-LINK = re.compile(r'\]\((pictures/\S*answers\.svg)\)')
+STAYS = re.compile(r'^python3 \S*view/stays\.py (.*)$', re.M)
+LINK = re.compile(r'\]\((pictures/\S*(?:answers|late)\.svg)\)')
+SVG = '{http://www.w3.org/2000/svg}'
 
 
 def keys_of(answers, queries):
@@ -31,10 +34,10 @@ def keys_of(answers, queries):
     return {key for levels in rows.values() for key in levels[max(levels)]}
 
 
-def words_of(picture):
-    """The words of a picture, each as it is read."""
+def words_of(picture, kind='text'):
+    """The words of a picture, each as it is read; or the titles of its parts."""
     root = xml.etree.ElementTree.parse(picture).getroot()
-    return {''.join(part.itertext()).strip() for part in root.iter('{http://www.w3.org/2000/svg}text')}
+    return {''.join(part.itertext()).strip() for part in root.iter(SVG + kind)}
 
 
 def missing(commands, folder, pictures):
@@ -49,4 +52,17 @@ def missing(commands, folder, pictures):
         keys = keys_of(os.path.join(folder, words[0]), queries)
         for picture in [os.path.join(folder, drawn)] + [name for name in pictures if name.endswith(drawn)]:
             found += ['%s in %s' % (key, picture) for key in sorted(keys - words_of(picture))]
+    return found
+
+
+def missing_stays(commands, folder, pictures):
+    """The addresses and the lines of stays that aren't in a picture, for each command that draws what `detect` printed, where nothing of it is folded."""
+    found = []
+    for words in (shlex.split(line) for line in STAYS.findall(commands)):
+        drawn = words[words.index('-o') + 1]
+        with open(os.path.join(folder, words[0])) as file:
+            lines = [line.rstrip('\n') for line in file if stays.STAY.match(line)]
+        for picture in [os.path.join(folder, drawn)] + [name for name in pictures if name.endswith(drawn)]:
+            named, titled = words_of(picture), words_of(picture, 'title')
+            found += ['%s in %s' % (line, picture) for line in lines if line not in titled or line.split()[0] not in named]
     return found

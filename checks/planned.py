@@ -6,6 +6,7 @@
     planned.py run SWITCH QUERIES PLAN CAPTURE [--csv]
     planned.py emit SWITCH QUERIES PLAN CAPTURE
     planned.py finish QUERIES PLAN REPORTS
+    planned.py detect QUERIES PLAN CAPTURE
     planned.py check SWITCH QUERIES TRAIN PLANTREE
     planned.py live SWITCH QUERIES TRAIN CAPTURE [--nodes N] [--schedule K] [--trace]
     planned.py gen NUMBER
@@ -19,7 +20,7 @@ import sys
 
 import plain as unsplit
 from plain import read, told
-from reference import costs, fields, generated, grammar, nets, plans, split, switches, tokens, typing_rules, words
+from reference import costs, fields, generated, grammar, nets, plans, split, stays, switches, tokens, typing_rules, words
 
 
 class Refused(Exception):
@@ -117,6 +118,13 @@ def finish(given):
     return text
 
 
+def detect(given):
+    queries_name, plan_name, capture_name = given.files
+    window, queries = read_queries(queries_name)
+    entries = read_plan(plan_name, lambda entries: plans.check_shape(queries, entries))
+    return answered(lambda window, queries, _, entries, file: stays.detect(window, queries, entries, file), window, queries, None, entries, capture_name)
+
+
 def trained(window, queries, switch, name):
     """The costs on a training capture, of which the whole records count."""
     try:
@@ -194,7 +202,7 @@ def job(given):
     return ('\n'.join(lines) + '\n').encode()
 
 
-COMMANDS = {'plain': plain, 'plan': plan, 'run': run, 'emit': over_capture(split.emit), 'finish': finish, 'check': check, 'live': live, 'gen': gen, 'job': job}
+COMMANDS = {'plain': plain, 'plan': plan, 'run': run, 'emit': over_capture(split.emit), 'finish': finish, 'detect': detect, 'check': check, 'live': live, 'gen': gen, 'job': job}
 
 
 def answer(*spoken):

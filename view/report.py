@@ -4,8 +4,9 @@
     report.py SWITCH QUERIES TRAIN PLANTREE CAPTURE -o report.html
 
 The page has the plan in the switch, the tree of bounds to open node by node, the tuples sent by query and level, the answers over time with a table to sort
-and filter, the commands and the checksums of all files, and what is proved and what isn't. It runs `sonata check`, `run` and `emit` for that. --answers
-and --reports give what `run` and `emit` wrote, in their place, and --unchecked leaves `check` out, which the page then says.
+and filter, how late refined queries were answered, the commands and the checksums of all files, and what is proved and what isn't. It runs `sonata check`,
+`run`, `emit` and `detect` for that. --answers, --reports and --stays give what the last three wrote, in their place, and --unchecked leaves `check` out,
+which the page then says.
 
 PLANTREE is what `sonata plan` printed. A page of a tree of 10,000 nodes and of a day of windows stays below 2 MB: of more than 3,000 keys those are shown
 that were answered in most windows, and of many windows several share a column. A tree of more than 20,000 nodes is left out, and the page says so;
@@ -26,12 +27,13 @@ import layout
 import pictures
 import printed
 import programs
+import stays
 import texts
 import times
 import tree
 
 TEMPLATE = os.path.join(os.path.dirname(os.path.abspath(__file__)), 'report.html')
-COLUMNS, KEYS, NODES = 120, 3000, 20000
+COLUMNS, KEYS, NODES, STAYS = 120, 3000, 20000, 20
 
 
 def checksum(name):
@@ -170,7 +172,7 @@ def commands(given):
     base = [os.path.basename(name) for name in (given.switch, given.queries, given.train, given.certificate, given.capture)]
     switch, queries, train, certificate, capture = base
     return ['sonata check %s %s %s %s' % (switch, queries, train, certificate), 'sonata run %s %s %s %s' % (switch, queries, certificate, capture),
-            'sonata emit %s %s %s %s > reports' % (switch, queries, certificate, capture)]
+            'sonata emit %s %s %s %s > reports' % (switch, queries, certificate, capture), 'sonata detect %s %s %s' % (queries, certificate, capture)]
 
 
 def kept_words(keys):
@@ -197,7 +199,16 @@ def checked(given):
     return '<code>sonata check</code> says <b>%s</b>.' % html.escape((text if status == 0 else line).strip())
 
 
-def made(given, answers, reports, damage):
+def late_svg(name, count):
+    """How late addresses were printed, over so many windows; in words where no query is refined."""
+    queries = stays.read_file(name)
+    if not queries:
+        return '<p>No query is refined, so none is late.</p>'
+    svg = pictures.shortened(stays.drawn(queries, STAYS, count))
+    return '<div class="wide" tabindex="0" role="region" aria-label="how late addresses were printed">%s</div>' % svg
+
+
+def made(given, answers, reports, late, damage):
     """The parts of the page."""
     switch, queries = texts.read_switch(given.switch), texts.read_queries(given.queries)
     plan, cost, nodes = texts.read_certificate(given.certificate)
@@ -222,7 +233,7 @@ def made(given, answers, reports, damage):
         'nodes': tree_words(given, nodes), 'with': '' if data else ' hidden',
         'charts': ''.join(sent_svg(plan, windows, counts, q, count) for q in range(len(plan))),
         'per': '' if columns_of(count) == 1 else ' A column is %d windows.' % columns_of(count),
-        'kept': kept_words(keys),
+        'kept': kept_words(keys), 'late': late_svg(late, count),
         'asked': html.escape(texts.held(given.queries).decode(errors='replace')), 'commands': html.escape('\n'.join(commands(given))),
         'files': ''.join('<tr><td>%s</td><td><code>%s</code></td></tr>' % (html.escape(os.path.basename(name)), checksum(name)) for name in files + [given.sonata]),
         'data': json.dumps(page, separators=(',', ':')).replace('</', '<\\/')}
@@ -239,6 +250,7 @@ def main():
     words.add_argument('--title', default='A plan and its answers', help='the title of the page')
     words.add_argument('--answers', help='what `sonata run` printed, where it is there already')
     words.add_argument('--reports', help='what `sonata emit` wrote, where it is there already')
+    words.add_argument('--stays', help='what `sonata detect` printed, where it is there already')
     words.add_argument('--unchecked', action='store_true', help='leave `sonata check` out')
     words.add_argument('--whole-tree', action='store_true', help='show the tree also where it has more than %s nodes' % format(NODES, ','))
     programs.add_option(words)
@@ -248,12 +260,13 @@ def main():
         checksum(name)
     four = given.switch, given.queries, given.certificate, given.capture
     with tempfile.TemporaryDirectory(prefix='sonata-report-') as folder:
-        answers, reports, damage = given.answers or os.path.join(folder, 'answers'), given.reports or os.path.join(folder, 'reports'), ''
-        if not given.answers:
-            damage = run_to([given.sonata, 'run', *four], answers)
+        answers, reports, late = (one or os.path.join(folder, name) for one, name in ((given.answers, 'answers'), (given.reports, 'reports'), (given.stays, 'stays')))
+        damage = '' if given.answers else run_to([given.sonata, 'run', *four], answers)
         if not given.reports:
             run_to([given.sonata, 'emit', *four], reports)
-        page = filled(made(given, answers, reports, damage))
+        if not given.stays:
+            run_to([given.sonata, 'detect', *four[1:]], late)
+        page = filled(made(given, answers, reports, late, damage))
     try:
         with open(given.output, 'w', encoding='utf-8') as file:
             file.write(page)

@@ -3,7 +3,7 @@
 import re
 from dataclasses import dataclass, field
 
-FILES = {'plain': 2, 'plan': 3, 'run': 4, 'emit': 4, 'finish': 3, 'check': 4, 'live': 4, 'gen': 0, 'job': 0}
+FILES = {'plain': 2, 'plan': 3, 'run': 4, 'emit': 4, 'finish': 3, 'detect': 3, 'check': 4, 'live': 4, 'gen': 0, 'job': 0}
 OPTIONS = {'plan': ['--nodes'], 'run': ['--csv'], 'live': ['--nodes', '--schedule', '--trace']}
 DIGITS = re.compile('[0-9]{1,10}\\Z')
 RANGES = {'--nodes': (1, 1000000), '--schedule': (0, 4294967295), 'number': (0, 4294967295)}

@@ -186,8 +186,9 @@ module _ (rest : List (List ℕ)) (c : Command) where
       (by_word word (codes "finish") _ _ (bare_found (codes "finish") 3 commands.Finish (λ words l. l))
       (by_word word (codes "check") _ _ (bare_found (codes "check") 4 commands.Check (λ words l. l))
       (by_word word (codes "live") _ _ live_found
+      (by_word word (codes "detect") _ _ (bare_found (codes "detect") 3 commands.Detect (λ words l. l))
       (by_word word (codes "gen") _ _ gen_found
-      (by_word word (codes "job") _ _ job_found (λ e. absurd (none_some e))))))))))
+      (by_word word (codes "job") _ _ job_found (λ e. absurd (none_some e)))))))))))
 
 -- what is read is spelled
 pub read_is_spelled : (words : List (List ℕ)) (c : Command) → command_of words ≡ Some c → Spells words c
@@ -205,6 +206,7 @@ spelled_is_read words commands.Check l = let s = stands (codes "check") 4 no_opt
 spelled_is_read words (commands.Live nodes schedule trace) (given, turn, l, e, f) =
     let s = stands (codes "live") 4 _ words l in
     ap command_of s.are ∙ ap (option_and_then live_of) s.is ∙ ap (λ n. Some (commands.Live n (unwrap_or turn 0) trace)) (sym e) ∙ ap (λ k. Some (commands.Live nodes k trace)) (sym f)
+spelled_is_read words commands.Detect l = let s = stands (codes "detect") 3 no_options words l in ap command_of s.are ∙ ap (option_and_then (bare_of commands.Detect)) s.is
 spelled_is_read words (commands.Gen number) n = ap command_of n.are ∙ ap (option_map (λ n. commands.Gen n)) (is_number 0 4294967295 n.word number n.is)
 spelled_is_read words (commands.Job number) n = ap command_of n.are ∙ ap (option_map (λ n. commands.Job n)) (is_number 0 4294967295 n.word number n.is)
 

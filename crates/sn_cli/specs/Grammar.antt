@@ -62,6 +62,8 @@ Spells words commands.Check = Line (codes "check") 4 no_options words
 Spells words (commands.Live most turn events) =
     (given chosen : Option ℕ) × Line (codes "live") 4 (record { nodes = given; schedule = chosen; csv = false; trace = events }) words
     × (most ≡ unwrap_or given 100000) × (turn ≡ unwrap_or chosen 0)
+-- `detect QUERIES PLAN CAPTURE`
+Spells words commands.Detect = Line (codes "detect") 3 no_options words
 -- `gen NUMBER`
 Spells words (commands.Gen number) = Numbered (codes "gen") number words
 -- `job NUMBER`

@@ -91,6 +91,7 @@ command_with word rest =
     else if same word (codes "finish") then option_and_then (bare_of commands.Finish) (line_of 3 rest)
     else if same word (codes "check") then option_and_then (bare_of commands.Check) (line_of 4 rest)
     else if same word (codes "live") then option_and_then live_of (line_of 4 rest)
+    else if same word (codes "detect") then option_and_then (bare_of commands.Detect) (line_of 3 rest)
     else if same word (codes "gen") then option_map (λ n. commands.Gen n) (lone_number rest)
     else if same word (codes "job") then option_map (λ n. commands.Job n) (lone_number rest)
     else None

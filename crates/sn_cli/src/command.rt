@@ -37,6 +37,8 @@ pub enum Command {
         /// The events among the blocks.
         trace: bool,
     },
+    /// `detect QUERIES PLAN CAPTURE`: how late what a query answers is printed along a plan.
+    Detect,
     /// `gen NUMBER`: a made capture.
     Gen {
         /// The number of the capture.

@@ -129,6 +129,7 @@ fn command(word: &str, rest: &[String]) -> Option<Command>
         "finish" => bare(Command::Finish, line(rest, 3)?),
         "check" => bare(Command::Check, line(rest, 4)?),
         "live" => live(line(rest, 4)?),
+        "detect" => bare(Command::Detect, line(rest, 3)?),
         "gen" => Some(Command::Gen {
             number: lone_number(rest)?,
         }),

@@ -39,6 +39,30 @@ cut_words = codes "capture cut at byte "
 unfoldable pub bad_words : List ℕ
 bad_words = codes "capture bad at byte "
 
+unfoldable pub levels_words : List ℕ
+levels_words = codes " levels "
+
+unfoldable pub bound_words : List ℕ
+bound_words = codes " bound "
+
+unfoldable pub yes_words : List ℕ
+yes_words = codes "yes"
+
+unfoldable pub no_words : List ℕ
+no_words = codes "no"
+
+unfoldable pub from_words : List ℕ
+from_words = codes " from "
+
+unfoldable pub to_words : List ℕ
+to_words = codes " to "
+
+unfoldable pub printed_words : List ℕ
+printed_words = codes " printed "
+
+unfoldable pub never_words : List ℕ
+never_words = codes "never"
+
 -- ---- rows
 
 -- an address: its four bytes in decimal, the highest first, with dots between them
@@ -104,6 +128,41 @@ counted counts emitted = if counts then Some emitted else None
 -- the block of a window: its line, and its parts in their order
 abbrev pub block_text : List TypedQuery → Answers → Bool → List ℕ
 block_text queries answers counts = window_line answers.window (counted counts answers.emitted) ++ flat_map (part_text queries) answers.parts
+
+-- ---- stays
+
+-- `yes` or `no`
+abbrev pub yes_text : Bool → List ℕ
+yes_text bound = if bound then yes_words else no_words
+
+-- ` levels L`
+abbrev pub levels_text : ℕ → List ℕ
+levels_text levels = levels_words ++ decimal levels
+
+-- ` bound yes` or ` bound no`, at the end of a line
+abbrev pub bound_text : Bool → List ℕ
+bound_text bound = bound_words ++ yes_text bound ++ 10 ∷ []
+
+-- `query NAME levels L bound yes`, or `.. no`
+abbrev pub bound_line : List ℕ → ℕ → Bool → List ℕ
+bound_line name levels bound = query_words ++ name ++ levels_text levels ++ bound_text bound
+
+-- ` from F to T`
+abbrev pub span_text : ℕ → ℕ → List ℕ
+span_text first last = from_words ++ decimal first ++ to_words ++ decimal last
+
+-- the number of the window in which a stay was printed, or `never`
+abbrev pub window_text : Option ℕ → List ℕ
+window_text None = never_words
+window_text (Some window) = decimal window
+
+-- ` printed P` or ` printed never`, at the end of a line
+abbrev pub printed_text : Option ℕ → List ℕ
+printed_text printed = printed_words ++ window_text printed ++ 10 ∷ []
+
+-- `ADDRESS from F to T printed P`, or `.. printed never`, where the address is a number of this column
+abbrev pub stay_line : Column → ℕ → ℕ → ℕ → Option ℕ → List ℕ
+stay_line column address first last printed = number_text column address ++ span_text first last ++ printed_text printed
 
 -- ---- the lines after the blocks
 

@@ -31,7 +31,7 @@ fn push_window_line(text: &mut Vec<u8>, window: u64, emitted: Option<u64>) -> Re
 }
 
 #[tactic(auto, unfolding(crate::specs::Text::query_words))]
-fn push_query_words(text: &mut Vec<u8>) -> Result<(), Memory>
+pub(crate) fn push_query_words(text: &mut Vec<u8>) -> Result<(), Memory>
     ensures { OnOk result (text.new.items ≡ text.old.items ++ query_words) }
 {
     push_bytes(text, b"query ")

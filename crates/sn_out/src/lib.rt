@@ -7,3 +7,4 @@ mod fields;
 pub mod lines;
 pub mod pieces;
 pub mod rows;
+pub mod stays;

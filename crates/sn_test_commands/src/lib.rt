@@ -18,6 +18,8 @@ mod refusals;
 #[cfg(test)]
 mod runs;
 #[cfg(test)]
+mod stays;
+#[cfg(test)]
 mod top;
 #[cfg(test)]
 mod training;

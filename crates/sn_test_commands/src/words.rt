@@ -5,13 +5,14 @@ use std::alloc::Global;
 use std::test::Fail;
 
 /// Each command, its options in any order, and the ends of the ranges of numbers.
-const SPELT: [(&str, Command); 19] = [
+const SPELT: [(&str, Command); 20] = [
     ("plain,q,c", Command::Plain),
     ("plan,s,q,t", Command::Plan { nodes: 100_000 }),
     ("run,s,q,p,c", Command::Run { csv: false }),
     ("run,s,q,p,c,--csv", Command::Run { csv: true }),
     ("emit,s,q,p,c", Command::Emit),
     ("finish,q,p,r", Command::Finish),
+    ("detect,q,p,c", Command::Detect),
     ("check,s,q,t,p", Command::Check),
     ("gen,0", Command::Gen { number: 0 }),
     (

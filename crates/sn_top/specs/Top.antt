@@ -13,6 +13,7 @@ use Rattle.sn_command.specs.Ends.{Around}
 use Rattle.sn_command.specs.Runs.{WorksFrom}
 use Rattle.sn_command.specs.Worlds.{World}
 use Rattle.sn_command_check.specs.Check.{Check}
+use Rattle.sn_command_detect.specs.Detects.{Detects}
 use Rattle.sn_command_emit.specs.Emit.{Emit}
 use Rattle.sn_command_finish.specs.Finish.{Finish}
 use Rattle.sn_command_job.specs.Gen.{Gen}
@@ -53,6 +54,7 @@ IsWork told commands.Check words before answer now =
     WorksFrom 2 (word_at words 2 ∷ word_at words 1 ∷ word_at words 3 ∷ word_at words 4 ∷ [])
     (Check (word_at words 1) (word_at words 2) (word_at words 3) (word_at words 4)) before answer now
 IsWork told (commands.Live nodes schedule trace) words before answer now = IsLiveWork told nodes schedule trace words before answer now
+IsWork told commands.Detect words before answer now = WorksFrom 2 (word_at words 1 ∷ word_at words 2 ∷ word_at words 3 ∷ []) (Detects (word_at words 1) (word_at words 2) (word_at words 3)) before answer now
 IsWork told (commands.Gen number) words before answer now = WorksFrom 2 [] (Gen number) before answer now
 IsWork told (commands.Job number) words before answer now = WorksFrom 2 [] (Job told number) before answer now
 

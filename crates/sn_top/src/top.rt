@@ -4,6 +4,7 @@ ghost use Rattle.sn_cli.specs.declared.command.Command.{Command};
 ghost use Rattle.sn_cli.specs.Grammar.{Spells};
 ghost use Rattle.sn_cli.specs.Words.{texts, word_at};
 ghost use Rattle.sn_command_check.specs.Check.{Check};
+ghost use Rattle.sn_command_detect.specs.Detects.{Detects};
 ghost use Rattle.sn_command_emit.specs.Emit.{Emit};
 ghost use Rattle.sn_command_finish.specs.Finish.{Finish};
 ghost use Rattle.sn_command_live.specs.Headline.{KeepsHeadline};
@@ -25,6 +26,7 @@ use sn_command::desk::Desk;
 use sn_command::lines::tell;
 use sn_command::refusal::Refusal;
 use sn_command_check::check::check;
+use sn_command_detect::detect::detect;
 use sn_command_emit::emit::emit;
 use sn_command_finish::finish::finish;
 use sn_command_job::generate::generate;
@@ -109,6 +111,7 @@ fn work<M: Machine, I: Inputs, O: Sink>(
             schedule,
             trace,
         } => work_live::<M, I, O>(alloc, nodes, schedule, trace, given, desk),
+        Command::Detect => detect(alloc, first, second, third, desk),
         Command::Gen { number } => generate(alloc, number, desk),
         Command::Job { number } => job::<M, I, O>(alloc, number, desk),
     }
@@ -171,6 +174,12 @@ pub fn top<M: Machine, I: Inputs, O: Sink, E: Sink>(
     ensures finish { Spells (texts words.now) Command.Finish →
         IsCommandRun (word_at (texts words.now) 1 ∷ word_at (texts words.now) 2 ∷ word_at (texts words.now) 3 ∷ [])
         (Finish (word_at (texts words.now) 1) (word_at (texts words.now) 2) (word_at (texts words.now) 3))
+        (around I.Inputs O.Sink E.Sink files.old out.old err.old) result (around I.Inputs O.Sink E.Sink files.new out.new err.new) }
+
+    // `detect QUERIES PLAN CAPTURE`: the run is that of its stages.
+    ensures detect { Spells (texts words.now) Command.Detect →
+        IsCommandRun (word_at (texts words.now) 1 ∷ word_at (texts words.now) 2 ∷ word_at (texts words.now) 3 ∷ [])
+        (Detects (word_at (texts words.now) 1) (word_at (texts words.now) 2) (word_at (texts words.now) 3))
         (around I.Inputs O.Sink E.Sink files.old out.old err.old) result (around I.Inputs O.Sink E.Sink files.new out.new err.new) }
 
     // `gen NUMBER`: the run is that of its stage, which reads no file.

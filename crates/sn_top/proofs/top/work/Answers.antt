@@ -1,5 +1,6 @@
 use Rattle.std.proofs.Common.{List, ℕ, [], ◌∷◌}
 use Rattle.sn_command_check.specs.Check.{Check}
+use Rattle.sn_command_detect.specs.Detects.{Detects}
 use Rattle.sn_command_emit.specs.Emit.{Emit}
 use Rattle.sn_command_finish.specs.Finish.{Finish}
 use Rattle.sn_command_live.specs.Live.{Plan}
@@ -33,6 +34,10 @@ returns-in-Finish g c =
 pub returns-in-Check : goal.returns-in-Check
 returns-in-Check g c =
     rw c.in-Check.is (of_four (λ (switch queries train plantree : List ℕ). WorksFrom 2 (queries ∷ switch ∷ train ∷ plantree ∷ []) (Check switch queries train plantree) (world g.I.Inputs g.O.Sink c.args.desk.now) c.check.result (world g.I.Inputs g.O.Sink c.check.new.desk)) c.word-first.ensures c.word-second.ensures c.word-third.ensures c.word-fourth.ensures c.check.ensures)
+
+pub returns-in-Detect : goal.returns-in-Detect
+returns-in-Detect g c =
+    rw c.in-Detect.is (of_three (λ (queries plan capture : List ℕ). WorksFrom 2 (queries ∷ plan ∷ capture ∷ []) (Detects queries plan capture) (world g.I.Inputs g.O.Sink c.args.desk.now) c.detect.result (world g.I.Inputs g.O.Sink c.detect.new.desk)) c.word-first.ensures c.word-second.ensures c.word-third.ensures c.detect.ensures)
 
 pub returns-in-Gen : goal.returns-in-Gen
 returns-in-Gen g c = rw c.in-Gen.is c.generate.ensures

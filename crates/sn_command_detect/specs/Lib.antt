@@ -1,0 +1,3 @@
+pub mod Detected
+pub mod Detects
+pub mod Watching
