@@ -53,4 +53,9 @@ summary told number cost nodes p windows = summary_text number cost nodes (lengt
 -- the summary is all that is written
 abbrev pub summary_wording : Telling → ℕ → ℕ → ℕ → Planned → Wording
 summary_wording told number cost nodes p =
-    record { first = []; block = λ windows w tuples. []; unfinished = λ closed number tuples. []; last = λ windows ending. summary told number cost nodes p windows }
+    record {
+      first = [];
+      block = λ windows w tuples. [];
+      unfinished = λ closed number tuples. [];
+      last = λ windows ending. summary told number cost nodes p windows;
+    }

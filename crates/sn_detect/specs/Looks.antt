@@ -1,6 +1,7 @@
 -- serves proofs
 -- What is kept of the windows that were given, and what holds of it.
-use Rattle.std.specs.Prelude.{◌≡◌, ℕ, suc, ◌+◌, ◌-◌, ◌<◌, ◌≤◌, List, [], ◌∷◌, length, Bool, true, nat_eq, ◌==◌, slice_get, slice_index, unwrap_or, Option, None, Some}
+use Rattle.std.specs.Prelude.{◌≡◌, ℕ, suc, ◌+◌, ◌-◌, ◌<◌, ◌≤◌, List, [], ◌∷◌, length, Bool, true, nat_eq, ◌==◌}
+use Rattle.std.specs.Prelude.{slice_get, slice_index, unwrap_or, Option, None, Some}
 use Rattle.std.specs.List.{AllByRecursion, AllByRecursion-prop, find, list_any}
 use Rattle.std.proofs.Math.Bool.{Bool-set}
 use Rattle.std.proofs.Math.Nat.{ℕ_set}

@@ -51,10 +51,12 @@ pub struct Detect {
     ghost rise: { Rise looks } by { rise_prop looks },
     // what the next window rests on: the prefixes of the addresses that were held on up to the last one
     ghost way: { is_monotone (query_at t.queries refined.query) ≡ true →
-        OnTheWay (query_at t.queries refined.query).field refined.path refined.last refined.kept looks } by { way_prop (is_monotone (query_at t.queries refined.query))
+        OnTheWay (query_at t.queries refined.query).field refined.path refined.last refined.kept
+        looks } by { way_prop (is_monotone (query_at t.queries refined.query))
             (query_at t.queries refined.query).field refined.path refined.last refined.kept looks },
     // bounded delay
-    ghost time: { is_monotone (query_at t.queries refined.query) ≡ true → InTime refined.path looks } by { time_prop (is_monotone (query_at t.queries refined.query)) refined.path looks },
+    ghost time: { is_monotone (query_at t.queries refined.query) ≡ true →
+        InTime refined.path looks } by { time_prop (is_monotone (query_at t.queries refined.query)) refined.path looks },
 }
 
 /// The numbers in the refinement column of rows.
@@ -118,7 +120,8 @@ impl Detect {
             compared.refined ≡ filter (is_let_in query field (slice_index self.old.refined.path last)
             (kept_at self.old.refined.last self.old.refined.kept w last)) compared.unrefined) }
         ensures looks { let query = query_at self.old.t.queries self.old.refined.query in IfOk result (λ compared.
-            self.new.looks ≡ self.old.looks ++ record { window = w; unrefined = column_of query compared.unrefined; refined = column_of query compared.refined } ∷ []) }
+            self.new.looks ≡ self.old.looks
+            ++ record { window = w; unrefined = column_of query compared.unrefined; refined = column_of query compared.refined } ∷ []) }
         ensures looked { let query = query_at self.old.t.queries self.old.refined.query in OnOk result
             (self.new.looks ≡ self.old.looks ++ look_of query self.old.refined.path (kept_at self.old.refined.last self.old.refined.kept w) w tuples.now ∷ []) }
         ensures last { OnOk result (self.new.refined.last ≡ Some w) }

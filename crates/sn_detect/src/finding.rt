@@ -1,6 +1,7 @@
 //! The stays of addresses, found in what the windows hold.
 ghost use Rattle.std.specs.Prelude.{◌≡◌, ◌++◌, [], map, reverse, IfOk, OnOk};
-ghost use Rattle.sn_detect.specs.Finding.{begun, event, events_of, found_on, from_window, look_events, meets, stays_of, told_in, with_event, with_held, with_told};
+ghost use Rattle.sn_detect.specs.Finding.{begun, event, events_of, found_on, from_window, look_events, meets, stays_of, told_in};
+ghost use Rattle.sn_detect.specs.Finding.{with_event, with_held, with_told};
 
 use crate::look::Look;
 use crate::rows::column;

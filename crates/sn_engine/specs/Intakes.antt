@@ -24,7 +24,17 @@ use Rattle.sn_engine.specs.declared.intake.Intake.{Intake}
 
 -- a lane of which nothing has come
 abbrev pub intake_for : ℕ → List ℕ → Piece → Intake
-intake_for q path piece = record { query = q; place = place_in path piece.level; level = piece.level; branch = piece.branch; cut = piece.cut; shared = false; items = []; end = None }
+intake_for q path piece =
+    record {
+      query = q;
+      place = place_in path piece.level;
+      level = piece.level;
+      branch = piece.branch;
+      cut = piece.cut;
+      shared = false;
+      items = [];
+      end = None;
+    }
 
 -- a lane for each piece, entry by entry; the first entry is that of query q
 abbrev pub intakes_of : ℕ → List Entry → List Intake

@@ -2,7 +2,8 @@
 ghost use Rattle.std.specs.Prelude.{◌≡◌, ◌<◌, ◌^◌, length, map, position, slice_get, is_some, true, false, Some, None, IfOk, OnOk, OnErr};
 ghost use Rattle.std.specs.List.{list_all, list_any};
 ghost use Rattle.std.specs.Option.{option_map_or};
-ghost use Rattle.sn_engine.specs.Intakes.{AreIntakes, are_intakes_prop, EndsAgree, ends_agree_prop, total, with_item, with_end, is_lane, after_frame, emptied, shared};
+ghost use Rattle.sn_engine.specs.Intakes.{AreIntakes, are_intakes_prop, EndsAgree, ends_agree_prop, total, with_item, with_end};
+ghost use Rattle.sn_engine.specs.Intakes.{is_lane, after_frame, emptied, shared};
 ghost use Rattle.sn_engine.specs.Intakes.{has_ended, has_started, intakes_of};
 ghost use Rattle.sn_base.specs.Changed.{with_first};
 ghost use Rattle.sn_engine.specs.Taking.{take_fault, Refuses};

@@ -107,7 +107,8 @@ pub data Records (header : Header) (file : List ℕ) : ℕ → List Packet → E
   -- a record's header with too large a captured length
   too_large : (n : ℕ) → HasHeader file n → most_captured < captured header file n → Records header file n [] (Bad n)
   -- a record's header with a lawful captured length, but fewer bytes after it
-  short_packet : (n : ℕ) → HasHeader file n → captured header file n ≤ most_captured → length file < n + 16 + captured header file n → Records header file n [] (Cut n)
+  short_packet : (n : ℕ) → HasHeader file n → captured header file n ≤ most_captured → length file < n + 16 + captured header file n
+      → Records header file n [] (Cut n)
   -- a whole record: its packet, and then the records after it
   whole : (n : ℕ) (packets : List Packet) (ending : Ending) → HasRecord header file n → Records header file (n + 16 + captured header file n) packets ending
       → Records header file n (packet_at header file n ∷ packets) ending

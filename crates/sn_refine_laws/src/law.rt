@@ -27,7 +27,8 @@ pub fn filters_commute()
 /// those of its rows whose refinement column's prefix passes it, in the same order.
 pub fn prefixes_are_asked_of_rows()
     ensures { (window q level bits : ℕ) (queries : List TypedQuery) (field : Field) (keep : ℕ → Bool) (tuples : List (List ℕ)) →
-        IsTyped window queries → q < length queries → (query_at queries q).field ≡ Some field → list_any (nat_eq level) (query_at queries q).levels ≡ true → bits ≤ level →
+        IsTyped window queries → q < length queries → (query_at queries q).field ≡ Some field →
+        list_any (nat_eq level) (query_at queries q).levels ≡ true → bits ≤ level →
         query_rows (query_at queries q) level None
         (filter (λ tuple. keep (masked (width_of field) bits (slice_index tuple (number_of field)))) tuples)
         ≡ filter (λ row. keep (masked (width_of field) bits (slice_index row (unwrap_or (query_at queries q).column 0))))

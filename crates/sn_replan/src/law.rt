@@ -26,6 +26,7 @@ pub fn epochs_count_what_is_early()
 /// The windows of a capture have these epochs: the first has the first plan; each goes on up to its first window that is over; and
 /// after that window, if another follows, comes the next, along what is planned on that window alone.
 pub fn epochs_change_after_windows_that_are_over<P, F>()
-    ensures { (queries : List TypedQuery) (depth : ℕ) (entries_of : P → List Entry) (planned : Window → Result P F) (most : ℕ) (first : P) (windows : List Window) →
+    ensures { (queries : List TypedQuery) (depth : ℕ) (entries_of : P → List Entry) (planned : Window → Result P F) (most : ℕ)
+        (first : P) (windows : List Window) →
         AreEpochs queries depth entries_of planned most first windows (epochs_from queries depth entries_of planned most first [] windows) }
 {}

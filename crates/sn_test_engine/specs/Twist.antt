@@ -97,7 +97,8 @@ all_less P (x ∷ []) h = tt
 all_less P (x ∷ y ∷ xs) h = (h.0, all_less P (y ∷ xs) h.1)
 
 shorter_part : (queries : List TypedQuery) (part : Part) → IsSortedPart queries part → IsSortedPart queries (shorter part)
-shorter_part queries part h = record { part = record { query = h.part.query; rows = all_less _ part.rows h.part.rows }; sorted = less_sorted part.rows h.sorted }
+shorter_part queries part h =
+    record { part = record { query = h.part.query; rows = all_less _ part.rows h.part.rows }; sorted = less_sorted part.rows h.sorted }
 
 same_places : (parts : List Part) → map place_of (change_last shorter parts) ≡ map place_of parts
 same_places [] = refl

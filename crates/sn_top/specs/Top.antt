@@ -54,7 +54,8 @@ IsWork told commands.Check words before answer now =
     WorksFrom 2 (word_at words 2 ∷ word_at words 1 ∷ word_at words 3 ∷ word_at words 4 ∷ [])
     (Check (word_at words 1) (word_at words 2) (word_at words 3) (word_at words 4)) before answer now
 IsWork told (commands.Live nodes schedule trace) words before answer now = IsLiveWork told nodes schedule trace words before answer now
-IsWork told commands.Detect words before answer now = WorksFrom 2 (word_at words 1 ∷ word_at words 2 ∷ word_at words 3 ∷ []) (Detects (word_at words 1) (word_at words 2) (word_at words 3)) before answer now
+IsWork told commands.Detect words before answer now =
+    WorksFrom 2 (word_at words 1 ∷ word_at words 2 ∷ word_at words 3 ∷ []) (Detects (word_at words 1) (word_at words 2) (word_at words 3)) before answer now
 IsWork told (commands.Gen number) words before answer now = WorksFrom 2 [] (Gen number) before answer now
 IsWork told (commands.Job number) words before answer now = WorksFrom 2 [] (Job told number) before answer now
 
