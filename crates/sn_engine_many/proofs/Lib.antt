@@ -1,0 +1,7 @@
+mod Cutting
+mod Plans
+mod Sent
+mod Taking
+mod Answered
+mod Switching
+mod Along

@@ -1,0 +1,55 @@
+-- to be believed
+-- What several switches send in a window.
+use Rattle.std.specs.Prelude.{ℕ, List, [], ◌∷◌, map, length, sum, Option, Some}
+use Rattle.sn_emit.specs.Plans.{Placed, level_before, pieces_from}
+use Rattle.sn_engine_lockstep.specs.Sources.{kept_in, source_of}
+use Rattle.sn_engine_lockstep.specs.Windows.{parts_from}
+use Rattle.sn_engine_lockstep.specs.declared.source.Source.{Source}
+use Rattle.sn_multi.specs.Branches.{together}
+use Rattle.sn_multi.specs.Switches.{all_items}
+use Rattle.sn_pipe.specs.Pipes.{rows_let_in}
+use Rattle.sn_plan_grammar.specs.declared.plan.Entry.{Entry}
+use Rattle.sn_refine.specs.Steps.{Set}
+use Rattle.sn_report.specs.declared.frame.Item.{Item}
+use Rattle.sn_types.specs.Cuts.{size_at}
+use Rattle.sn_types.specs.Typed.{branch_at, query_at}
+use Rattle.sn_types.specs.Values.{op_at}
+use Rattle.sn_types.specs.declared.answers.Answers.{Answers}
+use Rattle.sn_types.specs.declared.typed_query.TypedQuery.{TypedQuery}
+use Rattle.sn_windows.specs.Rising.{Window}
+
+-- the items that a piece sends in all switches over their tuples of a window, with the prefixes that the level before answered in the window before
+abbrev pub shared_items : List TypedQuery → ℕ → Placed → Set → List (List (List ℕ)) → List Item
+shared_items queries depth x kept captures =
+    let branch = branch_at queries x.query x.piece.branch in
+    all_items depth (size_at branch.ops x.piece.slots) x.piece.cut (map (op_at x.piece.level) branch.ops)
+    (map (rows_let_in (query_at queries x.query) x.piece.branch x.piece.level (level_before x.path x.piece.level) kept) captures)
+
+-- how many items all pieces send
+abbrev pub shared_sent : List TypedQuery → ℕ → List Placed → (Source → Set) → List (List (List ℕ)) → ℕ
+shared_sent queries depth pieces kept captures = sum (map (λ x. length (shared_items queries depth x (kept (source_of x)) captures)) pieces)
+
+-- what several switches answer in a window
+abbrev pub shared_answers : List TypedQuery → ℕ → List Entry → (Source → Set) → ℕ → List (List (List ℕ)) → Answers
+shared_answers queries depth entries kept w captures = record {
+  window = w;
+  emitted = shared_sent queries depth (pieces_from 0 entries) kept captures;
+  parts = parts_from queries kept (together captures) 0 entries;
+}
+
+-- ---- one window after another
+
+-- a window: its number, and the tuples of each switch
+abbrev pub SharedWindow : Type 0
+SharedWindow = ℕ × List (List (List ℕ))
+
+-- the tuples of all switches together
+abbrev pub in_one : SharedWindow → Window
+in_one given = (given.0, together given.1)
+
+-- what windows that are closed one after another are answered, where the last one before them was answered so
+abbrev pub shared_from : List TypedQuery → ℕ → List Entry → Option Answers → List SharedWindow → List Answers
+shared_from queries depth entries last [] = []
+shared_from queries depth entries last (given ∷ rest) =
+    shared_answers queries depth entries (kept_in queries last given.0) given.0 given.1
+    ∷ shared_from queries depth entries (Some (shared_answers queries depth entries (kept_in queries last given.0) given.0 given.1)) rest

@@ -1,0 +1,132 @@
+//! What the switches have gathered goes to the one engine.
+ghost use Rattle.std.specs.Prelude.{◌≡◌, ◌<◌, IfOk, IfSome, OnOk, fold, length, map};
+ghost use Rattle.std.specs.List.{flat_map};
+ghost use Rattle.sn_engine.specs.Answers.{parts_of};
+ghost use Rattle.sn_engine.specs.Intakes.{AreIntakes, IsIntake, after_frame, emptied, lane_at, total};
+ghost use Rattle.sn_engine_many.specs.Turns.{end_of, frames_of, lane_tag, turn};
+ghost use Rattle.sn_types.specs.Typed.{query_at};
+
+use crate::fronts::{front, held_tag};
+use sn_base::lane::Lane;
+use sn_base::memory::Memory;
+use sn_engine::engine::Engine;
+use sn_engine::intake::Intake;
+use sn_report::frame::{Frame, Item, Tag};
+use sn_types::answers::Answers;
+use sn_types::typed::Typed;
+
+/// The tag of what a lane keeps.
+fn lane_tag(t: &Typed, x: &Intake) -> Option<Tag>
+    requires query { x.now.query < length t.now.queries }
+    requires branch { x.now.branch < length (query_at t.now.queries x.now.query).branches }
+    ensures { result ≡ lane_tag t.now.queries x.now }
+{
+    held_tag(front(t, x.query, x.branch, x.cut))
+}
+
+/// An item that stands after the operator of this tag has this tag.
+fn turn(tag: Option<Tag>, item: &Item) -> Item
+    ensures { result ≡ turn tag item.now }
+{
+    let after = match (tag, item.tag) {
+        (Some(Tag::At(held)), Tag::At(number)) => number as u32 == held as u32 + 1,
+        (Some(Tag::Partial(held)), Tag::At(number)) => number as u32 == held as u32 + 1,
+        _ => false,
+    };
+    match tag {
+        Some(held) if after => Item {
+            tag: held,
+            row: item.row,
+        },
+        _ => *item,
+    }
+}
+
+/// The name of a lane in frames. `None` where one of its numbers has no byte there, as no plan's.
+fn name_of(x: &Intake) -> Option<Lane>
+    ensures { IfSome result (λ lane. lane ≡ lane_at x.now.query x.now.place x.now.branch) }
+{
+    match (
+        u8::try_from(x.query),
+        u8::try_from(x.place),
+        u8::try_from(x.branch),
+    ) {
+        (Ok(query), Ok(level), Ok(branch)) => Some(Lane {
+            query,
+            level,
+            branch,
+        }),
+        _ => None,
+    }
+}
+
+/// The engine takes a frame.
+fn take(engine: &mut Engine, frame: &Frame) -> Result<(), Memory>
+    ensures taken { OnOk result (engine.new.lanes.items ≡ after_frame engine.old.lanes.items frame.now) }
+    ensures queries { engine.new.t.queries ≡ engine.old.t.queries }
+{
+    match engine.take(frame) {
+        Ok(()) => Ok(()),
+        Err(_) => Err(Memory),
+    }
+}
+
+/// The engine takes the items of a lane of a switch.
+fn gather_lane(engine: &mut Engine, t: &Typed, x: &Intake) -> Result<(), Memory>
+    requires { IsIntake t.now.queries x.now }
+    ensures taken { OnOk result (engine.new.lanes.items ≡ fold after_frame engine.old.lanes.items (frames_of t.now.queries x.now)) }
+    ensures queries { engine.new.t.queries ≡ engine.old.t.queries }
+{
+    let Some(lane) = name_of(x) else {
+        return Err(Memory);
+    };
+    let tag = lane_tag(t, x);
+    for item in x.items.as_slice() {
+        take(engine, &Frame::Row(lane, turn(tag, item)))?;
+    }
+    Ok(())
+}
+
+/// The engine takes the items of all lanes of a switch, each with its tag among several switches.
+pub(crate) fn gather(engine: &mut Engine, t: &Typed, lanes: &[Intake]) -> Result<(), Memory>
+    requires { AreIntakes t.now.queries lanes.now }
+    ensures taken { OnOk result (engine.new.lanes.items ≡ fold after_frame engine.old.lanes.items (flat_map (frames_of t.now.queries) lanes.now)) }
+    ensures queries { engine.new.t.queries ≡ engine.old.t.queries }
+{
+    for x in lanes {
+        gather_lane(engine, t, x)?;
+    }
+    Ok(())
+}
+
+/// The engine takes one End for each of these lanes.
+pub(crate) fn end_lanes(engine: &mut Engine, lanes: &[Intake], window: u64) -> Result<(), Memory>
+    ensures taken { OnOk result (engine.new.lanes.items ≡ fold after_frame engine.old.lanes.items (map (end_of window) lanes.now)) }
+    ensures queries { engine.new.t.queries ≡ engine.old.t.queries }
+{
+    for x in lanes {
+        let Some(lane) = name_of(x) else {
+            return Err(Memory);
+        };
+        take(engine, &Frame::End(lane, window))?;
+    }
+    Ok(())
+}
+
+/// The engine answers the window that all lanes have ended.
+pub(crate) fn close(engine: &mut Engine, window: u64) -> Result<Answers, Memory>
+    ensures window { IfOk result (λ answers. answers.window ≡ window) }
+    ensures emitted { IfOk result (λ answers. answers.emitted ≡ total engine.old.lanes.items) }
+    ensures parts { IfOk result (λ answers. answers.parts ≡ parts_of engine.old.t.queries engine.old.lanes.items) }
+    ensures emptied { OnOk result (engine.new.lanes.items ≡ map emptied engine.old.lanes.items) }
+    ensures queries { engine.new.t.queries ≡ engine.old.t.queries }
+{
+    match engine.close_window() {
+        Ok(answers) => Ok(Answers {
+            window,
+            emitted: answers.emitted,
+            parts: answers.parts,
+        }),
+        Err(_) => Err(Memory),
+    }
+}
