@@ -18,7 +18,6 @@ is answered otherwise. The status is 0 where none is."""
 import os
 import resource
 import signal
-import struct
 import subprocess
 import sys
 import tempfile
@@ -27,6 +26,9 @@ import planned
 import program
 
 HERE = os.path.dirname(os.path.abspath(__file__))
+sys.path.insert(0, os.path.join(HERE, '..', 'bench'))
+import generate  # noqa: E402
+
 SECONDS = 60
 ERRORS = {0: '', 1: 'sonata: memory\n', 9: 'sonata: read fault\n', 10: 'sonata: write fault\n'}
 VALUES = [0, 1, 10, 32, 48, 57, 59, 97, 128, 255]
@@ -58,16 +60,10 @@ query both {
 
 # ---- the files of the calls
 
-def record(second, source, target, flags, length=54):
-    """A TCP packet over IPv4 on Ethernet."""
-    packet = struct.pack('>6s6sH' + 'BBHIBBHII' + 'HH8sBB6s', b'\2' * 6, b'\3' * 6, 0x0800, 0x45, 0, 40, 0, 64, 6, 0, source, target, 1234, 80, bytes(8), 0x50, flags, bytes(6))
-    return struct.pack('<IIII', second, 0, length, 54) + packet[:length]
-
-
 def capture():
     """Three windows of a few packets each."""
     drawn = [(window, 0x0A000001 + source, 0x0A000009 + target, flags) for window in range(3) for target in range(2) for source in range(3) for flags in (2, 16)]
-    return struct.pack('<IHHIIII', 0xA1B2C3D4, 2, 4, 0, 0, 262144, 1) + b''.join(record(*one) for one in drawn)
+    return generate.FILE_HEADER + b''.join(generate.record(second, 0, source, target, 1234, 80, flags, 40) for second, source, target, flags in drawn)
 
 
 def write(folder, sonata):
