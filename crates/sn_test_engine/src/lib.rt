@@ -1,6 +1,6 @@
-//! Worked windows, from texts and packets to answers: registers, report frames, the lanes of a switch, the engine,
-//! refinement, nets and what drives them. It has tests alone, which cross the crates of all these, and a machine
-//! that doesn't tell its answers as they are.
+//! Worked windows, from texts and packets to answers: registers, report frames, the lanes of a switch, the engine, refinement, several
+//! switches, nets and what drives them. It has tests alone, which cross the crates of all these, and a machine that doesn't tell its
+//! answers as they are.
 #![tactic(auto)]
 
 #[cfg(test)]
@@ -15,6 +15,8 @@ mod frames;
 mod lanes;
 #[cfg(test)]
 mod lockstep;
+#[cfg(test)]
+mod many;
 #[cfg(test)]
 mod nets;
 #[cfg(test)]

@@ -20,6 +20,10 @@ use std::alloc::Global;
 pub(crate) const COUNTS: &[u8] =
     b"window 1000000 query q { packets | map ip.dst as d, 1 as n | reduce d: sum(n) width 16; }";
 
+/// Destinations, each once.
+pub(crate) const DISTINCT: &[u8] =
+    b"window 1000000 query q { packets | map ip.dst as d | distinct; }";
+
 /// With one register of one slot.
 pub(crate) const ONE_SLOT: &[u8] = b"plan query q path 0; piece 0 0 cut 2 slots 1 stages 1;";
 
