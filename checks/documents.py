@@ -87,7 +87,7 @@ def spoken(commands, place):
 
 
 def try_session(executable, name):
-    """How many blocks of commands a document has, and how many don't do what stands behind them."""
+    """How many blocks of commands a document has, and how many don't do what stands after them."""
     blocks, bad, pictures = BLOCK.findall(document(name)), 0, draws()
     with tempfile.TemporaryDirectory(prefix='sonata-documents-') as folder:
         place = session_folder(executable, folder)

@@ -10,6 +10,7 @@ import xml.etree.ElementTree
 
 HERE = os.path.dirname(os.path.abspath(__file__))
 sys.path.insert(0, os.path.join(HERE, '..', 'view'))
+import printed  # noqa: E402
 import stays  # noqa: E402
 import texts  # noqa: E402
 
@@ -22,15 +23,11 @@ SVG = '{http://www.w3.org/2000/svg}'
 def keys_of(answers, queries):
     """The keys at each query's finest level that was answered: the columns that its join or last reduce names, else those before the number."""
     rows = collections.defaultdict(lambda: collections.defaultdict(set))
-    places = {}
-    for query in queries:
-        reduces = [operator.keys for operator in query.branches[0] if operator.kind == 'reduce']
-        names = query.join_keys or (reduces[-1] if reduces else [])
-        places[query.name] = [place for place, (name, _, _) in enumerate(query.columns[:-1]) if name in names]
+    places = printed.places_of(queries)
     with open(answers, newline='') as file:
         for record in list(csv.reader(file))[1:]:
-            columns = [column for column in record[3:] if column]
-            rows[record[1]][int(record[2])].add(' '.join([columns[place] for place in places[record[1]]] or columns[:-1] or columns))
+            key, _ = printed.keyed([column for column in record[3:] if column], places[record[1]])
+            rows[record[1]][int(record[2])].add(key)
     return {key for levels in rows.values() for key in levels[max(levels)]}
 
 

@@ -3,7 +3,7 @@
  *     LD_PRELOAD=faults.so FAULT_CALL=CALL FAULT_AT=N FAULT_HOW=HOW FAULT_MET=FILE
  *
  * CALL is read, write (on standard output), error (a write on standard error), open or memory. The N-th call of it, from 0 on, fails: HOW is fail (the call answers
- * EIO, or no memory), none (0 bytes), one (1 byte, at this call and at all that follow) or stopped (EINTR). FILE is made when that happens. */
+ * EIO, or no memory), none (0 bytes) or one (1 byte, at this call and at all that follow). FILE is made when that happens. */
 #define _GNU_SOURCE
 #include <errno.h>
 #include <fcntl.h>
@@ -39,7 +39,7 @@ static ssize_t moved(long call, int file, const void *bytes, size_t length, int 
     if (failing && is("FAULT_HOW", "none"))
         return 0;
     if (failing && !is("FAULT_HOW", "one")) {
-        errno = is("FAULT_HOW", "stopped") ? EINTR : EIO;
+        errno = EIO;
         return -1;
     }
     return syscall(call, file, bytes, failing && length > 1 ? 1 : length);

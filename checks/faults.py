@@ -9,12 +9,13 @@ writes   the N-th write of standard output fails, or takes nothing: status 10, a
          write of the line on standard error fails, status and text are as they were
 memory   the N-th request for memory is refused: status 1 and a front of the whole text, or all of it
 bytes    each byte of each file of a call is replaced by each of ten, and each file is cut to each length: what the reading in checks/planned.py answers
-streams  standard output on a full disk or without a reader, closed descriptors, a folder in the place of a file, a long name, a capture that grows while it is read, and
+streams  standard output on a full disk or without a reader, closed descriptors, a folder in the place of a file, a long name, a capture that comes in pieces, and
          20 limits of the address space: the one status that docs/FORMATS.md has for it
 
-N counts from 0 up to the first run that meets no failure; where a table would take more than `--most` runs of a call, evenly drawn ones of them are tried. Prints each run that
+N counts from 0 up to the first run that meets no failure; where a call or a file has more than `--most` places, evenly drawn ones of them are tried. Prints each run that
 is answered otherwise. The status is 0 where none is."""
 
+import multiprocessing
 import os
 import resource
 import signal
@@ -267,17 +268,25 @@ def with_streams(sonata, spoken, **streams):
     return done.returncode, done.stdout or b'', (done.stderr or b'').decode(errors='replace')
 
 
-def growing(sonata, names, folder):
-    """A capture to which records are added while it is read: the answer is that of a front of it."""
-    path = os.path.join(folder, 'growing')
-    os.mkfifo(path)
-    running = subprocess.Popen([sonata, 'plain', names['queries'], path], stdout=subprocess.PIPE, stderr=subprocess.PIPE)
-    with open(path, 'wb') as pipe, open(names['capture'], 'rb') as file:
+def fed(path, name):
+    """Writes a file to a named pipe in pieces."""
+    with open(path, 'wb') as pipe, open(name, 'rb') as file:
         while piece := file.read(100):
             pipe.write(piece)
             pipe.flush()
-    text, line = running.communicate(timeout=SECONDS)
-    return running.returncode, text, line.decode()
+
+
+def in_pieces(sonata, names, folder):
+    """The answer to a capture that comes through a named pipe in pieces."""
+    path = os.path.join(folder, 'pieces')
+    os.mkfifo(path)
+    feeding = multiprocessing.Process(target=fed, args=(path, names['capture']))
+    feeding.start()
+    try:
+        return with_streams(sonata, ['plain', names['queries'], path])
+    finally:
+        feeding.terminate()
+        feeding.join()
 
 
 def streams(faults, names, calls, most, bad):
@@ -306,15 +315,15 @@ def streams(faults, names, calls, most, bad):
             other = spoken[:place] + [name] + spoken[place + 1:]
             expect('%s as word %d' % (what, place), program.ran(sonata, *other), lambda found: found == (9, b'', ERRORS[9]))
     with tempfile.TemporaryDirectory() as folder:
-        expect('a capture in pieces', growing(sonata, names, folder), lambda found: found == whole)
+        expect('a capture in pieces', in_pieces(sonata, names, folder), lambda found: found == whole)
     for call in calls:
         spoken = words(call, names)
         whole = program.ran(sonata, *spoken)
         for step in range(20):
             limit = (2 + step) << 20
             found = with_streams(sonata, spoken, before=lambda: resource.setrlimit(resource.RLIMIT_AS, (limit, limit)))
-            # below some MB the system itself can't begin the program
-            expect('%s in %d MB' % (call, limit >> 20), found, lambda found: found[0] in (-signal.SIGSEGV, -signal.SIGKILL, 127) or starved(found, whole))
+            # 127: the system itself can't begin the program in so little
+            expect('%s in %d MB' % (call, limit >> 20), found, lambda found: found[0] == 127 or starved(found, whole))
     return tried
 
 
@@ -324,7 +333,7 @@ TABLES = {'reads': reads, 'writes': writes, 'memory': memory, 'bytes': texts, 's
 def main():
     given = program.command_line(__doc__)
     given.add_argument('tables', nargs='*', metavar='TABLE', help='which of them: %s (default: all)' % ', '.join(TABLES))
-    given.add_argument('--most', type=int, default=2000, help='the most runs of a call for a table (default 2000)')
+    given.add_argument('--most', type=int, default=2000, help='the most places of a call or a file that are tried (default 2000)')
     chosen = given.parse_args()
     if strange := set(chosen.tables) - set(TABLES):
         given.error('no table %s' % ', '.join(sorted(strange)))

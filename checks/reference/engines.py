@@ -1,6 +1,6 @@
 """Report frames, and what an engine makes of them."""
 
-from . import answers, pipes, plans
+from . import answers, pipes
 
 
 class BadReports(Exception):

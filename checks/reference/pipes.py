@@ -59,10 +59,6 @@ def homes(keys, depth, slots):
     return found
 
 
-def row_of(operator, key, value):
-    return dict(zip(operator.keys + [operator.value], key + (value,)))
-
-
 def held_rows(rows, operator, home):
     """A row for each resident key of a reduce, by rising place."""
     groups = {}

@@ -4,15 +4,11 @@ from . import answers, split
 from .tokens import GREATEST
 
 
-def constant(condition, level):
-    return dict(condition.relaxed).get(level, condition.constant)
-
-
 def is_threshold(query, value, condition):
     """Whether a condition asks if the value of the reduce is above a constant that no level has greater than the finest."""
-    finest = constant(condition, query.levels[-1])
+    finest = answers.constant_at(condition, query.levels[-1])
     return (condition.name == value and condition.mask == GREATEST and condition.comparison in ('>', '>=')
-            and all(constant(condition, level) <= finest for level in query.levels))
+            and all(answers.constant_at(condition, level) <= finest for level in query.levels))
 
 
 def is_monotone(query):
