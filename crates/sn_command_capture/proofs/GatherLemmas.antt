@@ -12,20 +12,21 @@ use Rattle.sn_pcap.specs.declared.packet.Packet.{Packet}
 use Rattle.sn_pcap.specs.declared.packet.Ending.{Ending}
 use Rattle.sn_pcap.specs.declared.seen.Last.{Last}
 use Rattle.sn_pcap.specs.declared.seen.Last.TheVariants as last
+use Rattle.sn_command.specs.declared.fault.Fault.{Fault}
 use Rattle.sn_command.specs.declared.fault.Fault.TheVariants.{TooLarge}
 use Rattle.sn_command.specs.declared.refusal.Refusal.{Refusal}
 use Rattle.sn_command.specs.declared.refusal.Refusal.TheVariants.{Refused}
 use Rattle.sn_command.specs.Outcomes.{Outcome, silent}
 use Rattle.sn_windows.specs.Windows.{record_at, run_of, first_run, numbered}
 use Rattle.sn_windows.specs.Numbering.{Numbering, next_first, next_number, next_count, stepped, numbered_from}
-use Rattle.sn_windows.specs.Blocks.{all_few, most_records}
+use Rattle.sn_windows.specs.Blocks.{all_few, answered, most_records}
 use Rattle.sn_windows.proofs.RunLemmas.{Rises, AtLeast}
 use Rattle.sn_windows.proofs.NumberLemmas.{numbered_is, numbers_rise, numbers_stay}
-use Rattle.sn_command_capture.specs.Wording.{IsCausal, Wording}
-use Rattle.sn_command_capture.specs.Capture.{last_from, last_number, before_last, blocks_in, ends_large, time_of, unfinished_in, windows_in, windows_outcome, windows_refused}
-use Rattle.sn_command_capture.specs.Gathering.{Gathering, begins, closing, closing_of, hand_text, joined, none_gathered, refused, taken, unfinished_of, with_hand}
+use Rattle.sn_command_capture.specs.Wording.{IsCausal, StopsInTime, Wording}
+use Rattle.sn_command_capture.specs.Capture.{last_from, last_number, before_last, blocks_below, blocks_in, closed_packets, ends_large, first_stop, stop_of, blocks_before, stopped, time_of, unfinished_in, windows_in, windows_outcome, windows_refused, windows_whole}
+use Rattle.sn_command_capture.specs.Gathering.{Gathering, begins, closed_as, closing, closing_of, hand_stop, hand_text, joined, none_gathered, refused, taken, unfinished_of, with_hand}
 use Rattle.sn_command_capture.proofs.RisingLemmas.{rising_next, rising_other}
-use Rattle.sn_command_capture.proofs.WindowLemmas.{left_outcome, left_none, left_large, left_next, run_long, windows_more}
+use Rattle.sn_command_capture.proofs.WindowLemmas.{answered_large, block_at, left_outcome, left_none, left_large, left_next, run_long, stop_at, stop_left, stops_next, stops_or, text_left, windows_more}
 use Rattle.sn_windows.specs.Rising.{AreRising, Window}
 
 -- ---- one run, and what stands after it
@@ -88,15 +89,10 @@ hand_at_least : (n : ℕ) (held : List Packet) → AtLeast n (at_hand n held)
 hand_at_least n [] = tt
 hand_at_least n (p ∷ ps) = (omega arith, hand_at_least n ps)
 
--- what of the records has its blocks
-abbrev cut : Last → List (ℕ × Packet) → List (ℕ × Packet)
-cut (last.Ended ending) ys = ys
-cut last.TooLarge ys = before_last ys
-
-cut_hand : (n : ℕ) (held : List Packet) → cut last.TooLarge (at_hand n held) ≡ []
+cut_hand : (n : ℕ) (held : List Packet) → closed_packets last.TooLarge (at_hand n held) ≡ []
 cut_hand n held = below_none n (last_number (at_hand n held)) (at_hand n held) (hand_at_least n held) (last_hand 0 n held (omega arith))
 
-cut_behind : (l : Last) (n : ℕ) (held : List Packet) (z : ℕ × Packet) (zs : List (ℕ × Packet)) → n < z.0 → AtLeast z.0 zs → Rises zs → cut l (at_hand n held ++ z ∷ zs) ≡ at_hand n held ++ cut l (z ∷ zs)
+cut_behind : (l : Last) (n : ℕ) (held : List Packet) (z : ℕ × Packet) (zs : List (ℕ × Packet)) → n < z.0 → AtLeast z.0 zs → Rises zs → closed_packets l (at_hand n held ++ z ∷ zs) ≡ at_hand n held ++ closed_packets l (z ∷ zs)
 cut_behind (last.Ended ending) n held z zs lt h r = refl
 cut_behind last.TooLarge n held z zs lt h r =
     let m = last_from z.0 zs in
@@ -124,11 +120,11 @@ filter_rises : (t : ℕ × Packet → Bool) (zs : List (ℕ × Packet)) → Rise
 filter_rises t [] r = tt
 filter_rises t (z ∷ zs) r = by_test (t z) (λ is. rw is (filter_least t z.0 zs r.0, filter_rises t zs r.1)) (λ isnt. rw isnt (filter_rises t zs r.1))
 
-cut_above : (l : Last) (z : ℕ × Packet) (zs : List (ℕ × Packet)) (n : ℕ) → n ≤ z.0 → AtLeast z.0 zs → AtLeast n (cut l (z ∷ zs))
+cut_above : (l : Last) (z : ℕ × Packet) (zs : List (ℕ × Packet)) (n : ℕ) → n ≤ z.0 → AtLeast z.0 zs → AtLeast n (closed_packets l (z ∷ zs))
 cut_above (last.Ended ending) z zs n le h = (le, at_least_le n z.0 le zs h)
 cut_above last.TooLarge z zs n le h = filter_least (λ p. nat_lt p.0 (last_number (z ∷ zs))) n (z ∷ zs) (le, at_least_le n z.0 le zs h)
 
-cut_rises : (l : Last) (z : ℕ × Packet) (zs : List (ℕ × Packet)) → Rises (z ∷ zs) → Rises (cut l (z ∷ zs))
+cut_rises : (l : Last) (z : ℕ × Packet) (zs : List (ℕ × Packet)) → Rises (z ∷ zs) → Rises (closed_packets l (z ∷ zs))
 cut_rises (last.Ended ending) z zs r = r
 cut_rises last.TooLarge z zs r = filter_rises (λ p. nat_lt p.0 (last_number (z ∷ zs))) (z ∷ zs) r
 
@@ -166,6 +162,19 @@ followed_by text (Err refusal) f = record { text = text; end = Err refusal }
 abbrev follow : {A B : Type 0} → Outcome A → (A → Outcome B) → Outcome B
 follow o f = followed_by o.text o.end f
 
+-- a window is closed, and this follows
+closed_follow : {A B : Type 0} (stop : Option Fault) (block : List ℕ) (value : A) (on : A → Outcome B) → follow (closed_as stop block value) on ≡ stops_or stop (put_before block (on value))
+closed_follow None block value on = refl
+closed_follow (Some fault) block value on = refl
+
+closed_end : {A : Type 0} (stop : Option Fault) (block : List ℕ) (value : A) → closed_as stop block value ≡ stops_or stop (text_end block value)
+closed_end None block value = refl
+closed_end (Some fault) block value = refl
+
+stopped_put : {A : Type 0} (stop : Option Fault) (block text : List ℕ) (whole : Outcome A) → stopped stop (block ++ text) (put_before block whole) ≡ put_before block (stopped stop text whole)
+stopped_put None block text whole = refl
+stopped_put (Some fault) block text whole = refl
+
 -- records are counted that have the number of the current window
 counted_here : (some same : Bool) (count : ℕ) → most_records ≤ cond (some && same) count 0 → (some ≡ true) × (same ≡ true) × (most_records ≤ count)
 counted_here true true count h = (refl, refl, h)
@@ -180,7 +189,7 @@ module _ (wording : Wording) (shown : Packet → List ℕ) where
   left_of g (p ∷ ps) l = let o : Outcome Gathering = taken wording g p.time (shown p) in followed_by o.text o.end (λ next. left_of next ps l)
 
 module _ (wording : Wording) (shown : Packet → List ℕ)
-    (causal : IsCausal wording) where
+    (causal : IsCausal wording) (in_time : StopsInTime wording) where
   -- a window of these packets
   abbrev held_window : ℕ → List Packet → Window
   held_window n held = (n, map shown held)
@@ -192,7 +201,14 @@ module _ (wording : Wording) (shown : Packet → List ℕ)
   packet_block closed n held = wording.block (closed_with closed n held) n (map shown held)
 
   abbrev windows_left : List Window → List (ℕ × Packet) → Last → Outcome (List Window × Ending)
-  windows_left closed ys l = ended l (left_outcome wording shown closed (cut l ys)) (unfinished_in wording l closed (windows_in shown ys))
+  windows_left closed ys l = ended l (left_outcome wording shown closed (closed_packets l ys)) (unfinished_in wording l closed (windows_in shown ys))
+
+  -- the same, up to the first window that stops
+  abbrev stopped_left : List Window → List (ℕ × Packet) → Last → Outcome (List Window × Ending)
+  stopped_left closed ys l = stopped (stop_left wording shown closed (closed_packets l ys)) (text_left wording shown closed (closed_packets l ys)) (windows_left closed ys l)
+
+  abbrev packet_stop : List Window → ℕ → List Packet → Option Fault
+  packet_stop closed n held = wording.stops (closed_with closed n held) n (map shown held)
 
   -- the state holds these packets
   pub record Holds (g : Gathering) (held : List Packet) : Type 0 where
@@ -311,7 +327,7 @@ module _ (wording : Wording) (shown : Packet → List ℕ)
   windows_next : (closed : List Window) (n : ℕ) (h : Packet) (hs : List Packet) (z : ℕ × Packet) (zs : List (ℕ × Packet)) (l : Last) → AreRising None (closed_with closed n (h ∷ hs)) → n < z.0 → AtLeast z.0 zs → Rises zs → length (h ∷ hs) ≤ most_records
       → windows_left closed (at_hand n (h ∷ hs) ++ z ∷ zs) l ≡ put_before (packet_block closed n (h ∷ hs)) (windows_left (closed_with closed n (h ∷ hs)) (z ∷ zs) l)
   windows_next closed n h hs z zs l rising lt least rises few =
-      let rest : List (ℕ × Packet) = cut l (z ∷ zs) in
+      let rest : List (ℕ × Packet) = closed_packets l (z ∷ zs) in
       let above : AtLeast (suc n) rest = cut_above l z zs (suc n) (omega arith) least in
       let unfinished : List ℕ = unfinished_in wording l closed (windows_in shown (at_hand n (h ∷ hs) ++ z ∷ zs)) in
       ap (λ (ys : List (ℕ × Packet)). ended l (left_outcome wording shown closed ys) unfinished) (cut_behind l n (h ∷ hs) z zs lt least rises)
@@ -330,7 +346,7 @@ module _ (wording : Wording) (shown : Packet → List ℕ)
       left_large wording shown closed (at_hand n (h ∷ hs) ++ more) (rises_run n (h ∷ hs) more (omega arith, least) (least, rises)) (omega arith)
 
   blocks_large : (closed : List Window) (n : ℕ) (held : List Packet) (p : Packet) (zs : List (ℕ × Packet)) (l : Last) (text : List ℕ) → most_records ≤ length held → AtLeast n zs → Rises zs
-      → ended l (left_outcome wording shown closed (cut l (at_hand n held ++ (n, p) ∷ zs))) text ≡ refused_behind text
+      → ended l (left_outcome wording shown closed (closed_packets l (at_hand n held ++ (n, p) ∷ zs))) text ≡ refused_behind text
   blocks_large closed n held p zs (last.Ended ending) text many least rises = ap (λ (o : Outcome (List Window)). ended (last.Ended ending) o text) (hand_large closed n held p zs many least rises)
   blocks_large closed n held p zs last.TooLarge text many least rises =
       let ys : List (ℕ × Packet) = at_hand n held ++ (n, p) ∷ zs in
@@ -355,23 +371,104 @@ module _ (wording : Wording) (shown : Packet → List ℕ)
       blocks_large closed n held p zs l (unfinished_in wording l closed (windows_in shown (at_hand n held ++ (n, p) ∷ zs))) (omega arith) least rises
       ∙ ap refused_behind (unfinished_large closed n held p zs l many least rises)
 
+  -- ---- stops
+
+  -- the current window may stop, and else the others are looked at
+  hand_stops : {A : Type 0} (closed : List Window) (n : ℕ) (h : Packet) (hs : List Packet) (zs : List (ℕ × Packet)) → AreRising None (closed_with closed n (h ∷ hs)) → Behind n zs → AtLeast n zs → Rises zs → length (h ∷ hs) ≤ most_records
+      → (whole : Outcome A) → stopped (stop_left wording shown closed (at_hand n (h ∷ hs) ++ zs)) (text_left wording shown closed (at_hand n (h ∷ hs) ++ zs)) whole
+      ≡ stops_or (packet_stop closed n (h ∷ hs)) (stopped (stop_left wording shown (closed_with closed n (h ∷ hs)) zs) (packet_block closed n (h ∷ hs) ++ text_left wording shown (closed_with closed n (h ∷ hs)) zs) whole)
+  hand_stops closed n h hs zs rising behind least rises few whole =
+      let held : List Packet = h ∷ hs in
+      let hand : List (ℕ × Packet) = at_hand n held in
+      let now : List Window = closed_with closed n held in
+      let none : run_of n zs ≡ 0 = run_none n zs behind in
+      let first : first_run (hand ++ zs) ≡ length hand = hand_first n h hs zs none in
+      let long : length hand ≡ length held = hand_long n held in
+      let packets : held ≡ map record_at (take (first_run (hand ++ zs)) (hand ++ zs)) = sym (ap (λ (xs : List (ℕ × Packet)). map record_at xs) (hand_front n h hs zs none) ∙ hand_records n held) in
+      let back : drop (first_run (hand ++ zs)) (hand ++ zs) ≡ zs = hand_back n h hs zs none in
+      stops_next wording shown closed (n, h) (at_hand n hs ++ zs) (rises_run n held zs least rises) (omega arith) held packets rising (causal closed n (map shown held)) (in_time.causal closed n (map shown held)) whole
+      ∙ ap (λ (xs : List (ℕ × Packet)). stops_or (packet_stop closed n held) (stopped (stop_left wording shown now xs) (packet_block closed n held ++ text_left wording shown now xs) whole)) back
+
+  stopped_next : (closed : List Window) (n : ℕ) (h : Packet) (hs : List Packet) (z : ℕ × Packet) (zs : List (ℕ × Packet)) (l : Last) → AreRising None (closed_with closed n (h ∷ hs)) → n < z.0 → AtLeast z.0 zs → Rises zs → length (h ∷ hs) ≤ most_records
+      → stopped_left closed (at_hand n (h ∷ hs) ++ z ∷ zs) l ≡ stops_or (packet_stop closed n (h ∷ hs)) (put_before (packet_block closed n (h ∷ hs)) (stopped_left (closed_with closed n (h ∷ hs)) (z ∷ zs) l))
+  stopped_next closed n h hs z zs l rising lt least rises few =
+      let held : List Packet = h ∷ hs in
+      let now : List Window = closed_with closed n held in
+      let block : List ℕ = packet_block closed n held in
+      let stop : Option Fault = packet_stop closed n held in
+      let rest : List (ℕ × Packet) = closed_packets l (z ∷ zs) in
+      let above : AtLeast (suc n) rest = cut_above l z zs (suc n) (omega arith) least in
+      let whole : Outcome (List Window × Ending) = windows_left closed (at_hand n held ++ z ∷ zs) l in
+      ap (λ (xs : List (ℕ × Packet)). stopped (stop_left wording shown closed xs) (text_left wording shown closed xs) whole) (cut_behind l n held z zs lt least rises)
+      ∙ hand_stops closed n h hs rest rising (behind_of n rest above) (at_least_le n (suc n) (omega arith) rest above) (cut_rises l z zs (least, rises)) few whole
+      ∙ ap (λ (o : Outcome (List Window × Ending)). stops_or stop (stopped (stop_left wording shown now rest) (block ++ text_left wording shown now rest) o)) (windows_next closed n h hs z zs l rising lt least rises few)
+      ∙ ap (λ (o : Outcome (List Window × Ending)). stops_or stop o) (stopped_put (stop_left wording shown now rest) block (text_left wording shown now rest) (windows_left now (z ∷ zs) l))
+
+  -- the current window has too many records, so neither it nor one after it is closed
+  answered_full : (n : ℕ) (held : List Packet) (p : Packet) (zs : List (ℕ × Packet)) → most_records ≤ length held → AtLeast n zs → Rises zs → answered (at_hand n held ++ (n, p) ∷ zs) ≡ []
+  answered_full n [] p zs many least rises = absurd (omega arith)
+  answered_full n (h ∷ hs) p zs many least rises =
+      let more : List (ℕ × Packet) = (n, p) ∷ zs in
+      let same : (n == n) ≡ true = eq-eqb n n refl in
+      let one : run_of n more ≡ suc (run_of n zs) = ap (λ (b : Bool). cond b (suc (run_of n zs)) 0) same in
+      let run : run_of n (at_hand n hs ++ more) ≡ length hs + run_of n more = run_held n hs more in
+      answered_large (n, h) (at_hand n hs ++ more) (rises_run n (h ∷ hs) more (omega arith, least) (least, rises)) (omega arith)
+
+  answered_none : (n : ℕ) (held : List Packet) (p : Packet) (zs : List (ℕ × Packet)) (l : Last) → most_records ≤ length held → AtLeast n zs → Rises zs → answered (closed_packets l (at_hand n held ++ (n, p) ∷ zs)) ≡ []
+  answered_none n held p zs (last.Ended ending) many least rises = answered_full n held p zs many least rises
+  answered_none n held p zs last.TooLarge many least rises =
+      let ys : List (ℕ × Packet) = at_hand n held ++ (n, p) ∷ zs in
+      let m : ℕ = last_number ys in
+      by_test (nat_lt n m)
+      (λ is.
+      let lt : n < m = ltb-true n m is in
+      let kept : before_last ys ≡ at_hand n held ++ (n, p) ∷ filter (λ q. nat_lt q.0 m) zs =
+      filter-append (λ q. nat_lt q.0 m) (at_hand n held) ((n, p) ∷ zs)
+      ∙ ap (λ (xs : List (ℕ × Packet)). xs ++ filter (λ q. nat_lt q.0 m) ((n, p) ∷ zs)) (below_hand n m held lt)
+      ∙ ap (λ (b : Bool). at_hand n held ++ cond b ((n, p) ∷ filter (λ q. nat_lt q.0 m) zs) (filter (λ q. nat_lt q.0 m) zs)) is in
+      ap answered kept ∙ answered_full n held p (filter (λ q. nat_lt q.0 m) zs) many (filter_least (λ q. nat_lt q.0 m) n zs least) (filter_rises (λ q. nat_lt q.0 m) zs rises))
+      (λ isnt.
+      let le : m ≤ n = ltb-false n m isnt in
+      let nothing : before_last ys ≡ [] = below_none n m ys (at_least_run n held ((n, p) ∷ zs) (omega arith, least)) le in
+      ap answered nothing)
+
+  stopped_large : (closed : List Window) (n : ℕ) (held : List Packet) (p : Packet) (zs : List (ℕ × Packet)) (l : Last) → length held ≡ most_records → AtLeast n zs → Rises zs
+      → stopped_left closed (at_hand n held ++ (n, p) ∷ zs) l ≡ refused_behind (wording.unfinished closed n (map shown held))
+  stopped_large closed n held p zs l many least rises =
+      let ys : List (ℕ × Packet) = at_hand n held ++ (n, p) ∷ zs in
+      let xs : List (ℕ × Packet) = closed_packets l ys in
+      let all : List Window = closed ++ windows_in shown xs in
+      ap (λ (ns : List ℕ). stopped (first_stop (stop_at wording shown all xs) ns) (blocks_below (stop_at wording shown all xs) (block_at wording shown all xs) ns) (windows_left closed ys l)) (answered_none n held p zs l (omega arith) least rises)
+      ∙ windows_large closed n held p zs l many least rises
+
   -- no further record comes
-  none_left : (g : Gathering) (held : List Packet) (l : Last) → Holds g held → left_of wording shown g [] l ≡ windows_left g.closed (at_hand g.numbering.number held) l
+  none_left : (g : Gathering) (held : List Packet) (l : Last) → Holds g held → left_of wording shown g [] l ≡ stopped_left g.closed (at_hand g.numbering.number held) l
   none_left g held last.TooLarge h =
       let n : ℕ = g.numbering.number in
       ap (λ (ts : List (List ℕ)). refused_behind (unfinished_of wording n g.closed ts)) h.tuples
-      ∙ sym (ap (λ (xs : List (ℕ × Packet)). ended last.TooLarge (left_outcome wording shown g.closed xs) (unfinished_in wording last.TooLarge g.closed (windows_in shown (at_hand n held)))) (cut_hand n held)
+      ∙ sym (ap (λ (xs : List (ℕ × Packet)). stopped (stop_left wording shown g.closed xs) (text_left wording shown g.closed xs) (ended last.TooLarge (left_outcome wording shown g.closed xs) (unfinished_in wording last.TooLarge g.closed (windows_in shown (at_hand n held))))) (cut_hand n held)
       ∙ ap refused_behind (unfinished_last g.closed n held h.few))
   none_left g [] (last.Ended ending) h =
       ap (closing_of wording g.numbering.number g.closed ending) h.tuples ∙ sym (ap (λ (o : Outcome (List Window)). ended (last.Ended ending) o []) (left_none wording shown g.closed))
   none_left g (p ∷ ps) (last.Ended ending) h =
       let n : ℕ = g.numbering.number in
-      let unfinished : List ℕ = unfinished_in wording (last.Ended ending) g.closed (windows_in shown (at_hand n (p ∷ ps))) in
+      let held : List Packet = p ∷ ps in
+      let now : List Window = closed_with g.closed n held in
+      let block : List ℕ = packet_block g.closed n held in
+      let stop : Option Fault = packet_stop g.closed n held in
+      let rising : AreRising None now = rising_other g.closed n g.tuples (map shown held) h.rising in
+      let unfinished : List ℕ = unfinished_in wording (last.Ended ending) g.closed (windows_in shown (at_hand n held)) in
+      let whole : Outcome (List Window × Ending) = windows_left g.closed (at_hand n held) (last.Ended ending) in
+      let whole_is : whole ≡ text_end block (now, ending) =
+      ap (λ (ys : List (ℕ × Packet)). ended (last.Ended ending) (left_outcome wording shown g.closed ys) unfinished) (sym (append-nil (at_hand n held)))
+      ∙ ap (λ (o : Outcome (List Window)). ended (last.Ended ending) o unfinished) (hand_next g.closed n p ps [] rising tt tt tt h.few)
+      ∙ ap (λ (o : Outcome (List Window)). ended (last.Ended ending) (put_before block o) unfinished) (left_none wording shown now)
+      ∙ ap (λ (text : List ℕ). text_end text (now, ending)) (append-nil block) in
       ap (closing_of wording n g.closed ending) h.tuples
-      ∙ sym (ap (λ (ys : List (ℕ × Packet)). ended (last.Ended ending) (left_outcome wording shown g.closed ys) unfinished) (sym (append-nil (at_hand n (p ∷ ps))))
-      ∙ ap (λ (o : Outcome (List Window)). ended (last.Ended ending) o unfinished) (hand_next g.closed n p ps [] (rising_other g.closed n g.tuples (map shown (p ∷ ps)) h.rising) tt tt tt h.few)
-      ∙ ap (λ (o : Outcome (List Window)). ended (last.Ended ending) (put_before (packet_block g.closed n (p ∷ ps)) o) unfinished) (left_none wording shown (closed_with g.closed n (p ∷ ps)))
-      ∙ ap (λ (text : List ℕ). text_end text (closed_with g.closed n (p ∷ ps), ending)) (append-nil (packet_block g.closed n (p ∷ ps))))
+      ∙ closed_end stop block (now, ending)
+      ∙ sym (ap (λ (ys : List (ℕ × Packet)). stopped (stop_left wording shown g.closed ys) (text_left wording shown g.closed ys) whole) (sym (append-nil (at_hand n held)))
+      ∙ hand_stops g.closed n p ps [] rising tt tt tt h.few whole
+      ∙ ap (λ (o : Outcome (List Window × Ending)). stops_or stop o) whole_is)
 
   -- a record goes to the current window
   holds_more : (g : Gathering) (held : List Packet) (p : Packet) → Holds g held → next_count g.numbering p.time < most_records → (next_number g.numbering p.time == g.numbering.number) ≡ true
@@ -429,15 +526,16 @@ module _ (wording : Wording) (shown : Packet → List ℕ)
       ] refl
 
   begun_next : (g : Gathering) (held : List Packet) (z : ℕ × Packet) (zs : List (ℕ × Packet)) (l : Last) → Holds g held → g.numbering.number < z.0 → AtLeast z.0 zs → Rises zs → 0 < length held
-      → put_before (hand_text wording g) (windows_left (with_hand g) (z ∷ zs) l) ≡ windows_left g.closed (at_hand g.numbering.number held ++ z ∷ zs) l
+      → stops_or (hand_stop wording g) (put_before (hand_text wording g) (stopped_left (with_hand g) (z ∷ zs) l)) ≡ stopped_left g.closed (at_hand g.numbering.number held ++ z ∷ zs) l
   begun_next g [] z zs l h lt least rises some = absurd (omega arith)
   begun_next g (q ∷ qs) z zs l h lt least rises some =
-      ap (λ (ts : List (List ℕ)). put_before (wording.block (g.closed ++ (g.numbering.number, ts) ∷ []) g.numbering.number ts) (windows_left (g.closed ++ (g.numbering.number, ts) ∷ []) (z ∷ zs) l)) h.tuples
-      ∙ sym (windows_next g.closed g.numbering.number q qs z zs l (rising_other g.closed g.numbering.number g.tuples (map shown (q ∷ qs)) h.rising) lt least rises h.few)
+      ap (λ (ts : List (List ℕ)). stops_or (wording.stops (g.closed ++ (g.numbering.number, ts) ∷ []) g.numbering.number ts)
+      (put_before (wording.block (g.closed ++ (g.numbering.number, ts) ∷ []) g.numbering.number ts) (stopped_left (g.closed ++ (g.numbering.number, ts) ∷ []) (z ∷ zs) l))) h.tuples
+      ∙ sym (stopped_next g.closed g.numbering.number q qs z zs l (rising_other g.closed g.numbering.number g.tuples (map shown (q ∷ qs)) h.rising) lt least rises h.few)
 
   -- What is left of a capture is what is left of its windows.
-  pub gathered_is : (g : Gathering) (held packets : List Packet) (l : Last) → Holds g held → left_of wording shown g packets l ≡ windows_left g.closed (at_hand g.numbering.number held ++ numbered_from time_of g.numbering packets) l
-  gathered_is g held [] l h = none_left g held l h ∙ ap (λ (ys : List (ℕ × Packet)). windows_left g.closed ys l) (sym (append-nil (at_hand g.numbering.number held)))
+  pub gathered_is : (g : Gathering) (held packets : List Packet) (l : Last) → Holds g held → left_of wording shown g packets l ≡ stopped_left g.closed (at_hand g.numbering.number held ++ numbered_from time_of g.numbering packets) l
+  gathered_is g held [] l h = none_left g held l h ∙ ap (λ (ys : List (ℕ × Packet)). stopped_left g.closed ys l) (sym (append-nil (at_hand g.numbering.number held)))
   gathered_is g held (p ∷ ps) l h =
       let n : ℕ = g.numbering.number in
       let number : ℕ = next_number g.numbering p.time in
@@ -446,7 +544,7 @@ module _ (wording : Wording) (shown : Packet → List ℕ)
       let least : AtLeast number zs = numbers_stay time_of (stepped g.numbering p.time) ps in
       let rises : Rises zs = numbers_rise time_of (stepped g.numbering p.time) ps in
       let more : Outcome Gathering = silent (Ok (joined g p.time (shown p))) in
-      let next : Outcome Gathering = text_end (hand_text wording g) (begins g p.time (shown p)) in
+      let next : Outcome Gathering = closed_as (hand_stop wording g) (hand_text wording g) (begins g p.time (shown p)) in
       let many : Outcome Gathering = refused wording g in
       let on : Gathering → Outcome (List Window × Ending) = λ next. left_of wording shown next ps l in
       by_test (nat_le most_records count)
@@ -459,8 +557,8 @@ module _ (wording : Wording) (shown : Packet → List ℕ)
       ap (λ (b : Bool). follow (cond b many (cond (number == n) more next)) on) is
       ∙ ap (λ (ts : List (List ℕ)). refused_behind (unfinished_of wording n g.closed ts)) h.tuples
       ∙ ap refused_behind (unfinished_some g.closed n held (omega arith))
-      ∙ sym (ap (λ (k : ℕ). windows_left g.closed (at_hand n held ++ (k, p) ∷ zs) l) same
-      ∙ windows_large g.closed n held p zs l full (at_least_le n number (omega arith) zs least) rises))
+      ∙ sym (ap (λ (k : ℕ). stopped_left g.closed (at_hand n held ++ (k, p) ∷ zs) l) same
+      ∙ stopped_large g.closed n held p zs l full (at_least_le n number (omega arith) zs least) rises))
       (λ isnt.
       let few : count < most_records = leb-false most_records count isnt in
       by_test (number == n)
@@ -473,24 +571,26 @@ module _ (wording : Wording) (shown : Packet → List ℕ)
       ap (λ (b : Bool). follow (cond b many (cond (number == n) more next)) on) isnt
       ∙ ap (λ (b : Bool). follow (cond b more next) on) is
       ∙ gathered_is (joined g p.time (shown p)) (held ++ p ∷ []) ps l (holds_more g held p h few is)
-      ∙ ap (λ (ys : List (ℕ × Packet)). windows_left g.closed ys l) hand)
+      ∙ ap (λ (ys : List (ℕ × Packet)). stopped_left g.closed ys l) hand)
       (λ other.
       let apart : number ≡ n → ⊥ = eqb-false number n other in
       let up : n < number = omega arith in
       ap (λ (b : Bool). follow (cond b many (cond (number == n) more next)) on) isnt
       ∙ ap (λ (b : Bool). follow (cond b more next) on) other
-      ∙ ap (λ (o : Outcome (List Window × Ending)). put_before (hand_text wording g) o) (gathered_is (begins g p.time (shown p)) (p ∷ []) ps l (holds_one g held p h other))
+      ∙ closed_follow (hand_stop wording g) (hand_text wording g) (begins g p.time (shown p)) on
+      ∙ ap (λ (o : Outcome (List Window × Ending)). stops_or (hand_stop wording g) (put_before (hand_text wording g) o)) (gathered_is (begins g p.time (shown p)) (p ∷ []) ps l (holds_one g held p h other))
       ∙ begun_next g held (number, p) zs l h up least rises (some_at_hand g held p h other)))
 
   -- From the first record on, it is the outcome of the windows.
   pub gathered_all : (window : ℕ) (packets : List Packet) (l : Last) → left_of wording shown (none_gathered window) packets l ≡ windows_outcome wording shown (numbered time_of window packets) l
   gathered_all window packets l =
+      let ys : List (ℕ × Packet) = numbered time_of window packets in
       gathered_is (none_gathered window) [] packets l
       (record { tuples = refl; count = λ e. absurd (false≢true e); few = omega arith; some = λ e. (refl, refl); held_some = λ e. absurd (false≢true e); rising = (tt, tt) })
-      ∙ ap (λ (ys : List (ℕ × Packet)). windows_left [] ys l) (numbered_is time_of window packets)
-      ∙ whole l (numbered time_of window packets)
+      ∙ ap (λ (ys : List (ℕ × Packet)). stopped_left [] ys l) (numbered_is time_of window packets)
+      ∙ ap (stopped (stop_of wording shown (closed_packets l ys)) (blocks_before wording shown (closed_packets l ys))) (whole l ys)
     where
-      whole : (e : Last) (ys : List (ℕ × Packet)) → windows_left [] ys e ≡ windows_outcome wording shown ys e
+      whole : (e : Last) (ys : List (ℕ × Packet)) → windows_left [] ys e ≡ windows_whole wording shown ys e
       whole (last.Ended ending) ys =
           elim (all_few ys) as (λ b. ended_with ending (blocks_in wording shown ys) (cond b (Ok (windows_in shown ys)) (Err (Refused TooLarge))) (unfinished_in wording (last.Ended ending) [] (windows_in shown ys))
           ≡ cond b (record { text = blocks_in wording shown ys; end = Ok (windows_in shown ys, ending) }) (windows_refused wording (last.Ended ending) (blocks_in wording shown ys) (windows_in shown ys))) [

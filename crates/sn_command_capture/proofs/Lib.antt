@@ -5,3 +5,4 @@ pub mod StreamLemmas
 pub mod TurnLemmas
 pub mod StandLemmas
 pub mod AnsweredLemmas
+pub mod UnstoppedLemmas

@@ -1,19 +1,19 @@
 -- What is kept in code stands for what is gathered, over plain values.
-use Rattle.std.proofs.Common.{◌≡◌, ℕ, ◌+◌, ◌-◌, ◌/◌, ◌<◌, ◌≤◌, List, [], ◌∷◌, ◌++◌, true, Option, None, unwrap_or, Result, Ok, Err, IfOk, length, refl, ap, sym, subst, ◌∙◌, arith, length-append}
+use Rattle.std.proofs.Common.{◌≡◌, ℕ, ◌+◌, ◌-◌, ◌/◌, ◌<◌, ◌≤◌, List, [], ◌∷◌, ◌++◌, Bool, true, false, cond, ◌&&◌, ◌==◌, Option, None, is_some, unwrap_or, Result, Ok, Err, IfOk, length, refl, ap, sym, subst, ◌∙◌, arith, length-append}
 use Rattle.std.proofs.Math.Nat.{zero-div}
-use Rattle.std.proofs.lemmas.Bool.{true≢false}
+use Rattle.std.proofs.lemmas.Bool.{eq-eqb, ne_eqb, true≢false}
 use Rattle.sn_base.proofs.Lists.{by_test}
 use Rattle.sn_pcap.specs.declared.packet.Ending.{Ending}
 use Rattle.sn_command.specs.declared.refusal.Refusal.{Refusal}
 use Rattle.sn_command.specs.Refusals.{seen_as}
 use Rattle.sn_command.specs.Runs.{Runs}
-use Rattle.sn_command.specs.Stages.{Adds}
+use Rattle.sn_command.specs.Stages.{Does}
 use Rattle.sn_command.specs.Worlds.{World}
 use Rattle.sn_windows.specs.declared.windows.Windows.{Windows}
 use Rattle.sn_windows.specs.Numbering.{Numbering, next_count, next_first, next_number, stepped}
 use Rattle.sn_windows.specs.NumberingOf.{numbering}
 use Rattle.sn_command_capture.specs.declared.gathered.Gathered.{Gathered}
-use Rattle.sn_command_capture.specs.Gathering.{Gathering, after, hand_text, Stands, with_hand}
+use Rattle.sn_command_capture.specs.Gathering.{Gathering, after, closed_as, hand_stop, hand_text, Stands, with_hand}
 use Rattle.sn_command_capture.specs.Wording.{Wording}
 use Rattle.sn_command_capture.proofs.RisingLemmas.{rising_next, rising_other}
 use Rattle.sn_command_capture.proofs.StreamLemmas.{after_here, after_next}
@@ -52,12 +52,14 @@ module _ (hand : List Window → ℕ → List (List ℕ) → Type 0) (kept : Gat
   pub at_number : (at_hand : ℕ) → at_hand ≡ kept.windows.number → hand g.closed at_hand g.tuples
   at_number at_hand e = subst (λ (n : ℕ). hand g.closed n g.tuples) (number_is ∙ sym e) s.at_hand
 
-  -- its text is added
-  pub adds_hand : (wording : Wording) (at_hand : ℕ) (here there : World) (answer : Result (Unit {0}) Refusal) → at_hand ≡ kept.windows.number → 0 < length g.tuples
-      → ((closed : List Window) (tuples : List (List ℕ)) → 0 < length tuples → hand closed at_hand tuples → Runs [] (Adds (wording.block (closed ++ (at_hand, tuples) ∷ []) at_hand tuples)) here answer there)
-      → Runs [] (Adds (hand_text wording g)) here answer there
-  adds_hand wording at_hand here there answer e some f =
-      subst (λ (n : ℕ). Runs [] (Adds (wording.block (g.closed ++ (n, g.tuples) ∷ []) n g.tuples)) here answer there) (e ∙ sym number_is) (f g.closed g.tuples some (at_number at_hand e))
+  -- it is closed
+  pub closes_hand : (wording : Wording) (at_hand : ℕ) (here there : World) (answer : Result (Unit {0}) Refusal) → at_hand ≡ kept.windows.number → 0 < length g.tuples
+      → ((closed : List Window) (tuples : List (List ℕ)) → 0 < length tuples → hand closed at_hand tuples
+      → Runs [] (Does (closed_as (wording.stops (closed ++ (at_hand, tuples) ∷ []) at_hand tuples) (wording.block (closed ++ (at_hand, tuples) ∷ []) at_hand tuples) tt)) here answer there)
+      → Runs [] (Does (closed_as (hand_stop wording g) (hand_text wording g) tt)) here answer there
+  closes_hand wording at_hand here there answer e some f =
+      subst (λ (n : ℕ). Runs [] (Does (closed_as (wording.stops (g.closed ++ (n, g.tuples) ∷ []) n g.tuples) (wording.block (g.closed ++ (n, g.tuples) ∷ []) n g.tuples) tt)) here answer there) (e ∙ sym number_is)
+      (f g.closed g.tuples some (at_number at_hand e))
 
   pub few_here : (time : ℕ) → next_count (numbering kept.windows) time < most_records → next_count g.numbering time < most_records
   few_here time few = subst (λ n. next_count n time < most_records) (sym s.numbering) few
@@ -81,18 +83,40 @@ module _ (hand : List Window → ℕ → List (List ℕ) → Type 0) (kept : Gat
       let least : kept.windows.number ≤ next_number (numbering kept.windows) time = omega arith in
       rising_next g.closed at_hand number g.tuples [] (subst (λ (n : ℕ). AreRising None (g.closed ++ (n, g.tuples) ∷ [])) (number_is ∙ sym e) s.rising) (omega arith)
 
+  -- no record of the current window came before, or as many as its tuples
+  joined_count : (time : ℕ) → next_number g.numbering time ≡ g.numbering.number → next_count g.numbering time ≡ length g.tuples
+  joined_count time same =
+      by_test (is_some g.numbering.first)
+      (λ is. ap (λ (b : Bool). cond (b && (next_number g.numbering time == g.numbering.number)) g.numbering.count 0) is
+      ∙ ap (λ (b : Bool). cond b g.numbering.count 0) (eq-eqb (next_number g.numbering time) g.numbering.number same) ∙ s.count is)
+      (λ isnt. ap (λ (b : Bool). cond (b && (next_number g.numbering time == g.numbering.number)) g.numbering.count 0) isnt
+      ∙ sym (ap length (by_test kept.some (λ is. absurd (true≢false (sym (s.begun is) ∙ isnt))) s.none)))
+
+  begun_count : (time : ℕ) → (next_number g.numbering time ≡ g.numbering.number → ⊥) → next_count g.numbering time ≡ 0
+  begun_count time other =
+      ap (λ (b : Bool). cond (is_some g.numbering.first && b) g.numbering.count 0) (ne_eqb (next_number g.numbering time) g.numbering.number other) ∙ never (is_some g.numbering.first)
+    where
+      never : (b : Bool) → cond (b && false) g.numbering.count 0 ≡ 0
+      never true = refl
+      never false = refl
+
   -- a packet went to the current window
   pub stands_joined : (now : List Window → ℕ → List (List ℕ) → Type 0) (windows : Windows) (time : ℕ) (shown : List ℕ) → numbering windows ≡ stepped (numbering kept.windows) time → next_number (numbering kept.windows) time ≡ kept.windows.number
-      → now g.closed g.numbering.number (g.tuples ++ shown ∷ []) → Stands now (record { windows = windows; closed = kept.closed; some = true }) (after g time shown)
-  stands_joined now windows time shown stepped_is same hand_is =
+      → next_count (numbering kept.windows) time < most_records → now g.closed g.numbering.number (g.tuples ++ shown ∷ []) → Stands now (record { windows = windows; closed = kept.closed; some = true }) (after g time shown)
+  stands_joined now windows time shown stepped_is same less hand_is =
       let here : next_number g.numbering time ≡ g.numbering.number = same_here time same in
+      let counted : next_count g.numbering time ≡ length g.tuples = joined_count time here in
+      let room : next_count g.numbering time < most_records = few_here time less in
       let long : length (g.tuples ++ shown ∷ []) ≡ length g.tuples + 1 = length-append g.tuples (shown ∷ []) in
-      subst (Stands now (record { windows = windows; closed = kept.closed; some = true })) (sym (after_here (record { first = []; block = λ ws n ts. []; unfinished = λ ws n ts. []; last = λ ws e. [] }) g time shown here)) (record {
+      subst (Stands now (record { windows = windows; closed = kept.closed; some = true })) (sym (after_here (record { first = []; block = λ ws n ts. []; stops = λ ws n ts. None; unfinished = λ ws n ts. []; last = λ ws e. [] }) g time shown here)) (record {
         numbering = ap (λ n. stepped n time) s.numbering ∙ sym stepped_is;
         closed = s.closed;
         some = λ _. omega arith;
         none = λ e. absurd (true≢false e);
         fresh = λ e. absurd (true≢false e);
+        begun = λ _. refl;
+        count = λ _. omega arith;
+        few = omega arith;
         at_hand = subst (λ (n : ℕ). now g.closed n (g.tuples ++ shown ∷ [])) (sym here) hand_is;
         rising = subst (λ (n : ℕ). AreRising None (g.closed ++ (n, g.tuples ++ shown ∷ []) ∷ [])) (sym here) (rising_other g.closed g.numbering.number g.tuples (g.tuples ++ shown ∷ []) s.rising);
       })
@@ -106,12 +130,16 @@ module _ (hand : List Window → ℕ → List (List ℕ) → Type 0) (kept : Gat
       let next_is : number ≡ next_number g.numbering time = f ∙ sym (ap (λ n. next_number n time) s.numbering) in
       let long : length (with_hand g) ≡ length g.closed + 1 = length-append g.closed ((g.numbering.number, g.tuples) ∷ []) in
       let many = s.closed in
-      subst (Stands now (record { windows = windows; closed = kept.closed + 1; some = true })) (sym (after_next (record { first = []; block = λ ws n ts. []; unfinished = λ ws n ts. []; last = λ ws e. [] }) g time shown other)) (record {
+      let counted : next_count g.numbering time ≡ 0 = begun_count time other in
+      subst (Stands now (record { windows = windows; closed = kept.closed + 1; some = true })) (sym (after_next (record { first = []; block = λ ws n ts. []; stops = λ ws n ts. None; unfinished = λ ws n ts. []; last = λ ws e. [] }) g time shown other)) (record {
         numbering = ap (λ n. stepped n time) s.numbering ∙ sym stepped_is;
         closed = omega arith;
         some = λ _. omega arith;
         none = λ e. absurd (true≢false e);
         fresh = λ e. absurd (true≢false e);
+        begun = λ _. refl;
+        count = λ _. omega arith;
+        few = omega arith;
         at_hand = subst (λ (n : ℕ). now (g.closed ++ (n, g.tuples) ∷ []) (next_number g.numbering time) (shown ∷ [])) (e ∙ sym number_is) (subst (λ (n : ℕ). now (g.closed ++ (at_hand, g.tuples) ∷ []) n (shown ∷ [])) next_is hand_is);
         rising = rising_next g.closed g.numbering.number (next_number g.numbering time) g.tuples (shown ∷ []) s.rising (omega arith);
       })

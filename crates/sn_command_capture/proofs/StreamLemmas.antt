@@ -28,7 +28,7 @@ use Rattle.sn_command.specs.declared.fault.Fault.{Fault}
 use Rattle.sn_command.specs.declared.fault.Fault.TheVariants as faults
 use Rattle.sn_command.specs.declared.refusal.Refusal.{Refusal}
 use Rattle.sn_command.specs.declared.refusal.Refusal.TheVariants.{Memory, Usage, Missing, ReadFault, WriteFault, Refused}
-use Rattle.sn_command.specs.Refusals.{refusing}
+use Rattle.sn_command.specs.Refusals.{refusing, seen_as}
 use Rattle.sn_command.specs.Outcomes.{Outcome, silent, Stage, Keeps}
 use Rattle.sn_command.specs.Runs.{Runs, Leads}
 use Rattle.sn_command.specs.Stages.{Does, Adds, Gives, GoesOn, named, Then}
@@ -38,11 +38,14 @@ use Rattle.sn_command.proofs.StageLemmas.{MayCome, runs_chance, runs_gives, runs
 use Rattle.sn_command.proofs.WorldLemmas.{follows_self, spares_none, spares_self}
 use Rattle.sn_windows.specs.Numbering.{next_number, next_count}
 use Rattle.sn_windows.specs.Windows.{numbered}
-use Rattle.sn_command_capture.specs.Wording.{IsCausal, Wording}
+use Rattle.sn_command_capture.specs.Wording.{IsCausal, IsLate, StopsInTime, Wording}
+use Rattle.sn_command_capture.specs.Stopping.{IsDue, refusal_of}
+use Rattle.sn_command_capture.specs.declared.stop.Stop.{Stop}
+use Rattle.sn_command_capture.specs.declared.stop.Stop.TheVariants as stops
 use Rattle.sn_command_capture.specs.Capture.{known_bytes, Whole, Head, Found, RecordsIn, packet_tuple, time_of, ending_verdict, windows_outcome, WindowsIn, WindowsOf}
-use Rattle.sn_command_capture.specs.Gathering.{Gathering, after, all_of, begins, closing, closing_of, hand_text, joined, none_gathered, refused, taken}
+use Rattle.sn_command_capture.specs.Gathering.{Gathering, after, all_of, begins, closed_as, closing, closing_of, hand_stop, hand_text, joined, none_gathered, refused, taken}
 use Rattle.sn_pcap.proofs.ToldLemmas.{at_told}
-use Rattle.sn_command_capture.proofs.GatherLemmas.{left_of, put_before, text_end, followed_by, gathered_all}
+use Rattle.sn_command_capture.proofs.GatherLemmas.{left_of, followed_by, gathered_all}
 use Rattle.sn_windows.specs.Rising.{Window}
 use Rattle.sn_base.proofs.Tests.{by_order as below_or_not}
 use Rattle.sn_windows.specs.Blocks.{most_records}
@@ -168,27 +171,27 @@ pub record LeftOver (wording : Wording) (link : Link) (capture : List ℕ) (read
   pub is : outcome ≡ left_of wording (packet_tuple link (within file)) g packets end
 
 -- a reader that was made leaves all of a known capture
-left_all : (wording : Wording) (causal : IsCausal wording) (window : ℕ) (header : Header) (capture : List ℕ) (files : ByName (List ℕ)) (file : List ℕ) (outcome rest : Outcome (List Window × Ending)) (verdict : Result Found Fault) → get files capture ≡ Some file → outcome ≡ rest
+left_all : (wording : Wording) (causal : IsCausal wording) (in_time : StopsInTime wording) (window : ℕ) (header : Header) (capture : List ℕ) (files : ByName (List ℕ)) (file : List ℕ) (outcome rest : Outcome (List Window × Ending)) (verdict : Result Found Fault) → get files capture ≡ Some file → outcome ≡ rest
     → RecordsIn header (within file) verdict → GoesOn (λ found. Does (windows_outcome wording (packet_tuple header.link (within file)) (numbered time_of window found.packets) (last_of file found.ending))) files [] (refusing verdict) rest
     → LeftOver wording header.link capture (made header) (none_gathered window) files outcome
-left_all wording causal window header capture files file outcome rest (Ok found) held same are goes = record {
+left_all wording causal in_time window header capture files file outcome rest (Ok found) held same are goes = record {
   file = file;
   held = held;
   packets = found.packets;
   end = last_of file found.ending;
   left = records found.packets found.ending (last_of file found.ending) refl are refl;
-  is = same ∙ goes.2 ∙ goes.1 ∙ sym (gathered_all wording (packet_tuple header.link (within file)) causal window found.packets (last_of file found.ending));
+  is = same ∙ goes.2 ∙ goes.1 ∙ sym (gathered_all wording (packet_tuple header.link (within file)) causal in_time window found.packets (last_of file found.ending));
 }
-left_all wording causal window header capture files file outcome rest (Err fault) held same are goes = absurd are
+left_all wording causal in_time window header capture files file outcome rest (Err fault) held same are goes = absurd are
 
-pub left_begin : (wording : Wording) (causal : IsCausal wording) (window : ℕ) (header : Header) (capture : List ℕ) (files : ByName (List ℕ)) (outcome : Outcome (List Window × Ending)) (file : List ℕ) → get files capture ≡ Some file → WindowsOf wording window capture header files outcome
+pub left_begin : (wording : Wording) (causal : IsCausal wording) (in_time : StopsInTime wording) (window : ℕ) (header : Header) (capture : List ℕ) (files : ByName (List ℕ)) (outcome : Outcome (List Window × Ending)) (file : List ℕ) → get files capture ≡ Some file → WindowsOf wording window capture header files outcome
     → LeftOver wording header.link capture (made header) (none_gathered window) files outcome
-left_begin wording causal window header capture files outcome file held t =
+left_begin wording causal in_time window header capture files outcome file held t =
     let whole = goes_whole (WindowsIn wording window header) files capture file outcome held t in
     let judged = whole.is in
     let begun : judged.begun ≡ silent (refusing judged.begins.verdict) = judged.begins.same in
     let second : Found → Stage (List Window × Ending) = λ found. Does (windows_outcome wording (packet_tuple header.link (within file)) (numbered time_of window found.packets) (last_of file found.ending)) in
-    left_all wording causal window header capture files file outcome whole.rest judged.begins.verdict held whole.same judged.begins.is
+    left_all wording causal in_time window header capture files file outcome whole.rest judged.begins.verdict held whole.same judged.begins.is
     (subst (λ (o : Outcome Found). GoesOn second files o.text o.end whole.rest) begun judged.goes_on)
 
 -- ---- one packet
@@ -336,11 +339,74 @@ pub turn_ends : {B : Type 0} {name : List ℕ} {left whole : Stage B} {due : Out
     → ((files : ByName (List ℕ)) → before.files.told ≡ Some files → (outcome : Outcome B) → left files outcome → Does due files outcome) → Leads (name ∷ []) left whole first before → Runs [] (Does due) mid answer after → Runs (name ∷ []) whole first answer after
 turn_ends {name = name} {after = after} {answer = answer} follows spares out is leads r = leads answer after (runs_told is (runs_earlier follows spares out (with_name name r)))
 
+-- ---- a window is closed
+
+-- the value that a run gives is seen otherwise
+module _ {A B : Type 0} (view : A → B) where
+  abbrev viewed : Outcome A → Outcome B
+  viewed o = record { text = o.text; end = seen_as view o.end }
+
+  keeps_seen : (o : Outcome A) (answer : Result A Refusal) (before now : Option (List ℕ)) → Keeps o answer before now → Keeps (viewed o) (seen_as view answer) before now
+  keeps_seen o (Ok a) before now k = record { front = k.front; ends = λ e. ap (seen_as view) (k.ends e); whole = k.whole }
+  keeps_seen o (Err refusal) before now k = record { front = k.front; ends = λ e. ap (seen_as view) (k.ends e); whole = k.whole }
+
+  seen_err : (answer : Result A Refusal) {refusal : Refusal} → ◌≡◌ {A = Result B Refusal} (seen_as view answer) (Err refusal) → ◌≡◌ {A = Result A Refusal} answer (Err refusal)
+  seen_err (Ok a) e = absurd (let other = e in cc)
+  seen_err (Err refusal) e = err_err e
+
+  runs_seen : {before now : World} (o : Outcome A) (answer : Result A Refusal) → Runs [] (Does o) before answer now → Runs [] (Does (viewed o)) before (seen_as view answer) now
+  runs_seen {before} {now} o answer r = record {
+    keeps = λ files told outcome is. subst (λ (p : Outcome B). Keeps p (seen_as view answer) before.out.written now.out.written) (sym is) (keeps_seen o answer before.out.written now.out.written (r.keeps files told o refl));
+    missing = λ e. r.missing (seen_err answer e);
+    read_fault = λ e. r.read_fault (seen_err answer e);
+    write_fault = λ e. r.write_fault (seen_err answer e);
+    words = λ e. r.words (seen_err answer e);
+    others = r.others;
+    queries = λ fault e. r.queries fault (seen_err answer e);
+    switch = λ fault e. r.switch fault (seen_err answer e);
+    follows = r.follows;
+  }
+
+-- a fault that comes late may come
+late_may : (A : Type 0) (fault : Fault) → IsLate fault → MayCome {A = A} 0 (Err fault)
+late_may A (faults.Queries fault) late = absurd late
+late_may A (faults.Switch fault) late = absurd late
+late_may A (faults.Head fault) late = tt
+late_may A (faults.Cut at) late = tt
+late_may A (faults.Bad at) late = tt
+late_may A (faults.Plan fault) late = tt
+late_may A (faults.Misfit misfit) late = tt
+late_may A (faults.Tree fault) late = tt
+late_may A (faults.Unshown flaw) late = tt
+late_may A (faults.Budget spent) late = tt
+late_may A (faults.Reports fault) late = tt
+late_may A faults.TooLarge late = tt
+
+-- a window that is closed gives this value
+module _ {A : Type 0} (stop : Option Fault) (block : List ℕ) (value : A) where
+  closed_view : (o : Option Fault) → closed_as o block value ≡ viewed {A = Unit {0}} (λ _. value) (closed_as o block tt)
+  closed_view None = refl
+  closed_view (Some fault) = refl
+
+  pub runs_closing : {before now : World} (answer : Result (Unit {0}) Refusal) → Runs [] (Does (closed_as stop block tt)) before answer now → Runs [] (Does (closed_as stop block value)) before (seen_as (λ _. value) answer) now
+  runs_closing {before} {now} answer r =
+      subst (λ (o : Outcome A). Runs [] (Does o) before (seen_as (λ _. value) answer) now) (sym (closed_view stop)) (runs_seen {A = Unit {0}} (λ _. value) (closed_as stop block tt) answer r)
+
+module _ (stop : Option Fault) (block : List ℕ) where
+  -- its block went out, or couldn't
+  pub runs_block : {before now : World} (text : List ℕ) (answer : Result (Unit {0}) Refusal) → stop ≡ None → text ≡ block → Runs [] (Adds text) before answer now → Runs [] (Does (closed_as stop block tt)) before answer now
+  runs_block text answer none same r = rw (none, sym same) r
+
+  -- it stops, or memory ran out
+  pub runs_stop : (w : World) (reason : Stop) → IsDue stop reason → ((fault : Fault) → stop ≡ Some fault → IsLate fault) → Runs [] (Does {A = Unit {0}} (closed_as stop block tt)) w (Err (refusal_of reason)) w
+  runs_stop w stops.Memory due late = runs_chance _ w
+  runs_stop w (stops.Refused fault) due late = rw due (runs_gives (Err fault) w (late_may (Unit {0}) fault (late fault due)))
+
 -- ---- one packet, in code
 
 module _ (wording : Wording) (g : Gathering) (time : ℕ) (shown : List ℕ) where
   abbrev few_taken : Outcome Gathering
-  few_taken = if next_number g.numbering time == g.numbering.number then silent (Ok (joined g time shown)) else text_end (hand_text wording g) (begins g time shown)
+  few_taken = if next_number g.numbering time == g.numbering.number then silent (Ok (joined g time shown)) else closed_as (hand_stop wording g) (hand_text wording g) (begins g time shown)
 
   few_is : next_count g.numbering time < most_records → taken wording g time shown ≡ few_taken
   few_is few = ap (λ (b : Bool). if b then refused wording g else few_taken) (lt-leb most_records (next_count g.numbering time) few)
@@ -360,31 +426,19 @@ module _ (wording : Wording) (g : Gathering) (time : ℕ) (shown : List ℕ) whe
   -- the record is of the current window
   pub runs_joined : (w : World) → next_count g.numbering time < most_records → next_number g.numbering time ≡ g.numbering.number → Runs [] (Does (taken wording g time shown)) w (Ok (after g time shown)) w
   runs_joined w few same =
-      let is : taken wording g time shown ≡ silent (Ok (joined g time shown)) = few_is few ∙ ap (λ (b : Bool). if b then silent (Ok (joined g time shown)) else text_end (hand_text wording g) (begins g time shown)) (eq-eqb (next_number g.numbering time) g.numbering.number same) in
+      let is : taken wording g time shown ≡ silent (Ok (joined g time shown)) = few_is few ∙ ap (λ (b : Bool). if b then silent (Ok (joined g time shown)) else closed_as (hand_stop wording g) (hand_text wording g) (begins g time shown)) (eq-eqb (next_number g.numbering time) g.numbering.number same) in
       subst (λ (o : Outcome Gathering). Runs [] (Does o) w (Ok (after g time shown)) w) (sym (is ∙ ap (λ (v : Gathering). silent (Ok v)) (sym (after_here same)))) (runs_gives (Ok (after g time shown)) w tt)
 
-  begun_is : next_count g.numbering time < most_records → (next_number g.numbering time ≡ g.numbering.number → ⊥) → taken wording g time shown ≡ put_before (hand_text wording g) (silent (Ok (begins g time shown)))
+  begun_is : next_count g.numbering time < most_records → (next_number g.numbering time ≡ g.numbering.number → ⊥) → taken wording g time shown ≡ closed_as (hand_stop wording g) (hand_text wording g) (after g time shown)
   begun_is few other =
-      few_is few ∙ ap (λ (b : Bool). if b then silent (Ok (joined g time shown)) else text_end (hand_text wording g) (begins g time shown)) (ne_eqb (next_number g.numbering time) g.numbering.number other)
-      ∙ ap (λ (text : List ℕ). text_end text (begins g time shown)) (sym (append-nil (hand_text wording g)))
+      few_is few ∙ ap (λ (b : Bool). if b then silent (Ok (joined g time shown)) else closed_as (hand_stop wording g) (hand_text wording g) (begins g time shown)) (ne_eqb (next_number g.numbering time) g.numbering.number other)
+      ∙ ap (closed_as (hand_stop wording g) (hand_text wording g)) (sym (after_next other))
 
-  -- it begins the next one, and the block of the current one went out; then all went well, or memory ran out
-  pub runs_begun : (w later : World) → next_count g.numbering time < most_records → (next_number g.numbering time ≡ g.numbering.number → ⊥) → Runs [] (Adds (hand_text wording g)) w (Ok tt) later
-      → Runs [] (Does (taken wording g time shown)) w (Ok (after g time shown)) later
-  runs_begun w later few other r =
-      subst (λ (o : Outcome Gathering). Runs [] (Does o) w (Ok (after g time shown)) later) (sym (begun_is few other ∙ ap (λ (v : Gathering). put_before (hand_text wording g) (silent (Ok v))) (sym (after_next other))))
-      (text_then (hand_text wording g) (silent (Ok (after g time shown))) r (runs_gives (Ok (after g time shown)) later tt))
-
-  pub runs_wanting : (w later : World) → next_count g.numbering time < most_records → (next_number g.numbering time ≡ g.numbering.number → ⊥) → Runs [] (Adds (hand_text wording g)) w (Ok tt) later
-      → Runs [] (Does (taken wording g time shown)) w (Err Memory) later
-  runs_wanting w later few other r =
-      subst (λ (o : Outcome Gathering). Runs [] (Does o) w (Err Memory) later) (sym (begun_is few other)) (text_then (hand_text wording g) (silent (Ok (begins g time shown))) r (runs_chance _ later))
-
-  -- the block of the current one couldn't go out, or the next one couldn't be begun
-  pub runs_unwritten : (w later : World) (refusal : Refusal) → next_count g.numbering time < most_records → (next_number g.numbering time ≡ g.numbering.number → ⊥) → Runs [] (Adds (hand_text wording g)) w (Err refusal) later
-      → Runs [] (Does (taken wording g time shown)) w (Err refusal) later
-  runs_unwritten w later refusal few other r =
-      subst (λ (o : Outcome Gathering). Runs [] (Does o) w (Err refusal) later) (sym (begun_is few other)) (text_stops (hand_text wording g) (silent (Ok (begins g time shown))) r)
+  -- it begins the next one, and the current one was closed, or wasn't
+  pub runs_begun : (w later : World) (answer : Result (Unit {0}) Refusal) → next_count g.numbering time < most_records → (next_number g.numbering time ≡ g.numbering.number → ⊥)
+      → Runs [] (Does (closed_as (hand_stop wording g) (hand_text wording g) tt)) w answer later → Runs [] (Does (taken wording g time shown)) w (seen_as (λ _. after g time shown) answer) later
+  runs_begun w later answer few other r =
+      subst (λ (o : Outcome Gathering). Runs [] (Does o) w (seen_as (λ _. after g time shown) answer) later) (sym (begun_is few other)) (runs_closing (hand_stop wording g) (hand_text wording g) (after g time shown) answer r)
 
 -- a text went out, or couldn't, and the work is refused after it
 module _ {A : Type 0} (text : List ℕ) (before now : World) where
@@ -426,9 +480,10 @@ module _ (wording : Wording) (number : ℕ) (closed : List Window) (ending : End
   abbrev shut : List (List ℕ) → List Window
   shut tuples = closed ++ (number, tuples) ∷ []
 
-  some_closing : (tuples : List (List ℕ)) → 0 < length tuples → closing_of wording number closed ending tuples ≡ put_before (wording.block (shut tuples) number tuples) (silent (Ok (all_of number closed tuples, ending)))
+  some_closing : (tuples : List (List ℕ)) → 0 < length tuples
+      → closing_of wording number closed ending tuples ≡ closed_as (wording.stops (shut tuples) number tuples) (wording.block (shut tuples) number tuples) (all_of number closed tuples, ending)
   some_closing [] some = absurd (omega arith)
-  some_closing (t ∷ ts) some = ap (λ (text : List ℕ). text_end text (shut (t ∷ ts), ending)) (sym (append-nil (wording.block (shut (t ∷ ts)) number (t ∷ ts))))
+  some_closing (t ∷ ts) some = refl
 
   pub all_some : (tuples : List (List ℕ)) → 0 < length tuples → all_of number closed tuples ≡ shut tuples
   all_some [] some = absurd (omega arith)
@@ -438,17 +493,13 @@ module _ (wording : Wording) (number : ℕ) (closed : List Window) (ending : End
   pub runs_none : (tuples : List (List ℕ)) (w : World) → tuples ≡ [] → Runs [] (Does (closing_of wording number closed ending tuples)) w (Ok (all_of number closed tuples, ending)) w
   runs_none tuples w none = rw none (runs_gives (Ok (closed, ending)) w tt)
 
-  -- the block of the current window went out, or couldn't
-  pub runs_closed : (tuples : List (List ℕ)) (w later : World) → 0 < length tuples → Runs [] (Adds (wording.block (shut tuples) number tuples)) w (Ok tt) later
-      → Runs [] (Does (closing_of wording number closed ending tuples)) w (Ok (all_of number closed tuples, ending)) later
-  runs_closed tuples w later some r =
-      subst (λ (o : Outcome (List Window × Ending)). Runs [] (Does o) w (Ok (all_of number closed tuples, ending)) later) (sym (some_closing tuples some))
-      (text_then (wording.block (shut tuples) number tuples) (silent (Ok (all_of number closed tuples, ending))) r (runs_gives (Ok (all_of number closed tuples, ending)) later tt))
-
-  pub runs_unclosed : (tuples : List (List ℕ)) (w later : World) (refusal : Refusal) → 0 < length tuples → Runs [] (Adds (wording.block (shut tuples) number tuples)) w (Err refusal) later
-      → Runs [] (Does (closing_of wording number closed ending tuples)) w (Err refusal) later
-  runs_unclosed tuples w later refusal some r =
-      subst (λ (o : Outcome (List Window × Ending)). Runs [] (Does o) w (Err refusal) later) (sym (some_closing tuples some)) (text_stops (wording.block (shut tuples) number tuples) (silent (Ok (all_of number closed tuples, ending))) r)
+  -- the current window was closed, or wasn't
+  pub runs_closed : (tuples : List (List ℕ)) (w later : World) (answer : Result (Unit {0}) Refusal) → 0 < length tuples
+      → Runs [] (Does (closed_as (wording.stops (shut tuples) number tuples) (wording.block (shut tuples) number tuples) tt)) w answer later
+      → Runs [] (Does (closing_of wording number closed ending tuples)) w (seen_as (λ _. (all_of number closed tuples, ending)) answer) later
+  runs_closed tuples w later answer some r =
+      subst (λ (o : Outcome (List Window × Ending)). Runs [] (Does o) w (seen_as (λ _. (all_of number closed tuples, ending)) answer) later) (sym (some_closing tuples some))
+      (runs_closing (wording.stops (shut tuples) number tuples) (wording.block (shut tuples) number tuples) (all_of number closed tuples, ending) answer r)
 
 pub few_of : (count : ℕ) → (most_records ≤ count → false ≡ true) → count < most_records
 few_of count many = below_or_not count most_records (λ few. few) (λ more. absurd (false≢true (many more)))

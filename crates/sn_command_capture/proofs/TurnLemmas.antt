@@ -23,7 +23,7 @@ use Rattle.sn_command.specs.Stages.{Does}
 use Rattle.sn_command.specs.Worlds.{Files, World, Spares, Follows}
 use Rattle.sn_command.proofs.FileLemmas.{none_other}
 use Rattle.sn_command.proofs.OutcomeLemmas.{chance_keeps}
-use Rattle.sn_command_capture.specs.Wording.{IsCausal, Wording}
+use Rattle.sn_command_capture.specs.Wording.{IsCausal, StopsInTime, Wording}
 use Rattle.sn_command_capture.specs.Capture.{WindowsOf}
 use Rattle.sn_command_capture.specs.declared.gathered.Gathered.{Gathered}
 use Rattle.sn_command_capture.specs.Gathering.{Gathering, none_gathered, refused, Stands, Stops, taken, closing}
@@ -35,13 +35,13 @@ if_all None P all = tt
 if_all (Some file) P all = all file
 
 -- before any record
-module _ (wording : Wording) (causal : IsCausal wording) (window : ℕ) (header : Header) (capture : List ℕ) (reader : ReaderState) (g : Gathering) (before : World) (made_is : reader ≡ made header) (none_is : g ≡ none_gathered window) where
+module _ (wording : Wording) (causal : IsCausal wording) (in_time : StopsInTime wording) (window : ℕ) (header : Header) (capture : List ℕ) (reader : ReaderState) (g : Gathering) (before : World) (made_is : reader ≡ made header) (none_is : g ≡ none_gathered window) where
   pub leads_first : ((files : ByName (List ℕ)) (name : List ℕ) → before.files.told ≡ Some files → is_some (get files name) ≡ is_some (get before.files.faults name)) → is_some (get before.files.faults capture) ≡ true
       → Leads (capture ∷ []) (LeftOver wording header.link capture reader g) (WindowsOf wording window capture header) before before
   leads_first law known = λ answer later r. runs_told
       (λ files same outcome t.
       let file = file_known files before.files.faults capture (law files capture same) known in
-      rw (made_is, none_is) (left_begin wording causal window header capture files outcome file.0 file.1 t)) r
+      rw (made_is, none_is) (left_begin wording causal in_time window header capture files outcome file.0 file.1 t)) r
 
   pub follows_first : IfSome (told_file before.files.told capture) (λ file. ReaderFollows file reader)
   follows_first = rw made_is (if_all (told_file before.files.told capture) (λ file. ReaderFollows file (made header)) (λ file. refl))

@@ -1,8 +1,10 @@
 -- to be believed
 -- The stages of an answered capture.
-use Rattle.std.specs.Prelude.{◌≡◌, ℕ, nat_lt, List, [], ◌∷◌, ◌++◌, Bool, true, false, ◌||◌, length, take, map, filter, Result, Ok, Err, Option, Some, None}
+use Rattle.std.specs.Prelude.{◌≡◌, ℕ, nat_lt, List, [], ◌∷◌, ◌++◌, Bool, true, false, ◌||◌, length, take, map, filter, Result, Ok, Err, Option, Some, None, is_none}
 use Rattle.std.specs.Prelude.{if◌then◌else◌}
 use Rattle.std.specs.FinMap.{get}
+use Rattle.std.specs.List.{flat_map}
+use Rattle.std.specs.Option.{option_or}
 use Rattle.sn_base.specs.declared.link.Link.{Link}
 use Rattle.sn_fields.specs.Tuples.{tuple}
 use Rattle.sn_io.specs.declared.inputs.ReadError.{ReadError}
@@ -22,7 +24,7 @@ use Rattle.sn_command.specs.declared.refusal.Refusal.TheVariants.{Memory, Missin
 use Rattle.sn_command.specs.Outcomes.{Outcome, silent, Stage}
 use Rattle.sn_command.specs.Stages.{Does, Adds, Gives, Judges, named, Then}
 use Rattle.sn_windows.specs.Windows.{in_window, numbered, windows_of}
-use Rattle.sn_windows.specs.Blocks.{blocks, all_few, most_records}
+use Rattle.sn_windows.specs.Blocks.{answered, blocks, all_few, most_records, while_holds}
 use Rattle.sn_command_capture.specs.Wording.{Wording}
 use Rattle.sn_windows.specs.Rising.{Window}
 
@@ -91,6 +93,34 @@ block_in wording shown windows number packets = wording.block windows number (ma
 abbrev pub blocks_in : Wording → (Packet → List ℕ) → List (ℕ × Packet) → List ℕ
 blocks_in wording shown packets = blocks (block_in wording shown (windows_in shown packets)) packets
 
+-- why the block of a window with these packets can't be made, in a capture that has these windows
+abbrev pub stop_in : Wording → (Packet → List ℕ) → List Window → ℕ → List Packet → Option Fault
+stop_in wording shown windows number packets = wording.stops windows number (map shown packets)
+
+-- the first reason, if one of these windows has one
+abbrev pub first_stop : (ℕ → Option Fault) → List ℕ → Option Fault
+first_stop stop [] = None
+first_stop stop (w ∷ ws) = option_or (stop w) (first_stop stop ws)
+
+-- the blocks of the windows below the first one that has a reason
+abbrev pub blocks_below : (ℕ → Option Fault) → (ℕ → List ℕ) → List ℕ → List ℕ
+blocks_below stop block windows = flat_map block (while_holds (λ w. is_none (stop w)) windows)
+
+-- Of the windows of these packets, up to the first one with too many records: why the first one that stops does, and the blocks of
+-- those below it.
+abbrev pub stop_of : Wording → (Packet → List ℕ) → List (ℕ × Packet) → Option Fault
+stop_of wording shown packets = first_stop (λ w. stop_in wording shown (windows_in shown packets) w (in_window w packets)) (answered packets)
+
+abbrev pub blocks_before : Wording → (Packet → List ℕ) → List (ℕ × Packet) → List ℕ
+blocks_before wording shown packets =
+    blocks_below (λ w. stop_in wording shown (windows_in shown packets) w (in_window w packets))
+    (λ w. block_in wording shown (windows_in shown packets) w (in_window w packets)) (answered packets)
+
+-- Where a window stops, its reason ends the capture after the blocks below it; else the capture comes to this.
+abbrev pub stopped : {A : Type 0} → Option Fault → List ℕ → Outcome A → Outcome A
+stopped None text whole = whole
+stopped (Some fault) text whole = record { text = text; end = Err (Refused fault) }
+
 -- the capture has too many bytes, and no window comes after these
 abbrev pub ends_large : Last → List Window → Bool
 ends_large (last.Ended ending) windows = false
@@ -110,14 +140,25 @@ unfinished_in wording end closed (w ∷ ws) =
 abbrev pub windows_refused : Wording → Last → List ℕ → List Window → Outcome (List Window × Ending)
 windows_refused wording end text windows = record { text = text ++ unfinished_in wording end [] windows; end = Err (Refused faults.TooLarge) }
 
--- The blocks of the windows, up to the first one with too many records; and which windows there are, with how the records
--- end. Of a capture with too many bytes only the windows below the last whole record's have their blocks.
-abbrev pub windows_outcome : Wording → (Packet → List ℕ) → List (ℕ × Packet) → Last → Outcome (List Window × Ending)
-windows_outcome wording shown packets (last.Ended ending) =
+-- the packets whose windows are closed: of a capture with too many bytes these are only the windows below the last whole record's
+abbrev pub closed_packets : Last → List (ℕ × Packet) → List (ℕ × Packet)
+closed_packets (last.Ended ending) packets = packets
+closed_packets last.TooLarge packets = before_last packets
+
+-- Where no window stops: the blocks of the windows that are closed, up to the first one with too many records; and which windows
+-- there are, with how the records end.
+abbrev pub windows_whole : Wording → (Packet → List ℕ) → List (ℕ × Packet) → Last → Outcome (List Window × Ending)
+windows_whole wording shown packets (last.Ended ending) =
     if all_few packets then record { text = blocks_in wording shown packets; end = Ok (windows_in shown packets, ending) }
     else windows_refused wording (last.Ended ending) (blocks_in wording shown packets) (windows_in shown packets)
-windows_outcome wording shown packets last.TooLarge =
+windows_whole wording shown packets last.TooLarge =
     windows_refused wording last.TooLarge (blocks_in wording shown (before_last packets)) (windows_in shown packets)
+
+-- The same, up to the first window that stops. One with too many records isn't closed, so it doesn't stop.
+abbrev pub windows_outcome : Wording → (Packet → List ℕ) → List (ℕ × Packet) → Last → Outcome (List Window × Ending)
+windows_outcome wording shown packets end =
+    stopped (stop_of wording shown (closed_packets end packets)) (blocks_before wording shown (closed_packets end packets))
+    (windows_whole wording shown packets end)
 
 -- the windows of a capture's first 2^40 bytes, each of this many nanoseconds
 abbrev pub WindowsIn : Wording → ℕ → Header → List ℕ → Stage (List Window × Ending)

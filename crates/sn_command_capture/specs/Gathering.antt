@@ -1,9 +1,10 @@
 -- serves proofs
 -- What is kept of a capture while its records are read one after another.
-use Rattle.std.specs.Prelude.{◌≡◌, ℕ, ◌<◌, nat_le, ◌==◌, List, [], ◌∷◌, ◌++◌, Bool, true, false, Ok, Err, None, length, if◌then◌else◌}
+use Rattle.std.specs.Prelude.{◌≡◌, ℕ, ◌<◌, ◌≤◌, nat_le, ◌==◌, List, [], ◌∷◌, ◌++◌, Bool, true, false, Ok, Err, Option, Some, None, is_some, length, if◌then◌else◌}
 use Rattle.sn_io.specs.declared.inputs.ReadError.{ReadError}
 use Rattle.sn_io.specs.declared.inputs.ReadError.TheVariants as errors
 use Rattle.sn_pcap.specs.declared.packet.Ending.{Ending}
+use Rattle.sn_command.specs.declared.fault.Fault.{Fault}
 use Rattle.sn_command.specs.declared.fault.Fault.TheVariants.{TooLarge}
 use Rattle.sn_command.specs.declared.refusal.Refusal.{Refusal}
 use Rattle.sn_command.specs.declared.refusal.Refusal.TheVariants.{Refused}
@@ -37,6 +38,15 @@ with_hand g = g.closed ++ (g.numbering.number, g.tuples) ∷ []
 abbrev pub hand_text : Wording → Gathering → List ℕ
 hand_text wording g = wording.block (with_hand g) g.numbering.number g.tuples
 
+-- why the current window stops, if it does
+abbrev pub hand_stop : Wording → Gathering → Option Fault
+hand_stop wording g = wording.stops (with_hand g) g.numbering.number g.tuples
+
+-- a window is closed: it stops, or its block goes out, and this is given
+abbrev pub closed_as : {A : Type 0} → Option Fault → List ℕ → A → Outcome A
+closed_as None block value = record { text = block; end = Ok value }
+closed_as (Some fault) block value = silent (Err (Refused fault))
+
 -- What stands of the current window where the capture is refused. Before the first record no window is open.
 abbrev pub unfinished_of : Wording → ℕ → List Window → List (List ℕ) → List ℕ
 unfinished_of wording number closed [] = []
@@ -64,18 +74,19 @@ is_here g time = next_number g.numbering time == g.numbering.number
 abbrev pub after : Gathering → ℕ → List ℕ → Gathering
 after g time tuple = if is_here g time then joined g time tuple else begins g time tuple
 
--- A record at this time, with this tuple, is of the current window or begins the next one: then the block of the current
--- one goes out. Where the current window would have too many records, the capture is refused.
+-- A record at this time, with this tuple, is of the current window or begins the next one: then the current one is closed. Where the
+-- current window would have too many records, the capture is refused.
 abbrev pub taken : Wording → Gathering → ℕ → List ℕ → Outcome Gathering
 taken wording g time tuple =
     if nat_le most_records (next_count g.numbering time) then refused wording g
-    else (if is_here g time then silent (Ok (joined g time tuple)) else record { text = hand_text wording g; end = Ok (begins g time tuple) })
+    else (if is_here g time then silent (Ok (joined g time tuple)) else closed_as (hand_stop wording g) (hand_text wording g) (begins g time tuple))
 
--- The records end: the block of the current window goes out, if there is one.
+-- The records end: the current window is closed, if there is one.
 abbrev pub closing_of : Wording → ℕ → List Window → Ending → List (List ℕ) → Outcome (List Window × Ending)
 closing_of wording number closed ending [] = silent (Ok (closed, ending))
 closing_of wording number closed ending (t ∷ ts) =
-    record { text = wording.block (closed ++ (number, t ∷ ts) ∷ []) number (t ∷ ts); end = Ok (closed ++ (number, t ∷ ts) ∷ [], ending) }
+    closed_as (wording.stops (closed ++ (number, t ∷ ts) ∷ []) number (t ∷ ts)) (wording.block (closed ++ (number, t ∷ ts) ∷ []) number (t ∷ ts))
+    (closed ++ (number, t ∷ ts) ∷ [], ending)
 
 abbrev pub closing : Wording → Gathering → Ending → Outcome (List Window × Ending)
 closing wording g ending = closing_of wording g.numbering.number g.closed ending g.tuples
@@ -95,6 +106,9 @@ pub record Stands (hand : List Window → ℕ → List (List ℕ) → Type 0) (k
   pub some : kept.some ≡ true → 0 < length g.tuples
   pub none : kept.some ≡ false → g.tuples ≡ []
   pub fresh : kept.some ≡ false → (g.numbering.first ≡ None) × (g.numbering.number ≡ 0)
+  pub begun : kept.some ≡ true → is_some g.numbering.first ≡ true
+  pub count : is_some g.numbering.first ≡ true → g.numbering.count ≡ length g.tuples
+  pub few : length g.tuples ≤ most_records
   pub at_hand : hand g.closed g.numbering.number g.tuples
   pub rising : AreRising None (with_hand g)
 

@@ -1,16 +1,18 @@
 //! A way of answering the windows of a capture.
-ghost use Rattle.std.specs.Prelude.{◌≡◌, ◌<◌, ℕ, List, [], ◌∷◌, ◌++◌, length, None, IfOk, OnOk};
-ghost use Rattle.sn_command_capture.specs.Wording.{Closed, Holds, HoldsSome, IsCausal, Wording};
+ghost use Rattle.std.specs.Prelude.{◌≡◌, ◌<◌, ℕ, List, [], ◌∷◌, ◌++◌, length, None, IfErr, IfOk, OnOk};
+ghost use Rattle.sn_command_capture.specs.Stopping.{IsDue};
+ghost use Rattle.sn_command_capture.specs.Wording.{Closed, Holds, HoldsSome, IsCausal, StopsInTime, Wording};
 ghost use Rattle.sn_windows.specs.Rising.{AreRising, Window};
 
+use crate::stop::Stop;
 use sn_base::memory::Memory;
 use sn_base::seq::Seq;
 use sn_fields::tuple::Tuple;
 use sn_pcap::packet::Ending;
 
 /// A way of answering the windows of a capture, which come one after another. Each is given its tuples in capture order. It is
-/// over where the first tuple of a later one comes, or the records end: then its block is given. Running out of memory is the one error;
-/// nothing is called after it.
+/// over where the first tuple of a later one comes, or the records end: then its block is given, or it stops. Nothing is called after
+/// an error.
 pub trait Answering {
     /// How it answers, over all windows of a capture.
     ghost wording: { Self → Wording };
@@ -33,22 +35,30 @@ pub trait Answering {
             hand self.new closed number (tuples ++ tuple.now ∷ [])) }
         ensures wording { OnOk result (wording self.new ≡ wording self.old) };
 
-    /// Takes the first tuple of a later window. Closes the current window, and gives its block.
-    fn pass(&mut self, at_hand: u64, number: u64, tuple: &Tuple) -> Result<Seq<u8>, Memory>
+    /// Takes the first tuple of a later window. Closes the current window, and gives its block, or says why there is none.
+    fn pass(&mut self, at_hand: u64, number: u64, tuple: &Tuple) -> Result<Seq<u8>, Stop>
         requires hand { HoldsSome (hand self.old) at_hand }
         requires above { at_hand < number }
         ensures text { IfOk result (λ text. (closed : List Window) (tuples : List (List ℕ)) → 0 < length tuples → hand self.old closed at_hand tuples →
             text ≡ (wording self.old).block (closed ++ (at_hand, tuples) ∷ []) at_hand tuples) }
+        ensures goes_on { OnOk result ((closed : List Window) (tuples : List (List ℕ)) → 0 < length tuples → hand self.old closed at_hand tuples →
+            (wording self.old).stops (closed ++ (at_hand, tuples) ∷ []) at_hand tuples ≡ None) }
+        ensures stops { IfErr result (λ stop. (closed : List Window) (tuples : List (List ℕ)) → 0 < length tuples → hand self.old closed at_hand tuples →
+            IsDue ((wording self.old).stops (closed ++ (at_hand, tuples) ∷ []) at_hand tuples) stop) }
         ensures begun { OnOk result ((closed : List Window) (tuples : List (List ℕ)) → 0 < length tuples → hand self.old closed at_hand tuples →
             AreRising None ((closed ++ (at_hand, tuples) ∷ []) ++ (number, []) ∷ []) →
             hand self.new (closed ++ (at_hand, tuples) ∷ []) number (tuple.now ∷ [])) }
         ensures wording { OnOk result (wording self.new ≡ wording self.old) };
 
-    /// Closes the current window, which is the last one, and gives its block.
-    fn close(&mut self, number: u64) -> Result<Seq<u8>, Memory>
+    /// Closes the current window, which is the last one, and gives its block, or says why there is none.
+    fn close(&mut self, number: u64) -> Result<Seq<u8>, Stop>
         requires { HoldsSome (hand self.old) number }
         ensures text { IfOk result (λ text. (closed : List Window) (tuples : List (List ℕ)) → 0 < length tuples → hand self.old closed number tuples →
             text ≡ (wording self.old).block (closed ++ (number, tuples) ∷ []) number tuples) }
+        ensures goes_on { OnOk result ((closed : List Window) (tuples : List (List ℕ)) → 0 < length tuples → hand self.old closed number tuples →
+            (wording self.old).stops (closed ++ (number, tuples) ∷ []) number tuples ≡ None) }
+        ensures stops { IfErr result (λ stop. (closed : List Window) (tuples : List (List ℕ)) → 0 < length tuples → hand self.old closed number tuples →
+            IsDue ((wording self.old).stops (closed ++ (number, tuples) ∷ []) number tuples) stop) }
         ensures closed { OnOk result ((closed : List Window) (tuples : List (List ℕ)) → 0 < length tuples → hand self.old closed number tuples →
             idle self.new (closed ++ (number, tuples) ∷ [])) }
         ensures wording { OnOk result (wording self.new ≡ wording self.old) };
@@ -66,4 +76,7 @@ pub trait Answering {
 
     /// The block of a window depends on no later one.
     ghost causal: { (a : Self) → IsCausal (wording a) };
+
+    /// Nor does whether it stops, and what was read before the capture is never the reason.
+    ghost in_time: { (a : Self) → StopsInTime (wording a) };
 }

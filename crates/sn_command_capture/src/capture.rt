@@ -3,7 +3,7 @@
 ghost use Rattle.std.specs.Prelude.{◌≡◌, ◌<◌, ◌≤◌, ◌+◌, ◌^◌, ◌++◌, ℕ, List, [], ◌∷◌, None, true, is_some, IfOk, OnOk, length, take};
 ghost use Rattle.std.specs.FinMap.{get};
 ghost use Rattle.sn_command_capture.specs.Capture.{Head, WindowsOf, ending_verdict, LastLines, AfterHead, Answered};
-ghost use Rattle.sn_command_capture.specs.Gathering.{Gathering, after, all_closed, closing, refused, Stands, Stops, taken, unfinished_text};
+ghost use Rattle.sn_command_capture.specs.Gathering.{Gathering, after, all_closed, closed_as, closing, refused, Stands, Stops, taken, unfinished_text};
 ghost use Rattle.sn_command_capture.specs.Wording.{Closed, HoldsSome};
 ghost use Rattle.sn_fields.specs.Tuples.{tuple};
 ghost use Rattle.sn_command.specs.Desks.{world};
@@ -30,7 +30,7 @@ use sn_pcap::seen::{Next, Seen};
 use sn_windows::windows::Windows;
 use std::alloc::Global;
 
-/// Closes the current window, which is the last one, and writes its block.
+/// Closes the current window, which is the last one, and writes its block, where it doesn't stop.
 fn write_window<A: Answering, I: Inputs, O: Sink>(
     answering: &mut A,
     number: u64,
@@ -38,7 +38,8 @@ fn write_window<A: Answering, I: Inputs, O: Sink>(
 ) -> Result<(), Refusal>
     requires { HoldsSome (A.hand answering.old) number }
     ensures runs { (closed : List Window) (tuples : List (List ℕ)) → 0 < length tuples → A.hand answering.old closed number tuples →
-        Runs [] (Adds ((A.wording answering.old).block (closed ++ (number, tuples) ∷ []) number tuples)) (world I.Inputs O.Sink desk.old) result
+        Runs [] (Does (closed_as ((A.wording answering.old).stops (closed ++ (number, tuples) ∷ []) number tuples)
+            ((A.wording answering.old).block (closed ++ (number, tuples) ∷ []) number tuples) tt)) (world I.Inputs O.Sink desk.old) result
         (world I.Inputs O.Sink desk.new) }
     ensures closed { OnOk result ((closed : List Window) (tuples : List (List ℕ)) → 0 < length tuples → A.hand answering.old closed number tuples →
         A.idle answering.new (closed ++ (number, tuples) ∷ [])) }
@@ -48,7 +49,7 @@ fn write_window<A: Answering, I: Inputs, O: Sink>(
     write_text(text.as_slice(), desk)
 }
 
-/// Takes the first tuple of a later window: closes the current window, and writes its block.
+/// Takes the first tuple of a later window: closes the current window, and writes its block, where it doesn't stop.
 fn next_window<A: Answering, I: Inputs, O: Sink>(
     answering: &mut A,
     at_hand: u64,
@@ -59,7 +60,8 @@ fn next_window<A: Answering, I: Inputs, O: Sink>(
     requires hand { HoldsSome (A.hand answering.old) at_hand }
     requires above { at_hand < number }
     ensures runs { (closed : List Window) (tuples : List (List ℕ)) → 0 < length tuples → A.hand answering.old closed at_hand tuples →
-        Runs [] (Adds ((A.wording answering.old).block (closed ++ (at_hand, tuples) ∷ []) at_hand tuples)) (world I.Inputs O.Sink desk.old) result
+        Runs [] (Does (closed_as ((A.wording answering.old).stops (closed ++ (at_hand, tuples) ∷ []) at_hand tuples)
+            ((A.wording answering.old).block (closed ++ (at_hand, tuples) ∷ []) at_hand tuples) tt)) (world I.Inputs O.Sink desk.old) result
         (world I.Inputs O.Sink desk.new) }
     ensures begun { OnOk result ((closed : List Window) (tuples : List (List ℕ)) → 0 < length tuples → A.hand answering.old closed at_hand tuples →
         AreRising None ((closed ++ (at_hand, tuples) ∷ []) ++ (number, []) ∷ []) →
@@ -103,7 +105,7 @@ fn refuse_large<A: Answering, I: Inputs, O: Sink>(
     }
 }
 
-/// Takes a packet: it is of the current window, or the block of that one is written and it begins the next.
+/// Takes a packet: it is of the current window, or that one is closed and it begins the next.
 fn take_packet<A: Answering, I: Inputs, O: Sink>(
     answering: &mut A,
     link: Link,

@@ -6,3 +6,4 @@ pub mod capture;
 pub mod gathered;
 pub mod law;
 pub mod lines;
+pub mod stop;

@@ -84,4 +84,10 @@ detect_lines queries entries windows ending =
 
 abbrev pub detect_wording : List TypedQuery → List Entry → Wording
 detect_wording queries entries =
-    record { first = []; block = λ windows number tuples. []; unfinished = λ closed number tuples. []; last = detect_lines queries entries }
+    record {
+      first = [];
+      block = λ windows number tuples. [];
+      stops = λ windows number tuples. None;
+      unfinished = λ closed number tuples. [];
+      last = detect_lines queries entries;
+    }

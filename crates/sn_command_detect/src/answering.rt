@@ -15,6 +15,7 @@ use sn_base::memory::Memory;
 use sn_base::seq::Seq;
 use sn_command_capture::answering::Answering;
 use sn_command_capture::lines::last_lines;
+use sn_command_capture::stop::Stop;
 use sn_fields::tuple::Tuple;
 use sn_pcap::packet::Ending;
 use sn_plan_grammar::plan::Plan;
@@ -88,6 +89,7 @@ impl Watch {
 
 impl Answering for Watch {
     ghost use Rattle.std.specs.Prelude.{refl};
+    ghost use Rattle.sn_command_capture.specs.Unstopped.{never_stopped};
     ghost use Rattle.sn_command_detect.specs.Detected.{detect_wording};
     ghost use Rattle.sn_command_detect.specs.Watching.{IsAtHand, IsIdle};
 
@@ -105,14 +107,14 @@ impl Answering for Watch {
         self.take(tuple)
     }
 
-    fn pass(&mut self, at_hand: u64, _: u64, tuple: &Tuple) -> Result<Seq<u8>, Memory> {
+    fn pass(&mut self, at_hand: u64, _: u64, tuple: &Tuple) -> Result<Seq<u8>, Stop> {
         self.end(at_hand)?;
         self.begin();
         self.take(tuple)?;
         Ok(Seq::new(self.alloc))
     }
 
-    fn close(&mut self, number: u64) -> Result<Seq<u8>, Memory> {
+    fn close(&mut self, number: u64) -> Result<Seq<u8>, Stop> {
         self.end(number)?;
         Ok(Seq::new(self.alloc))
     }
@@ -126,4 +128,6 @@ impl Answering for Watch {
     }
 
     ghost causal = { λ a closed number tuples more rising. refl };
+
+    ghost in_time = { λ a. never_stopped (detect_wording a.typed.queries a.plan.entries) (λ windows number tuples. refl) };
 }

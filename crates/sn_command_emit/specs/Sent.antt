@@ -1,6 +1,6 @@
 -- to be believed
 -- The frames that the lanes of a plan send in a window.
-use Rattle.std.specs.Prelude.{ℕ, zero, suc, List, [], ◌∷◌, ◌++◌, map, filter, take, length, false}
+use Rattle.std.specs.Prelude.{ℕ, zero, suc, List, [], ◌∷◌, ◌++◌, map, filter, take, length, false, None}
 use Rattle.std.specs.FinSet as set
 use Rattle.std.specs.List.{flat_map, range_with_len}
 use Rattle.sn_command_capture.specs.Wording.{Wording}
@@ -96,4 +96,4 @@ abbrev pub no_lines : List Window → Ending → List ℕ
 no_lines windows ending = []
 
 abbrev pub frames_wording : Planned → Wording
-frames_wording p = record { first = []; block = frames_block p; unfinished = λ closed number tuples. []; last = no_lines }
+frames_wording p = record { first = []; block = frames_block p; stops = λ windows number tuples. None; unfinished = λ closed number tuples. []; last = no_lines }

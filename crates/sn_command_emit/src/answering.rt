@@ -11,6 +11,7 @@ use crate::reporter::Reporter;
 use sn_base::memory::Memory;
 use sn_base::seq::Seq;
 use sn_command_capture::answering::Answering;
+use sn_command_capture::stop::Stop;
 use sn_engine_lockstep::driver::Driver;
 use sn_fields::tuple::Tuple;
 use sn_pcap::packet::Ending;
@@ -89,6 +90,8 @@ impl Reporter {
 }
 
 impl Answering for Reporter {
+    ghost use Rattle.std.specs.Prelude.{refl};
+    ghost use Rattle.sn_command_capture.specs.Unstopped.{never_stopped};
     ghost use Rattle.sn_command_emit.specs.Causal.{frames_are_causal};
     ghost use Rattle.sn_command_emit.specs.Reporting.{IsAtHand, IsIdle, plan_of};
     ghost use Rattle.sn_command_emit.specs.Sent.{frames_wording};
@@ -107,15 +110,16 @@ impl Answering for Reporter {
         self.take(tuple)
     }
 
-    fn pass(&mut self, at_hand: u64, number: u64, tuple: &Tuple) -> Result<Seq<u8>, Memory> {
+    fn pass(&mut self, at_hand: u64, number: u64, tuple: &Tuple) -> Result<Seq<u8>, Stop> {
         let block = self.end(at_hand)?;
         self.begin(number)?;
         self.take(tuple)?;
         Ok(block)
     }
 
-    fn close(&mut self, number: u64) -> Result<Seq<u8>, Memory> {
-        self.end(number)
+    fn close(&mut self, number: u64) -> Result<Seq<u8>, Stop> {
+        let block = self.end(number)?;
+        Ok(block)
     }
 
     fn unfinished(&self, _: u64) -> Result<Seq<u8>, Memory> {
@@ -127,4 +131,6 @@ impl Answering for Reporter {
     }
 
     ghost causal = { λ a. frames_are_causal (plan_of a) };
+
+    ghost in_time = { λ a. never_stopped (frames_wording (plan_of a)) (λ windows number tuples. refl) };
 }

@@ -1,6 +1,6 @@
 -- to be believed
 -- What `job` writes of a plan and of the windows that it answers.
-use Rattle.std.specs.Prelude.{ℕ, List, [], ◌∷◌, ◌++◌, length, ◌==◌, codes, if◌then◌else◌}
+use Rattle.std.specs.Prelude.{ℕ, List, [], ◌∷◌, ◌++◌, length, ◌==◌, codes, None, if◌then◌else◌}
 use Rattle.std.specs.Fmt.{decimal}
 use Rattle.std.specs.List.{flat_map}
 use Rattle.sn_command_capture.specs.Wording.{Wording}
@@ -56,6 +56,7 @@ summary_wording told number cost nodes p =
     record {
       first = [];
       block = λ windows w tuples. [];
+      stops = λ windows number tuples. None;
       unfinished = λ closed number tuples. [];
       last = λ windows ending. summary told number cost nodes p windows;
     }

@@ -4,6 +4,7 @@ use crate::summary::{push_shown, summary_text};
 use sn_base::memory::Memory;
 use sn_base::seq::Seq;
 use sn_command_capture::answering::Answering;
+use sn_command_capture::stop::Stop;
 use sn_command_run::along::Along;
 use sn_core_drive::machine::Machine;
 use sn_fields::tuple::Tuple;
@@ -25,6 +26,7 @@ pub struct Summing<M: Drop> {
 
 impl<M: Machine> Answering for Summing<M> {
     ghost use Rattle.std.specs.Prelude.{refl};
+    ghost use Rattle.sn_command_capture.specs.Unstopped.{never_stopped};
     ghost use Rattle.sn_command_job.specs.Summary.{summary_wording};
     ghost use Rattle.sn_command_job.specs.Summing.{IsAtWork, IsIdle};
     ghost use Rattle.sn_command_run.specs.Along.{plan_of};
@@ -43,13 +45,13 @@ impl<M: Machine> Answering for Summing<M> {
         self.along.take_tuple(number, tuple)
     }
 
-    fn pass(&mut self, at_hand: u64, number: u64, tuple: &Tuple) -> Result<Seq<u8>, Memory> {
+    fn pass(&mut self, at_hand: u64, number: u64, tuple: &Tuple) -> Result<Seq<u8>, Stop> {
         let answers = self.along.pass_window(at_hand, number, tuple)?;
         push_shown(&mut self.shown, &self.along.typed, &answers)?;
         Ok(Seq::new(self.along.alloc))
     }
 
-    fn close(&mut self, number: u64) -> Result<Seq<u8>, Memory> {
+    fn close(&mut self, number: u64) -> Result<Seq<u8>, Stop> {
         let answers = self.along.close_window(number)?;
         push_shown(&mut self.shown, &self.along.typed, &answers)?;
         Ok(Seq::new(self.along.alloc))
@@ -64,4 +66,6 @@ impl<M: Machine> Answering for Summing<M> {
     }
 
     ghost causal = { λ a closed number tuples more rising. refl };
+
+    ghost in_time = { λ a. never_stopped (summary_wording M.told a.number a.cost a.nodes (plan_of a.along)) (λ windows number tuples. refl) };
 }

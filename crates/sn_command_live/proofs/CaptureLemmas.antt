@@ -4,8 +4,9 @@ use Rattle.std.specs.Prelude.{◌⊎◌, ◌&&◌, ◌==◌, ◌^◌, nat_eq, na
 use Rattle.std.specs.FinMap.{get}
 use Rattle.std.specs.List.{flat_map, list_all}
 use Rattle.std.proofs.lemmas.Bool.{false≢true, ltb-false}
-use Rattle.sn_command_capture.specs.Capture.{AfterHead, Answered, Found, Head, LastLines, RecordsIn, Whole, WindowsIn, WindowsOf, block_in, blocks_in, ending_verdict, known_bytes, packet_tuple, time_of, windows_in, windows_outcome, windows_refused}
-use Rattle.sn_command_capture.specs.Wording.{Wording}
+use Rattle.sn_command_capture.specs.Capture.{AfterHead, Answered, Found, Head, LastLines, RecordsIn, Whole, WindowsIn, WindowsOf, block_in, blocks_in, ending_verdict, known_bytes, packet_tuple, time_of, windows_in, windows_outcome, windows_refused, windows_whole}
+use Rattle.sn_command_capture.specs.Wording.{NeverStops, Wording}
+use Rattle.sn_command_capture.proofs.UnstoppedLemmas.{unstopped}
 use Rattle.sn_base.proofs.Lists.{by_test}
 use Rattle.sn_io.specs.Counts.{ByName}
 use Rattle.sn_pcap.specs.Capture.{Records, head_of}
@@ -115,7 +116,7 @@ module _ (capture : List ℕ) (files : ByName (List ℕ)) where
 
   -- ---- the windows
 
-  module _ (wording : Wording) (window : ℕ) (header : Header) where
+  module _ (wording : Wording) (never : NeverStops wording) (window : ℕ) (header : Header) where
     abbrev shown : List ℕ → Packet → List ℕ
     shown file = packet_tuple header.link (within file)
 
@@ -137,17 +138,20 @@ module _ (capture : List ℕ) (files : ByName (List ℕ)) where
         let windows : List Window = windows_in (shown file) ps in
         cond few (record { text = text; end = Ok (windows, ending) }) (windows_refused wording (last.Ended ending) text windows)
 
-    never_last : (file : List ℕ) (ps : List (ℕ × Packet)) (l : Last) → NeverSo (Does (windows_outcome wording (shown file) ps l)) files
-    never_last file ps (last.Ended ending) o r is e = by_test (all_few ps)
+    never_end : (file : List ℕ) (ps : List (ℕ × Packet)) (l : Last) → NeverSo (Does (windows_whole wording (shown file) ps l)) files
+    never_end file ps (last.Ended ending) o r is e = by_test (all_few ps)
         (λ few. absurd (let no = sym (ap (λ b. (ended_if file ps ending b).end) few) ∙ sym (ap (λ (o : Outcome (List Window × Ending)). o.end) is) ∙ e in cc))
         (λ many. ap is_ending (sym (large (sym (ap (λ b. (ended_if file ps ending b).end) many) ∙ sym (ap (λ (o : Outcome (List Window × Ending)). o.end) is) ∙ e))))
       where
         large : ◌≡◌ {A = Result (List Window × Ending) Refusal} (Err (Refused faults.TooLarge)) (Err r) → Refused faults.TooLarge ≡ r
         large k = cc
-    never_last file ps last.TooLarge o r is e = ap is_ending (sym (large (sym (ap (λ (o : Outcome (List Window × Ending)). o.end) is) ∙ e)))
+    never_end file ps last.TooLarge o r is e = ap is_ending (sym (large (sym (ap (λ (o : Outcome (List Window × Ending)). o.end) is) ∙ e)))
       where
         large : ◌≡◌ {A = Result (List Window × Ending) Refusal} (Err (Refused faults.TooLarge)) (Err r) → Refused faults.TooLarge ≡ r
         large k = cc
+
+    never_last : (file : List ℕ) (ps : List (ℕ × Packet)) (l : Last) → NeverSo (Does (windows_outcome wording (shown file) ps l)) files
+    never_last file ps l o r is e = never_end file ps l o r (is ∙ unstopped wording never (shown file) ps l) e
 
     never_records : (file : List ℕ) → NeverSo (Judges (RecordsIn header (within file))) files
     never_records file = never_judges (RecordsIn header (within file)) files (λ fault no. absurd no)
@@ -169,8 +173,8 @@ module _ (capture : List ℕ) (files : ByName (List ℕ)) where
     pair_is : (a b : List Window × Ending) → ◌≡◌ {A = Result (List Window × Ending) Refusal} (Ok a) (Ok b) → a ≡ b
     pair_is a b e = cc
 
-    outcome_so : (ps : List (ℕ × Packet)) (file : List ℕ) (e : Ending) (l : Last) (closed : List Window × Ending) → last_of file e ≡ l → (windows_outcome wording (shown file) ps l).end ≡ Ok closed
-        → (closed.0 ≡ windows_in (shown file) ps) × (closed.1 ≡ e) × ((windows_outcome wording (shown file) ps l).text ≡ flat_map (λ (w : Window). wording.block closed.0 w.0 w.1) closed.0)
+    outcome_so : (ps : List (ℕ × Packet)) (file : List ℕ) (e : Ending) (l : Last) (closed : List Window × Ending) → last_of file e ≡ l → (windows_whole wording (shown file) ps l).end ≡ Ok closed
+        → (closed.0 ≡ windows_in (shown file) ps) × (closed.1 ≡ e) × ((windows_whole wording (shown file) ps l).text ≡ flat_map (λ (w : Window). wording.block closed.0 w.0 w.1) closed.0)
     outcome_so ps file e (last.Ended later) closed is end = by_test (all_few ps)
         (λ few.
         let same : (windows_in (shown file) ps, later) ≡ closed = pair_is (windows_in (shown file) ps, later) closed (sym (ap (λ b. (ended_if file ps later b).end) few) ∙ end) in (
@@ -188,15 +192,15 @@ module _ (capture : List ℕ) (files : ByName (List ℕ)) where
         let q = passed (Judges (RecordsIn header (within p.value))) (λ found. Does (windows_outcome wording (shown p.value) (numbers found.packets) (last_of p.value found.ending))) files (never_records p.value) p.rest p.goes_on
         (λ r no. absurd (let k = sym e ∙ p.end ∙ no in cc)) in
         let j = judged_so (RecordsIn header (within p.value)) files q.begun q.value q.begins q.ok in
-        let due = windows_outcome wording (shown p.value) (numbers q.value.packets) (last_of p.value q.value.ending) in
-        let so = outcome_so (numbers q.value.packets) p.value q.value.ending (last_of p.value q.value.ending) closed refl (sym (ap (λ (o : Outcome (List Window × Ending)). o.end) q.goes_on) ∙ sym q.end ∙ sym p.end ∙ e) in
+        let whole = q.goes_on ∙ unstopped wording never (shown p.value) (numbers q.value.packets) (last_of p.value q.value.ending) in
+        let so = outcome_so (numbers q.value.packets) p.value q.value.ending (last_of p.value q.value.ending) closed refl (sym (ap (λ (o : Outcome (List Window × Ending)). o.end) whole) ∙ sym q.end ∙ sym p.end ∙ e) in
         record {
           file = p.value;
           has = w.0;
           packets = q.value.packets;
           records = subst (λ (ending : Ending). Records header (within p.value) 24 q.value.packets ending) (sym so.1) j.0;
           are = so.0;
-          blocks = p.text ∙ ap (λ (l : List ℕ). l ++ p.rest.text) w.1 ∙ q.text ∙ ap (λ (l : List ℕ). l ++ q.rest.text) j.1 ∙ ap (λ (o : Outcome (List Window × Ending)). o.text) q.goes_on ∙ so.2;
+          blocks = p.text ∙ ap (λ (l : List ℕ). l ++ p.rest.text) w.1 ∙ q.text ∙ ap (λ (l : List ℕ). l ++ q.rest.text) j.1 ∙ ap (λ (o : Outcome (List Window × Ending)). o.text) whole ∙ so.2;
         }
 
     -- ---- the last lines
@@ -236,16 +240,16 @@ module _ (capture : List ℕ) (files : ByName (List ℕ)) where
   first_text : (wording : Wording) (begun : Outcome (Unit {0})) → Adds wording.first files begun → begun.text ≡ wording.first
   first_text wording begun is = ap (λ (o : Outcome (Unit {0})). o.text) is
 
-  pub answered_so : (wording : Wording) (window : ℕ) (o : Outcome (Unit {0})) → Answered wording window capture files o → EndsSo o.end → AnsweredSo wording window o
-  answered_so wording window o t ends =
+  pub answered_so : (wording : Wording) → NeverStops wording → (window : ℕ) (o : Outcome (Unit {0})) → Answered wording window capture files o → EndsSo o.end → AnsweredSo wording window o
+  answered_so wording never window o t ends =
       let p = passed (Head capture) (AfterHead wording window capture) files never_head o t ends in
       let header = p.value in
       let h = head_so p.begun header p.begins p.ok in
       let f = passed (Adds wording.first) (behind_first wording window header) files (never_does tt wording.first files) p.rest p.goes_on (λ r e. ends r (p.end ∙ e)) in
-      let q = passed (WindowsOf wording window capture header) (λ closed. LastLines wording closed.0 closed.1) files (never_windows wording window header) f.rest f.goes_on (λ r e. ends r (p.end ∙ f.end ∙ e)) in
+      let q = passed (WindowsOf wording window capture header) (λ closed. LastLines wording closed.0 closed.1) files (never_windows wording never window header) f.rest f.goes_on (λ r e. ends r (p.end ∙ f.end ∙ e)) in
       let closed = q.value in
-      let w = windows_so wording window header q.begun closed q.begins q.ok in
-      let l = last_so wording window header closed.0 closed.1 q.rest q.goes_on in
+      let w = windows_so wording never window header q.begun closed q.begins q.ok in
+      let l = last_so wording never window header closed.0 closed.1 q.rest q.goes_on in
       record {
         file = w.file;
         has = w.has;

@@ -242,7 +242,7 @@ module _ (show : Shows) (costs : Costs) (switch queries train capture : List ℕ
         let p = passed (Certifies switch queries train nodes) (λ found. AlongPlan as_they_are capture found.read found.limits found.certificate.plan) files (never_certifies switch queries train nodes files) o t (λ r e. ended_so ending r (sym end ∙ e)) in
         let found = p.value in
         let c = certified_so switch queries train nodes files p.begun found p.begins p.ok in
-        let a = answered_so capture files (plan_wording (planned found.read found.limits found.certificate.plan)) (window_ns found.read) p.rest p.goes_on (λ r e. ended_so ending r (sym end ∙ p.end ∙ e)) in
+        let a = answered_so capture files (plan_wording (planned found.read found.limits found.certificate.plan)) (λ windows number tuples. refl) (window_ns found.read) p.rest p.goes_on (λ r e. ended_so ending r (sym end ∙ p.end ∙ e)) in
         let same : a.ending ≡ ending = one_ending a.ending ending (sym a.end ∙ sym p.end ∙ end) in
         let k = training_so (window_ns found.read) c.trained.bytes c.trained.has.few c.training c.trained.is in
         let given : AreAccepted switch queries train capture files ending = record {

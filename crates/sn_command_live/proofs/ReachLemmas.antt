@@ -6,8 +6,9 @@ use Rattle.std.specs.List.{AllByRecursion, flat_map, list_all, sum_by}
 use Rattle.std.proofs.lemmas.Bool.{le-leb, le-ltb}
 use Rattle.std.proofs.lemmas.List.{length-map}
 use Rattle.std.proofs.lemmas.List.Sums.{sum_by-cons}
-use Rattle.sn_command_capture.specs.Capture.{AfterHead, Answered, Found, Head, LastLines, RecordsIn, Whole, WindowsIn, WindowsOf, blocks_in, ending_verdict, known_bytes, packet_tuple, time_of, window_in, windows_in, windows_outcome, windows_refused}
-use Rattle.sn_command_capture.specs.Wording.{Wording}
+use Rattle.sn_command_capture.specs.Capture.{AfterHead, Answered, Found, Head, LastLines, RecordsIn, Whole, WindowsIn, WindowsOf, blocks_in, ending_verdict, known_bytes, packet_tuple, time_of, window_in, windows_in, windows_outcome, windows_refused, windows_whole}
+use Rattle.sn_command_capture.specs.Wording.{NeverStops, Wording}
+use Rattle.sn_command_capture.proofs.UnstoppedLemmas.{unstopped}
 use Rattle.sn_command_search.specs.Certificates.{IsCertificate, IsSpent, SearchedIn, certificate_text}
 use Rattle.sn_command_search.specs.declared.certificate.Certificate.{Certificate}
 use Rattle.sn_command_search.proofs.Verdicts.{one_search}
@@ -77,7 +78,7 @@ module _ (shown : Packet → List ℕ) (ps : List (ℕ × Packet)) where
       let low : length (in_window n ps) ≤ most_records = let few = h.0 in omega arith in
       ap (λ b. b && list_all (λ n. is_few n ps) ns) (le-leb (length (in_window n ps)) most_records low) ∙ few_from ns h.1
 
-module _ (wording : Wording) (window : ℕ) (capture : List ℕ) (files : ByName (List ℕ)) (file : List ℕ) (windows : List Window) (ending : Ending) where
+module _ (wording : Wording) (never : NeverStops wording) (window : ℕ) (capture : List ℕ) (files : ByName (List ℕ)) (file : List ℕ) (windows : List Window) (ending : Ending) where
   pub answered_given : get files capture ≡ Some file → IsCapture window file windows ending → AllByRecursion (λ (w : Window). length w.1 ≤ most_records) windows → last_of file ending ≡ last.Ended ending
       → Answered wording window capture files (record { text = wording.first ++ (flat_map (λ (w : Window). wording.block windows w.0 w.1) windows ++ wording.last windows ending); end = refusing (ending_verdict ending) })
   answered_given has is few end =
@@ -91,7 +92,7 @@ module _ (wording : Wording) (window : ℕ) (capture : List ℕ) (files : ByName
       let blocks : due ≡ windows_outcome wording shown ps (last_of file ending) =
       ap (λ (ws : List Window). made (flat_map (λ (w : Window). wording.block ws w.0 w.1) ws) (Ok (ws, ending))) is.are
       ∙ ap (λ (text : List ℕ). made text (Ok (windows_in shown ps, ending))) (sym (each_block wording shown ps all))
-      ∙ sym (ap (λ (l : Last). windows_outcome wording shown ps l) end ∙ ap (λ b. cond b (made (blocks_in wording shown ps) (Ok (windows_in shown ps, ending))) (windows_refused wording (last.Ended ending) (blocks_in wording shown ps) (windows_in shown ps))) all) in
+      ∙ sym (unstopped wording never shown ps (last_of file ending) ∙ ap (λ (l : Last). windows_whole wording shown ps l) end ∙ ap (λ b. cond b (made (blocks_in wording shown ps) (Ok (windows_in shown ps, ending))) (windows_refused wording (last.Ended ending) (blocks_in wording shown ps) (windows_in shown ps))) all) in
       let records : WindowsIn wording window is.header file files due = then_given [] found due (record { verdict = Ok found; is = is.records; same = refl }) blocks in
       let closed : WindowsOf wording window capture is.header files due = then_given [] file due whole records in
       let lines : LastLines wording windows ending files (record { text = wording.last windows ending; end = refusing (ending_verdict ending) }) =
@@ -169,7 +170,7 @@ module _ {switch queries train capture : List ℕ} {files : ByName (List ℕ)} {
   live_given =
       let found : Searched = record { read = given.read; limits = given.limits; certificate = certificate } in
       then_given (certificate_text certificate) found (record { text = behind; end = refusing (ending_verdict ending) }) certified_given
-      (answered_given (plan_wording along) window capture files given.second_file given.second ending given.has_second given.is_second keeps.few_each keeps.within_bytes)
+      (answered_given (plan_wording along) (λ windows number tuples. refl) window capture files given.second_file given.second ending given.has_second given.is_second keeps.few_each keeps.within_bytes)
 
   module _ (show : Shows) (costs : Costs) where
     pub reached : (o : Outcome (Unit {0})) → Live as_they_are switch queries train capture nodes files o → (o.end ≡ refusing (ending_verdict ending)) × Headline given o.text

@@ -17,7 +17,7 @@ use Rattle.sn_command.proofs.StageLemmas.{runs_judges, runs_stops, runs_then, st
 use Rattle.sn_switch.specs.declared.switch.Switch.{Switch}
 use Rattle.sn_command_training.specs.declared.training.Training.{Training}
 use Rattle.sn_command_training.specs.Training.{TrainingIn}
-use Rattle.sn_command_live.specs.Live.{Searched, Searches, trained_windows}
+use Rattle.sn_command_live.specs.Live.{Searched, SearchesAfter, trained_windows}
 
 module _ {A : Type 0} (text : List ℕ) (value : A) where
   keeps_value : (answer : Result (Unit {0}) Refusal) (before now : Option (List ℕ)) → Keeps (record { text = text; end = Ok tt }) answer before now → Keeps (record { text = text; end = Ok value }) (seen_as (λ _. value) answer) before now
@@ -57,7 +57,7 @@ module _ {A B : Type 0} {first : Stage A} {second : A → Stage B} {unread : ℕ
 pub in_windows : (name : List ℕ) {window other : ℕ} {before now : World} {answer : Result Training Refusal} → window ≡ other → Runs (name ∷ []) (Text name (TrainingIn window)) before answer now → Runs (name ∷ []) (Text name (TrainingIn other)) before answer now
 in_windows name {before = before} {now} {answer} e r = subst (λ (w : ℕ). Runs (name ∷ []) (Text name (TrainingIn w)) before answer now) e r
 
-module _ (read : Queries) (limits : Switch) (training : Training) (nodes : ℕ) where
+module _ (before : List ℕ) (read : Queries) (limits : Switch) (training : Training) (nodes : ℕ) where
   abbrev judgement : Result Certificate Fault → Type 0
   judgement = SearchedIn limits read.queries (trained_windows training) nodes
 
@@ -65,10 +65,10 @@ module _ (read : Queries) (limits : Switch) (training : Training) (nodes : ℕ) 
   judged {here} answer is = runs_judges judgement (search_once limits read.queries (trained_windows training) nodes) here (search_may limits read.queries (trained_windows training) nodes) answer is
 
   -- the search refused
-  pub search_stops : {here : World} {refusal : Refusal} → Answers judgement (Err refusal) → Runs [] (Searches read limits training nodes) here (Err refusal) here
+  pub search_stops : {here : World} {refusal : Refusal} → Answers judgement (Err refusal) → Runs [] (SearchesAfter before read limits training nodes) here (Err refusal) here
   search_stops {refusal = refusal} is = stage_stops (judged (Err refusal) is)
 
   -- it gave a certificate, which was written
-  pub search_then : {here there : World} {answer : Result (Unit {0}) Refusal} (c : Certificate) → Answers judgement (Ok c) → Runs [] (Adds (certificate_text c)) here answer there
-      → Runs [] (Searches read limits training nodes) here (seen_as (λ _. record { read = read; limits = limits; certificate = c }) answer) there
-  search_then {answer = answer} c is r = stage_then (judged (Ok c) is) (adds_value (certificate_text c) (record { read = read; limits = limits; certificate = c }) answer r)
+  pub search_then : {here there : World} {answer : Result (Unit {0}) Refusal} (c : Certificate) → Answers judgement (Ok c) → Runs [] (Adds (before ++ certificate_text c)) here answer there
+      → Runs [] (SearchesAfter before read limits training nodes) here (seen_as (λ _. record { read = read; limits = limits; certificate = c }) answer) there
+  search_then {answer = answer} c is r = stage_then (judged (Ok c) is) (adds_value (before ++ certificate_text c) (record { read = read; limits = limits; certificate = c }) answer r)

@@ -1,6 +1,6 @@
 -- to be believed
 -- What `plan` and `live` do.
-use Rattle.std.specs.Prelude.{ℕ, List, Ok}
+use Rattle.std.specs.Prelude.{ℕ, List, [], ◌++◌, Ok}
 use Rattle.sn_windows.specs.Rising.{Window}
 use Rattle.sn_command_search.specs.Certificates.{SearchedIn, certificate_text}
 use Rattle.sn_command_search.specs.declared.certificate.Certificate.{Certificate}
@@ -31,20 +31,26 @@ pub record Searched : Type 0 where
 abbrev pub searched_of : Certified → Searched
 searched_of c = record { read = queries_of c.typed; limits = c.limits; certificate = c.certificate }
 
--- The search adds the certificate of the plan that costs least over a training capture: the plan, its cost and its tree. A refusal
--- adds nothing.
-abbrev pub Searches : Queries → Switch → Training → ℕ → Stage Searched
-Searches read limits training nodes =
+-- The search adds the certificate of the plan that costs least over a training capture: the plan, its cost and its tree, behind this
+-- text. A refusal adds nothing.
+abbrev pub SearchesAfter : List ℕ → Queries → Switch → Training → ℕ → Stage Searched
+SearchesAfter before read limits training nodes =
     Then (Judges (SearchedIn limits read.queries (trained_windows training) nodes)) (λ certificate.
-    Does (record { text = certificate_text certificate; end = Ok (record { read = read; limits = limits; certificate = certificate }) }))
+    Does (record { text = before ++ certificate_text certificate; end = Ok (record { read = read; limits = limits; certificate = certificate }) }))
+
+abbrev pub Searches : Queries → Switch → Training → ℕ → Stage Searched
+Searches read limits training nodes = SearchesAfter [] read limits training nodes
 
 -- The queries are read, then the switch, then the training capture, and then the plan that costs least is searched for.
-abbrev pub Certifies : List ℕ → List ℕ → List ℕ → ℕ → Stage Searched
-Certifies switch queries train nodes =
+abbrev pub CertifiesAfter : List ℕ → List ℕ → List ℕ → List ℕ → ℕ → Stage Searched
+CertifiesAfter before switch queries train nodes =
     Then (Text queries QueriesIn) (λ read.
     Then (Text switch SwitchIn) (λ limits.
     Then (Text train (TrainingIn (window_ns read))) (λ training.
-    Searches read limits training nodes)))
+    SearchesAfter before read limits training nodes)))
+
+abbrev pub Certifies : List ℕ → List ℕ → List ℕ → ℕ → Stage Searched
+Certifies switch queries train nodes = CertifiesAfter [] switch queries train nodes
 
 -- `plan SWITCH QUERIES TRAIN --nodes NODES`: nothing more.
 abbrev pub Plan : List ℕ → List ℕ → List ℕ → ℕ → Stage (Unit {0})

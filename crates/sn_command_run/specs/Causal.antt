@@ -7,7 +7,7 @@ use Rattle.std.proofs.Common.{refl, ap, ◌∙◌, arith}
 use Rattle.std.proofs.lemmas.Bool.{ne_eqb}
 use Rattle.sn_base.specs.Groups.{Row}
 use Rattle.sn_base.proofs.Lists.{by_test}
-use Rattle.sn_command_capture.specs.Wording.{IsCausal}
+use Rattle.sn_command_capture.specs.Wording.{IsCausal, NeverStops}
 use Rattle.sn_engine_lockstep.specs.Windows.{count_of, piece_count, plan_answers, refined_from}
 use Rattle.sn_emit.specs.Plans.{Placed, pieces_from}
 use Rattle.sn_plan_fit.specs.Paths.{place_in}
@@ -113,3 +113,8 @@ plan_is_causal forms.Blocks told p closed number tuples more rising =
     ap (λ (a : Answers). block_text p.queries (told a) true) (answers_stand p closed number tuples more rising)
 plan_is_causal forms.Records told p closed number tuples more rising =
     ap (λ (a : Answers). window_records p.queries (told a)) (answers_stand p closed number tuples more rising)
+
+-- in neither form a window stops
+pub plan_never_stops : (form : Form) (told : Telling) (p : Planned) → NeverStops (wording_in form told p)
+plan_never_stops forms.Blocks told p windows number tuples = refl
+plan_never_stops forms.Records told p windows number tuples = refl

@@ -1,6 +1,6 @@
 -- to be believed
 -- What is written of the windows of a capture that is answered along a plan.
-use Rattle.std.specs.Prelude.{ℕ, List, [], ◌++◌, map, sum, length, Bool, true, false, Some}
+use Rattle.std.specs.Prelude.{ℕ, List, [], ◌++◌, map, sum, length, Bool, true, false, Some, None}
 use Rattle.sn_command_capture.specs.Wording.{Wording}
 use Rattle.sn_engine_lockstep.specs.Windows.{plan_answers}
 use Rattle.sn_out.specs.Records.{heading_line, window_records}
@@ -64,7 +64,7 @@ abbrev pub plan_lines : Planned → List Window → Ending → List ℕ
 plan_lines p windows ending = damage_line ending ++ total_line (length windows) (Some (emitted_in p windows))
 
 abbrev pub plan_wording : Planned → Wording
-plan_wording p = record { first = []; block = plan_block p; unfinished = λ closed number tuples. []; last = plan_lines p }
+plan_wording p = record { first = []; block = plan_block p; stops = λ windows number tuples. None; unfinished = λ closed number tuples. []; last = plan_lines p }
 
 -- the same, where the answers are reported
 abbrev pub told_block : Telling → Planned → List Window → ℕ → List (List ℕ) → List ℕ
@@ -74,7 +74,8 @@ abbrev pub told_lines : Telling → Planned → List Window → Ending → List 
 told_lines told p windows ending = damage_line ending ++ total_line (length windows) (Some (told_emitted_in told p windows))
 
 abbrev pub told_wording : Telling → Planned → Wording
-told_wording told p = record { first = []; block = told_block told p; unfinished = λ closed number tuples. []; last = told_lines told p }
+told_wording told p =
+    record { first = []; block = told_block told p; stops = λ windows number tuples. None; unfinished = λ closed number tuples. []; last = told_lines told p }
 
 -- ---- as comma-separated values
 
@@ -84,7 +85,14 @@ told_records told p windows w tuples = window_records p.queries (told_at told p 
 
 -- the heading and the records: no window, no damage and no total has a line
 abbrev pub records_wording : Telling → Planned → Wording
-records_wording told p = record { first = heading_line; block = told_records told p; unfinished = λ closed number tuples. []; last = λ windows ending. [] }
+records_wording told p =
+    record {
+      first = heading_line;
+      block = told_records told p;
+      stops = λ windows number tuples. None;
+      unfinished = λ closed number tuples. [];
+      last = λ windows ending. [];
+    }
 
 -- ---- in either form
 

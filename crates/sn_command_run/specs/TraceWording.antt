@@ -1,6 +1,6 @@
 -- to be believed
 -- What is written of the windows of a capture that is answered along a plan, with the lines of what happens in the machine.
-use Rattle.std.specs.Prelude.{ℕ, List, [], ◌++◌, filter, nat_le}
+use Rattle.std.specs.Prelude.{ℕ, List, [], ◌++◌, filter, nat_le, None}
 use Rattle.sn_command_capture.specs.Capture.{Answered}
 use Rattle.sn_command_capture.specs.Gathering.{all_of}
 use Rattle.sn_command_capture.specs.Wording.{Wording}
@@ -53,6 +53,7 @@ module _ (schedule : ℕ) (p : Planned) where
   traced_wording told = record {
     first = [];
     block = λ windows number tuples. lines_before windows number ++ told_block told p windows number tuples;
+    stops = λ windows number tuples. None;
     unfinished = lines_so_far;
     last = λ windows ending. lines_behind windows ++ told_lines told p windows ending;
   }

@@ -6,11 +6,14 @@ use sn_base::memory::Memory;
 use sn_base::seq::Seq;
 use sn_command_capture::answering::Answering;
 use sn_command_capture::lines::last_lines;
+use sn_command_capture::stop::Stop;
 use sn_core_drive::machine::Machine;
 use sn_fields::tuple::Tuple;
 use sn_pcap::packet::Ending;
 
 impl<M: Machine> Answering for Traced<M> {
+    ghost use Rattle.std.specs.Prelude.{refl};
+    ghost use Rattle.sn_command_capture.specs.Unstopped.{never_stopped};
     ghost use Rattle.sn_command_run.specs.Along.{plan_of};
     ghost use Rattle.sn_command_run.specs.TraceCausal.{trace_is_causal};
     ghost use Rattle.sn_command_run.specs.TraceWatching.{IsAtWork, IsIdle};
@@ -30,14 +33,16 @@ impl<M: Machine> Answering for Traced<M> {
         self.take_tuple(number, tuple)
     }
 
-    fn pass(&mut self, at_hand: u64, number: u64, tuple: &Tuple) -> Result<Seq<u8>, Memory> {
+    fn pass(&mut self, at_hand: u64, number: u64, tuple: &Tuple) -> Result<Seq<u8>, Stop> {
         let (lines, answers) = self.pass_window(at_hand, number, tuple)?;
-        with_block(self.along.alloc, &self.along.typed, lines, &answers)
+        let text = with_block(self.along.alloc, &self.along.typed, lines, &answers)?;
+        Ok(text)
     }
 
-    fn close(&mut self, number: u64) -> Result<Seq<u8>, Memory> {
+    fn close(&mut self, number: u64) -> Result<Seq<u8>, Stop> {
         let (lines, answers) = self.close_window(number)?;
-        with_block(self.along.alloc, &self.along.typed, lines, &answers)
+        let text = with_block(self.along.alloc, &self.along.typed, lines, &answers)?;
+        Ok(text)
     }
 
     fn unfinished(&self, _: u64) -> Result<Seq<u8>, Memory> {
@@ -50,4 +55,6 @@ impl<M: Machine> Answering for Traced<M> {
     }
 
     ghost causal = { λ a. trace_is_causal a.schedule (plan_of a.along) M.told };
+
+    ghost in_time = { λ a. never_stopped (traced_wording a.schedule (plan_of a.along) M.told) (λ windows number tuples. refl) };
 }

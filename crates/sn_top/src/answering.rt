@@ -6,11 +6,13 @@ use sn_base::memory::Memory;
 use sn_base::seq::Seq;
 use sn_command_capture::answering::Answering;
 use sn_command_capture::lines::last_lines;
+use sn_command_capture::stop::Stop;
 use sn_fields::tuple::Tuple;
 use sn_pcap::packet::Ending;
 
 impl Answering for Unsplit {
     ghost use Rattle.std.specs.Prelude.{◌≡◌, refl};
+    ghost use Rattle.sn_command_capture.specs.Unstopped.{never_stopped};
     ghost use Rattle.sn_top.specs.Answers.{plain_wording};
 
     ghost wording = { λ a. plain_wording a.typed.queries };
@@ -27,15 +29,16 @@ impl Answering for Unsplit {
         self.tuples.push(*tuple)
     }
 
-    fn pass(&mut self, at_hand: u64, _: u64, tuple: &Tuple) -> Result<Seq<u8>, Memory> {
+    fn pass(&mut self, at_hand: u64, _: u64, tuple: &Tuple) -> Result<Seq<u8>, Stop> {
         let text = window_text(self.alloc, &self.typed, at_hand, self.tuples.as_slice())?;
         self.tuples = Seq::new(self.alloc);
         self.tuples.push(*tuple)?;
         Ok(text)
     }
 
-    fn close(&mut self, number: u64) -> Result<Seq<u8>, Memory> {
-        window_text(self.alloc, &self.typed, number, self.tuples.as_slice())
+    fn close(&mut self, number: u64) -> Result<Seq<u8>, Stop> {
+        let text = window_text(self.alloc, &self.typed, number, self.tuples.as_slice())?;
+        Ok(text)
     }
 
     fn unfinished(&self, _: u64) -> Result<Seq<u8>, Memory> {
@@ -47,4 +50,6 @@ impl Answering for Unsplit {
     }
 
     ghost causal = { λ a closed number tuples more rising. refl };
+
+    ghost in_time = { λ a. never_stopped (plain_wording a.typed.queries) (λ windows number tuples. refl) };
 }

@@ -1,9 +1,10 @@
 -- What an answered capture adds, by the bytes of its file.
 use Rattle.std.proofs.Common.{◌≡◌, ℕ, ◌⊎◌, List, [], ◌++◌, Bool, true, false, cond, Option, None, Some, Result, Ok, Err, refl, ap, ◌∙◌, append-nil, inl, inr}
 use Rattle.std.specs.FinMap.{get}
-use Rattle.sn_command_capture.specs.Capture.{AfterHead, Answered, Found, Head, LastLines, RecordsIn, Whole, WindowsOf, blocks_in, ending_verdict, known_bytes, packet_tuple, time_of, windows_in, windows_outcome, windows_refused}
-use Rattle.sn_command_capture.specs.Wording.{Wording}
+use Rattle.sn_command_capture.specs.Capture.{AfterHead, Answered, Found, Head, LastLines, RecordsIn, Whole, WindowsOf, blocks_in, ending_verdict, known_bytes, packet_tuple, time_of, windows_in, windows_refused, windows_whole}
+use Rattle.sn_command_capture.specs.Wording.{NeverStops, Wording}
 use Rattle.sn_command_capture.proofs.AnsweredLemmas.{found_once}
+use Rattle.sn_command_capture.proofs.UnstoppedLemmas.{unstopped}
 use Rattle.sn_command_finish.specs.Taken.{followed}
 use Rattle.sn_io.specs.Counts.{ByName}
 use Rattle.sn_pcap.specs.declared.header.Header.{Header}
@@ -51,7 +52,7 @@ headed wording rest = record { text = wording.first ++ rest.text; end = rest.end
 
 -- where the records end so
 abbrev pub ended_due : Wording → ℕ → List ℕ → Header → Last → Outcome (Unit {0})
-ended_due wording window file header end = headed wording (followed (windows_outcome wording (shown_in header file) (packets_in window header file) end) (behind wording))
+ended_due wording window file header end = headed wording (followed (windows_whole wording (shown_in header file) (packets_in window header file) end) (behind wording))
 
 abbrev pub head_due : Wording → ℕ → List ℕ → Result Header HeadFault → Outcome (Unit {0})
 head_due wording window file (Err fault) = silent (Err (Refused (faults.Head fault)))
@@ -62,7 +63,7 @@ abbrev pub capture_due : Wording → ℕ → Option (List ℕ) → Outcome (Unit
 capture_due wording window None = silent (Err Missing)
 capture_due wording window (Some file) = head_due wording window file (head_of file)
 
-module _ (wording : Wording) (window : ℕ) (capture : List ℕ) (files : ByName (List ℕ)) where
+module _ (wording : Wording) (never : NeverStops wording) (window : ℕ) (capture : List ℕ) (files : ByName (List ℕ)) where
   whole_is : (held : Option (List ℕ)) → get files capture ≡ held → (begun : Outcome (List ℕ)) → Whole capture files begun → begun ≡ silent (known_bytes held)
   whole_is held e begun is = is ∙ ap (λ o. silent (known_bytes o)) e
 
@@ -75,8 +76,10 @@ module _ (wording : Wording) (window : ℕ) (capture : List ℕ) (files : ByName
         judged.same ∙ ap (λ (v : Result Found Fault). silent (refusing v)) (found_once header (within file) judged.verdict (Ok (found_in header file)) judged.is (records_some header (within file) 24).are)
 
     windows_are : (begun : Outcome (List Window × Ending)) → WindowsOf wording window capture header files begun
-        → begun ≡ windows_outcome wording (shown_in header file) (packets_in window header file) (last_of file (found_in header file).ending)
-    windows_are begun both = goes_silent (found_in header file) records_are (goes_silent file (whole_is (Some file) e) both)
+        → begun ≡ windows_whole wording (shown_in header file) (packets_in window header file) (last_of file (found_in header file).ending)
+    windows_are begun both =
+        goes_silent (found_in header file) records_are (goes_silent file (whole_is (Some file) e) both)
+        ∙ unstopped wording never (shown_in header file) (packets_in window header file) (last_of file (found_in header file).ending)
 
     lines_are : (closed : List Window × Ending) (rest : Outcome (Unit {0})) → LastLines wording closed.0 closed.1 files rest → rest ≡ behind wording closed
     lines_are closed rest both =
@@ -91,7 +94,7 @@ module _ (wording : Wording) (window : ℕ) (capture : List ℕ) (files : ByName
         let after = goes_after wording.first tt (λ begun is. is) both in
         after.2
         ∙ ap (headed wording)
-        (followed_is (windows_outcome wording (shown_in header file) (packets_in window header file) (last_of file (found_in header file).ending)) (behind wording) windows_are lines_are after.1)
+        (followed_is (windows_whole wording (shown_in header file) (packets_in window header file) (last_of file (found_in header file).ending)) (behind wording) windows_are lines_are after.1)
 
   -- an answered capture has the outcome that is due
   pub capture_is : (outcome : Outcome (Unit {0})) → Answered wording window capture files outcome → outcome ≡ capture_due wording window (get files capture)

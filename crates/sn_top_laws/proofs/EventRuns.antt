@@ -9,7 +9,7 @@ use Rattle.sn_command.specs.Outcomes.{Has, HasOne, Outcome, Stage, silent}
 use Rattle.sn_command.specs.Refusals.{refusing}
 use Rattle.sn_command.specs.Stages.{GoesOn, Judges, Text, Then, most_text, within_limit}
 use Rattle.sn_command.proofs.OneLemmas.{one_does, one_judges, one_text, one_then}
-use Rattle.sn_command_capture.specs.Capture.{before_last, block_in, blocks_in, ends_large, unfinished_in, windows_in, windows_outcome, windows_refused}
+use Rattle.sn_command_capture.specs.Capture.{before_last, block_in, blocks_in, ends_large, unfinished_in, windows_in, windows_refused, windows_whole}
 use Rattle.sn_command_capture.specs.Gathering.{all_of}
 use Rattle.sn_command_capture.specs.Wording.{Wording}
 use Rattle.sn_core.specs.declared.supply.Supply.TheVariants.{End}
@@ -110,7 +110,7 @@ module _ (schedule : ℕ) (told : Telling) (p : Planned) (names : HaveNames p.qu
     refused_alike end packets windows =
         (both_leave (blocks_in traced shown packets) (blocks_in plainly shown packets) (unfinished_in traced end [] windows) (unfinished_in plainly end [] windows) (blocks_leave packets) (unfinished_leaves end [] windows), refl)
 
-    windows_alike : (packets : List (ℕ × Packet)) (end : Last) → Alike (windows_outcome traced shown packets end) (windows_outcome plainly shown packets end)
+    windows_alike : (packets : List (ℕ × Packet)) (end : Last) → Alike (windows_whole traced shown packets end) (windows_whole plainly shown packets end)
     windows_alike packets (last.Ended ending) =
         let windows : List Window = windows_in shown packets in
         either_alike {A = List Window × Ending} (all_few packets) (record { text = blocks_in traced shown packets; end = Ok (windows, ending) }) (record { text = blocks_in plainly shown packets; end = Ok (windows, ending) })
@@ -123,7 +123,7 @@ module _ (schedule : ℕ) (told : Telling) (p : Planned) (names : HaveNames p.qu
   head_alike window file (Ok header) =
       let packets : List (ℕ × Packet) = packets_in window header file in
       let end : Last = last_of file (found_in header file).ending in
-      followed_alike (behind traced) (behind plainly) (λ closed. (last_leaves closed.0 closed.1, refl)) (windows_outcome traced (shown_in header file) packets end) (windows_outcome plainly (shown_in header file) packets end)
+      followed_alike (behind traced) (behind plainly) (λ closed. (last_leaves closed.0 closed.1, refl)) (windows_whole traced (shown_in header file) packets end) (windows_whole plainly (shown_in header file) packets end)
       (windows_alike (shown_in header file) packets end)
 
   pub due_alike : (window : ℕ) (held : Option (List ℕ)) → Alike (capture_due traced window held) (capture_due plainly window held)
@@ -237,8 +237,8 @@ module _ (switch queries train : List ℕ) (nodes : ℕ) (files : ByName (List �
         let y : Outcome (Unit {0}) = capture_due (told_wording told p) window (get files capture) in
         let alike = due_alike schedule told p (each_named found.read.queries names) window (get files capture) in
         adds_so (record { text = text ++ x.text; end = x.end }) (record { text = text ++ y.text; end = y.end })
-        (a.2 ∙ ap (λ (o : Outcome (Unit {0})). record { text = text ++ o.text; end = o.end }) (capture_is (told_wording told p) window capture files a.0 a.1))
-        (b.2 ∙ ap (λ (o : Outcome (Unit {0})). record { text = text ++ o.text; end = o.end }) (capture_is (traced_wording schedule p told) window capture files b.0 b.1))
+        (a.2 ∙ ap (λ (o : Outcome (Unit {0})). record { text = text ++ o.text; end = o.end }) (capture_is (told_wording told p) (λ windows number tuples. refl) window capture files a.0 a.1))
+        (b.2 ∙ ap (λ (o : Outcome (Unit {0})). record { text = text ++ o.text; end = o.end }) (capture_is (traced_wording schedule p told) (λ windows number tuples. refl) window capture files b.0 b.1))
         (both_leave text text x.text y.text stays alike.0, alike.1)
 
     pub adds_events : Live told switch queries train capture nodes files plain → TracedLive schedule told switch queries train capture nodes files traced → AddsEvents plain traced

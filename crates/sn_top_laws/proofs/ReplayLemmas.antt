@@ -1,5 +1,5 @@
 -- From file to file, `finish` prints of what `emit` wrote what `run` writes.
-use Rattle.std.proofs.Common.{◌≡◌, ℕ, ◌≤◌, ◌<◌, ◌^◌, ◌⊎◌, List, [], ◌∷◌, ◌++◌, length, drop, false, cond, Option, None, Some, Result, Ok, Err, ap, ◌∙◌, subst, append-nil, inl, inr}
+use Rattle.std.proofs.Common.{◌≡◌, ℕ, ◌≤◌, ◌<◌, ◌^◌, ◌⊎◌, List, [], ◌∷◌, ◌++◌, length, drop, false, cond, Option, None, Some, Result, Ok, Err, refl, ap, ◌∙◌, subst, append-nil, inl, inr}
 use Rattle.std.specs.FinMap.{get}
 use Rattle.std.specs.List.{AllByRecursion, flat_map}
 use Rattle.std.proofs.lemmas.Bool.{le-ltb}
@@ -172,4 +172,4 @@ finish_follows switch queries plan capture reports files later emitted ran finis
     let finish_plan = read_goes plan_once c.0 (reads_there plan PlanIn files later c.0 kept.same_plan c.1) finish_queries in
     let finish_shape = passed_goes (shape_misfit q.0.queries c.0.entries) (has_shape q.0.queries s.0 c.0.entries fits) finish_plan in
     let reported = goes_silent emitted.text (λ begun is. is ∙ ap (λ (r : Result (List ℕ) Refusal). silent r) (within_most emitted.text (get later reports) kept.held few)) finish_shape in
-    finishes q.0 s.0 c.0 (typed_in q.1.bytes q.0 q.1.is) is fits later emitted ran finished (get files capture) bytes (capture_is (frames_wording (planned q.0 s.0 c.0)) (window_ns q.0) capture files emitted f.1) (capture_is (plan_wording (planned q.0 s.0 c.0)) (window_ns q.0) capture files ran run_fit) reported written
+    finishes q.0 s.0 c.0 (typed_in q.1.bytes q.0 q.1.is) is fits later emitted ran finished (get files capture) bytes (capture_is (frames_wording (planned q.0 s.0 c.0)) (λ windows number tuples. refl) (window_ns q.0) capture files emitted f.1) (capture_is (plan_wording (planned q.0 s.0 c.0)) (λ windows number tuples. refl) (window_ns q.0) capture files ran run_fit) reported written

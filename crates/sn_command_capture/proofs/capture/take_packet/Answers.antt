@@ -5,8 +5,8 @@ use Rattle.sn_command.specs.Desks.{world}
 use Rattle.sn_command.proofs.StageLemmas.{runs_chance}
 use Rattle.sn_windows.specs.Numbering.{next_number, next_count}
 use Rattle.sn_windows.specs.NumberingOf.{numbering}
-use Rattle.sn_command_capture.proofs.StandLemmas.{above_it, adds_hand, at_number, few_here, many_here, number_is, other_here, rising_at, same_here, some_here, stands_begun, stands_joined}
-use Rattle.sn_command_capture.proofs.StreamLemmas.{few_of, runs_begun, runs_joined, runs_many, runs_unwritten}
+use Rattle.sn_command_capture.proofs.StandLemmas.{above_it, at_number, closes_hand, few_here, many_here, number_is, other_here, rising_at, same_here, some_here, stands_begun, stands_joined}
+use Rattle.sn_command_capture.proofs.StreamLemmas.{few_of, runs_begun, runs_joined, runs_many}
 use Rattle.sn_command_capture.proofs.capture.take_packet.Goals as goal
 
 pub returns-in-Err-clause-runs : goal.returns-in-Err-clause-runs
@@ -42,7 +42,7 @@ returns-then-number-at_hand-clause-stands g c = λ state s.
     let tuple_is : c.tuple_of-tuple.result ≡ shown = c.tuple_of-tuple.ensures.fields ∙ ap (tuple c.args.link seen.wire) c.bytes.ensures in
     let at : c.in-Ok.number ≡ c.args.gathered.windows.number = c.if-number-at_hand.true ∙ c.number-at_hand.ensures in
     let given = c.in_ok-packet.ensures.given state.closed state.tuples (at_number hand c.args.gathered state s c.in-Ok.number at) in
-    stands_joined hand c.args.gathered state s now c.next_number.new.self seen.time shown c.in-Ok.ensures.after same
+    stands_joined hand c.args.gathered state s now c.next_number.new.self seen.time shown c.in-Ok.ensures.after same (few_of (next_count (numbering c.args.gathered.windows) seen.time) c.in-Ok.ensures.too_many.1)
     (subst (λ (n : ℕ). now state.closed n (state.tuples ++ shown ∷ [])) (at ∙ sym (number_is hand c.args.gathered state s))
     (subst (λ (t : List ℕ). now state.closed c.in-Ok.number (state.tuples ++ t ∷ [])) tuple_is given))
 
@@ -58,8 +58,8 @@ returns-in_err-next_window-clause-runs g c = λ state s.
     let apart : next_number (numbering kept.windows) seen.time ≡ kept.windows.number → ⊥ = λ e. c.if-number-at_hand.false (c.in-Ok.ensures.number ∙ e ∙ sym c.number-at_hand.ensures) in
     let p = err_from_is_err_and c.from_residual-in_err-next_window.result c.from_residual-in_err-next_window.ensures.1 in
     let refusal = c.in_err-next_window.field-0.0 in
-    rw (p.1, p.2) (runs_unwritten wording state seen.time (tuple c.args.link seen.wire (take seen.len seen.front)) here there refusal (few_here hand kept state s seen.time few) (other_here hand kept state s seen.time apart)
-    (adds_hand hand kept state s wording c.number-at_hand.result here there (Err refusal) c.number-at_hand.ensures (some_here hand kept state s seen.time apart) c.in_err-next_window.ensures.runs))
+    rw (p.1, p.2) (runs_begun wording state seen.time (tuple c.args.link seen.wire (take seen.len seen.front)) here there (Err refusal) (few_here hand kept state s seen.time few) (other_here hand kept state s seen.time apart)
+    (closes_hand hand kept state s wording c.number-at_hand.result here there (Err refusal) c.number-at_hand.ensures (some_here hand kept state s seen.time apart) c.in_err-next_window.ensures.runs))
 
 pub packet-requires : goal.packet-requires
 packet-requires g c =
@@ -75,7 +75,7 @@ next_window-requires-clause-hand g c =
     let state = c.requires.stands.0 in
     let s = c.requires.stands.1 in
     let apart : next_number (numbering kept.windows) c.args.seen.now.time ≡ kept.windows.number → ⊥ = λ e. c.if-number-at_hand.false (c.in-Ok.ensures.number ∙ e ∙ sym c.number-at_hand.ensures) in
-    (state.closed, state.tuples, some_here hand kept state s c.args.seen.now.time apart, at_number hand kept state s c.number-at_hand.result c.number-at_hand.ensures)
+    (state.closed, state.tuples, some_here hand kept state s c.args.seen.now.time apart, at_number hand kept state s c.number-at_hand.result c.number-at_hand.ensures, s.few)
 
 pub next_window-requires-clause-above : goal.next_window-requires-clause-above
 next_window-requires-clause-above g c = above_it (numbering c.args.gathered.windows) c.args.seen.now.time c.number-at_hand.result c.in-Ok.number c.number-at_hand.ensures c.in-Ok.ensures.number c.if-number-at_hand.false
@@ -90,8 +90,8 @@ returns-clause-runs g c = λ state s.
     let there = world g.I.Inputs g.O.Sink c.next_window.new.desk in
     let few = few_of (next_count (numbering kept.windows) seen.time) c.in-Ok.ensures.too_many.1 in
     let apart : next_number (numbering kept.windows) seen.time ≡ kept.windows.number → ⊥ = λ e. c.if-number-at_hand.false (c.in-Ok.ensures.number ∙ e ∙ sym c.number-at_hand.ensures) in
-    runs_begun wording state seen.time (tuple c.args.link seen.wire (take seen.len seen.front)) here there (few_here hand kept state s seen.time few) (other_here hand kept state s seen.time apart)
-    (adds_hand hand kept state s wording c.number-at_hand.result here there (Ok tt) c.number-at_hand.ensures (some_here hand kept state s seen.time apart) c.in_ok-next_window.ensures.runs)
+    runs_begun wording state seen.time (tuple c.args.link seen.wire (take seen.len seen.front)) here there (Ok tt) (few_here hand kept state s seen.time few) (other_here hand kept state s seen.time apart)
+    (closes_hand hand kept state s wording c.number-at_hand.result here there (Ok tt) c.number-at_hand.ensures (some_here hand kept state s seen.time apart) c.in_ok-next_window.ensures.runs)
 
 pub returns-clause-stands : goal.returns-clause-stands
 returns-clause-stands g c = λ state s.

@@ -4,7 +4,7 @@ use Rattle.sn_command_run.specs.Along.{plan_of}
 use Rattle.sn_command_job.proofs.summing.SummingAnswering.close.Goals as goal
 
 pub close_window-requires : goal.close_window-requires
-close_window-requires g c = let h = c.requires in (h.0, h.1, h.2, h.3.along)
+close_window-requires g c = let h = c.requires in (h.0, h.1, h.2, h.3.along, h.4)
 
 pub returns-clause-closed : goal.returns-clause-closed
 returns-clause-closed g c = λ closed tuples some h.

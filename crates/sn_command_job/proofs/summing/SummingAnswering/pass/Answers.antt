@@ -3,7 +3,7 @@ use Rattle.sn_command_run.specs.Along.{plan_of}
 use Rattle.sn_command_job.proofs.summing.SummingAnswering.pass.Goals as goal
 
 pub pass_window-requires-clause-hand : goal.pass_window-requires-clause-hand
-pass_window-requires-clause-hand g c = let h = c.requires.hand in (h.0, h.1, h.2, h.3.along)
+pass_window-requires-clause-hand g c = let h = c.requires.hand in (h.0, h.1, h.2, h.3.along, h.4)
 
 pub returns-clause-begun : goal.returns-clause-begun
 returns-clause-begun g c = λ closed tuples some h rising.
