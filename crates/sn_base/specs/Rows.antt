@@ -1,6 +1,11 @@
 -- serves proofs
-use Rattle.std.specs.Prelude.{◌≡◌, ℕ, ◌≤◌, ◌-◌, List, ◌++◌, length, take, replicate}
+use Rattle.std.specs.Prelude.{◌≡◌, ℕ, ◌≤◌, ◌-◌, ◌/◌, ◌%◌, ◌^◌, List, ◌++◌, length, take, replicate}
+use Rattle.std.specs.Hash as fed
 use Rattle.std.proofs.Common.{sym, arith, length-take-le}
+
+-- what a hasher is fed of a column: its lower and its upper 64 bits
+abbrev pub halves : ℕ → List (List ℕ)
+halves column = fed.u64 (column % 2 ^ 64) ++ fed.u64 (column / 2 ^ 64)
 
 -- the columns, and zeros in the places after them
 abbrev pub filled : List ℕ → List ℕ

@@ -1,17 +1,13 @@
 //! The highest bits of a number.
-ghost use Rattle.std.specs.Prelude.{◌≡◌, ◌≤◌, ◌<◌, ◌^◌};
+ghost use Rattle.std.specs.Prelude.{◌≡◌, ◌≤◌};
 ghost use Rattle.sn_base.specs.Mask.{masked};
 
+use crate::number::Number;
+
 /// Keeps the highest `keep` of the `width` bits of `x`, and clears the rest.
-pub fn mask(x: u64, width: u32, keep: u32) -> u64
-    requires keep { keep ≤ width }
-    requires width { width ≤ 64 }
-    requires bits { x < 2 ^ width }
-    ensures { result ≡ masked width keep x }
+pub fn mask<N: Number>(x: N, width: u32, keep: u32) -> N
+    requires { keep ≤ width }
+    ensures { N.value result ≡ masked width keep (N.value x) }
 {
-    let cleared = width - keep;
-    if cleared == 64 {
-        return 0;
-    }
-    (x >> cleared) << cleared
+    x.cleared(width - keep)
 }

@@ -12,7 +12,7 @@ use std::marker::Model;
 /// grows with the logarithm of the set's size, whatever the prefixes are.
 #[derive(Drop)]
 pub struct Members {
-    prefixes: BTreeSet<u64>,
+    prefixes: BTreeSet<u128>,
 }
 
 impl Model for Members {
@@ -38,7 +38,7 @@ impl Members {
     }
 
     /// Adds a prefix. An `Err` changes nothing.
-    pub fn add(&mut self, prefix: u64) -> Result<(), Memory>
+    pub fn add(&mut self, prefix: u128) -> Result<(), Memory>
         ensures ok { OnOk result (self.new ≡ set.insert self.old prefix) }
         ensures err { OnErr result (self.new ≡ self.old) }
     {
@@ -49,7 +49,7 @@ impl Members {
     }
 
     /// Whether a prefix is in the set.
-    pub fn has(&self, prefix: u64) -> bool
+    pub fn has(&self, prefix: u128) -> bool
         ensures { result ≡ set.contains self.now prefix }
     {
         self.prefixes.contains(&prefix)

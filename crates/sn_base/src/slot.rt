@@ -1,9 +1,10 @@
 //! The slot of a row in a register.
 ghost use Rattle.std.specs.Prelude.{◌≡◌, ◌≤◌, ◌%◌, fold, bit_xor};
 ghost use Rattle.std.specs.Int.{to_le_bytes, w64};
-ghost use Rattle.sn_base.specs.Slot.{fnv_step, slot};
+ghost use Rattle.sn_base.specs.Slot.{column_bytes, fnv_step, slot};
 
-use crate::row::Row;
+use crate::any_row::AnyRow;
+use crate::number::Number;
 
 const BASIS: u64 = 14695981039346656037;
 
@@ -32,8 +33,8 @@ fn mix_bytes(hash: u64, bytes: &[u8; 4]) -> u64
     mixed
 }
 
-/// Mixes a column in. Most columns are below 2^32, and a byte of 0 is a multiplication alone, so that four of them are one.
-fn mix_column(hash: u64, column: u64) -> u64
+/// Mixes a number of 64 bits in. Most are below 2^32, and a byte of 0 is a multiplication alone, so that four of them are one.
+fn mix_half(hash: u64, column: u64) -> u64
     ensures { result ≡ fold fnv_step hash (to_le_bytes w64 column) }
 {
     let low = mix_bytes(hash, &((column % HALF) as u32).to_le_bytes());
@@ -43,6 +44,16 @@ fn mix_column(hash: u64, column: u64) -> u64
     } else {
         mix_bytes(low, &high.to_le_bytes())
     }
+}
+
+/// Mixes a column in: 8 bytes of it where it is below 2^64, and else 16.
+fn mix_column(hash: u64, column: u128) -> u64
+    ensures { result ≡ fold fnv_step hash (column_bytes column) }
+{
+    const WORD: u128 = 1 << 64;
+    let low = mix_half(hash, (column % WORD) as u64);
+    let high = (column / WORD) as u64;
+    if high == 0 { low } else { mix_half(low, high) }
 }
 
 /// The remainder of a hash by a number of slots. That is mostly a power of two, and a division takes as long as all else.
@@ -61,13 +72,13 @@ fn remainder(hash: u64, slots: u32) -> u32
 }
 
 /// The slot of a row in register number `index`, by the hash FNV-1a over its columns.
-pub fn slot_of(index: u32, key: &Row, slots: u32) -> u32
+pub fn slot_of<R: AnyRow>(index: u32, key: &R, slots: u32) -> u32
     requires { 1 ≤ slots }
-    ensures { result ≡ slot index key.now slots }
+    ensures { result ≡ slot index (R.columns key.now) slots }
 {
     let mut hash = BASIS ^ u64::from(index);
-    for column in key.as_slice() {
-        hash = mix_column(hash, *column);
+    for place in 0..key.len() {
+        hash = mix_column(hash, key.column(place as u32).whole());
     }
     remainder(hash, slots)
 }

@@ -7,7 +7,7 @@ ghost use Rattle.sn_chain.specs.Registers.{cell, holds};
 ghost use Rattle.sn_chain.specs.Stored.{put_back};
 
 use sn_base::memory::Memory;
-use sn_base::row::Row;
+use sn_base::short_row::ShortRow;
 use std::alloc::Global;
 use std::marker::Model;
 
@@ -65,7 +65,7 @@ impl Cells {
     }
 
     /// Whether a cell holds a key in a round. The columns are compared where they lie.
-    pub fn holds(&self, at: usize, round: u32, key: &Row) -> bool
+    pub fn holds(&self, at: usize, round: u32, key: &ShortRow) -> bool
         requires { at < length self.now }
         ensures { result ≡ holds same_row key.now (cell (all_shown_by round self.now) at) }
     {
@@ -94,7 +94,7 @@ impl Cells {
     }
 
     /// What a cell holds in a round. `None` exactly where the cell is empty or past the end.
-    pub fn shown(&self, at: usize, round: u32) -> Option<(Row, u64)>
+    pub fn shown(&self, at: usize, round: u32) -> Option<(ShortRow, u64)>
         ensures { result ≡ cell (all_shown_by round self.now) at }
     {
         let head = self.heads.get(at)?;
@@ -102,7 +102,7 @@ impl Cells {
             return None;
         }
         let count = head.count as usize;
-        let mut key = Row::empty();
+        let mut key = ShortRow::empty();
         extend(&mut key, &head.front[..count.min(3)]);
         if count > 3 {
             extend(&mut key, &self.tails[at][..count - 3]);
@@ -111,7 +111,7 @@ impl Cells {
     }
 
     /// A key takes a cell in a round, with a value.
-    pub fn take(&mut self, at: usize, round: u32, key: &Row, value: u64)
+    pub fn take(&mut self, at: usize, round: u32, key: &ShortRow, value: u64)
         requires { at < length self.old }
         ensures { self.new ≡ slice_set self.old at (record { round = round; key = key.now; value = value }) }
     {
@@ -162,7 +162,7 @@ fn put_back(heads: &mut [Head])
 }
 
 /// Puts columns after those of a row.
-fn extend(row: &mut Row, columns: &[u64])
+fn extend(row: &mut ShortRow, columns: &[u64])
     requires { length row.old + length columns.now ≤ 8 }
     ensures { row.new ≡ row.old ++ columns.now }
 {

@@ -11,7 +11,7 @@ use crate::offer::Offer;
 use crate::register::{Found, look};
 use sn_base::fold::Fold;
 use sn_base::memory::Memory;
-use sn_base::row::Row;
+use sn_base::short_row::ShortRow;
 use std::alloc::Global;
 use std::marker::Model;
 
@@ -84,7 +84,7 @@ impl<F: Fold> Chain<F> {
     /// Offers a key with a value. `Held` exactly where the key is held, and its value becomes the fold's
     /// step from it to `v`. Else `New` exactly where one of the key's slots is free: the key takes the first,
     /// with value `v`. Else `Over`, and nothing changes. Takes no memory.
-    pub fn offer(&mut self, key: &Row, v: u64) -> Offer
+    pub fn offer(&mut self, key: &ShortRow, v: u64) -> Offer
         requires { F.takes self.old.fold v }
         ensures answer { result ≡ answer_at (holder self.old key.now) (vacancy self.old key.now) }
         ensures after { self.new ≡ after_offer F.join self.old key.now v }
@@ -94,7 +94,7 @@ impl<F: Fold> Chain<F> {
 
     /// Does what `offer` does, where the key's slots are known: slot `i` of `at` is that of register `i`, for
     /// each register of the chain. Takes no memory.
-    pub fn offer_at(&mut self, key: &Row, v: u64, at: &[u32; 4]) -> Offer
+    pub fn offer_at(&mut self, key: &ShortRow, v: u64, at: &[u32; 4]) -> Offer
         requires had { F.takes self.old.fold v }
         requires slots { AreSlots self.old.depth self.old.slots key.now at.now }
         ensures answer { result ≡ answer_at (holder self.old key.now) (vacancy self.old key.now) }
@@ -103,7 +103,7 @@ impl<F: Fold> Chain<F> {
         self.offer_by(key, v, Some(at))
     }
 
-    fn offer_by(&mut self, key: &Row, v: u64, known: Option<&[u32; 4]>) -> Offer
+    fn offer_by(&mut self, key: &ShortRow, v: u64, known: Option<&[u32; 4]>) -> Offer
         requires had { F.takes self.old.fold v }
         requires slots { ForSome known (λ at. AreSlots self.old.depth self.old.slots key.now at.now) }
         ensures answer { result ≡ answer_at (holder self.old key.now) (vacancy self.old key.now) }
@@ -125,7 +125,7 @@ impl<F: Fold> Chain<F> {
 
     /// The key and the fold at a place: place `i * slots + s` is slot `s` of register `i`. `None` exactly
     /// where the place is empty or past the end. Takes no memory.
-    pub fn get(&self, place: u32) -> Option<(Row, u64)>
+    pub fn get(&self, place: u32) -> Option<(ShortRow, u64)>
         ensures value { result ≡ cell self.now.cells place }
         ensures had { IfSome result (λ e. F.takes self.now.fold e.1) }
         ensures held { IfSome result (λ e. holder self.now e.0 ≡ Some place) }

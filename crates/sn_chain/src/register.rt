@@ -10,7 +10,7 @@ ghost use Rattle.sn_chain.specs.Found.{found_at, IsWithin};
 ghost use Rattle.sn_chain.specs.Registers.{held_place, empty_place};
 
 use crate::cells::Cells;
-use sn_base::row::Row;
+use sn_base::short_row::ShortRow;
 use sn_base::slot::slot_of;
 
 /// Where a key is, or may go.
@@ -24,7 +24,7 @@ pub(crate) enum Found {
 }
 
 /// A key's place in a register, by the key's slots where they are known.
-fn place(register: u32, key: &Row, slots: u32, known: Option<&[u32; 4]>) -> usize
+fn place(register: u32, key: &ShortRow, slots: u32, known: Option<&[u32; 4]>) -> usize
     requires register { register < 4 }
     requires some { 1 ≤ slots }
     requires most { slots ≤ largest_register }
@@ -47,7 +47,7 @@ pub(crate) fn look(
     round: u32,
     depth: u32,
     slots: u32,
-    key: &Row,
+    key: &ShortRow,
     known: Option<&[u32; 4]>,
 ) -> Found
     requires depth { depth ≤ 4 }

@@ -12,8 +12,8 @@ use crate::flow::Flow;
 use crate::sizes::by_size;
 use crate::stateless::pass_all;
 use sn_base::memory::Memory;
-use sn_base::row::Row;
 use sn_base::seq::Seq;
+use sn_base::short_row::ShortRow;
 use sn_types::cuts::is_stateful;
 use sn_types::typed_op::TOp;
 use std::alloc::Global;
@@ -54,7 +54,7 @@ fn behind(
 }
 
 /// The rows of a window before the first operator, alone in a list.
-fn at_start(alloc: Global, rows: Seq<Row>) -> Result<Vec<Flow>, Memory>
+fn at_start(alloc: Global, rows: Seq<ShortRow>) -> Result<Vec<Flow>, Memory>
     ensures { IfOk result (λ flows. flows.items ≡ starting rows ∷ []) }
 {
     let flow = Flow {
@@ -73,7 +73,7 @@ pub(crate) fn counts_along(
     level: u32,
     depth: u32,
     slots: &[u32],
-    rows: Seq<Row>,
+    rows: Seq<ShortRow>,
 ) -> Result<Seq<u64>, Memory>
     requires some_depth { 1 ≤ depth }
     requires most_depth { depth ≤ 4 }

@@ -3,8 +3,8 @@ ghost use Rattle.std.specs.Prelude.{◌≡◌, ◌*◌, ◌+◌, ◌≤◌, leng
 ghost use Rattle.sn_cost_counts.specs.Flows.{counted};
 ghost use Rattle.sn_windows.specs.Blocks.{most_records};
 
-use sn_base::row::Row;
 use sn_base::seq::Seq;
+use sn_base::short_row::ShortRow;
 
 /// The rows of a window after some operators, and how many were sent before them.
 #[derive(Drop)]
@@ -12,7 +12,7 @@ pub struct Flow {
     /// How many rows overflowed on the way.
     pub sent: u64,
     /// The rows that came as far.
-    pub rows: Seq<Row>,
+    pub rows: Seq<ShortRow>,
     /// Whether a distinct on the way overflowed.
     pub spilled: bool,
     /// Whether no filter drops a row from here on.

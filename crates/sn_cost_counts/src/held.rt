@@ -11,14 +11,14 @@ ghost use Rattle.sn_windows.specs.Blocks.{most_records};
 use crate::offers::{Passed, offer_all};
 use sn_base::any_fold::AnyFold;
 use sn_base::memory::Memory;
-use sn_base::row::Row;
 use sn_base::seq::Seq;
+use sn_base::short_row::ShortRow;
 use sn_chain::chain::Chain;
 use sn_types::typed_op::TReduce;
 use std::alloc::Global;
 
 /// A key that is held, as a row: its columns, and the fold of its values.
-fn held_row(held: (Row, u64)) -> Row
+fn held_row(held: (ShortRow, u64)) -> ShortRow
     requires { length held.0 < 8 }
     ensures { result ≡ held_row held }
 {
@@ -30,7 +30,7 @@ fn held_row(held: (Row, u64)) -> Row
 }
 
 /// The rows of all places, upwards.
-fn read_out(alloc: Global, chain: &Chain<AnyFold>) -> Result<Seq<Row>, Memory>
+fn read_out(alloc: Global, chain: &Chain<AnyFold>) -> Result<Seq<ShortRow>, Memory>
     requires { AllByRecursion (λ e. length e.0 < 8) (held_in_order chain.now.cells) }
     ensures { IfOk result (λ rows. rows ≡ rows_left chain.now 0) }
 {
@@ -46,7 +46,7 @@ fn read_out(alloc: Global, chain: &Chain<AnyFold>) -> Result<Seq<Row>, Memory>
 /// A reduce: each resident key with the fold of its values, by rising place.
 pub(crate) fn reduce(
     alloc: Global,
-    rows: &[Row],
+    rows: &[ShortRow],
     r: &TReduce,
     depth: u32,
     slots: u32,

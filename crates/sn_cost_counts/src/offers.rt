@@ -13,8 +13,8 @@ ghost use Rattle.sn_windows.specs.Blocks.{most_records};
 use sn_base::any_fold::AnyFold;
 use sn_base::fold::Or;
 use sn_base::memory::Memory;
-use sn_base::row::Row;
 use sn_base::seq::Seq;
+use sn_base::short_row::ShortRow;
 use sn_chain::chain::Chain;
 use sn_chain::offer::Offer;
 use sn_types::evaluate::columns_of;
@@ -27,7 +27,7 @@ pub(crate) struct Passed {
     /// How many rows overflow.
     pub over: u64,
     /// The rows after it.
-    pub rows: Seq<Row>,
+    pub rows: Seq<ShortRow>,
 }
 
 /// One where an offer overflowed.
@@ -52,7 +52,7 @@ fn is_new(answer: Offer) -> bool
 /// A distinct: each resident row goes on at its first appearance.
 pub(crate) fn distinct(
     alloc: Global,
-    rows: &[Row],
+    rows: &[ShortRow],
     depth: u32,
     slots: u32,
 ) -> Result<Passed, Memory>
@@ -83,7 +83,7 @@ pub(crate) fn distinct(
 
 /// Adds the values of rows to the folds of their keys in the registers of a reduce. The answer is how many rows
 /// overflow.
-pub(crate) fn offer_all(chain: &mut Chain<AnyFold>, rows: &[Row], r: &TReduce) -> u64
+pub(crate) fn offer_all(chain: &mut Chain<AnyFold>, rows: &[ShortRow], r: &TReduce) -> u64
     requires fold { chain.old.fold ≡ r.now.fold }
     requires fits { ReduceFits r.now rows.now }
     requires few { length rows.now ≤ most_records }

@@ -19,8 +19,8 @@ use crate::look::Look;
 use crate::rows::column;
 use crate::stay::Stay;
 use sn_base::memory::Memory;
-use sn_base::row::Row;
 use sn_base::seq::Seq;
+use sn_base::short_row::ShortRow;
 use sn_fields::tuple::Tuple;
 use sn_refine::refined::{Refined, first_rows};
 use sn_types::typed::Typed;
@@ -30,9 +30,9 @@ use std::alloc::Global;
 #[derive(Drop)]
 pub struct Compared {
     /// Refined along the path.
-    pub refined: Seq<Row>,
+    pub refined: Seq<ShortRow>,
     /// To all tuples.
-    pub unrefined: Seq<Row>,
+    pub unrefined: Seq<ShortRow>,
 }
 
 /// A query that is refined along a path, beside the same query unrefined.
@@ -60,7 +60,7 @@ pub struct Detect {
 }
 
 /// The numbers in the refinement column of rows.
-fn addresses(alloc: Global, t: &Typed, q: u32, rows: &[Row]) -> Result<Seq<u64>, Memory>
+fn addresses(alloc: Global, t: &Typed, q: u32, rows: &[ShortRow]) -> Result<Seq<u64>, Memory>
     requires { q < length t.now.queries }
     ensures { IfOk result (λ numbers. numbers ≡ column_of (query_at t.now.queries q) rows.now) }
 {
@@ -97,7 +97,7 @@ impl Detect {
     }
 
     /// The answers to all tuples at the finest level.
-    fn unrefined(&self, tuples: &[Tuple]) -> Result<Seq<Row>, Memory>
+    fn unrefined(&self, tuples: &[Tuple]) -> Result<Seq<ShortRow>, Memory>
         ensures { let query = query_at self.now.t.queries self.now.refined.query in IfOk result
             (λ rows. rows ≡ level_rows query (finest_level query) (Some tuples.now)) }
     {

@@ -7,16 +7,16 @@ use crate::look::Look;
 use crate::rows::column;
 use crate::stay::Stay;
 use sn_base::memory::Memory;
-use sn_base::row::Row;
 use sn_base::seq::Seq;
+use sn_base::short_row::ShortRow;
 use sn_refine::refined::sorted;
 use std::alloc::Global;
 
 /// An address in a window, and 0 where it is of the refined answers, 1 where it is of the unrefined ones.
-fn event(window: u64, kind: u64, address: u64) -> Row
+fn event(window: u64, kind: u64, address: u64) -> ShortRow
     ensures { result ≡ event window kind address }
 {
-    let mut row = Row::empty();
+    let mut row = ShortRow::empty();
     row.push(address);
     row.push(window);
     row.push(kind);
@@ -25,7 +25,7 @@ fn event(window: u64, kind: u64, address: u64) -> Row
 
 /// Adds an event of each of these addresses.
 fn add_events(
-    events: &mut Seq<Row>,
+    events: &mut Seq<ShortRow>,
     window: u64,
     kind: u64,
     addresses: &[u64],
@@ -39,7 +39,7 @@ fn add_events(
 }
 
 /// Adds the events of a window.
-fn add_look(events: &mut Seq<Row>, look: &Look) -> Result<(), Memory>
+fn add_look(events: &mut Seq<ShortRow>, look: &Look) -> Result<(), Memory>
     ensures { OnOk result (events.new ≡ events.old ++ look_events look.now) }
 {
     add_events(events, look.window, 1, look.unrefined.as_slice())?;
@@ -47,7 +47,7 @@ fn add_look(events: &mut Seq<Row>, look: &Look) -> Result<(), Memory>
 }
 
 /// The events of windows.
-fn events_of(alloc: Global, looks: &[Look]) -> Result<Seq<Row>, Memory>
+fn events_of(alloc: Global, looks: &[Look]) -> Result<Seq<ShortRow>, Memory>
     ensures { IfOk result (λ events. events ≡ events_of looks.now) }
 {
     let mut events = Seq::new(alloc);
@@ -134,7 +134,7 @@ fn take_told(stays: &mut Seq<Stay>, address: u64, window: u64) -> Result<(), Mem
 }
 
 /// Takes an event that is before all that were taken.
-fn take(stays: &mut Seq<Stay>, event: &Row) -> Result<(), Memory>
+fn take(stays: &mut Seq<Stay>, event: &ShortRow) -> Result<(), Memory>
     ensures { OnOk result (reverse stays.new ≡ with_event event.now (reverse stays.old)) }
 {
     let address = column(event, 0);
@@ -147,7 +147,7 @@ fn take(stays: &mut Seq<Stay>, event: &Row) -> Result<(), Memory>
 }
 
 /// The stays of events in order, the last one first.
-fn found(alloc: Global, events: Seq<Row>) -> Result<Seq<Stay>, Memory>
+fn found(alloc: Global, events: Seq<ShortRow>) -> Result<Seq<Stay>, Memory>
     ensures { IfOk result (λ stays. reverse stays ≡ found_on events []) }
 {
     let mut events = events;

@@ -8,8 +8,8 @@ ghost use Rattle.sn_types.specs.Typed.{query_at, branch_at, end_columns, final_c
 
 use crate::value::value;
 use sn_base::memory::Memory;
-use sn_base::row::Row;
 use sn_base::seq::Seq;
+use sn_base::short_row::ShortRow;
 use sn_ops::plain::join_branches;
 use sn_report::frame::Item;
 use sn_types::typed::Typed;
@@ -23,7 +23,7 @@ fn branch_value(
     b: u32,
     level: u32,
     items: &[Item],
-) -> Result<Seq<Row>, Memory>
+) -> Result<Seq<ShortRow>, Memory>
     requires query { q < length t.now.queries }
     requires branch { b < length (query_at t.now.queries q).branches }
     requires items { AllByRecursion (IsItemOf (branch_at t.now.queries q b)) items.now }
@@ -42,7 +42,7 @@ pub fn query_value(
     level: u32,
     left: &[Item],
     right: &[Item],
-) -> Result<Seq<Row>, Memory>
+) -> Result<Seq<ShortRow>, Memory>
     requires query { q < length t.now.queries }
     requires left { AllByRecursion (IsItemOf (branch_at t.now.queries q 0)) left.now }
     requires right { AllByRecursion (IsItemOf (branch_at t.now.queries q 1)) right.now }
@@ -66,7 +66,7 @@ pub fn sorted_value(
     level: u32,
     left: &[Item],
     right: &[Item],
-) -> Result<Seq<Row>, Memory>
+) -> Result<Seq<ShortRow>, Memory>
     requires query { q < length t.now.queries }
     requires left { AllByRecursion (IsItemOf (branch_at t.now.queries q 0)) left.now }
     requires right { AllByRecursion (IsItemOf (branch_at t.now.queries q 1)) right.now }

@@ -12,8 +12,8 @@ ghost use Rattle.sn_types.specs.Typed.{query_at, branch_at, schema_at};
 use crate::fault::TakeFault;
 use crate::intake::Intake;
 use sn_base::lane::Lane;
-use sn_base::row::Row;
 use sn_base::schema::Schema;
+use sn_base::short_row::ShortRow;
 use sn_report::frame::{Item, Tag};
 use sn_types::cuts::is_stateful;
 use sn_types::typed::Typed;
@@ -129,7 +129,7 @@ fn has_bits(number: u64, width: u32) -> bool
     width >= 64 || number >> width == 0
 }
 
-fn has_columns(schema: &Schema, row: &Row) -> bool
+fn has_columns(schema: &Schema, row: &ShortRow) -> bool
     ensures { result ≡ has_columns schema.now row.now }
 {
     let numbers = row.as_slice();

@@ -7,9 +7,9 @@ ghost use Rattle.sn_types.specs.Values.{op_at};
 
 use crate::rows::{partial_rows, push_rows_at};
 use sn_base::memory::Memory;
-use sn_base::row::Row;
 use sn_base::seed::Seed;
 use sn_base::seq::Seq;
+use sn_base::short_row::ShortRow;
 use sn_ops::group::{distinct_by, reduce_with};
 use sn_ops::select::{filter, map};
 use sn_report::frame::Item;
@@ -22,10 +22,10 @@ fn taken(
     seed: Seed,
     op: &TOp,
     level: u32,
-    rows: &[Row],
+    rows: &[ShortRow],
     items: &[Item],
     operator: u32,
-) -> Result<Seq<Row>, Memory>
+) -> Result<Seq<ShortRow>, Memory>
     requires rows { Fits op.now rows.now }
     requires parts { PartsFit op.now (rows_with (is_partial operator) items.now) }
     ensures { IfOk result (λ out. out ≡ taken (op_at level op.now) rows.now (rows_with (is_partial operator) items.now)) }
@@ -49,7 +49,7 @@ pub(crate) fn value(
     ops: &[TOp],
     level: u32,
     items: &[Item],
-) -> Result<Seq<Row>, Memory>
+) -> Result<Seq<ShortRow>, Memory>
     requires few { length ops.now ≤ 12 }
     requires items { ItemsFit level 0 ops.now items.now (rows_with (is_at 0) items.now) }
     ensures { IfOk result (λ rows. rows ≡ value (map (op_at level) ops.now) items.now) }

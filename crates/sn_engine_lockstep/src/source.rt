@@ -8,8 +8,8 @@ ghost use Rattle.sn_types.specs.Typed.{query_at};
 
 use sn_base::members::Members;
 use sn_base::memory::Memory;
-use sn_base::row::Row;
 use sn_base::seq::Seq;
+use sn_base::short_row::ShortRow;
 use sn_emit::making::level_before;
 use sn_plan_grammar::plan::{Entry, Piece};
 use sn_refine::members::members;
@@ -59,7 +59,7 @@ pub fn sources(alloc: Global, entries: &[Entry]) -> Result<Seq<Source>, Memory>
 }
 
 /// The rows of the answer of a query at a level, and none where there is no such answer.
-fn rows_found(parts: &[Part], query: u32, level: u32) -> &[Row]
+fn rows_found(parts: &[Part], query: u32, level: u32) -> &[ShortRow]
     ensures { result.now ≡ rows_found parts.now query level }
 {
     for part in parts {

@@ -13,23 +13,23 @@ ghost use Rattle.sn_types.specs.Values.{op_at};
 use sn_base::any_fold::AnyFold;
 use sn_base::fold::Fold;
 use sn_base::memory::Memory;
-use sn_base::row::Row;
 use sn_base::seed::Seed;
 use sn_base::seq::Seq;
+use sn_base::short_row::ShortRow;
 use sn_table::rows::Rows;
 use sn_table::table::Table;
 use sn_types::typed_op::{TOp, TReduce};
 use std::alloc::Global;
 
 /// Each row that occurs once, in the order of first places.
-pub fn distinct(alloc: Global, rows: &[Row]) -> Result<Seq<Row>, Memory>
+pub fn distinct(alloc: Global, rows: &[ShortRow]) -> Result<Seq<ShortRow>, Memory>
     ensures { IfOk result (λ out. out ≡ apply (op_at 0 TOp.Distinct) rows.now) }
 {
     distinct_by(alloc, Seed::new(0), rows)
 }
 
 /// `distinct`, with a table that hashes from this seed.
-pub fn distinct_by(alloc: Global, seed: Seed, rows: &[Row]) -> Result<Seq<Row>, Memory>
+pub fn distinct_by(alloc: Global, seed: Seed, rows: &[ShortRow]) -> Result<Seq<ShortRow>, Memory>
     ensures { IfOk result (λ out. out ≡ apply (op_at 0 TOp.Distinct) rows.now) }
 {
     let mut seen = Rows::new(alloc, seed);
@@ -43,12 +43,12 @@ pub fn distinct_by(alloc: Global, seed: Seed, rows: &[Row]) -> Result<Seq<Row>, 
 }
 
 /// A row for each group: its key, then its fold.
-pub(crate) fn rows_of(alloc: Global, groups: &Table) -> Result<Seq<Row>, Memory>
+pub(crate) fn rows_of(alloc: Global, groups: &Table<ShortRow>) -> Result<Seq<ShortRow>, Memory>
     requires { All (λ g. length g.0 < 8) groups.now.entries }
     ensures { IfOk result (λ out. out ≡ map (λ g. g.0 ++ g.1 ∷ []) groups.now.entries) }
 {
     let mut out = Seq::new(alloc);
-    let mut row = Row::empty();
+    let mut row = ShortRow::empty();
     for place in 0..groups.len() {
         let Some(total) = groups.get_into(place, &mut row) else {
             unreachable!();
@@ -60,18 +60,23 @@ pub(crate) fn rows_of(alloc: Global, groups: &Table) -> Result<Seq<Row>, Memory>
 }
 
 /// The first columns of a row.
-fn front_of(row: &Row, count: usize) -> Row
+fn front_of(row: &ShortRow, count: usize) -> ShortRow
     requires { count ≤ length row.now }
     ensures { result ≡ take count row.now }
 {
-    let Some(front) = Row::new(&row.as_slice()[..count]) else {
+    let Some(front) = ShortRow::new(&row.as_slice()[..count]) else {
         unreachable!();
     };
     front
 }
 
 /// Each key that occurs in the rows, with the fold of that key's values from the unit.
-fn groups_of(alloc: Global, seed: Seed, rows: &[Row], r: &TReduce) -> Result<Table, Memory>
+fn groups_of(
+    alloc: Global,
+    seed: Seed,
+    rows: &[ShortRow],
+    r: &TReduce,
+) -> Result<Table<ShortRow>, Memory>
     requires { ReduceFits r.now rows.now }
     ensures { IfOk result (λ groups. groups.entries ≡
         folded same_row (any_step r.now.fold) (any_unit r.now.fold) (map (pair_of (grouping_of r.now)) rows.now)) }
@@ -90,10 +95,10 @@ fn groups_of(alloc: Global, seed: Seed, rows: &[Row], r: &TReduce) -> Result<Tab
 pub fn reduce_with(
     alloc: Global,
     seed: Seed,
-    rows: &[Row],
-    parts: &[Row],
+    rows: &[ShortRow],
+    parts: &[ShortRow],
     r: &TReduce,
-) -> Result<Seq<Row>, Memory>
+) -> Result<Seq<ShortRow>, Memory>
     requires rows { ReduceFits r.now rows.now }
     requires parts { ArePartsOf r.now parts.now }
     ensures { let g = grouping_of r.now in IfOk result (λ out. out ≡ grouped g (map (pair_of g) rows.now ++ map (parted g) parts.now)) }
@@ -109,7 +114,7 @@ pub fn reduce_with(
 
 /// One row for each key that occurs, in the order of first places: the key columns, then the fold of that key's
 /// values from the unit.
-pub fn reduce(alloc: Global, rows: &[Row], r: &TReduce) -> Result<Seq<Row>, Memory>
+pub fn reduce(alloc: Global, rows: &[ShortRow], r: &TReduce) -> Result<Seq<ShortRow>, Memory>
     requires few { length r.now.keys < 8 }
     requires places { All (λ row. All (λ place. place < length row) r.now.keys) rows.now }
     requires value { All (λ row. r.now.value < length row) rows.now }
@@ -120,7 +125,12 @@ pub fn reduce(alloc: Global, rows: &[Row], r: &TReduce) -> Result<Seq<Row>, Memo
 }
 
 /// `reduce`, with a table that hashes from this seed.
-pub fn reduce_by(alloc: Global, seed: Seed, rows: &[Row], r: &TReduce) -> Result<Seq<Row>, Memory>
+pub fn reduce_by(
+    alloc: Global,
+    seed: Seed,
+    rows: &[ShortRow],
+    r: &TReduce,
+) -> Result<Seq<ShortRow>, Memory>
     requires few { length r.now.keys < 8 }
     requires places { All (λ row. All (λ place. place < length row) r.now.keys) rows.now }
     requires value { All (λ row. r.now.value < length row) rows.now }

@@ -15,8 +15,8 @@ use crate::packets::{Kept, is_kept};
 use crate::seen::unseen;
 use crate::start::start;
 use sn_base::memory::Memory;
-use sn_base::row::Row;
 use sn_base::seq::Seq;
+use sn_base::short_row::ShortRow;
 use sn_fields::tuple::Tuple;
 use sn_types::typed::Typed;
 use std::alloc::Global;
@@ -31,7 +31,7 @@ pub fn branch_rows(
     level: u32,
     kept: Option<Kept>,
     tuples: &[Tuple],
-) -> Result<Seq<Row>, Memory>
+) -> Result<Seq<ShortRow>, Memory>
     requires query { q < length t.now.queries }
     requires branch { b < length (query_at t.now.queries q).branches }
     requires level { list_any (nat_eq level) (query_at t.now.queries q).levels ≡ true }
@@ -42,7 +42,7 @@ pub fn branch_rows(
     let ops = t.operators(q, b);
     let packets = t.packets(q, b, level);
     let mut seen = unseen(alloc, t.seed, ops)?;
-    let mut row = Row::empty();
+    let mut row = ShortRow::empty();
     let mut out = Seq::new(alloc);
     for tuple in tuples {
         if is_kept(t, q, kept, tuple) {
@@ -59,9 +59,9 @@ pub fn join_branches(
     t: &Typed,
     q: u32,
     level: u32,
-    left: &[Row],
-    right: &[Row],
-) -> Result<Seq<Row>, Memory>
+    left: &[ShortRow],
+    right: &[ShortRow],
+) -> Result<Seq<ShortRow>, Memory>
     requires query { q < length t.now.queries }
     requires branches { length (query_at t.now.queries q).branches ≡ 2 }
     requires left { AllByRecursion (IsOf (end_columns (branch_at t.now.queries q 0))) left.now }
@@ -91,7 +91,7 @@ pub fn plain(
     level: u32,
     kept: Option<Kept>,
     tuples: &[Tuple],
-) -> Result<Seq<Row>, Memory>
+) -> Result<Seq<ShortRow>, Memory>
     requires query { q < length t.now.queries }
     requires level { list_any (nat_eq level) (query_at t.now.queries q).levels ≡ true }
     requires kept { OfALevel (query_at t.now.queries q) kept }

@@ -8,8 +8,8 @@ ghost use Rattle.sn_ops.specs.Passing.{CanMeet, flows, gone_as};
 ghost use Rattle.sn_ops.specs.Standing.{Stands, groups_after, rows_after};
 
 use sn_base::memory::Memory;
-use sn_base::row::Row;
 use sn_base::seed::Seed;
+use sn_base::short_row::ShortRow;
 use sn_table::rows::Rows;
 use sn_table::table::Table;
 use sn_types::evaluate::{map_into, passes};
@@ -20,8 +20,8 @@ use std::alloc::Global;
 /// What an operator has seen: a distinct its rows, a reduce its groups, and the others nothing.
 #[derive(Drop)]
 pub struct Seen {
-    pub(crate) rows: Rows,
-    pub(crate) groups: Table,
+    pub(crate) rows: Rows<ShortRow>,
+    pub(crate) groups: Table<ShortRow>,
 }
 
 /// What becomes of a packet row at an operator.
@@ -42,7 +42,7 @@ fn same_if(goes: bool) -> Passage
 }
 
 /// Adds a row's value to its key's fold.
-fn add_row(r: &TReduce, groups: &mut Table, row: &Row) -> Result<(), Memory>
+fn add_row(r: &TReduce, groups: &mut Table<ShortRow>, row: &ShortRow) -> Result<(), Memory>
     requires { CanMeet (TOp.Reduce r.now) groups.old.entries row.now }
     ensures { OnOk result (groups.new.entries ≡ groups_after (TOp.Reduce r.now) groups.old.entries row.now) }
 {
@@ -76,7 +76,7 @@ impl Seen {
     }
 
     /// Whether a row goes on at the operator that has seen this, as which `row` then is. It is seen then.
-    pub(crate) fn pass(&mut self, op: &TOp, level: u32, row: &mut Row) -> Result<bool, Memory>
+    pub(crate) fn pass(&mut self, op: &TOp, level: u32, row: &mut ShortRow) -> Result<bool, Memory>
         requires { CanMeet op.now self.old.groups.entries row.old }
         ensures passed { IfOk result (λ goes. (if goes then Some row.new else None) ≡ flows level op.now self.old.rows.keys row.old) }
         ensures rows { OnOk result (self.new.rows.keys ≡ rows_after op.now self.old.rows.keys row.old) }
@@ -104,7 +104,7 @@ impl Seen {
         op: &TOp,
         level: u32,
         packet: &PacketRow<'_>,
-        row: &mut Row,
+        row: &mut ShortRow,
     ) -> Result<Passage, Memory>
         requires { CanMeet op.now self.old.groups.entries packet.now }
         ensures passed { IfOk result (λ passage. gone_as passage packet.now row.new ≡ flows level op.now self.old.rows.keys packet.now) }

@@ -7,8 +7,8 @@ ghost use Rattle.sn_ops.specs.Standing.{Stands};
 use crate::seen::{Passage, Seen};
 use crate::take::take;
 use sn_base::memory::Memory;
-use sn_base::row::Row;
 use sn_base::seq::Seq;
+use sn_base::short_row::ShortRow;
 use sn_types::packet::PacketRow;
 use sn_types::typed_op::TOp;
 
@@ -19,8 +19,8 @@ pub(crate) fn start(
     seen: &mut [Seen],
     level: u32,
     packet: &PacketRow<'_>,
-    row: &mut Row,
-    out: &mut Seq<Row>,
+    row: &mut ShortRow,
+    out: &mut Seq<ShortRow>,
 ) -> Result<(), Memory>
     requires { CanTake level ops.now seen.old packet.now }
     ensures { OnOk result ((rows : List Row) → Stands level ops.now seen.old rows out.old → Stands level ops.now seen.new (rows ++ packet.now ∷ []) out.new) }

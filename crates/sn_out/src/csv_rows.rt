@@ -12,8 +12,8 @@ use sn_base::bytes::push_bytes;
 use sn_base::column::Column;
 use sn_base::memory::Memory;
 use sn_base::name::Name;
-use sn_base::row::Row;
 use sn_base::seq::Seq;
+use sn_base::short_row::ShortRow;
 use sn_types::answers::{Answers, Part};
 use sn_types::typed::Typed;
 use std::alloc::Global;
@@ -44,7 +44,7 @@ fn with_columns(
     alloc: Global,
     fields: Fields,
     columns: &[Column],
-    row: &Row,
+    row: &ShortRow,
 ) -> Result<Fields, Memory>
     requires { IsOf columns.now row.now }
     ensures { IfOk result (λ longer. longer ≡ fields ++ eight_fields (number_fields columns.now row.now)) }
@@ -60,7 +60,7 @@ fn push_record(
     t: &Typed,
     window: u64,
     part: &Part,
-    row: &Row,
+    row: &ShortRow,
 ) -> Result<(), Memory>
     requires query { part.now.query < length t.now.queries }
     requires row { IsOf (final_columns (query_at t.now.queries part.now.query)) row.now }

@@ -8,7 +8,7 @@ use crate::pieces::{push_address, push_number};
 use sn_base::bytes::push_bytes;
 use sn_base::column::Column;
 use sn_base::memory::Memory;
-use sn_base::row::Row;
+use sn_base::short_row::ShortRow;
 
 /// Adds a number of a column: an address dotted, another number in decimal.
 pub(crate) fn push_value(text: &mut Vec<u8>, column: &Column, number: u64) -> Result<(), Memory>
@@ -52,7 +52,7 @@ fn push_numbers(text: &mut Vec<u8>, columns: &[Column], numbers: &[u64]) -> Resu
 }
 
 #[tactic(auto, using(crate::proofs::RowLemmas::as_many_numbers))]
-fn push_row(text: &mut Vec<u8>, columns: &[Column], row: &Row) -> Result<(), Memory>
+fn push_row(text: &mut Vec<u8>, columns: &[Column], row: &ShortRow) -> Result<(), Memory>
     requires { IsOf columns.now row.now }
     ensures { OnOk result (text.new.items ≡ text.old.items ++ row_line columns.now row.now) }
 {
@@ -61,7 +61,7 @@ fn push_row(text: &mut Vec<u8>, columns: &[Column], row: &Row) -> Result<(), Mem
 }
 
 /// Adds the rows, each on a line of its own.
-pub fn push_rows(text: &mut Vec<u8>, columns: &[Column], rows: &[Row]) -> Result<(), Memory>
+pub fn push_rows(text: &mut Vec<u8>, columns: &[Column], rows: &[ShortRow]) -> Result<(), Memory>
     requires { AllByRecursion (IsOf columns.now) rows.now }
     ensures { OnOk result (text.new.items ≡ text.old.items ++ flat_map (row_line columns.now) rows.now) }
 {

@@ -14,7 +14,7 @@ use crate::stage::Stage;
 use crate::stages::clear;
 use crate::start::start;
 use sn_base::memory::Memory;
-use sn_base::row::Row;
+use sn_base::short_row::ShortRow;
 use sn_report::frame::{Item, Tag};
 use sn_types::packet::PacketRow;
 use sn_types::typed_op::TOp;
@@ -85,7 +85,7 @@ impl Prefix {
         ensures after { self.new ≡ record self.old { stages = stages_after self.old.level self.old.stages packet.now } }
         ensures operator { IfSome result (λ item. operator_of item.tag ≤ 12) }
     {
-        let mut row = Row::empty();
+        let mut row = ShortRow::empty();
         match start(&mut self.stages, self.level, 0, packet, &mut row) {
             Some(place) => Some(Item {
                 tag: Tag::At(place),

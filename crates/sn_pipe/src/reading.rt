@@ -8,14 +8,14 @@ ghost use Rattle.sn_pipe.specs.Windows.{goes_up, held_row, item_up, left_from, p
 
 use crate::stage::Stage;
 use sn_base::any_fold::AnyFold;
-use sn_base::row::Row;
+use sn_base::short_row::ShortRow;
 use sn_chain::chain::Chain;
 use sn_report::frame::{Item, Tag};
 use sn_types::evaluate;
 use sn_types::typed_op::TReduce;
 
 /// Whether a row passes these stages, all of which are filters.
-fn passes(stages: &[Stage], level: u32, row: &Row) -> bool
+fn passes(stages: &[Stage], level: u32, row: &ShortRow) -> bool
     requires { CanTest (length row.now) stages.now }
     ensures { result ≡ passes level stages.now row.now }
 {
@@ -29,7 +29,7 @@ fn passes(stages: &[Stage], level: u32, row: &Row) -> bool
 }
 
 /// Whether a held row goes up: as it is where the distinct overflowed, and else where it passes the filters.
-fn goes_up(behind: &[Stage], level: u32, spilled: bool, row: &Row) -> bool
+fn goes_up(behind: &[Stage], level: u32, spilled: bool, row: &ShortRow) -> bool
     requires { CanTest (length row.now) behind.now }
     ensures { result ≡ goes_up level spilled behind.now row.now }
 {
@@ -50,7 +50,7 @@ fn tag_up(first: u8, spilled: bool, behind: &[Stage]) -> Tag
 }
 
 /// A key that is held, as a row: its columns, and the fold of its values.
-fn held_row(held: (Row, u64)) -> Row
+fn held_row(held: (ShortRow, u64)) -> ShortRow
     requires { length held.0 < 8 }
     ensures { result ≡ held_row held }
 {
@@ -62,7 +62,7 @@ fn held_row(held: (Row, u64)) -> Row
 }
 
 /// The row of the key that is held at a place, if one is.
-fn row_at(chain: &Chain<AnyFold>, at: u32, columns: usize) -> Option<Row>
+fn row_at(chain: &Chain<AnyFold>, at: u32, columns: usize) -> Option<ShortRow>
     requires few { columns < 8 }
     requires keys { HoldKeys columns chain.now.cells }
     ensures row { result ≡ option_map held_row (cell chain.now.cells at) }
@@ -82,7 +82,7 @@ fn up_at(
     spilled: bool,
     at: u32,
     columns: usize,
-) -> Option<Row>
+) -> Option<ShortRow>
     requires few { columns < 8 }
     requires keys { HoldKeys columns chain.now.cells }
     requires test { CanTest (columns + 1) behind.now }
@@ -106,7 +106,7 @@ fn first_up(
     spilled: bool,
     place: u32,
     columns: usize,
-) -> (Option<Row>, u32)
+) -> (Option<ShortRow>, u32)
     requires few { columns < 8 }
     requires keys { HoldKeys columns chain.now.cells }
     requires test { CanTest (columns + 1) behind.now }
@@ -176,7 +176,7 @@ fn next_held(
     (with_tag(tag_up(first, spilled, behind), row), after)
 }
 
-fn with_tag(tag: Tag, row: Option<Row>) -> Option<Item>
+fn with_tag(tag: Tag, row: Option<ShortRow>) -> Option<Item>
     ensures item { result ≡ option_map (item_up tag) row }
     ensures operator { operator_of tag ≤ 12 → IfSome result (λ item. operator_of item.tag ≤ 12) }
 {

@@ -6,8 +6,8 @@ ghost use Rattle.sn_pipe.specs.Stages.{after_row, cleared, flows, is_new, is_ove
 
 use sn_base::any_fold::AnyFold;
 use sn_base::fold::Or;
-use sn_base::row::Row;
 use sn_base::seq::Seq;
+use sn_base::short_row::ShortRow;
 use sn_chain::chain::Chain;
 use sn_chain::offer::Offer;
 use sn_types::columns::Columns;
@@ -97,7 +97,7 @@ fn as_other(passed: Passed) -> Passage
 
 impl Stage {
     /// Takes a row that comes to it. Where it flows on, `row` is then the row that does; else it stays as it came.
-    pub(crate) fn pass(&mut self, level: u32, row: &mut Row) -> Passed
+    pub(crate) fn pass(&mut self, level: u32, row: &mut ShortRow) -> Passed
         requires { CanTake self.old row.old }
         ensures passed { result ≡ passed_as (overflows self.old row.old) (flows level self.old row.old) }
         ensures row { row.new ≡ unwrap_or (flows level self.old row.old) row.old }
@@ -116,7 +116,7 @@ impl Stage {
                 first_only(answer)
             }
             Stage::Reduce(r, chain) => {
-                let mut key = Row::empty();
+                let mut key = ShortRow::empty();
                 columns_into(row, r.keys.as_slice(), &mut key);
                 folded(chain.offer(&key, row.as_slice()[r.value as usize]))
             }
@@ -125,7 +125,12 @@ impl Stage {
 
     /// Takes a packet row that comes to it, as `pass` takes a row. Where another row flows on, that is `row` then. Only a
     /// distinct makes a row of the packet, since its registers hold whole rows.
-    pub(crate) fn begin(&mut self, level: u32, packet: &PacketRow<'_>, row: &mut Row) -> Passage
+    pub(crate) fn begin(
+        &mut self,
+        level: u32,
+        packet: &PacketRow<'_>,
+        row: &mut ShortRow,
+    ) -> Passage
         requires { CanTake self.old packet.now }
         ensures over { has_overflowed result ≡ overflows self.old packet.now }
         ensures gone { gone_as result packet.now row.new ≡ flows level self.old packet.now }
@@ -144,7 +149,7 @@ impl Stage {
                 as_other(first_only(answer))
             }
             Stage::Reduce(r, chain) => {
-                let mut key = Row::empty();
+                let mut key = ShortRow::empty();
                 columns_into(packet, r.keys.as_slice(), &mut key);
                 as_other(folded(chain.offer(&key, packet.column(r.value))))
             }

@@ -5,11 +5,11 @@ ghost use Rattle.sn_pipe.specs.Passing.{CanPass};
 ghost use Rattle.sn_pipe.specs.Stages.{cleared, item_at, item_from, stages_after};
 
 use crate::stage::{Passed, Stage};
-use sn_base::row::Row;
+use sn_base::short_row::ShortRow;
 
 /// Takes a row through stages, the first of which has number `first`; `row` changes on the way. Where it gives an item, the answer
 /// is the number of the operator at which it leaves, and `row` is the item's row.
-pub(crate) fn pass(stages: &mut [Stage], level: u32, first: u8, row: &mut Row) -> Option<u8>
+pub(crate) fn pass(stages: &mut [Stage], level: u32, first: u8, row: &mut ShortRow) -> Option<u8>
     requires few { first + length stages.old ≤ 12 }
     requires can { CanPass level stages.old row.old }
     ensures item { option_map (λ i. item_at i row.new) result ≡ item_from level first stages.old row.old }

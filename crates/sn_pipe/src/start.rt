@@ -6,7 +6,7 @@ ghost use Rattle.sn_pipe.specs.Stages.{item_at, item_from, stages_after};
 
 use crate::stage::{Passage, Stage};
 use crate::stages::pass;
-use sn_base::row::Row;
+use sn_base::short_row::ShortRow;
 use sn_types::packet::PacketRow;
 
 /// Takes a packet row through stages as `pass` takes a row; `row` changes on the way. None is made of it for the filters
@@ -16,7 +16,7 @@ pub(crate) fn start(
     level: u32,
     first: u8,
     packet: &PacketRow<'_>,
-    row: &mut Row,
+    row: &mut ShortRow,
 ) -> Option<u8>
     requires few { first + length stages.old ≤ 12 }
     requires can { CanPass level stages.old packet.now }

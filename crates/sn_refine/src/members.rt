@@ -8,12 +8,12 @@ ghost use Rattle.sn_types.specs.Typed.{query_at};
 
 use sn_base::members::Members;
 use sn_base::memory::Memory;
-use sn_base::row::Row;
+use sn_base::short_row::ShortRow;
 use sn_types::typed::Typed;
 use std::alloc::Global;
 
 /// The column at a place, and 0 where there is none.
-fn column(row: &Row, place: u32) -> u64
+fn column(row: &ShortRow, place: u32) -> u64
     ensures { result ≡ slice_index row.now place }
 {
     match row.get(place as usize) {
@@ -34,7 +34,7 @@ fn place_of(t: &Typed, q: u32) -> u32
 }
 
 /// The prefixes that answers of a query hold: exactly the numbers in their refinement column.
-pub fn members(alloc: Global, t: &Typed, q: u32, rows: &[Row]) -> Result<Members, Memory>
+pub fn members(alloc: Global, t: &Typed, q: u32, rows: &[ShortRow]) -> Result<Members, Memory>
     requires { q < length t.now.queries }
     ensures set { IfOk result (λ members. members ≡ prefixes_of (query_at t.now.queries q) rows.now) }
     ensures exactly { IfOk result (λ members. (prefix : ℕ) →
@@ -43,7 +43,7 @@ pub fn members(alloc: Global, t: &Typed, q: u32, rows: &[Row]) -> Result<Members
     let place = place_of(t, q);
     let mut members = Members::new(alloc);
     for row in rows {
-        members.add(column(row, place))?;
+        members.add(u128::from(column(row, place)))?;
     }
     Ok(members)
 }

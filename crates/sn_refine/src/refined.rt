@@ -11,8 +11,8 @@ ghost use Rattle.sn_windows.specs.Rising.{IsAbove};
 use crate::members::members;
 use sn_base::members::Members;
 use sn_base::memory::Memory;
-use sn_base::row::Row;
 use sn_base::seq::Seq;
+use sn_base::short_row::ShortRow;
 use sn_fields::tuple::Tuple;
 use sn_ops::packets::Kept;
 use sn_ops::plain::plain;
@@ -45,7 +45,7 @@ fn follows(last: Option<u64>, w: u64) -> bool
 }
 
 /// Rows in order.
-pub fn sorted(rows: Seq<Row>) -> Result<Seq<Row>, Memory>
+pub fn sorted(rows: Seq<ShortRow>) -> Result<Seq<ShortRow>, Memory>
     ensures { IfOk result (λ sorted. sorted ≡ sorted_rows rows) }
 {
     let mut rows = rows.into_vec();
@@ -60,7 +60,7 @@ pub fn first_rows(
     q: u32,
     level: u32,
     tuples: &[Tuple],
-) -> Result<Seq<Row>, Memory>
+) -> Result<Seq<ShortRow>, Memory>
     requires query { q < length t.now.queries }
     requires level { list_any (nat_eq level) (query_at t.now.queries q).levels ≡ true }
     ensures { IfOk result (λ rows. rows ≡ level_rows (query_at t.now.queries q) level (Some tuples.now)) }
@@ -77,7 +77,7 @@ fn next_rows(
     level: u32,
     kept: Kept,
     tuples: &[Tuple],
-) -> Result<Seq<Row>, Memory>
+) -> Result<Seq<ShortRow>, Memory>
     requires query { q < length t.now.queries }
     requires level { list_any (nat_eq level) (query_at t.now.queries q).levels ≡ true }
     requires refined { IsSome (query_at t.now.queries q).field }
@@ -144,7 +144,7 @@ impl Refined {
         place: usize,
         none: &Members,
         tuples: &[Tuple],
-    ) -> Result<Seq<Row>, Memory>
+    ) -> Result<Seq<ShortRow>, Memory>
         requires path { IsPathOf t.now.queries self.now.query self.now.path }
         requires above { IsAbove self.now.last w }
         requires place { place < length self.now.path }

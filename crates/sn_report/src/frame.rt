@@ -1,7 +1,7 @@
 //! Items and the frames that carry them.
 
 use sn_base::lane::Lane;
-use sn_base::row::Row;
+use sn_base::short_row::ShortRow;
 
 /// Where a row left the operators of its branch, and so where the engine goes on with it.
 #[derive(Clone, Copy, Debug, PartialEq, Eq)]
@@ -16,7 +16,7 @@ pub enum Tag {
 #[derive(Clone, Copy, Debug, PartialEq, Eq)]
 pub struct Item {
     pub tag: Tag,
-    pub row: Row,
+    pub row: ShortRow,
 }
 
 /// What is sent for a lane: an item, or the end of a window.

@@ -1,7 +1,8 @@
 -- Numbers in a base, and the shares of a number of 128 bits.
-use Rattle.std.proofs.Common.{◌≡◌, ℕ, zero, suc, ◌+◌, ◌-◌, ◌*◌, ◌/◌, ◌%◌, ◌^◌, ◌<◌, ◌≤◌, [], ◌∷◌, ◌++◌, length, drop, append_assoc, length-append, true, false, nat_eq, nat_lt, slice_index_or, bit_or, bit_and, refl, ap, ap₂, sym, subst, ◌∙◌, arith}
+use Rattle.std.proofs.Common.{◌≡◌, ◌≢◌, ℕ, zero, suc, ◌+◌, ◌-◌, ◌*◌, ◌/◌, ◌%◌, ◌^◌, ◌<◌, ◌≤◌, [], ◌∷◌, ◌++◌, length, drop, append_assoc, length-append, true, false, nat_eq, nat_lt, slice_index_or, bit_or, bit_and, refl, ap, ap₂, sym, subst, ◌∙◌, arith}
 use Rattle.std.proofs.Math.Nat.{mul_comm, mul-le-mul_left, mul-zero, mul-suc, pow-zero, pow-suc, pow-succ', pow-le-pow_right, div-lt_iff_lt-mul, div-eq_of_lt, mod-eq_of_lt}
 use Rattle.std.proofs.Math.ListN.{drop_of_length-le}
+use Rattle.std.proofs.Math.Pow.{pow_mono}
 use Rattle.std.proofs.Math.Seq.{drop-cons}
 use Rattle.std.proofs.lemmas.List.{length-drop}
 use Rattle.std.proofs.lemmas.Nat.{pow_pos, pow-add, mul-add-lt, div-mul-add, mod-mul-add, div_below, mod_below, div-add-mod', or_shifted, and_mask, one_shl}
@@ -66,7 +67,7 @@ are_digits_behind base (suc place) (c ∷ cs) h = are_digits_behind base place c
 -- ---- shares
 
 -- each number of columns has its share
-pub share_is : (columns : ℕ) → columns ≤ 8 → slice_index_or (0 ∷ 64 ∷ 64 ∷ 42 ∷ 32 ∷ 25 ∷ 21 ∷ 18 ∷ 16 ∷ []) columns 0 ≡ width_of columns
+pub share_is : (columns : ℕ) → columns ≤ 8 → slice_index_or (0 ∷ 128 ∷ 64 ∷ 42 ∷ 32 ∷ 25 ∷ 21 ∷ 18 ∷ 16 ∷ []) columns 0 ≡ width_of columns
 unfolding width_of
 share_is zero h = refl
 share_is (suc zero) h = refl
@@ -78,6 +79,20 @@ share_is (suc (suc (suc (suc (suc (suc zero)))))) h = refl
 share_is (suc (suc (suc (suc (suc (suc (suc zero))))))) h = refl
 share_is (suc (suc (suc (suc (suc (suc (suc (suc zero)))))))) h = refl
 share_is (suc (suc (suc (suc (suc (suc (suc (suc (suc n))))))))) h = absurd (omega arith)
+
+-- that of one of several is at most 64 bits
+pub share_most : (columns : ℕ) → columns ≤ 8 → columns ≢ 1 → width_of columns ≤ 64
+unfolding width_of
+share_most zero h several = omega arith
+share_most (suc zero) h several = absurd (several refl)
+share_most (suc (suc zero)) h several = omega arith
+share_most (suc (suc (suc zero))) h several = omega arith
+share_most (suc (suc (suc (suc zero)))) h several = omega arith
+share_most (suc (suc (suc (suc (suc zero))))) h several = omega arith
+share_most (suc (suc (suc (suc (suc (suc zero)))))) h several = omega arith
+share_most (suc (suc (suc (suc (suc (suc (suc zero))))))) h several = omega arith
+share_most (suc (suc (suc (suc (suc (suc (suc (suc zero)))))))) h several = omega arith
+share_most (suc (suc (suc (suc (suc (suc (suc (suc (suc n))))))))) h several = absurd (omega arith)
 
 -- the shares of all columns are at most 128 bits
 pub shares_fit : (columns : ℕ) → columns ≤ 8 → width_of columns * columns ≤ 128
@@ -190,6 +205,13 @@ pub record Unpacks (columns place number rest : ℕ) (row : Row) : Type 0 where
 -- the mask of a share leaves a digit
 pub masked : (width rest : ℕ) → width ≤ 64 → bit_and rest (1 * 2 ^ width % 2 ^ 128 - 1) ≡ rest % 2 ^ width
 masked width rest most = ap (λ n. bit_and rest (n - 1)) (one_shl width 128 (omega arith)) ∙ and_mask rest width
+
+-- which is a number of 64 bits
+pub digit_fits : (rest width limit : ℕ) → width ≤ 64 → 2 ^ 64 ≤ limit → bit_and rest (1 * 2 ^ width % 2 ^ 128 - 1) < limit
+digit_fits rest width limit most fit =
+    let digit : bit_and rest (1 * 2 ^ width % 2 ^ 128 - 1) < 2 ^ width = subst (λ n. n < 2 ^ width) (sym (masked width rest most)) (mod_below rest (2 ^ width) (pow_pos width)) in
+    let share : 2 ^ width ≤ 2 ^ 64 = pow_mono most in
+    omega (arith, digit, share, fit)
 
 pub unpacks_more : (columns place number rest width : ℕ) (row new : Row) → width ≡ width_of columns → width ≤ 64 → place < columns → Unpacks columns place number rest row
     → new ≡ row ++ bit_and rest (1 * 2 ^ width % 2 ^ 128 - 1) ∷ [] → Unpacks columns (place + 1) number (rest / 2 ^ width) new

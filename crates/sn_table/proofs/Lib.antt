@@ -2,4 +2,5 @@ pub mod Decoded
 pub mod Digits
 pub mod NarrowKeys
 pub mod NarrowRows
+pub mod RowKeys
 pub mod ShortRows

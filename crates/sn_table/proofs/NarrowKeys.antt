@@ -13,7 +13,7 @@ use Rattle.indexmap.specs.IndexMap.{insert_entry}
 use Rattle.sn_base.specs.Groups.{Row, same_row}
 use Rattle.sn_base.proofs.Lists.{by_test, not_true, and_parts, and_both, or_none, all_weaker, some_same, map_one}
 use Rattle.sn_base.proofs.FoldedLemmas.{same_row_exact}
-use Rattle.sn_table.specs.Narrow.{number_in, digits_in, are_digits, width_of, base_of, is_narrow, number_of, columns_of, AreShort}
+use Rattle.sn_table.specs.Narrow.{number_in, digits_in, are_digits, width_of, base_of, is_narrow, number_of, columns_of, IsShort, AreShort}
 use Rattle.sn_table.specs.HeldEntries.{row_entry}
 use Rattle.sn_table.proofs.Digits.{row_back, number_back, number_below, are_digits_in, length_digits_in}
 use Rattle.sn_table.proofs.Decoded.{Agree, keys, lookup_decoded, insert_decoded, any_decoded, all_inserted}
@@ -63,26 +63,29 @@ module _ (columns number : ℕ) (row : Row) (h : IsHeldAs columns row number) wh
       let equal : number ≡ m = h.number_is ∙ ap (number_in base) is ∙ number_back base columns m (pow_pos (width_of columns)) below in
       false≢true (sym other ∙ eq-eqb number m equal)) ∙ sym other)
 
-  pub held_agrees : (ns : List ℕ) → AllByRecursion (λ n. n < base_of columns ^ columns) ns → Agree nat_eq same_row (columns_of columns) number row ns
-  held_agrees ns below = all_weaker (λ n. n < base_of columns ^ columns) (λ n. same_row row (columns_of columns n) ≡ nat_eq number n) held_alone ns below
+  pub held_agrees : (limit : ℕ) (ns : List ℕ) → AllByRecursion (IsShort limit columns) ns → Agree nat_eq same_row (columns_of columns) number row ns
+  held_agrees limit ns each = all_weaker (IsShort limit columns) (λ n. same_row row (columns_of columns n) ≡ nat_eq number n) (λ n short. held_alone n short.below) ns each
 
   -- a look-up by the number is one by the row
-  pub found_by_number : (es : List (ℕ × ℕ)) → AreShort columns (keys es) → lookup (same_row row) (map (row_entry columns) es) ≡ lookup (nat_eq number) es
-  found_by_number es short = lookup_decoded nat_eq same_row (columns_of columns) number row es (held_agrees (keys es) short.below)
+  pub found_by_number : (limit : ℕ) (es : List (ℕ × ℕ)) → AreShort limit columns (keys es) → lookup (same_row row) (map (row_entry columns) es) ≡ lookup (nat_eq number) es
+  found_by_number limit es short = lookup_decoded nat_eq same_row (columns_of columns) number row es (held_agrees limit (keys es) short.each)
 
   -- and so is an insertion
-  pub put_by_number : (v : ℕ) (es : List (ℕ × ℕ)) → AreShort columns (keys es) → map (row_entry columns) (insert_entry nat_eq es number v) ≡ insert_entry same_row (map (row_entry columns) es) row v
-  put_by_number v es short = insert_decoded nat_eq same_row (columns_of columns) number row held_back v es (held_agrees (keys es) short.below)
+  pub put_by_number : (limit v : ℕ) (es : List (ℕ × ℕ)) → AreShort limit columns (keys es) → map (row_entry columns) (insert_entry nat_eq es number v) ≡ insert_entry same_row (map (row_entry columns) es) row v
+  put_by_number limit v es short = insert_decoded nat_eq same_row (columns_of columns) number row held_back v es (held_agrees limit (keys es) short.each)
 
-  pub still_short : (v : ℕ) (es : List (ℕ × ℕ)) → AreShort columns (keys es) → AreShort columns (keys (insert_entry nat_eq es number v))
-  still_short v es short = record {
+  pub held_short : (limit : ℕ) → (columns ≡ 1 → number < limit) → IsShort limit columns number
+  held_short limit single = record { below = held_below; single = single }
+
+  pub still_short : (limit v : ℕ) (es : List (ℕ × ℕ)) → (columns ≡ 1 → number < limit) → AreShort limit columns (keys es) → AreShort limit columns (keys (insert_entry nat_eq es number v))
+  still_short limit v es single short = record {
     few = short.few;
-    below = all_inserted (λ n. n < base_of columns ^ columns) nat_eq number v held_below es short.below;
+    each = all_inserted (IsShort limit columns) nat_eq number v (held_short limit single) es short.each;
   }
 
 -- entries by number that stand for entries by row
-pub record Stand (columns : ℕ) (es : List (ℕ × ℕ)) (rows : List (Row × ℕ)) : Type 0 where
-  pub short : AreShort columns (keys es)
+pub record Stand (limit columns : ℕ) (es : List (ℕ × ℕ)) (rows : List (Row × ℕ)) : Type 0 where
+  pub short : AreShort limit columns (keys es)
   pub rows_are : rows ≡ map (row_entry columns) es
 
 pub nil_of_length : {A : Type 0} (xs : List A) → length xs ≡ 0 → xs ≡ []
@@ -90,27 +93,27 @@ nil_of_length [] none = refl
 nil_of_length (x ∷ xs) none = absurd (omega arith)
 
 -- no entries are those of any number of columns
-pub stand_for_none : (columns before : ℕ) (es : List (ℕ × ℕ)) (rows : List (Row × ℕ)) → columns ≤ 8 → length es ≡ 0 → rows ≡ map (row_entry before) es → Stand columns es rows
-stand_for_none columns before es rows few none are =
+pub stand_for_none : (limit columns before : ℕ) (es : List (ℕ × ℕ)) (rows : List (Row × ℕ)) → columns ≤ 8 → length es ≡ 0 → rows ≡ map (row_entry before) es → Stand limit columns es rows
+stand_for_none limit columns before es rows few none are =
     let nil = nil_of_length es none in
     record {
-      short = record { few = few; below = subst (λ (ds : List (ℕ × ℕ)). AllByRecursion (λ n. n < base_of columns ^ columns) (keys ds)) (sym nil) tt };
+      short = record { few = few; each = subst (λ (ds : List (ℕ × ℕ)). AllByRecursion (IsShort limit columns) (keys ds)) (sym nil) tt };
       rows_are = are ∙ ap (map (row_entry before)) nil ∙ sym (ap (map (row_entry columns)) nil);
     }
 
-pub stand_as_before : (columns before : ℕ) (es : List (ℕ × ℕ)) (rows : List (Row × ℕ)) → columns ≡ before → AreShort before (keys es) → rows ≡ map (row_entry before) es → Stand columns es rows
-stand_as_before columns before es rows same short are = record {
-  short = subst (λ n. AreShort n (keys es)) (sym same) short;
+pub stand_as_before : (limit columns before : ℕ) (es : List (ℕ × ℕ)) (rows : List (Row × ℕ)) → columns ≡ before → AreShort limit before (keys es) → rows ≡ map (row_entry before) es → Stand limit columns es rows
+stand_as_before limit columns before es rows same short are = record {
+  short = subst (λ n. AreShort limit n (keys es)) (sym same) short;
   rows_are = are ∙ ap (λ n. map (row_entry n) es) (sym same);
 }
 
-module _ (columns number : ℕ) (row : Row) (h : IsHeldAs columns row number) (es : List (ℕ × ℕ)) (rows : List (Row × ℕ)) (s : Stand columns es rows) where
+module _ (limit columns number : ℕ) (row : Row) (h : IsHeldAs columns row number) (es : List (ℕ × ℕ)) (rows : List (Row × ℕ)) (s : Stand limit columns es rows) where
   pub stand_found : lookup (same_row row) rows ≡ lookup (nat_eq number) es
-  stand_found = ap (lookup (same_row row)) s.rows_are ∙ found_by_number columns number row h es s.short
+  stand_found = ap (lookup (same_row row)) s.rows_are ∙ found_by_number columns number row h limit es s.short
 
   pub stand_put : (v w : ℕ) → v ≡ w → map (row_entry columns) (insert_entry nat_eq es number v) ≡ insert_entry same_row rows row w
   stand_put v w is =
-      put_by_number columns number row h v es s.short ∙ ap (λ ds. insert_entry same_row ds row v) (sym s.rows_are)
+      put_by_number columns number row h limit v es s.short ∙ ap (λ ds. insert_entry same_row ds row v) (sym s.rows_are)
       ∙ ap (insert_entry same_row rows row) is
 
 -- ---- numbers turned to rows, one by one
@@ -143,14 +146,18 @@ front_short P ns zero h = tt
 front_short P [] (suc place) h = tt
 front_short P (n ∷ ns) (suc place) h = (h.0, front_short P ns place h.1)
 
+-- each of them is short
+pub short_at : (limit columns : ℕ) (ns : List ℕ) (place n : ℕ) → AreShort limit columns ns → slice_get ns place ≡ Some n → IsShort limit columns n
+short_at limit columns ns place n short at = one_at (IsShort limit columns) ns place n at short.each
+
 -- a number's row is none of those before it
-pub new_as_row : (columns : ℕ) (ns : List ℕ) (place n : ℕ) → AreShort columns ns → IsDistinct nat_eq ns → slice_get ns place ≡ Some n
+pub new_as_row : (limit columns : ℕ) (ns : List ℕ) (place n : ℕ) → AreShort limit columns ns → IsDistinct nat_eq ns → slice_get ns place ≡ Some n
     → list_any (same_row (columns_of columns n)) (map (columns_of columns) (take place ns)) ≡ false
-new_as_row columns ns place n short apart at =
-    let P : ℕ → Type 0 = λ m. m < base_of columns ^ columns in
+new_as_row limit columns ns place n short apart at =
     let row = columns_of columns n in
-    let h = held_for columns n (one_at P ns place n at short.below) in
-    any_decoded nat_eq same_row (columns_of columns) n row (take place ns) (held_agrees columns n row h (take place ns) (front_short P ns place short.below))
+    let h = held_for columns n (short_at limit columns ns place n short at).below in
+    any_decoded nat_eq same_row (columns_of columns) n row (take place ns)
+    (held_agrees columns n row h limit (take place ns) (front_short (IsShort limit columns) ns place short.each))
     ∙ none_before ns place n apart at
 
 -- a key that is none of those there goes last
@@ -165,12 +172,15 @@ keys_as_rows columns es zero = refl
 keys_as_rows columns [] (suc place) = refl
 keys_as_rows columns (e ∷ es) (suc place) = ap (λ ks. columns_of columns e.0 ∷ ks) (keys_as_rows columns es place)
 
+pub key_at : (es : List (ℕ × ℕ)) (place : ℕ) (e : ℕ × ℕ) → slice_get es place ≡ Some e → slice_get (keys es) place ≡ Some e.0
+key_at es place e at = slice_get-map (λ (d : ℕ × ℕ). d.0) es place ∙ ap (option_map (λ (d : ℕ × ℕ). d.0)) at
+
 -- one more number is one more row after the others
-pub one_widened : (columns : ℕ) (es : List (ℕ × ℕ)) (place : ℕ) (e : ℕ × ℕ) → AreShort columns (keys es) → IsDistinct nat_eq (keys es) → slice_get es place ≡ Some e
+pub one_widened : (limit columns : ℕ) (es : List (ℕ × ℕ)) (place : ℕ) (e : ℕ × ℕ) → AreShort limit columns (keys es) → IsDistinct nat_eq (keys es) → slice_get es place ≡ Some e
     → insert_entry same_row (map (row_entry columns) (take place es)) (columns_of columns e.0) e.1 ≡ map (row_entry columns) (take (place + 1) es)
-one_widened columns es place e short apart at =
+one_widened limit columns es place e short apart at =
     let row = columns_of columns e.0 in
-    let own : slice_get (keys es) place ≡ Some e.0 = slice_get-map (λ (d : ℕ × ℕ). d.0) es place ∙ ap (option_map (λ (d : ℕ × ℕ). d.0)) at in
+    let own = key_at es place e at in
     put_last row e.1 (map (row_entry columns) (take place es))
-    (ap (list_any (same_row row)) (keys_as_rows columns es place) ∙ new_as_row columns (keys es) place e.0 short apart own)
+    (ap (list_any (same_row row)) (keys_as_rows columns es place) ∙ new_as_row limit columns (keys es) place e.0 short apart own)
     ∙ sym (map_one (row_entry columns) es place e at)

@@ -1,16 +1,22 @@
 -- Rows of one, two and three columns as numbers.
-use Rattle.std.proofs.Common.{◌≡◌, ℕ, ◌+◌, ◌*◌, ◌%◌, ◌^◌, ◌<◌, List, [], ◌∷◌, length, get_or, true, ◌&&◌, cond, Some, None, nat_lt, bit_or, refl, ap, ap₂, sym, ◌∙◌, arith}
+use Rattle.std.proofs.Common.{◌≡◌, ℕ, ◌+◌, ◌*◌, ◌%◌, ◌^◌, ◌<◌, List, [], ◌∷◌, length, get_or, true, ◌&&◌, cond, Some, None, nat_lt, bit_or, Option, IfSome, refl, ap, ap₂, sym, ◌∙◌, arith}
 use Rattle.std.proofs.lemmas.Bool.{ltb-true, lt-ltb}
 use Rattle.sn_base.specs.Groups.{Row, columns_at}
 use Rattle.sn_base.proofs.Lists.{and_parts, and_both}
-use Rattle.sn_table.specs.Narrow.{width_of, base_of, is_narrow, number_of}
+use Rattle.std.proofs.Math.Nat.{mod-eq_of_lt}
+use Rattle.sn_table.specs.Narrow.{width_of, base_of, is_narrow, number_of, columns_of}
 use Rattle.sn_table.proofs.Digits.{shifted_in}
 
 -- ---- what fits
 
-pub one_fits : (first : ℕ) → first < 2 ^ 64 → is_narrow 1 (first ∷ []) ≡ true
+pub one_fits : (first : ℕ) → first < 2 ^ 128 → is_narrow 1 (first ∷ []) ≡ true
 unfolding width_of
-one_fits first low = and_both (nat_lt first (2 ^ 64)) true (lt-ltb first (2 ^ 64) low) refl
+one_fits first low = and_both (nat_lt first (2 ^ 128)) true (lt-ltb first (2 ^ 128) low) refl
+
+-- and it is the one digit of its number
+pub one_back : (number : ℕ) → number < 2 ^ 128 → columns_of 1 number ≡ number ∷ []
+unfolding width_of
+one_back number low = ap (λ n. n ∷ []) (mod-eq_of_lt low)
 
 pub two_fit : (first second : ℕ) → first < 2 ^ 64 → second < 2 ^ 64 → is_narrow 2 (first ∷ second ∷ []) ≡ true
 unfolding width_of
@@ -24,6 +30,18 @@ three_fit first second third low middle high =
     and_both (nat_lt first (2 ^ 42)) (nat_lt second (2 ^ 42) && (nat_lt third (2 ^ 42) && true)) (lt-ltb first (2 ^ 42) low)
     (and_both (nat_lt second (2 ^ 42)) (nat_lt third (2 ^ 42) && true) (lt-ltb second (2 ^ 42) middle)
     (and_both (nat_lt third (2 ^ 42)) true (lt-ltb third (2 ^ 42) high) refl))
+
+-- each of two columns that fit is within its bits
+pub record AreTwoWithin (first second : ℕ) : Type 0 where
+  pub first_within : first < 2 ^ 64
+  pub second_within : second < 2 ^ 64
+
+pub two_within : (first second : ℕ) → is_narrow 2 (first ∷ second ∷ []) ≡ true → AreTwoWithin first second
+unfolding width_of
+two_within first second fit =
+    let one = and_parts (nat_lt first (2 ^ 64)) (nat_lt second (2 ^ 64) && true) fit in
+    let two = and_parts (nat_lt second (2 ^ 64)) true one.1 in
+    record { first_within = ltb-true first (2 ^ 64) one.0; second_within = ltb-true second (2 ^ 64) two.0 }
 
 -- each of three columns that fit is within its bits
 pub record AreWithin (first second third : ℕ) : Type 0 where
@@ -82,6 +100,20 @@ pub told_by_columns : (columns number : ℕ) (row parts : Row) → row ≡ parts
     → Some number ≡ cond (is_narrow columns row) (Some (number_of columns row)) None
 told_by_columns columns number row parts same size fits is =
     ap Some (is ∙ sym (ap₂ number_of size same)) ∙ sym (ap (λ b. cond b (Some (number_of columns row)) None) (ap₂ is_narrow size same ∙ fits))
+
+-- what is told of these columns is told of the row
+pub told_alike : (columns : ℕ) (row parts : Row) (result : Option ℕ) → row ≡ parts → columns ≡ length parts
+    → result ≡ cond (is_narrow (length parts) parts) (Some (number_of (length parts) parts)) None
+    → result ≡ cond (is_narrow columns row) (Some (number_of columns row)) None
+told_alike columns row parts result same size is =
+    is ∙ sym (ap₂ (λ n xs. cond (is_narrow n xs) (Some (number_of n xs)) None) size same)
+
+-- a number that is told of these columns is that of the row
+pub told_at : (columns : ℕ) (row parts : Row) (result : Option ℕ) → row ≡ parts → columns ≡ length parts
+    → result ≡ cond (is_narrow (length parts) parts) (Some (number_of (length parts) parts)) None
+    → IfSome result (λ number. cond (is_narrow columns row) (Some (number_of columns row)) None ≡ Some number)
+told_at columns row parts None same size is = tt
+told_at columns row parts (Some number) same size is = sym (told_alike columns row parts (Some number) same size is)
 
 -- the columns at these places of two equal rows
 pub columns_at_same : (places others row held : Row) → held ≡ row → places ≡ others → columns_at places row ≡ columns_at others held

@@ -9,16 +9,17 @@ use Rattle.sn_table.specs.declared.entries.Entries.TheVariants.{Narrow, Wide}
 abbrev pub row_entry : ℕ → ℕ × ℕ → Row × ℕ
 row_entry columns e = (columns_of columns e.0, e.1)
 
--- the entries, however they are held
-abbrev pub entries_of : Entries → List (Row × ℕ)
-entries_of (Narrow columns numbers) = map (row_entry columns) numbers.entries
-entries_of (Wide rows) = rows.entries
+-- the entries, however they are held; a row of type R, whose numbers are of type N, is seen as its columns
+abbrev pub entries_of : {R N : Type 0} → (R → Row) → Entries R N → List (Row × ℕ)
+entries_of seen (Narrow columns numbers) = map (row_entry columns) numbers.entries
+entries_of seen (Wide rows) = map (λ e. (seen e.0, e.1)) rows.entries
 
-abbrev pub IsSound : Entries → Type 0
-IsSound (Narrow columns numbers) = AreShort columns (map (λ e. e.0) numbers.entries)
-IsSound (Wide rows) = Unit {0}
+-- numbers stand for rows whose columns are below a limit
+abbrev pub IsSound : {R N : Type 0} → ℕ → Entries R N → Type 0
+IsSound limit (Narrow columns numbers) = AreShort limit columns (map (λ e. e.0) numbers.entries)
+IsSound limit (Wide rows) = Unit {0}
 
 -- keys of any kind can be held
-abbrev pub IsWide : Entries → Type 0
+abbrev pub IsWide : {R N : Type 0} → Entries R N → Type 0
 IsWide (Narrow columns numbers) = ⊥
 IsWide (Wide rows) = Unit {0}

@@ -1,5 +1,5 @@
 -- serves proofs
-use Rattle.std.specs.Prelude.{ℕ, zero, suc, ◌+◌, ◌*◌, ◌/◌, ◌%◌, ◌^◌, ◌<◌, ◌≤◌, List, [], ◌∷◌, length, Bool, true, ◌&&◌, nat_eq, nat_lt, min}
+use Rattle.std.specs.Prelude.{◌≡◌, ℕ, zero, suc, ◌+◌, ◌*◌, ◌/◌, ◌%◌, ◌^◌, ◌<◌, ◌≤◌, List, [], ◌∷◌, length, Bool, true, ◌&&◌, nat_eq, nat_lt}
 use Rattle.std.specs.List.{AllByRecursion}
 use Rattle.sn_base.specs.Groups.{Row}
 
@@ -22,9 +22,9 @@ are_digits base (c ∷ cs) = nat_lt c base && are_digits base cs
 
 -- ---- rows as numbers of 128 bits
 
--- the bits that each of n columns has. No column has more than 64 of its own
+-- the bits that each of n columns has
 unfoldable pub width_of : ℕ → ℕ
-width_of columns = min 64 (128 / columns)
+width_of columns = 128 / columns
 
 abbrev pub base_of : ℕ → ℕ
 base_of columns = 2 ^ width_of columns
@@ -41,7 +41,12 @@ number_of columns row = number_in (base_of columns) row
 abbrev pub columns_of : ℕ → ℕ → Row
 columns_of columns number = digits_in (base_of columns) columns number
 
--- each number stands for a row of n columns
-pub record AreShort (columns : ℕ) (numbers : List ℕ) : Type 0 where
+-- a number stands for a row of n columns, each below a limit: that of a single column has to be said
+pub record IsShort (limit columns number : ℕ) : Type 0 where
+  pub below : number < base_of columns ^ columns
+  pub single : columns ≡ 1 → number < limit
+
+-- each number stands for such a row
+pub record AreShort (limit columns : ℕ) (numbers : List ℕ) : Type 0 where
   pub few : columns ≤ 8
-  pub below : AllByRecursion (λ n. n < base_of columns ^ columns) numbers
+  pub each : AllByRecursion (IsShort limit columns) numbers

@@ -7,34 +7,34 @@ ghost use Rattle.sn_table.specs.HeldKeys.{IsSound, IsWide, keys_of};
 ghost use Rattle.sn_table.specs.Narrow.{AreShort, columns_of};
 
 use crate::narrow::{columns_into, number_of};
-use crate::number::Number;
+use crate::number_key::NumberKey;
 use indexmap::IndexSet;
+use sn_base::any_row::AnyRow;
 use sn_base::memory::Memory;
-use sn_base::row::Row;
 use sn_base::seed::Seed;
 
 /// The rows of a set, in the order of first places.
 #[derive(Drop)]
-pub(crate) enum Keys {
+pub(crate) enum Keys<R: AnyRow> {
     /// Rows of n columns, each as a number.
-    Narrow(usize, IndexSet<Number, Seed>),
+    Narrow(usize, IndexSet<NumberKey, Seed>),
     /// Rows as they are.
-    Wide(IndexSet<Row, Seed>),
+    Wide(IndexSet<R, Seed>),
 }
 
 /// Adds a number, and says whether it is new.
-fn insert_number(numbers: &mut IndexSet<Number, Seed>, number: u128) -> Result<bool, Memory>
+fn insert_number(numbers: &mut IndexSet<NumberKey, Seed>, number: u128) -> Result<bool, Memory>
     ensures new { IfOk result (λ new. new ≡ not (list_any (nat_eq number) numbers.old.keys)) }
     ensures keys { OnOk result (numbers.new.keys ≡ insert_key nat_eq numbers.old.keys number) }
     ensures err { OnErr result (numbers.new.keys ≡ numbers.old.keys) }
 {
-    Ok(numbers.insert(Number::new(number))?)
+    Ok(numbers.insert(NumberKey::new(number))?)
 }
 
 /// Adds a row, and says whether it is new.
-fn insert_row(rows: &mut IndexSet<Row, Seed>, row: &Row) -> Result<bool, Memory>
-    ensures new { IfOk result (λ new. new ≡ not (list_any (same_row row.now) rows.old.keys)) }
-    ensures keys { OnOk result (rows.new.keys ≡ insert_key same_row rows.old.keys row.now) }
+fn insert_row<R: AnyRow>(rows: &mut IndexSet<R, Seed>, row: &R) -> Result<bool, Memory>
+    ensures new { IfOk result (λ new. new ≡ not (list_any (R.eq row.now) rows.old.keys)) }
+    ensures keys { OnOk result (rows.new.keys ≡ insert_key R.eq rows.old.keys row.now) }
     ensures err { OnErr result (rows.new.keys ≡ rows.old.keys) }
 {
     Ok(rows.insert(*row)?)
@@ -42,13 +42,14 @@ fn insert_row(rows: &mut IndexSet<Row, Seed>, row: &Row) -> Result<bool, Memory>
 
 /// Adds a row, where it can be held as the others are, and says whether it is new. `None` where it can't: then nothing
 /// changes.
-pub(crate) fn put(held: &mut Keys, row: &Row) -> Result<Option<bool>, Memory>
-    requires { IsSound held.old }
-    ensures sound { IsSound held.new }
-    ensures new { IfOk result (λ told. IfSome told (λ new. new ≡ not (list_any (same_row row.now) (keys_of held.old)))) }
-    ensures keys { IfOk result (λ told. keys_of held.new ≡ (if is_some told then insert_key same_row (keys_of held.old) row.now else keys_of held.old)) }
+pub(crate) fn put<R: AnyRow>(held: &mut Keys<R>, row: &R) -> Result<Option<bool>, Memory>
+    requires { IsSound R.Number.limit held.old }
+    ensures sound { IsSound R.Number.limit held.new }
+    ensures new { IfOk result (λ told. IfSome told (λ new. new ≡ not (list_any (same_row (R.columns row.now)) (keys_of R.columns held.old)))) }
+    ensures keys { IfOk result (λ told. keys_of R.columns held.new ≡
+        (if is_some told then insert_key same_row (keys_of R.columns held.old) (R.columns row.now) else keys_of R.columns held.old)) }
     ensures wide { IsWide held.old → IfOk result (λ told. IsSome told) }
-    ensures err { OnErr result (keys_of held.new ≡ keys_of held.old) }
+    ensures err { OnErr result (keys_of R.columns held.new ≡ keys_of R.columns held.old) }
 {
     match held {
         Keys::Narrow(columns, numbers) => {
@@ -65,12 +66,15 @@ pub(crate) fn put(held: &mut Keys, row: &Row) -> Result<Option<bool>, Memory>
 }
 
 /// The rows as they are.
-fn rows_of(columns: usize, numbers: &IndexSet<Number, Seed>) -> Result<IndexSet<Row, Seed>, Memory>
-    requires { AreShort columns numbers.now.keys }
-    ensures { IfOk result (λ rows. rows.keys ≡ map (columns_of columns) numbers.now.keys) }
+fn rows_of<R: AnyRow>(
+    columns: usize,
+    numbers: &IndexSet<NumberKey, Seed>,
+) -> Result<IndexSet<R, Seed>, Memory>
+    requires { AreShort R.Number.limit columns numbers.now.keys }
+    ensures { IfOk result (λ rows. map R.columns rows.keys ≡ map (columns_of columns) numbers.now.keys) }
 {
     let mut rows = IndexSet::with_hasher(*numbers.allocator(), *numbers.hasher());
-    let mut row = Row::empty();
+    let mut row = R::empty();
     for place in 0..numbers.len() {
         let Some(number) = numbers.get_index(place) else {
             unreachable!();
@@ -82,10 +86,10 @@ fn rows_of(columns: usize, numbers: &IndexSet<Number, Seed>) -> Result<IndexSet<
 }
 
 /// Holds rows as they are from now on. The set stays.
-pub(crate) fn widen(held: &mut Keys) -> Result<(), Memory>
-    requires { IsSound held.old }
-    ensures sound { IsSound held.new }
-    ensures keys { keys_of held.new ≡ keys_of held.old }
+pub(crate) fn widen<R: AnyRow>(held: &mut Keys<R>) -> Result<(), Memory>
+    requires { IsSound R.Number.limit held.old }
+    ensures sound { IsSound R.Number.limit held.new }
+    ensures keys { keys_of R.columns held.new ≡ keys_of R.columns held.old }
     ensures wide { OnOk result (IsWide held.new) }
 {
     let rows = match held {

@@ -4,6 +4,6 @@
 mod entries;
 mod keys;
 pub mod narrow;
-mod number;
+mod number_key;
 pub mod rows;
 pub mod table;

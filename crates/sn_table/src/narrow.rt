@@ -1,57 +1,63 @@
 //! A short row as one number of 128 bits.
-ghost use Rattle.std.specs.Prelude.{◌≡◌, ℕ, ◌≤◌, ◌<◌, ◌^◌, List, [], ◌∷◌, length, All, Some, None, IfSome, true, if◌then◌else◌};
+ghost use Rattle.std.specs.Prelude.{◌≡◌, ◌≢◌, ℕ, ◌≤◌, ◌<◌, ◌^◌, List, [], ◌∷◌, length, All, Some, None, IfSome, true, if◌then◌else◌};
 ghost use Rattle.sn_base.specs.Groups.{columns_at};
 ghost use Rattle.sn_table.specs.Narrow.{base_of, columns_of, is_narrow, number_of, width_of};
 
-use sn_base::row::Row;
+use sn_base::any_row::AnyRow;
+use sn_base::columns::Columns;
+use sn_base::number::Number;
 
-/// The bits that each of n columns has in 128. No column has more than 64 of its own.
+/// The bits that each of n columns has in 128.
 fn width_of(columns: usize) -> u32
     requires { columns ≤ 8 }
     ensures value { result ≡ width_of columns }
-    ensures most { result ≤ 64 }
+    ensures most { columns ≢ 1 → result ≤ 64 }
 {
-    const WIDTHS: [u32; 9] = [0, 64, 64, 42, 32, 25, 21, 18, 16];
+    const WIDTHS: [u32; 9] = [0, 128, 64, 42, 32, 25, 21, 18, 16];
     WIDTHS[columns]
 }
 
 /// The number of a row of one column, which always fits.
-fn number_of_one(column: u64) -> u128
+fn number_of_one(column: u128) -> u128
     ensures fits { is_narrow 1 (column ∷ []) ≡ true }
     ensures number { result ≡ number_of 1 (column ∷ []) }
 {
-    u128::from(column)
+    column
 }
 
-/// The number of a row of two columns, which always fits.
-fn number_of_two(first: u64, second: u64) -> u128
-    ensures fits { is_narrow 2 (first ∷ second ∷ []) ≡ true }
-    ensures number { result ≡ number_of 2 (first ∷ second ∷ []) }
+/// The number of a row of two columns, where it fits.
+fn number_of_two(first: u128, second: u128) -> Option<u128>
+    ensures { let row = first ∷ second ∷ [] in result ≡ (if is_narrow 2 row then Some (number_of 2 row) else None) }
 {
-    u128::from(second) << 64 | u128::from(first)
+    const LIMIT: u128 = 1 << 64;
+    if first >= LIMIT || second >= LIMIT {
+        return None;
+    }
+    Some(second << 64 | first)
 }
 
 /// The number of a row of three columns, where it fits.
-fn number_of_three(first: u64, second: u64, third: u64) -> Option<u128>
+fn number_of_three(first: u128, second: u128, third: u128) -> Option<u128>
     ensures { let row = first ∷ second ∷ third ∷ [] in result ≡ (if is_narrow 3 row then Some (number_of 3 row) else None) }
 {
-    const LIMIT: u64 = 1 << 42;
+    const LIMIT: u128 = 1 << 42;
     if first >= LIMIT || second >= LIMIT || third >= LIMIT {
         return None;
     }
-    Some((u128::from(third) << 42 | u128::from(second)) << 42 | u128::from(first))
+    Some((third << 42 | second) << 42 | first)
 }
 
-/// The number of a row of any number of columns, where it fits.
-fn number_of_all(held: &[u64]) -> Option<u128>
-    requires { length held.now ≤ 8 }
-    ensures { let columns = length held.now in result ≡ (if is_narrow columns held.now then Some (number_of columns held.now) else None) }
+/// The number of a row of any number of columns but one, where it fits.
+fn number_of_all<R: AnyRow>(key: &R) -> Option<u128>
+    requires { length (R.columns key.now) ≢ 1 }
+    ensures { let columns = length (R.columns key.now) in result ≡
+        (if is_narrow columns (R.columns key.now) then Some (number_of columns (R.columns key.now)) else None) }
 {
-    let columns = held.len();
+    let columns = key.len();
     let width = width_of(columns);
     let mut number = 0;
     for place in 0..columns {
-        let column = u128::from(held[columns - 1 - place]);
+        let column = key.column((columns - 1 - place) as u32).whole();
         if column >> width != 0 {
             return None;
         }
@@ -61,51 +67,60 @@ fn number_of_all(held: &[u64]) -> Option<u128>
 }
 
 /// A row of n columns as one number, the first column lowest. `None` exactly where the row has another number of
-/// columns, or one of them takes more than its share of the 128 bits. One or two columns always fit.
-pub fn number_of(key: &Row, columns: usize) -> Option<u128>
-    ensures { result ≡ (if is_narrow columns key.now then Some (number_of columns key.now) else None) }
+/// columns, or one of them takes more than its share of the 128 bits. One column always fits.
+pub fn number_of<R: AnyRow>(key: &R, columns: usize) -> Option<u128>
+    ensures number { result ≡ (if is_narrow columns (R.columns key.now) then Some (number_of columns (R.columns key.now)) else None) }
+    ensures single { IfSome result (λ number. columns ≡ 1 → number < R.Number.limit) }
 {
-    let held = key.as_slice();
-    if held.len() != columns {
+    if key.len() != columns {
         return None;
     }
-    match *held {
-        [column] => Some(number_of_one(column)),
-        [first, second] => Some(number_of_two(first, second)),
-        [first, second, third] => number_of_three(first, second, third),
-        _ => number_of_all(held),
+    match columns {
+        1 => Some(number_of_one(key.column(0).whole())),
+        2 => number_of_two(key.column(0).whole(), key.column(1).whole()),
+        3 => number_of_three(
+            key.column(0).whole(),
+            key.column(1).whole(),
+            key.column(2).whole(),
+        ),
+        _ => number_of_all(key),
     }
 }
 
 /// The number of the key that stands at these places of a row, built straight from the row. `None` says nothing of the key: it
 /// is given where the key has another number of columns, and for all keys but those of one or two columns.
-pub(crate) fn number_at(row: &Row, places: &[u32], columns: usize) -> Option<u128>
-    requires { All (λ place. place < length row.now) places.now }
-    ensures { let key = columns_at places.now row.now in IfSome result
+pub(crate) fn number_at<C: Columns>(row: &C, places: &[u32], columns: usize) -> Option<u128>
+    requires { All (λ place. place < length (C.columns row.now)) places.now }
+    ensures single { IfSome result (λ number. columns ≡ 1 → number < C.Number.limit) }
+    ensures number { let key = columns_at places.now (C.columns row.now) in IfSome result
         (λ number. (if is_narrow columns key then Some (number_of columns key) else None) ≡ Some number) }
 {
     if places.len() != columns {
         return None;
     }
-    let held = row.as_slice();
     match *places {
-        [place] => Some(number_of_one(held[place as usize])),
-        [first, second] => Some(number_of_two(held[first as usize], held[second as usize])),
+        [place] => Some(number_of_one(row.column(place).whole())),
+        [first, second] => number_of_two(row.column(first).whole(), row.column(second).whole()),
         _ => None,
     }
 }
 
 /// Writes the row of n columns that a number stands for, in place.
-pub fn columns_into(number: u128, columns: usize, row: &mut Row)
-    requires { columns ≤ 8 }
-    ensures { row.new ≡ columns_of columns number }
+pub fn columns_into<R: AnyRow>(number: u128, columns: usize, row: &mut R)
+    requires few { columns ≤ 8 }
+    requires single { columns ≡ 1 → number < R.Number.limit }
+    ensures { R.columns row.new ≡ columns_of columns number }
 {
+    *row = R::empty();
+    if columns == 1 {
+        row.push(R::Number::of_whole(number));
+        return;
+    }
     let width = width_of(columns);
     let mask = (1 << width) - 1;
     let mut rest = number;
-    *row = Row::empty();
     for _place in 0..columns {
-        row.push((rest & mask) as u64);
+        row.push(R::Number::of_whole(rest & mask));
         rest >>= width;
     }
 }

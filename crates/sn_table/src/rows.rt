@@ -6,8 +6,8 @@ ghost use Rattle.sn_base.specs.Groups.{same_row};
 
 use crate::keys::{Keys, put, widen};
 use indexmap::IndexSet;
+use sn_base::any_row::AnyRow;
 use sn_base::memory::Memory;
-use sn_base::row::Row;
 use sn_base::seed::Seed;
 use std::alloc::Global;
 use std::marker::Model;
@@ -16,11 +16,11 @@ use std::marker::Model;
 ///
 /// Rows are held as the keys of a `Table` are: as numbers, until one doesn't fit.
 #[derive(Drop)]
-pub struct Rows {
-    held: Keys,
+pub struct Rows<R: AnyRow> {
+    held: Keys<R>,
 }
 
-impl Model for Rows {
+impl<R: AnyRow> Model for Rows<R> {
     ghost use Rattle.sn_table.specs.States.{RowsState, rows_code};
     ghost use Rattle.sn_table.specs.HeldKeys.{IsSound, keys_of};
 
@@ -28,14 +28,14 @@ impl Model for Rows {
 
     ghost coded = { rows_code };
 
-    ghost view = { λ s. record { keys = keys_of s.held } };
+    ghost view = { λ s. record { keys = keys_of R.columns s.held } };
 
-    ghost invariant = { λ s. IsSound s.held };
+    ghost invariant = { λ s. IsSound R.Number.limit s.held };
 }
 
-impl Rows {
+impl<R: AnyRow> Rows<R> {
     /// A set of no row. Rows are found by hashes from this seed.
-    pub fn new(alloc: Global, seed: Seed) -> Rows
+    pub fn new(alloc: Global, seed: Seed) -> Rows<R>
         ensures { result.keys ≡ [] }
     {
         Rows {
@@ -50,9 +50,9 @@ impl Rows {
 
     /// Adds a row, and says whether it is new. The row is looked up once. An `Err` changes nothing.
     #[inline(always)]
-    pub fn insert(&mut self, row: &Row) -> Result<bool, Memory>
-        ensures new { IfOk result (λ new. new ≡ not (list_any (same_row row.now) self.old.keys)) }
-        ensures keys { OnOk result (self.new.keys ≡ insert_key same_row self.old.keys row.now) }
+    pub fn insert(&mut self, row: &R) -> Result<bool, Memory>
+        ensures new { IfOk result (λ new. new ≡ not (list_any (same_row (R.columns row.now)) self.old.keys)) }
+        ensures keys { OnOk result (self.new.keys ≡ insert_key same_row self.old.keys (R.columns row.now)) }
         ensures err { OnErr result (self.new.keys ≡ self.old.keys) }
     {
         if let Some(new) = put(&mut self.held, row)? {

@@ -9,8 +9,8 @@ ghost use Rattle.sn_base.specs.Groups.{columns_at, same_row};
 use crate::entries::{Entries, count, put, put_at, read, widen};
 use indexmap::IndexMap;
 use sn_base::any_fold::AnyFold;
+use sn_base::any_row::AnyRow;
 use sn_base::memory::Memory;
-use sn_base::row::Row;
 use sn_base::seed::Seed;
 use std::alloc::Global;
 use std::marker::Model;
@@ -20,11 +20,11 @@ use std::marker::Model;
 /// While all keys have one number of columns, and each column fits its share of 128 bits, a key is held as one number:
 /// it is found in a fourth of the memory that a row takes. The first key that doesn't fit turns all into rows.
 #[derive(Drop)]
-pub struct Table {
-    held: Entries,
+pub struct Table<R: AnyRow> {
+    held: Entries<R>,
 }
 
-impl Model for Table {
+impl<R: AnyRow> Model for Table<R> {
     ghost use Rattle.sn_table.specs.States.{TableState, table_code};
     ghost use Rattle.sn_table.specs.HeldEntries.{IsSound, entries_of};
 
@@ -32,28 +32,27 @@ impl Model for Table {
 
     ghost coded = { table_code };
 
-    ghost view = { λ t. record { entries = entries_of t.held } };
+    ghost view = { λ t. record { entries = entries_of R.columns t.held } };
 
-    ghost invariant = { λ t. IsSound t.held };
+    ghost invariant = { λ t. IsSound R.Number.limit t.held };
 }
 
 /// The key that stands at these places of a row.
-fn key_at(row: &Row, places: &[u32]) -> Row
-    requires places { All (λ place. place < length row.now) places.now }
+fn key_at<R: AnyRow>(row: &R, places: &[u32]) -> R
+    requires places { All (λ place. place < length (R.columns row.now)) places.now }
     requires few { length places.now ≤ 8 }
-    ensures { result ≡ columns_at places.now row.now }
+    ensures { R.columns result ≡ columns_at places.now (R.columns row.now) }
 {
-    let held = row.as_slice();
-    let mut key = Row::empty();
+    let mut key = R::empty();
     for place in places {
-        key.push(held[*place as usize]);
+        key.push(row.column(*place));
     }
     key
 }
 
-impl Table {
+impl<R: AnyRow> Table<R> {
     /// A table with no key. Keys are found by hashes from this seed.
-    pub fn new(alloc: Global, seed: Seed) -> Table
+    pub fn new(alloc: Global, seed: Seed) -> Table<R>
         ensures { result.entries ≡ [] }
     {
         Table {
@@ -62,11 +61,12 @@ impl Table {
     }
 
     /// Adds a value to its key's fold. The key is looked up once. An `Err` changes nothing.
-    pub fn add(&mut self, fold: AnyFold, key: &Row, value: u64) -> Result<(), Memory>
-        requires so_far { any_has fold (unwrap_or (lookup (same_row key.now) self.old.entries) (any_unit fold)) }
+    pub fn add(&mut self, fold: AnyFold, key: &R, value: u64) -> Result<(), Memory>
+        requires so_far { any_has fold (unwrap_or (lookup (same_row (R.columns key.now)) self.old.entries) (any_unit fold)) }
         requires value { any_has fold value }
         ensures ok { OnOk result (self.new.entries ≡
-            insert_entry same_row self.old.entries key.now (any_step fold (unwrap_or (lookup (same_row key.now) self.old.entries) (any_unit fold)) value)) }
+            insert_entry same_row self.old.entries (R.columns key.now)
+            (any_step fold (unwrap_or (lookup (same_row (R.columns key.now)) self.old.entries) (any_unit fold)) value)) }
         ensures err { OnErr result (self.new.entries ≡ self.old.entries) }
     {
         if !put(&mut self.held, fold, key, value)? {
@@ -82,15 +82,15 @@ impl Table {
     pub fn add_at(
         &mut self,
         fold: AnyFold,
-        row: &Row,
+        row: &R,
         places: &[u32],
         value: u64,
     ) -> Result<(), Memory>
-        requires places { All (λ place. place < length row.now) places.now }
+        requires places { All (λ place. place < length (R.columns row.now)) places.now }
         requires few { length places.now ≤ 8 }
-        requires so_far { any_has fold (unwrap_or (lookup (same_row (columns_at places.now row.now)) self.old.entries) (any_unit fold)) }
+        requires so_far { any_has fold (unwrap_or (lookup (same_row (columns_at places.now (R.columns row.now))) self.old.entries) (any_unit fold)) }
         requires value { any_has fold value }
-        ensures ok { let key = columns_at places.now row.now in OnOk result
+        ensures ok { let key = columns_at places.now (R.columns row.now) in OnOk result
             (self.new.entries ≡ insert_entry same_row self.old.entries key
             (any_step fold (unwrap_or (lookup (same_row key) self.old.entries) (any_unit fold)) value)) }
         ensures err { OnErr result (self.new.entries ≡ self.old.entries) }
@@ -114,8 +114,8 @@ impl Table {
     }
 
     /// Writes the key at a place to `row`, and gives its value. `None` exactly past the end; `row` stays then.
-    pub fn get_into(&self, place: usize, row: &mut Row) -> Option<u64>
-        ensures entry { slice_get self.now.entries place ≡ option_map (λ value. (row.new, value)) result }
+    pub fn get_into(&self, place: usize, row: &mut R) -> Option<u64>
+        ensures entry { slice_get self.now.entries place ≡ option_map (λ value. (R.columns row.new, value)) result }
         ensures past { IfNone result (row.new ≡ row.old) }
     {
         read(&self.held, place, row)

@@ -7,7 +7,7 @@ ghost use Rattle.sn_chain.specs.Registers.{cell};
 
 use sn_base::fold::SatSum;
 use sn_base::memory::Memory;
-use sn_base::row::Row;
+use sn_base::short_row::ShortRow;
 use sn_chain::chain::Chain;
 use sn_chain::offer::Offer;
 use std::alloc::Global;
@@ -20,7 +20,7 @@ pub fn counters(alloc: Global, sum: SatSum) -> Result<Chain<SatSum>, Memory>
 }
 
 /// Counts a packet of this key. `Over` where each of the key's cells holds another key: then the caller counts it elsewhere.
-pub fn count(chain: &mut Chain<SatSum>, key: &Row) -> Offer
+pub fn count(chain: &mut Chain<SatSum>, key: &ShortRow) -> Offer
     requires { HasBits chain.old.fold.v 1 }
     ensures answer { result ≡ answer_at (holder chain.old key.now) (vacancy chain.old key.now) }
     ensures after { chain.new ≡ after_offer (λ f. capped_sum f.v) chain.old key.now 1 }

@@ -6,9 +6,12 @@ use sn_base::mask::mask;
 use sn_base::members::Members;
 use sn_base::name::Name;
 use sn_base::row::Row;
+use sn_base::row_list::RowList;
+use sn_base::row_seq::RowSeq;
 use sn_base::schema::Schema;
 use sn_base::seed::Seed;
 use sn_base::seq::Seq;
+use sn_base::short_row::ShortRow;
 use sn_base::slot::slot_of;
 use std::hash::BuildHasher;
 use std::test::Fail;
@@ -25,11 +28,34 @@ fn takes_one_to_thirty_two_bytes(rt: HostRuntime) -> Result<(), Fail> {
 
 #[test]
 fn rows_hold_eight_columns(rt: HostRuntime) -> Result<(), Fail> {
+    assert!(rt; ShortRow::new(&[0; 9]).is_none());
+    let row = ShortRow::new(&[1, 2, 3, 4, 5, 6, 7]).and_then(|row| row.with(8));
+    assert_eq!(rt; row, ShortRow::new(&[1, 2, 3, 4, 5, 6, 7, 8]));
+    assert!(rt; row.is_some_and(|row| row.with(9).is_none()));
+    assert!(rt; ShortRow::empty() < ShortRow::empty().with(0).unwrap_or(ShortRow::empty()));
+    Ok(())
+}
+
+#[test]
+fn wide_rows_hold_eight_columns(rt: HostRuntime) -> Result<(), Fail> {
     assert!(rt; Row::new(&[0; 9]).is_none());
-    let row = Row::new(&[1, 2, 3, 4, 5, 6, 7]).and_then(|row| row.with(8));
-    assert_eq!(rt; row, Row::new(&[1, 2, 3, 4, 5, 6, 7, 8]));
+    let row = Row::new(&[1, 2, 3, 4, 5, 6, 7]).and_then(|row| row.with(u128::MAX));
+    assert_eq!(rt; row, Row::new(&[1, 2, 3, 4, 5, 6, 7, u128::MAX]));
+    assert_eq!(rt; row.and_then(|row| row.get(7)), Some(u128::MAX));
     assert!(rt; row.is_some_and(|row| row.with(9).is_none()));
     assert!(rt; Row::empty() < Row::empty().with(0).unwrap_or(Row::empty()));
+    Ok(())
+}
+
+#[test]
+fn short_rows_become_wide(rt: HostRuntime) -> Result<(), Fail> {
+    let short = ShortRow::new(&[7, u64::MAX]).ok_or("no row")?;
+    let rows = RowSeq::from_slice(rt.alloc(), &[short, short])?;
+    let list = RowList::Short(rows);
+    assert_eq!(rt; list.len(), 2);
+    let wide = Row::new(&[7, u128::from(u64::MAX)]).ok_or("no row")?;
+    let rows = list.into_wide(rt.alloc())?;
+    assert_eq!(rt; rows.as_slice(), [wide, wide].as_slice());
     Ok(())
 }
 
@@ -76,10 +102,13 @@ fn has_what_was_added(rt: HostRuntime) -> Result<(), Fail> {
 
 #[test]
 fn keeps_the_highest_bits(rt: HostRuntime) -> Result<(), Fail> {
-    assert_eq!(rt; mask(167772169, 32, 8), 167772160);
-    assert_eq!(rt; mask(5, 8, 0), 0);
+    assert_eq!(rt; mask(167772169u64, 32, 8), 167772160);
+    assert_eq!(rt; mask(5u64, 8, 0), 0);
     assert_eq!(rt; mask(u64::MAX, 64, 0), 0);
     assert_eq!(rt; mask(u64::MAX, 64, 64), u64::MAX);
+    assert_eq!(rt; mask(u128::MAX, 128, 0), 0);
+    assert_eq!(rt; mask(u128::MAX, 128, 1), 1 << 127);
+    assert_eq!(rt; mask(u128::MAX, 128, 128), u128::MAX);
     Ok(())
 }
 
@@ -96,7 +125,7 @@ fn folds_the_known_values(rt: HostRuntime) -> Result<(), Fail> {
     Ok(())
 }
 
-/// The slots of wide columns are by the formula in whole numbers, worked out elsewhere.
+/// The slots of large columns are by the formula in whole numbers, worked out elsewhere.
 #[test]
 fn gives_the_known_slots(rt: HostRuntime) -> Result<(), Fail> {
     let table: [(u32, &[u64], u32, u32); 11] = [
@@ -111,6 +140,29 @@ fn gives_the_known_slots(rt: HostRuntime) -> Result<(), Fail> {
         (2, &[167772169, 80, 1099511627781], 65536, 28986),
         (1, &[5], 1, 0),
         (0, &[9223372036854775808], 3, 2),
+    ];
+    for (index, columns, slots, slot) in table {
+        let key = ShortRow::new(columns).ok_or("no row")?;
+        assert_eq!(rt; slot_of(index, &key, slots), slot);
+    }
+    Ok(())
+}
+
+/// These too. A column of 2^64 and more counts with sixteen bytes.
+#[test]
+fn gives_the_known_slots_of_wide_columns(rt: HostRuntime) -> Result<(), Fail> {
+    let table: [(u32, &[u128], u32, u32); 6] = [
+        (0, &[18446744073709551615], 65536, 34877),
+        (0, &[18446744073709551616], 256, 68),
+        (1, &[18446744073709551616], 65536, 38469),
+        (0, &[u128::MAX], 1000, 133),
+        (
+            2,
+            &[42540766411282592856903984951653826561, 443],
+            65536,
+            12532,
+        ),
+        (0, &[5, 18446744073709551621], 65535, 9212),
     ];
     for (index, columns, slots, slot) in table {
         let key = Row::new(columns).ok_or("no row")?;

@@ -3,27 +3,29 @@ ghost use Rattle.std.specs.Prelude.{◌≡◌, ◌≤◌, ◌<◌, ◌^◌, All,
 ghost use Rattle.std.specs.List.{AllByRecursion};
 
 use sn_base::any_fold::AnyFold;
+use sn_base::any_row::AnyRow;
 use sn_base::fold::SatSum;
 use sn_base::memory::Memory;
 use sn_base::row::Row;
 use sn_base::seed::Seed;
+use sn_base::short_row::ShortRow;
 use sn_table::narrow::{columns_into, number_of};
 use sn_table::rows::Rows;
 use sn_table::table::Table;
 use std::test::Fail;
 
-fn row(columns: &[u64]) -> Row
+fn row(columns: &[u64]) -> ShortRow
     requires { length columns.now ≤ 8 }
     ensures { result ≡ columns.now }
 {
-    match Row::new(columns) {
+    match ShortRow::new(columns) {
         Some(row) => row,
         None => unreachable!(),
     }
 }
 
 /// Adds to a key's sum. Sums stay below 2^64.
-fn sum(table: &mut Table, key: &Row, value: u64) -> Result<(), Memory>
+fn sum<R: AnyRow>(table: &mut Table<R>, key: &R, value: u64) -> Result<(), Memory>
     requires { AllByRecursion (λ e. e.1 < 2 ^ 64) table.old.entries }
     ensures { AllByRecursion (λ e. e.1 < 2 ^ 64) table.new.entries }
 {
@@ -31,7 +33,12 @@ fn sum(table: &mut Table, key: &Row, value: u64) -> Result<(), Memory>
 }
 
 /// Adds to the sum of the key that stands at these places of a row. Sums stay below 2^64.
-fn sum_at(table: &mut Table, row: &Row, places: &[u32], value: u64) -> Result<(), Memory>
+fn sum_at(
+    table: &mut Table<ShortRow>,
+    row: &ShortRow,
+    places: &[u32],
+    value: u64,
+) -> Result<(), Memory>
     requires places { All (λ place. place < length row.now) places.now }
     requires few { length places.now ≤ 8 }
     requires small { AllByRecursion (λ e. e.1 < 2 ^ 64) table.old.entries }
@@ -41,8 +48,8 @@ fn sum_at(table: &mut Table, row: &Row, places: &[u32], value: u64) -> Result<()
 }
 
 /// Whether the table has these entries and no others, in this order.
-fn has(table: &Table, entries: &[(Row, u64)]) -> bool {
-    let mut key = Row::empty();
+fn has(table: &Table<ShortRow>, entries: &[(ShortRow, u64)]) -> bool {
+    let mut key = ShortRow::empty();
     for (place, (want, value)) in entries.iter().enumerate() {
         if table.get_into(place, &mut key) != Some(*value) || key != *want {
             return false;
@@ -87,7 +94,7 @@ fn holds_addresses_of_48_bits(rt: HostRuntime) -> Result<(), Fail> {
 #[test]
 fn widens_for_another_number_of_columns(rt: HostRuntime) -> Result<(), Fail> {
     let mut table = Table::new(rt.alloc(), Seed::new(9));
-    let (one, two, none) = (row(&[u64::MAX]), row(&[0]), Row::empty());
+    let (one, two, none) = (row(&[u64::MAX]), row(&[0]), ShortRow::empty());
     sum(&mut table, &one, 1)?;
     sum(&mut table, &two, 2)?;
     assert!(rt; table.is_narrow());
@@ -102,10 +109,10 @@ fn widens_for_another_number_of_columns(rt: HostRuntime) -> Result<(), Fail> {
 fn holds_the_row_of_no_column(rt: HostRuntime) -> Result<(), Fail> {
     let mut table = Table::new(rt.alloc(), Seed::new(10));
     assert!(rt; has(&table, &[]));
-    sum(&mut table, &Row::empty(), 1)?;
-    sum(&mut table, &Row::empty(), 2)?;
+    sum(&mut table, &ShortRow::empty(), 1)?;
+    sum(&mut table, &ShortRow::empty(), 2)?;
     assert!(rt; table.is_narrow());
-    assert!(rt; has(&table, &[(Row::empty(), 3)]));
+    assert!(rt; has(&table, &[(ShortRow::empty(), 3)]));
     Ok(())
 }
 
@@ -158,6 +165,30 @@ fn adds_at_three_places(rt: HostRuntime) -> Result<(), Fail> {
 }
 
 #[test]
+fn holds_wide_columns(rt: HostRuntime) -> Result<(), Fail> {
+    let mut table = Table::new(rt.alloc(), Seed::new(14));
+    let (one, other) = (Row::new(&[u128::MAX]), Row::new(&[1 << 64]));
+    let (one, other) = (one.ok_or("no row")?, other.ok_or("no row")?);
+    sum(&mut table, &one, 1)?;
+    sum(&mut table, &other, 2)?;
+    sum(&mut table, &one, 4)?;
+    assert!(rt; table.is_narrow());
+    assert_eq!(rt; number_of(&other, 1), Some(1 << 64));
+    let pair = Row::new(&[1, 1 << 64]).ok_or("no row")?;
+    assert_eq!(rt; number_of(&pair, 2), None);
+    sum(&mut table, &pair, 8)?;
+    sum(&mut table, &other, 16)?;
+    assert!(rt; !table.is_narrow());
+    let mut key = Row::empty();
+    for (place, want, value) in [(0, one, 5), (1, other, 18), (2, pair, 8)] {
+        assert_eq!(rt; table.get_into(place, &mut key), Some(value));
+        assert_eq!(rt; key, want);
+    }
+    assert_eq!(rt; table.len(), 3);
+    Ok(())
+}
+
+#[test]
 fn packs_what_fits(rt: HostRuntime) -> Result<(), Fail> {
     let last = (1 << 42) - 1;
     let top = u64::MAX;
@@ -176,7 +207,7 @@ fn packs_what_fits(rt: HostRuntime) -> Result<(), Fail> {
         ),
     ];
     for (row, number) in packed {
-        let mut back = Row::empty().with(77).unwrap_or(Row::empty());
+        let mut back = ShortRow::empty().with(77).unwrap_or(ShortRow::empty());
         assert_eq!(rt; number_of(&row, row.len()), Some(number));
         columns_into(number, row.len(), &mut back);
         assert_eq!(rt; back, row);

@@ -191,7 +191,7 @@ fn admits_the_prefixes_of_the_level_before(rt: HostRuntime) -> Result<(), Fail> 
     let frames = [sent(Tag::At(0), row(&[NET])), Frame::End(lane(0, 0), 0)];
     assert_eq!(rt; coarse.frames.as_slice(), &frames[..]);
     let mut kept = Members::new(rt.alloc());
-    kept.add(NET)?;
+    kept.add(u128::from(NET))?;
     begin(&mut emitter, 1, kept);
     let fine = window(rt.alloc(), &mut emitter, 1, &[syn(1, 9)], 1)?;
     let tag = Tag::At(0);

@@ -7,8 +7,8 @@ ghost use Rattle.sn_windows.specs.Rising.{IsAbove};
 
 use crate::texts::{NET, REFINED, queries, row, syn};
 use sn_base::memory::Memory;
-use sn_base::row::Row;
 use sn_base::seq::Seq;
+use sn_base::short_row::ShortRow;
 use sn_fields::tuple::Tuple;
 use sn_refine::members::members;
 use sn_refine::refined::Refined;
@@ -66,7 +66,7 @@ fn answers(
     refined.window(t, w, tuples)
 }
 
-fn rows(parts: &Seq<Part>, place: usize) -> &[Row] {
+fn rows(parts: &Seq<Part>, place: usize) -> &[ShortRow] {
     match parts.as_slice().get(place) {
         Some(part) => part.rows.as_slice(),
         None => &[],
@@ -106,9 +106,9 @@ fn members_are_the_refinement_column(rt: HostRuntime) -> Result<(), Fail> {
     let t = queries(rt.alloc(), REFINED).ok_or("no queries")?;
     assert_eq!(rt; t.queries(), 1);
     let found = members(rt.alloc(), &t, 0, &[row(&[NET, 2]), row(&[2 * NET, 2])])?;
-    assert!(rt; found.has(NET));
-    assert!(rt; found.has(2 * NET));
-    assert!(rt; !found.has(NET + 9));
+    assert!(rt; found.has(u128::from(NET)));
+    assert!(rt; found.has(u128::from(2 * NET)));
+    assert!(rt; !found.has(u128::from(NET + 9)));
     assert!(rt; !found.has(2));
     Ok(())
 }

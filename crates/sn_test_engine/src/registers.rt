@@ -3,7 +3,7 @@ use crate::texts::row;
 use sn_base::any_fold::AnyFold;
 use sn_base::fold::{Max, SatSum};
 use sn_base::memory::Memory;
-use sn_base::row::Row;
+use sn_base::short_row::ShortRow;
 use sn_base::slot::slot_of;
 use sn_chain::chain::Chain;
 use sn_chain::offer::Offer;
@@ -56,7 +56,7 @@ fn takes_a_slot_that_is_known(rt: HostRuntime) -> Result<(), Fail> {
 }
 
 /// Whether a chain of two cells keeps two keys apart, the one offered first.
-fn are_apart(alloc: Global, one: &Row, other: &Row) -> Result<bool, Memory> {
+fn are_apart(alloc: Global, one: &ShortRow, other: &ShortRow) -> Result<bool, Memory> {
     let mut chain = Chain::make(alloc, SatSum { v: 16 }, 2, 1)?;
     let came = chain.offer(one, 1) == Offer::New && chain.offer(other, 2) == Offer::New;
     let again = chain.offer(one, 4) == Offer::Held && chain.offer(other, 8) == Offer::Held;

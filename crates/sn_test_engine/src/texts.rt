@@ -5,7 +5,7 @@ ghost use Rattle.sn_switch.specs.Texts.{IsSwitch};
 
 use sn_base::lane::Lane;
 use sn_base::link::Link;
-use sn_base::row::Row;
+use sn_base::short_row::ShortRow;
 use sn_fields::tuple::{Tuple, tuple_of};
 use sn_plan_fit::fits;
 use sn_plan_grammar::plan::Plan;
@@ -65,11 +65,11 @@ pub(crate) fn syn(source: u8, destination: u8) -> Tuple {
     tuple_of(Link::Ethernet, 54, &bytes)
 }
 
-pub(crate) fn row(columns: &[u64]) -> Row
+pub(crate) fn row(columns: &[u64]) -> ShortRow
     requires { length columns.now ≤ 8 }
     ensures { result ≡ columns.now }
 {
-    match Row::new(columns) {
+    match ShortRow::new(columns) {
         Some(row) => row,
         None => unreachable!(),
     }
@@ -85,12 +85,12 @@ pub(crate) fn lane(query: u8, level: u8) -> Lane {
 }
 
 /// A frame of the first lane.
-pub(crate) fn sent(tag: Tag, row: Row) -> Frame {
+pub(crate) fn sent(tag: Tag, row: ShortRow) -> Frame {
     Frame::Row(lane(0, 0), Item { tag, row })
 }
 
 /// The rows of an answer by its number.
-pub(crate) fn rows(answers: &Answers, part: usize) -> &[Row] {
+pub(crate) fn rows(answers: &Answers, part: usize) -> &[ShortRow] {
     match answers.parts.as_slice().get(part) {
         Some(part) => part.rows.as_slice(),
         None => &[],

@@ -84,7 +84,7 @@ fn answers_a_refined_query(rt: HostRuntime) -> Result<(), Fail> {
     let first = plain(alloc, &t, 0, 8, None, &five())?;
     assert_eq!(rt; first.as_slice(), [row(&[NET, 5])].as_slice());
     let mut members = Members::new(alloc);
-    members.add(NET)?;
+    members.add(u128::from(NET))?;
     let kept = Kept {
         members: &members,
         bits: 8,

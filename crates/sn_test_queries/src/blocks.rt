@@ -7,8 +7,8 @@ ghost use Rattle.sn_out.specs.Text.{IsPartOf};
 
 use crate::checked::typed;
 use sn_base::column::Column;
-use sn_base::row::Row;
 use sn_base::seq::Seq;
+use sn_base::short_row::ShortRow;
 use sn_out::block::block;
 use sn_out::csv_rows::{csv_rows, heading};
 use sn_out::lines::{damage, total};
@@ -37,7 +37,7 @@ fn is_of(columns: &[Column], numbers: &[u64]) -> bool
     }
 }
 
-fn are_of(columns: &[Column], rows: &[Row]) -> bool
+fn are_of(columns: &[Column], rows: &[ShortRow]) -> bool
     ensures { OnTrue result (AllByRecursion (IsOf columns.now) rows.now) }
 {
     match rows {
@@ -74,7 +74,7 @@ struct Window {
 fn part(alloc: Global, level: u32, numbers: &[&[u64]]) -> Option<Part> {
     let mut rows = Seq::new(alloc);
     for row in numbers {
-        rows.push(Row::new(row)?).ok()?;
+        rows.push(ShortRow::new(row)?).ok()?;
     }
     Some(Part {
         query: 0,

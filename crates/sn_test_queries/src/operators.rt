@@ -3,9 +3,9 @@ ghost use Rattle.std.specs.Prelude.{◌≡◌, ◌≤◌, length};
 
 use sn_base::any_fold::AnyFold;
 use sn_base::fold::Min;
-use sn_base::row::Row;
 use sn_base::seed::Seed;
 use sn_base::seq::Seq;
+use sn_base::short_row::ShortRow;
 use sn_ops::flow::run;
 use sn_ops::group::{distinct, reduce, reduce_with};
 use sn_ops::join::join;
@@ -17,11 +17,11 @@ use std::alloc::Global;
 use std::test::Fail;
 
 /// A row of these columns.
-pub(crate) fn row(columns: &[u64]) -> Row
+pub(crate) fn row(columns: &[u64]) -> ShortRow
     requires { length columns.now ≤ 8 }
     ensures { result ≡ columns.now }
 {
-    match Row::new(columns) {
+    match ShortRow::new(columns) {
         Some(row) => row,
         None => unreachable!(),
     }
@@ -93,17 +93,17 @@ fn runs_operators_one_after_another(rt: HostRuntime) -> Result<(), Fail> {
 
 #[test]
 fn divides_in_128_bits(rt: HostRuntime) -> Result<(), Fail> {
-    let row = Row::empty().with(500).and_then(|row| row.with(20000));
+    let row = ShortRow::empty().with(500).and_then(|row| row.with(20000));
     if let Some(row) = row {
         assert_eq!(rt; row.len(), 2);
         assert_eq!(rt; expr(&TExpr::Ratio(0, 1000000, 1), &row), 25000);
     }
-    let row = Row::empty().with(7).and_then(|row| row.with(0));
+    let row = ShortRow::empty().with(7).and_then(|row| row.with(0));
     if let Some(row) = row {
         assert_eq!(rt; row.len(), 2);
         assert_eq!(rt; expr(&TExpr::Ratio(0, 1, 1), &row), 0);
     }
-    let row = Row::empty().with(u64::MAX).and_then(|row| row.with(1));
+    let row = ShortRow::empty().with(u64::MAX).and_then(|row| row.with(1));
     if let Some(row) = row {
         assert_eq!(rt; row.len(), 2);
         assert_eq!(rt; expr(&TExpr::Ratio(0, 2, 1), &row), u64::MAX);

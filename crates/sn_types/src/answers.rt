@@ -1,7 +1,7 @@
 //! Answers of queries.
 
-use sn_base::row::Row;
 use sn_base::seq::Seq;
+use sn_base::short_row::ShortRow;
 
 /// The answers of all queries in one window.
 #[derive(Drop)]
@@ -21,5 +21,5 @@ pub struct Part {
     pub query: u32,
     pub level: u32,
     /// Sorted by columns.
-    pub rows: Seq<Row>,
+    pub rows: Seq<ShortRow>,
 }

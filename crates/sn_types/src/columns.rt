@@ -1,7 +1,7 @@
 //! Where conditions and expressions read their columns: in a row, or in a tuple of which no row is made.
 ghost use Rattle.std.specs.Prelude.{◌≡◌, ℕ, ◌<◌, ◌≤◌, List, length, slice_index};
 
-use sn_base::row::Row;
+use sn_base::short_row::ShortRow;
 
 /// Columns by their places.
 pub trait Columns {
@@ -14,7 +14,7 @@ pub trait Columns {
         ensures { result ≡ slice_index (columns self.now) place };
 }
 
-impl Columns for Row {
+impl Columns for ShortRow {
     ghost use Rattle.std.specs.Prelude.{List, ℕ};
 
     ghost columns = { λ row. row };

@@ -6,7 +6,7 @@ ghost use Rattle.sn_types.specs.Values.{compared, constant_at, holds, ratio, val
 
 use crate::columns::Columns;
 use crate::typed_op::{TCond, TExpr};
-use sn_base::row::Row;
+use sn_base::short_row::ShortRow;
 use sn_query_grammar::ast::{Cmp, Relax};
 
 fn compares(cmp: Cmp, left: u64, right: u64) -> bool
@@ -96,36 +96,36 @@ pub fn passes<C: Columns>(conds: &[TCond], level: u32, row: &C) -> bool
 
 /// Makes `out` the row of these values at a row, whatever it was before. It is made in its place: a copy of a row whose columns have
 /// just been written would wait until the memory has them, since it reads several of them at once.
-pub fn map_into<C: Columns>(row: &C, cols: &[TExpr], out: &mut Row)
+pub fn map_into<C: Columns>(row: &C, cols: &[TExpr], out: &mut ShortRow)
     requires few { length cols.now ≤ 8 }
     requires reads { All (λ e. ReadsWithin (length (C.columns row.now)) e) cols.now }
     ensures { out.new ≡ map (λ e. value_of e (C.columns row.now)) cols.now }
 {
-    *out = Row::empty();
+    *out = ShortRow::empty();
     for col in cols {
         out.push(expr(col, row));
     }
 }
 
 /// Makes `key` the columns of a row at these places, whatever it was before. It is made in its place, as by `map_into`.
-pub fn columns_into<C: Columns>(row: &C, places: &[u32], key: &mut Row)
+pub fn columns_into<C: Columns>(row: &C, places: &[u32], key: &mut ShortRow)
     requires places { All (λ place. place < length (C.columns row.now)) places.now }
     requires few { length places.now ≤ 8 }
     ensures { key.new ≡ columns_at places.now (C.columns row.now) }
 {
-    *key = Row::empty();
+    *key = ShortRow::empty();
     for place in places {
         key.push(row.column(*place));
     }
 }
 
 /// The columns of a row at these places.
-pub fn columns_of(row: &Row, places: &[u32]) -> Row
+pub fn columns_of(row: &ShortRow, places: &[u32]) -> ShortRow
     requires places { All (λ place. place < length row.now) places.now }
     requires few { length places.now ≤ 8 }
     ensures { result ≡ columns_at places.now row.now }
 {
-    let mut key = Row::empty();
+    let mut key = ShortRow::empty();
     columns_into(row, places, &mut key);
     key
 }

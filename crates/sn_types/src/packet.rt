@@ -8,7 +8,7 @@ ghost use Rattle.sn_types_faults.specs.Columns.{field_column};
 
 use crate::columns::Columns;
 use sn_base::mask::mask;
-use sn_base::row::Row;
+use sn_base::short_row::ShortRow;
 use sn_fields::field::Field;
 use sn_fields::tuple::Tuple;
 use std::marker::Model;
@@ -37,26 +37,26 @@ fn read_at(refined: Option<Field>, level: u32, tuple: &Tuple, field: Field) -> u
 }
 
 /// Makes `row` the packet row of a tuple at a level, whatever it was before: the numbers of these fields, each of its field's width.
-fn row_into(refined: Option<Field>, level: u32, fields: &[Field], tuple: &Tuple, row: &mut Row)
+fn row_into(refined: Option<Field>, level: u32, fields: &[Field], tuple: &Tuple, row: &mut ShortRow)
     requires few { length fields.now ≤ 8 }
     requires level { IfSome refined (λ other. level ≤ width_of other) }
     ensures row { row.new ≡ packet_row refined level fields.now tuple.now }
     ensures columns { IsOf (map field_column fields.now) row.new }
 {
-    *row = Row::empty();
+    *row = ShortRow::empty();
     for field in fields {
         row.push(read_at(refined, level, tuple, *field));
     }
 }
 
 /// The packet row of a tuple at a level: the numbers of these fields, each of its field's width.
-pub fn row_of(refined: Option<Field>, level: u32, fields: &[Field], tuple: &Tuple) -> Row
+pub fn row_of(refined: Option<Field>, level: u32, fields: &[Field], tuple: &Tuple) -> ShortRow
     requires few { length fields.now ≤ 8 }
     requires level { IfSome refined (λ other. level ≤ width_of other) }
     ensures row { result ≡ packet_row refined level fields.now tuple.now }
     ensures columns { IsOf (map field_column fields.now) result }
 {
-    let mut row = Row::empty();
+    let mut row = ShortRow::empty();
     row_into(refined, level, fields, tuple, &mut row);
     row
 }
@@ -113,7 +113,7 @@ impl<'a> Model for PacketRow<'a> {
 
 impl<'a> PacketRow<'a> {
     /// Makes `row` the row, whatever it was before.
-    pub fn put_into(&self, row: &mut Row)
+    pub fn put_into(&self, row: &mut ShortRow)
         ensures { row.new ≡ self.now }
     {
         row_into(self.refined, self.level, self.fields, self.tuple, row)

@@ -10,10 +10,10 @@ use crate::typed_op::{JoinKey, TOp};
 use crate::typed_query::{TypedBranch, TypedQuery};
 use sn_base::memory::Memory;
 use sn_base::name::Name;
-use sn_base::row::Row;
 use sn_base::schema::Schema;
 use sn_base::seed::Seed;
 use sn_base::seq::Seq;
+use sn_base::short_row::ShortRow;
 use sn_fields::field::Field;
 use sn_fields::tuple::Tuple;
 use std::alloc::Global;
@@ -237,7 +237,7 @@ impl Typed {
     }
 
     /// The packet row of a tuple for a branch, with the refinement field masked to the level.
-    pub fn packet_row(&self, q: u32, b: u32, level: u32, tuple: &Tuple) -> Row
+    pub fn packet_row(&self, q: u32, b: u32, level: u32, tuple: &Tuple) -> ShortRow
         requires query { q < length self.now.queries }
         requires branch { b < length (query_at self.now.queries q).branches }
         requires level { list_any (nat_eq level) (query_at self.now.queries q).levels ≡ true }

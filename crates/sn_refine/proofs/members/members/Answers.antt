@@ -18,8 +18,8 @@ loop-row-preserved c =
     let within : i < length rows = omega arith in
     let f : Row → ℕ = λ (r : Row). slice_index r place in
     c.in_ok-add.ensures.ok
-    ∙ ap (λ s. set.insert s c.column.result) c.loop-row.invariant
-    ∙ ap (λ (n : ℕ). set.insert (set.from_list (map f (take i rows))) n) c.column.ensures
+    ∙ ap (λ s. set.insert s c.from.result) c.loop-row.invariant
+    ∙ ap (λ (n : ℕ). set.insert (set.from_list (map f (take i rows))) n) (c.from.ensures ∙ c.column.ensures)
     ∙ sym (set.from_list_push nat_cmp_total set.nat_cmp-IsAntisymmetric (map f (take i rows)) (f row))
     ∙ ap set.from_list (map_step f rows i row within c.row-item.is)
 

@@ -1,4 +1,4 @@
-use Rattle.std.proofs.Common.{◌≡◌, ℕ, ◌*◌, ◌%◌, ◌^◌, ◌<◌, List, [], ◌∷◌, Bool, true, Some, None, cond, bit_or, ap, ap₂, sym, ◌∙◌, arith}
+use Rattle.std.proofs.Common.{◌≡◌, ℕ, ◌^◌, ◌<◌, List, [], ◌∷◌, Bool, true, Some, None, cond, ap, sym, ◌∙◌, arith}
 use Rattle.sn_base.proofs.Lists.{not_true}
 use Rattle.sn_table.specs.Narrow.{is_narrow, number_of}
 use Rattle.sn_table.proofs.ShortRows.{three_fit, three_within, three_joined}
@@ -23,7 +23,5 @@ returns c =
     let low : c.args.first < 2 ^ 42 = c.if-first-ge-LIMIT.false in
     let middle : c.args.second < 2 ^ 42 = c.if-second-ge-LIMIT.false in
     let high : c.args.third < 2 ^ 42 = c.if-third-ge-LIMIT.false in
-    ap Some (
-    ap₂ (λ inner first. bit_or (inner * 2 ^ 42 % 2 ^ 128) first) (ap₂ (λ third second. bit_or (third * 2 ^ 42 % 2 ^ 128) second) c.from.ensures c.from-2.ensures) c.from-3.ensures
-    ∙ three_joined c.args.first c.args.second c.args.third low middle high)
+    ap Some (three_joined c.args.first c.args.second c.args.third low middle high)
     ∙ sym (ap (λ (b : Bool). cond b (Some (number_of 3 row)) None) (three_fit c.args.first c.args.second c.args.third low middle high))

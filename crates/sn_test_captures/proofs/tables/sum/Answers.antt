@@ -6,12 +6,12 @@ use Rattle.sn_test_captures.proofs.SmallSums.{AreSmall, found_small, put_small, 
 use Rattle.sn_test_captures.proofs.tables.sum.Goals as goal
 
 pub add-requires-clause-so_far : goal.add-requires-clause-so_far
-add-requires-clause-so_far c = found_small c.args.key.now c.args.table.now.entries c.requires
+add-requires-clause-so_far g c = found_small (g.R.Columns.columns c.args.key.now) c.args.table.now.entries c.requires
 
 pub returns : goal.returns
-returns c =
+returns g c =
     let es = c.args.table.now.entries in
-    let key = c.args.key.now in
+    let key = g.R.Columns.columns c.args.key.now in
     let had : ℕ = unwrap_or (lookup (same_row key) es) 0 in
     let sum : ℕ = min (had + c.args.value) (2 ^ 64 - 1) in
     let small : sum < 2 ^ 64 = omega arith in

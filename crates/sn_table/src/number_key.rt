@@ -14,11 +14,11 @@ use std::marker::Model;
 /// It is hashed as two numbers of 64 bits. The hasher multiplies the halves of 16 bytes by each other, so that numbers
 /// with one upper half, that whoever sends packets may choose, would all have one hash, whatever the seed.
 #[derive(Clone, Copy)]
-pub(crate) struct Number {
+pub(crate) struct NumberKey {
     held: u128,
 }
 
-impl Model for Number {
+impl Model for NumberKey {
     ghost use Rattle.std.specs.Prelude.{ℕ};
     ghost use Rattle.std.specs.Coded.{coded_ℕ};
 
@@ -31,11 +31,11 @@ impl Model for Number {
     ghost inverse = { λ n. record { held = n } };
 }
 
-impl Number {
-    pub fn new(held: u128) -> Number
+impl NumberKey {
+    pub fn new(held: u128) -> NumberKey
         ensures { result ≡ held }
     {
-        Number { held }
+        NumberKey { held }
     }
 
     pub fn get(self) -> u128
@@ -45,21 +45,21 @@ impl Number {
     }
 }
 
-impl PartialEq for Number {
+impl PartialEq for NumberKey {
     ghost eq = { nat_eq };
 
     ghost laws = { Cmp.partial_equiv_from_equiv nat_eq_equiv };
 
-    fn eq(&self, other: &Number) -> bool {
+    fn eq(&self, other: &NumberKey) -> bool {
         self.held == other.held
     }
 }
 
-impl Eq for Number {
+impl Eq for NumberKey {
     ghost laws = { nat_eq_equiv };
 }
 
-impl Hash for Number {
+impl Hash for NumberKey {
     ghost hash_input = { λ n. fed.u64 (n % 2 ^ 64) ++ fed.u64 (n / 2 ^ 64) };
 
     ghost respects_eq = { Prim.search (hashing, rules) };

@@ -1,0 +1,190 @@
+//! A short row: at most eight numbers of 64 bits, held in place.
+ghost use Rattle.std.specs.Prelude.{◌≡◌, ℕ, ◌≤◌, ◌<◌, ◌↔◌, [], ◌∷◌, ◌++◌, List, length, take, IfSome, IsNone, Some, slice_get, refl, nat_eq};
+ghost use Rattle.std.proofs.Common.{rules};
+ghost use Rattle.std.specs.Hash as fed;
+ghost use Rattle.std.specs.Cmp;
+ghost use Rattle.std.specs.Cmp.Rules.{hashing};
+ghost use Rattle.std.specs.Ordering.{nat_cmp};
+ghost use Rattle.std.specs.Cmp.Lexicographic.{pointwise, slice_cmp, nat_list_eq_equiv, nat_list_cmp_total, texts_po, texts_ties};
+
+use crate::any_row::AnyRow;
+use crate::columns::Columns;
+use std::cmp::Ordering;
+use std::hash::{Hash, Hasher};
+use std::marker::Model;
+
+/// At most eight numbers of 64 bits. Rows whose columns are all so narrow are held as such, in half the room of a `Row`.
+#[derive(Clone, Copy, Debug)]
+pub struct ShortRow {
+    columns: [u64; 8],
+    count: usize,
+}
+
+impl Model for ShortRow {
+    ghost use Rattle.std.specs.Prelude.{◌≡◌, ℕ, ◌≤◌, List, length, take};
+    ghost use Rattle.std.specs.Coded.{coded_ℕ, coded_list};
+    ghost use Rattle.sn_base.specs.Rows.{filled, IsFilled, filled_back, count_back};
+
+    ghost Value = { List ℕ };
+
+    ghost coded = { coded_list coded_ℕ };
+
+    ghost view = { λ a. take a.count a.columns };
+
+    ghost invariant = { λ a. IsFilled a.columns a.count };
+
+    ghost inverse = { λ xs. record { columns = filled xs; count = length xs } };
+
+    ghost inverse_ok = { λ a h i. record { columns = filled_back a.columns a.count h i; count = count_back a.columns a.count h i } };
+}
+
+impl ShortRow {
+    /// The row of these numbers. `None` exactly where there are more than eight.
+    pub fn new(columns: &[u64]) -> Option<ShortRow>
+        ensures some { IfSome result (λ row. row ≡ columns.now) }
+        ensures none { IsNone result ↔ (8 < length columns.now) }
+    {
+        let count = columns.len();
+        if count > 8 {
+            return None;
+        }
+        let mut held = [0; 8];
+        held[..count].copy_from_slice(columns);
+        Some(ShortRow {
+            columns: held,
+            count,
+        })
+    }
+
+    /// The row of no column.
+    pub fn empty() -> ShortRow
+        ensures { result ≡ [] }
+    {
+        ShortRow {
+            columns: [0; 8],
+            count: 0,
+        }
+    }
+
+    /// The columns, in order.
+    pub fn as_slice(&self) -> &[u64]
+        ensures value { result.now ≡ self.now }
+        ensures most { length self.now ≤ 8 }
+    {
+        &self.columns[..self.count]
+    }
+
+    /// How many columns there are.
+    pub fn len(&self) -> usize
+        ensures value { result ≡ length self.now }
+        ensures most { result ≤ 8 }
+    {
+        self.count
+    }
+
+    /// The column at a place. `None` exactly past the end.
+    pub fn get(&self, place: usize) -> Option<u64>
+        ensures { result ≡ slice_get self.now place }
+    {
+        self.as_slice().get(place).copied()
+    }
+
+    /// Puts one more column after the others, in place.
+    pub fn push(&mut self, value: u64)
+        requires { length self.old < 8 }
+        ensures { self.new ≡ self.old ++ value ∷ [] }
+    {
+        self.columns[self.count] = value;
+        self.count += 1;
+    }
+
+    /// The row with one more column. `None` exactly where it has eight.
+    pub fn with(self, value: u64) -> Option<ShortRow>
+        ensures some { IfSome result (λ row. row ≡ self ++ value ∷ []) }
+        ensures none { IsNone result ↔ (length self ≡ 8) }
+    {
+        if self.count == 8 {
+            return None;
+        }
+        let mut row = self;
+        row.push(value);
+        Some(row)
+    }
+}
+
+impl PartialEq for ShortRow {
+    ghost eq = { pointwise nat_eq };
+
+    ghost laws = { Cmp.partial_equiv_from_equiv nat_list_eq_equiv };
+
+    fn eq(&self, other: &ShortRow) -> bool {
+        self.as_slice() == other.as_slice()
+    }
+}
+
+impl Eq for ShortRow {
+    ghost laws = { nat_list_eq_equiv };
+}
+
+impl PartialOrd for ShortRow {
+    ghost partial_cmp = { λ x y. Some (slice_cmp nat_cmp x y) };
+
+    ghost laws = { texts_po };
+
+    fn partial_cmp(&self, other: &ShortRow) -> Option<Ordering> {
+        Some(self.cmp(other))
+    }
+}
+
+impl Ord for ShortRow {
+    ghost cmp = { slice_cmp nat_cmp };
+
+    ghost total = { nat_list_cmp_total };
+
+    ghost matches_partial_cmp = { λ x y. refl };
+
+    ghost matches_eq = { λ x y. texts_ties x y };
+
+    fn cmp(&self, other: &ShortRow) -> Ordering {
+        self.as_slice().cmp(other.as_slice())
+    }
+}
+
+impl Hash for ShortRow {
+    ghost hash_input = { λ xs. fed.slice fed.u64 xs };
+
+    ghost respects_eq = { Prim.search (hashing, rules) };
+
+    fn hash<H: Hasher>(&self, state: &mut H) {
+        self.as_slice().hash(state);
+    }
+}
+
+impl Columns for ShortRow {
+    type Number = u64;
+
+    ghost use Rattle.std.specs.Prelude.{List, ℕ};
+
+    ghost columns = { λ row. row };
+
+    fn column(&self, place: u32) -> u64 {
+        self.as_slice()[place as usize]
+    }
+}
+
+impl AnyRow for ShortRow {
+    ghost same = { λ a b. refl };
+
+    fn empty() -> ShortRow {
+        ShortRow::empty()
+    }
+
+    fn len(&self) -> usize {
+        self.count
+    }
+
+    fn push(&mut self, number: u64) {
+        self.columns[self.count] = number;
+        self.count += 1;
+    }
+}
