@@ -7,6 +7,7 @@
     planned.py emit SWITCH QUERIES PLAN CAPTURE
     planned.py finish QUERIES PLAN REPORTS
     planned.py detect QUERIES PLAN CAPTURE
+    planned.py many SWITCH QUERIES PLAN CAPTURE CAPTURE { CAPTURE }
     planned.py check SWITCH QUERIES TRAIN PLANTREE
     planned.py live SWITCH QUERIES TRAIN CAPTURE [--nodes N] [--schedule K] [--trace]
     planned.py gen NUMBER
@@ -20,7 +21,7 @@ import sys
 
 import plain as unsplit
 from plain import read, told
-from reference import costs, fields, generated, grammar, nets, plans, split, stays, switches, tokens, typing_rules, words
+from reference import costs, fields, generated, grammar, many as several, nets, plans, split, stays, switches, tokens, typing_rules, words
 
 
 class Refused(Exception):
@@ -125,6 +126,24 @@ def detect(given):
     return answered(lambda window, queries, _, entries, file: stays.detect(window, queries, entries, file), window, queries, None, entries, capture_name)
 
 
+def many(given):
+    switch_name, queries_name, plan_name, *capture_names = given.files
+    window, queries = read_queries(queries_name)
+    switch = read_switch(switch_name)
+    entries = read_plan(plan_name, lambda entries: plans.check_fits(queries, switch, entries))
+    files = []
+    for number, name in enumerate(capture_names, 1):
+        files.append(held(name))
+        try:
+            fields.header(files[-1])
+        except fields.BadHeader as fault:
+            raise Refused(5, 'capture %s byte %d file %d' % (*fault.args, number)) from fault
+    text, damage = several.many(window, queries, switch, entries, files)
+    if damage:
+        raise Refused(5, 'capture %s byte %d file %d' % damage, text)
+    return text
+
+
 def trained(window, queries, switch, name):
     """The costs on a training capture, of which the whole records count."""
     try:
@@ -202,7 +221,7 @@ def job(given):
     return ('\n'.join(lines) + '\n').encode()
 
 
-COMMANDS = {'plain': plain, 'plan': plan, 'run': run, 'emit': over_capture(split.emit), 'finish': finish, 'detect': detect, 'check': check, 'live': live, 'gen': gen, 'job': job}
+COMMANDS = {'plain': plain, 'plan': plan, 'run': run, 'emit': over_capture(split.emit), 'finish': finish, 'detect': detect, 'many': many, 'check': check, 'live': live, 'gen': gen, 'job': job}
 
 
 def answer(*spoken):

@@ -40,7 +40,7 @@ def answer(executable, text, capture):
     return found
 
 
-COMMANDS = {'plain': 2, 'plan': 3, 'run': 4, 'emit': 4, 'finish': 3, 'detect': 3, 'check': 4, 'live': 4}
+COMMANDS = {'plain': 2, 'plan': 3, 'run': 4, 'emit': 4, 'finish': 3, 'detect': 3, 'many': 5, 'check': 4, 'live': 4}
 
 
 def answers_words(executable, *words):

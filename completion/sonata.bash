@@ -1,10 +1,11 @@
 # Completion of sonata for bash: source this file, or install it as sonata in bash-completion's folder of completions.
 
-# How many file words a command takes, the endings of their names, and the options behind them. An ending is a usual one: folders are offered too, and all
+# How many file words a command takes, the endings of their names, and the options after them. An ending is a usual one: folders are offered too, and all
 # files where none has it.
 declare -gA _sonata_endings=([plain]='query pcap' [plan]='switch query pcap' [run]='switch query plan pcap' [emit]='switch query plan pcap'
-    [finish]='query plan reports' [detect]='query plan pcap' [check]='switch query pcap plan' [live]='switch query pcap pcap')
-declare -gA _sonata_files=([plain]=2 [plan]=3 [run]=4 [emit]=4 [finish]=3 [detect]=3 [check]=4 [live]=4 [gen]=0 [job]=0)
+    [finish]='query plan reports' [detect]='query plan pcap' [many]='switch query plan pcap pcap pcap pcap pcap pcap pcap pcap'
+    [check]='switch query pcap plan' [live]='switch query pcap pcap')
+declare -gA _sonata_files=([plain]=2 [plan]=3 [run]=4 [emit]=4 [finish]=3 [detect]=3 [many]=11 [check]=4 [live]=4 [gen]=0 [job]=0)
 declare -gA _sonata_options=([plan]='--nodes' [run]='--csv' [live]='--nodes --schedule --trace')
 
 _sonata_named() {

@@ -3,7 +3,8 @@
 import re
 from dataclasses import dataclass, field
 
-FILES = {'plain': 2, 'plan': 3, 'run': 4, 'emit': 4, 'finish': 3, 'detect': 3, 'check': 4, 'live': 4, 'gen': 0, 'job': 0}
+FILES = {'plain': 2, 'plan': 3, 'run': 4, 'emit': 4, 'finish': 3, 'detect': 3, 'many': 5, 'check': 4, 'live': 4, 'gen': 0, 'job': 0}
+MOST_FILES = {'many': 11}
 OPTIONS = {'plan': ['--nodes'], 'run': ['--csv'], 'live': ['--nodes', '--schedule', '--trace']}
 DIGITS = re.compile('[0-9]{1,10}\\Z')
 RANGES = {'--nodes': (1, 1000000), '--schedule': (0, 4294967295), 'number': (0, 4294967295)}
@@ -47,6 +48,8 @@ def read(words):
     if count == 0:
         command.number = number_of(words[1], 'number') if len(words) == 2 else None
         return command if command.number is not None else None
+    if words[0] in MOST_FILES:
+        count = min(max(count, len(words) - 1), MOST_FILES[words[0]])
     command.files = list(words[1:1 + count])
     if len(command.files) < count or any(not word or word.startswith('-') for word in command.files):
         return None

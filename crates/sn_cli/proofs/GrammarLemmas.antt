@@ -1,19 +1,19 @@
 -- What is read is what the words spell.
-use Rattle.std.proofs.Common.{◌≡◌, ℕ, zero, suc, ◌≤◌, List, [], ◌∷◌, ◌++◌, Bool, true, false, not, cond, ◌&&◌, length, take, drop, Option, Some, None, unwrap_or, refl, ap, sym, ◌∙◌, subst, arith, length-append}
+use Rattle.std.proofs.Common.{◌≡◌, ℕ, zero, suc, ◌+◌, ◌-◌, ◌≤◌, List, [], ◌∷◌, ◌++◌, Bool, true, false, not, cond, ◌&&◌, ◌||◌, length, take, drop, Option, Some, None, unwrap_or, refl, ap, sym, ◌∙◌, subst, arith, length-append}
 use Rattle.std.specs.Prelude.{nat_lt, is_none, option_and_then, option_map, codes, String}
 use Rattle.std.specs.String.{string_bytes}
 use Rattle.std.specs.declared.alloc.Global.{Global}
 use Rattle.std.proofs.lemmas.Bool.{le-ltb, ltb-false}
-use Rattle.std.proofs.lemmas.List.{length-take-le}
-use Rattle.sn_base.proofs.Lists.{by_test, none_is as is_free}
+use Rattle.std.proofs.lemmas.List.{append-nil, length-take-le}
+use Rattle.sn_base.proofs.Lists.{by_test, or_none, none_is as is_free}
 use Rattle.sn_cli.specs.declared.command.Command.{Command}
 use Rattle.sn_cli.specs.declared.command.Command.TheVariants as commands
 use Rattle.sn_cli.specs.declared.options.Options.{Options}
 use Rattle.sn_cli.specs.Words.{texts}
 use Rattle.sn_cli.specs.Grammar.{no_options, Line, Numbered, Spells}
-use Rattle.sn_cli.specs.Reading.{same, is_flag, flag_of, numbered_of, options_from, all_file_words, line_of, lone_number, bare_of, plan_of, run_of, live_of, command_with, command_of}
+use Rattle.sn_cli.specs.Reading.{same, is_flag, flag_of, numbered_of, options_from, all_file_words, line_of, lone_number, bare_of, plan_of, run_of, live_of, many_of, command_with, command_of}
 use Rattle.sn_cli.proofs.NumberLemmas.{and_left, and_right, none_some, some_same, taken, passed, number_is, is_number}
-use Rattle.sn_cli.proofs.OptionLemmas.{flag_step, options_found, options_are_said, word_is}
+use Rattle.sn_cli.proofs.OptionLemmas.{flag_step, options_found, options_are_said, no_words, word_is}
 use Rattle.sn_base.proofs.Tests.{not_to_false as is_false}
 
 -- what was found after a step
@@ -171,6 +171,22 @@ module _ (rest : List (List ℕ)) (c : Command) where
   job_found : option_map (λ n. commands.Job n) (lone_number rest) ≡ Some c → Spells (codes "job" ∷ rest) c
   job_found e = let m = mapped (λ n. commands.Job n) (lone_number rest) c e in subst (λ (d : Command). Spells (codes "job" ∷ rest) d) (sym m.2) (lone_is (codes "job") rest m.0 m.1)
 
+  -- no option stands behind the file words
+  many_found : many_of rest ≡ Some c → Spells (codes "many" ∷ rest) c
+  many_found e =
+      let outside : Bool = nat_lt (length rest) 5 || nat_lt 11 (length rest) in
+      by_test outside
+      (λ is. absurd (none_some (taken outside _ _ is e)))
+      (λ isnt.
+      let few : 5 ≤ length rest = ltb-false (length rest) 5 (or_none (nat_lt (length rest) 5) (nat_lt 11 (length rest)) isnt).0 in
+      let most : length rest ≤ 11 = ltb-false 11 (length rest) (or_none (nat_lt (length rest) 5) (nat_lt 11 (length rest)) isnt).1 in
+      let b = behind (bare_of (commands.Many (length rest - 3))) (line_of (length rest) rest) c (passed outside _ _ isnt e) in
+      let is = bare_is (commands.Many (length rest - 3)) b.value c b.gives in
+      let line = line_is (codes "many") (length rest) rest no_options (b.is ∙ ap (λ o. Some o) is.1) in
+      let all : length rest ≡ 3 + (length rest - 3) = omega arith in
+      subst (λ (d : Command). Spells (codes "many" ∷ rest) d) (sym is.0)
+      (omega arith, omega arith, subst (λ (n : ℕ). Line (codes "many") n no_options (codes "many" ∷ rest)) all line))
+
   -- a word is this one, or another
   by_word : (word name : List ℕ) (x y : Option Command) → (x ≡ Some c → Spells (name ∷ rest) c) → (y ≡ Some c → Spells (word ∷ rest) c) → cond (same word name) x y ≡ Some c → Spells (word ∷ rest) c
   by_word word name x y here there e = by_test (same word name)
@@ -187,13 +203,25 @@ module _ (rest : List (List ℕ)) (c : Command) where
       (by_word word (codes "check") _ _ (bare_found (codes "check") 4 commands.Check (λ words l. l))
       (by_word word (codes "live") _ _ live_found
       (by_word word (codes "detect") _ _ (bare_found (codes "detect") 3 commands.Detect (λ words l. l))
+      (by_word word (codes "many") _ _ many_found
       (by_word word (codes "gen") _ _ gen_found
-      (by_word word (codes "job") _ _ job_found (λ e. absurd (none_some e)))))))))))
+      (by_word word (codes "job") _ _ job_found (λ e. absurd (none_some e))))))))))))
 
 -- what is read is spelled
 pub read_is_spelled : (words : List (List ℕ)) (c : Command) → command_of words ≡ Some c → Spells words c
 read_is_spelled [] c e = absurd (none_some e)
 read_is_spelled (word ∷ rest) c e = command_is rest c word e
+
+same_rest : {a b : List ℕ} {xs ys : List (List ℕ)} → a ∷ xs ≡ b ∷ ys → xs ≡ ys
+same_rest e = cc
+
+many_read : (rest : List (List ℕ)) (captures : ℕ) → 2 ≤ captures → captures ≤ 8 → length rest ≡ 3 + captures → line_of (3 + captures) rest ≡ Some no_options → many_of rest ≡ Some (commands.Many captures)
+many_read rest captures few most all is =
+    let inside : (nat_lt (length rest) 5 || nat_lt 11 (length rest)) ≡ false = ap (λ b. b || nat_lt 11 (length rest)) (le-ltb (length rest) 5 (omega arith)) ∙ le-ltb 11 (length rest) (omega arith) in
+    ap (λ b. cond b None (option_and_then (bare_of (commands.Many (length rest - 3))) (line_of (length rest) rest))) inside
+    ∙ ap (λ n. option_and_then (bare_of (commands.Many (n - 3))) (line_of n rest)) all
+    ∙ ap (option_and_then (bare_of (commands.Many (3 + captures - 3)))) is
+    ∙ ap (λ n. Some (commands.Many n)) (omega arith)
 
 -- what is spelled is read
 pub spelled_is_read : (words : List (List ℕ)) (c : Command) → Spells words c → command_of words ≡ Some c
@@ -207,6 +235,11 @@ spelled_is_read words (commands.Live nodes schedule trace) (given, turn, l, e, f
     let s = stands (codes "live") 4 _ words l in
     ap command_of s.are ∙ ap (option_and_then live_of) s.is ∙ ap (λ n. Some (commands.Live n (unwrap_or turn 0) trace)) (sym e) ∙ ap (λ k. Some (commands.Live nodes k trace)) (sym f)
 spelled_is_read words commands.Detect l = let s = stands (codes "detect") 3 no_options words l in ap command_of s.are ∙ ap (option_and_then (bare_of commands.Detect)) s.is
+spelled_is_read words (commands.Many captures) (few, most, l) =
+    let s = stands (codes "many") (3 + captures) no_options words l in
+    let all : words ≡ codes "many" ∷ l.names = l.are ∙ ap (λ ws. codes "many" ∷ (l.names ++ ws)) (no_words l.behind no_options l.options_are refl) ∙ ap (λ ws. codes "many" ∷ ws) (append-nil l.names) in
+    let rest : s.rest ≡ l.names = same_rest (sym s.are ∙ all) in
+    ap command_of s.are ∙ many_read s.rest captures few most (ap length rest ∙ l.as_many) s.is
 spelled_is_read words (commands.Gen number) n = ap command_of n.are ∙ ap (option_map (λ n. commands.Gen n)) (is_number 0 4294967295 n.word number n.is)
 spelled_is_read words (commands.Job number) n = ap command_of n.are ∙ ap (option_map (λ n. commands.Job n)) (is_number 0 4294967295 n.word number n.is)
 

@@ -2,6 +2,7 @@
 use Rattle.std.proofs.Common.{◌≡◌, ◌⊎◌, ℕ, List, [], ◌∷◌, Bool, true, false, not, cond, ◌&&◌, ◌||◌, Option, Some, None, inl, inr, refl, ap, sym, ◌∙◌, subst}
 use Rattle.std.specs.Prelude.{is_none, option_and_then, option_map, codes}
 use Rattle.std.specs.Cmp.Lexicographic.{bytes_decides}
+use Rattle.std.proofs.lemmas.Bool.{false≢true}
 use Rattle.sn_base.proofs.Lists.{by_test, none_is, or_false}
 use Rattle.sn_cli.specs.declared.options.Options.{Options}
 use Rattle.sn_cli.specs.Words.{IsNumber}
@@ -108,6 +109,14 @@ options_read _ _ (trace words rest free more) given apart =
 -- from no options on
 pub options_found : (words : List (List ℕ)) (said : Options) → AreOptions words said → options_from no_options words ≡ Some said
 options_found words said are = options_read words said are no_options (record { nodes = inl refl; schedule = inl refl; csv = refl; trace = refl })
+
+-- words that say nothing as options are none
+pub no_words : (words : List (List ℕ)) (said : Options) → AreOptions words said → said ≡ no_options → words ≡ []
+no_words _ _ none e = refl
+no_words _ _ (nodes word number words rest is free more) e = absurd (none_some (sym (ap (λ o. o.nodes) e)))
+no_words _ _ (schedule word number words rest is free more) e = absurd (none_some (sym (ap (λ o. o.schedule) e)))
+no_words _ _ (csv words rest free more) e = absurd (false≢true (sym (ap (λ o. o.csv) e)))
+no_words _ _ (trace words rest free more) e = absurd (false≢true (sym (ap (λ o. o.trace) e)))
 
 -- ---- what is read is written
 

@@ -1,6 +1,6 @@
 -- to be believed
 -- The words that spell a command.
-use Rattle.std.specs.Prelude.{◌≡◌, ℕ, List, [], ◌∷◌, ◌++◌, true, false, Option, Some, None, unwrap_or, length, codes}
+use Rattle.std.specs.Prelude.{◌≡◌, ℕ, ◌+◌, ◌≤◌, List, [], ◌∷◌, ◌++◌, true, false, Option, Some, None, unwrap_or, length, codes}
 use Rattle.std.specs.List.{list_all}
 use Rattle.sn_cli.specs.declared.command.Command.{Command}
 use Rattle.sn_cli.specs.declared.command.Command.TheVariants as commands
@@ -64,6 +64,8 @@ Spells words (commands.Live most turn events) =
     × (most ≡ unwrap_or given 100000) × (turn ≡ unwrap_or chosen 0)
 -- `detect QUERIES PLAN CAPTURE`
 Spells words commands.Detect = Line (codes "detect") 3 no_options words
+-- `many SWITCH QUERIES PLAN CAPTURE CAPTURE { CAPTURE }`, of 2 to 8 captures
+Spells words (commands.Many captures) = (2 ≤ captures) × (captures ≤ 8) × Line (codes "many") (3 + captures) no_options words
 -- `gen NUMBER`
 Spells words (commands.Gen number) = Numbered (codes "gen") number words
 -- `job NUMBER`

@@ -1,6 +1,6 @@
 -- serves proofs
 -- How words are read, one after another. That this finds what words spell is proved.
-use Rattle.std.specs.Prelude.{ℕ, List, [], ◌∷◌, Bool, true, not, ◌&&◌, ◌||◌, ◌==◌, nat_eq, nat_lt, nat_le, length, take, drop, Option, Some, None, is_none}
+use Rattle.std.specs.Prelude.{ℕ, ◌-◌, List, [], ◌∷◌, Bool, true, not, ◌&&◌, ◌||◌, ◌==◌, nat_eq, nat_lt, nat_le, length, take, drop, Option, Some, None, is_none}
 use Rattle.std.specs.Prelude.{unwrap_or, option_and_then, option_map, codes, if◌then◌else◌}
 use Rattle.std.specs.List.{list_all}
 use Rattle.std.specs.Cmp.Lexicographic.{pointwise}
@@ -82,6 +82,12 @@ run_of given = if is_none given.nodes && is_none given.schedule && not given.tra
 abbrev pub live_of : Options → Option Command
 live_of given = if not given.csv then Some (commands.Live (unwrap_or given.nodes 100000) (unwrap_or given.schedule 0) given.trace) else None
 
+-- each word names a file: three texts, and the captures
+abbrev pub many_of : List (List ℕ) → Option Command
+many_of rest =
+    if nat_lt (length rest) 5 || nat_lt 11 (length rest) then None
+    else option_and_then (bare_of (commands.Many (length rest - 3))) (line_of (length rest) rest)
+
 abbrev pub command_with : List ℕ → List (List ℕ) → Option Command
 command_with word rest =
     if same word (codes "plain") then option_and_then (bare_of commands.Plain) (line_of 2 rest)
@@ -92,6 +98,7 @@ command_with word rest =
     else if same word (codes "check") then option_and_then (bare_of commands.Check) (line_of 4 rest)
     else if same word (codes "live") then option_and_then live_of (line_of 4 rest)
     else if same word (codes "detect") then option_and_then (bare_of commands.Detect) (line_of 3 rest)
+    else if same word (codes "many") then many_of rest
     else if same word (codes "gen") then option_map (λ n. commands.Gen n) (lone_number rest)
     else if same word (codes "job") then option_map (λ n. commands.Job n) (lone_number rest)
     else None

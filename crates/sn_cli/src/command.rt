@@ -39,6 +39,11 @@ pub enum Command {
     },
     /// `detect QUERIES PLAN CAPTURE`: how late what a query answers is printed along a plan.
     Detect,
+    /// `many SWITCH QUERIES PLAN CAPTURE CAPTURE { CAPTURE }`: the answers of several switches along one plan.
+    Many {
+        /// How many captures there are, one for each switch, 2 to 8.
+        captures: u32,
+    },
     /// `gen NUMBER`: a made capture.
     Gen {
         /// The number of the capture.

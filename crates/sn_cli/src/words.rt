@@ -2,7 +2,7 @@
 ghost use Rattle.std.specs.Prelude.{◌≡◌, IfOk, IsErr};
 ghost use Rattle.sn_cli.specs.declared.command.Command.{Command};
 ghost use Rattle.sn_cli.specs.Grammar.{Spells};
-ghost use Rattle.sn_cli.specs.Reading.{all_file_words, line_of, lone_number, bare_of, plan_of, run_of, live_of, command_with, command_of};
+ghost use Rattle.sn_cli.specs.Reading.{all_file_words, line_of, lone_number, bare_of, plan_of, run_of, live_of, many_of, command_with, command_of};
 ghost use Rattle.sn_cli.specs.Words.{texts, is_file_word};
 
 use crate::command::{Command, WordFault};
@@ -11,6 +11,15 @@ use crate::options::{NO_OPTIONS, Options, read_options};
 
 /// The most nodes that a tree may expand where no number is given.
 const NODES: u32 = 100_000;
+
+/// The texts before the captures of `many`: those of the switch, the queries and the plan.
+const TEXTS: usize = 3;
+
+/// The fewest captures of `many`.
+const FEWEST_CAPTURES: usize = 2;
+
+/// The most captures of `many`.
+const MOST_CAPTURES: usize = 8;
 
 fn is_file_word(word: &str) -> bool
     ensures { result ≡ is_file_word word.now }
@@ -117,6 +126,17 @@ fn live(given: Options) -> Option<Command>
     }
 }
 
+/// `many`, whose captures are all the words after the three texts.
+fn many(rest: &[String]) -> Option<Command>
+    ensures { result ≡ many_of (texts rest.now) }
+{
+    if rest.len() < TEXTS + FEWEST_CAPTURES || rest.len() > TEXTS + MOST_CAPTURES {
+        return None;
+    }
+    let captures = (rest.len() - TEXTS) as u32;
+    bare(Command::Many { captures }, line(rest, rest.len())?)
+}
+
 /// The command of a command word and the words after it.
 fn command(word: &str, rest: &[String]) -> Option<Command>
     ensures { result ≡ command_with word.now (texts rest.now) }
@@ -130,6 +150,7 @@ fn command(word: &str, rest: &[String]) -> Option<Command>
         "check" => bare(Command::Check, line(rest, 4)?),
         "live" => live(line(rest, 4)?),
         "detect" => bare(Command::Detect, line(rest, 3)?),
+        "many" => many(rest),
         "gen" => Some(Command::Gen {
             number: lone_number(rest)?,
         }),

@@ -3,7 +3,7 @@ use Rattle.std.proofs.Common.{◌≡◌, ◌≢◌, ℕ, ◌<◌, refl, arith}
 use Rattle.sn_types_read.specs.declared.fault.QueryFault.{QueryFault}
 use Rattle.sn_command.specs.declared.fault.TextFault.{TextFault}
 use Rattle.sn_command.specs.declared.fault.Fault.{Fault}
-use Rattle.sn_command.specs.declared.fault.Fault.TheVariants.{Queries, Switch, Head, Cut, Bad, Plan, Misfit, Tree, Unshown, Budget, Reports, TooLarge}
+use Rattle.sn_command.specs.declared.fault.Fault.TheVariants.{Queries, Switch, Head, Cut, Bad, HeadOf, CutOf, BadOf, Plan, Misfit, Tree, Unshown, Budget, Reports, TooLarge}
 use Rattle.sn_command.specs.Faults.{fault_status}
 
 -- a status that only faults have
@@ -18,6 +18,9 @@ faults_own (Switch fault) = record { above = omega arith; no_nine = λ e. omega 
 faults_own (Head fault) = record { above = omega arith; no_nine = λ e. omega arith; no_ten = λ e. omega arith }
 faults_own (Cut at) = record { above = omega arith; no_nine = λ e. omega arith; no_ten = λ e. omega arith }
 faults_own (Bad at) = record { above = omega arith; no_nine = λ e. omega arith; no_ten = λ e. omega arith }
+faults_own (HeadOf fault file) = record { above = omega arith; no_nine = λ e. omega arith; no_ten = λ e. omega arith }
+faults_own (CutOf at file) = record { above = omega arith; no_nine = λ e. omega arith; no_ten = λ e. omega arith }
+faults_own (BadOf at file) = record { above = omega arith; no_nine = λ e. omega arith; no_ten = λ e. omega arith }
 faults_own (Plan fault) = record { above = omega arith; no_nine = λ e. omega arith; no_ten = λ e. omega arith }
 faults_own (Misfit misfit) = record { above = omega arith; no_nine = λ e. omega arith; no_ten = λ e. omega arith }
 faults_own (Tree fault) = record { above = omega arith; no_nine = λ e. omega arith; no_ten = λ e. omega arith }
@@ -33,6 +36,9 @@ three_of (Switch fault) e = absurd (omega arith)
 three_of (Head fault) e = absurd (omega arith)
 three_of (Cut at) e = absurd (omega arith)
 three_of (Bad at) e = absurd (omega arith)
+three_of (HeadOf fault file) e = absurd (omega arith)
+three_of (CutOf at file) e = absurd (omega arith)
+three_of (BadOf at file) e = absurd (omega arith)
 three_of (Plan fault) e = absurd (omega arith)
 three_of (Misfit misfit) e = absurd (omega arith)
 three_of (Tree fault) e = absurd (omega arith)
@@ -48,6 +54,9 @@ four_of (Switch fault) e = (fault, refl)
 four_of (Head fault) e = absurd (omega arith)
 four_of (Cut at) e = absurd (omega arith)
 four_of (Bad at) e = absurd (omega arith)
+four_of (HeadOf fault file) e = absurd (omega arith)
+four_of (CutOf at file) e = absurd (omega arith)
+four_of (BadOf at file) e = absurd (omega arith)
 four_of (Plan fault) e = absurd (omega arith)
 four_of (Misfit misfit) e = absurd (omega arith)
 four_of (Tree fault) e = absurd (omega arith)

@@ -1,6 +1,7 @@
 -- A line printed piece by piece, over plain values.
-use Rattle.std.proofs.Common.{◌≡◌, ℕ, ◌+◌, ◌≤◌, List, [], ◌∷◌, ◌++◌, Bool, true, false, length, drop, get_or, ◌<◌, subst, add-one, inl, inr, refl, ap, sym, ◌∙◌, arith}
+use Rattle.std.proofs.Common.{◌≡◌, ◌⊎◌, ℕ, ◌+◌, ◌≤◌, List, [], ◌∷◌, ◌++◌, Bool, true, false, length, drop, get_or, ◌<◌, subst, add-one, inl, inr, refl, ap, sym, ◌∙◌, arith}
 use Rattle.std.proofs.lemmas.Bool.{false≢true}
+use Rattle.std.specs.Prelude.{codes}
 use Rattle.std.specs.Io.KnownBytes.{append_known}
 use Rattle.sn_base.proofs.Lists.{by_test}
 use Rattle.sn_command.specs.Worlds.{Sunk}
@@ -9,6 +10,9 @@ use Rattle.sn_command.specs.declared.pieces.Piece.{Piece}
 use Rattle.std.proofs.Math.Seq.{drop-cons}
 use Rattle.std.proofs.lemmas.List.{drop_all}
 use Rattle.sn_command.specs.Ends.{IsTold}
+use Rattle.sn_command.specs.Lines.{line_of}
+use Rattle.sn_command.specs.declared.refusal.Refusal.{Refusal}
+use Rattle.sn_command.specs.declared.refusal.Refusal.TheVariants.{Missing, ReadFault}
 use Rattle.sn_command.proofs.OutcomeLemmas.{told_none, front_longer, front_behind, all_front}
 use Rattle.sn_io.proofs.Told.{append_known-append as told_twice}
 use Rattle.sn_io.proofs.CountLemmas.{rose_earlier}
@@ -61,3 +65,8 @@ module _ (first rest : List ℕ) (before now : Sunk) where
 
   pub tells_then : Tells first true before now → (all : Bool) (later : Sunk) → Tells rest all now later → Tells (first ++ rest) all before later
   tells_then k all later r = told_turn first rest (first ++ rest) before before now (told_begin (first ++ rest) before) k all later r
+
+-- a read that failed and a word that isn't known have one line
+pub tells_read_fault : (refusal : Refusal) (all : Bool) (before now : Sunk) → (refusal ≡ Missing) ⊎ (refusal ≡ ReadFault) → Tells (codes "sonata: read fault\n") all before now → Tells (line_of refusal) all before now
+tells_read_fault refusal all before now (inl is) t = rw is t
+tells_read_fault refusal all before now (inr is) t = rw is t

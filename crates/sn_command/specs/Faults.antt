@@ -2,7 +2,7 @@
 -- The status of each fault.
 use Rattle.std.specs.Prelude.{ℕ}
 use Rattle.sn_command.specs.declared.fault.Fault.{Fault}
-use Rattle.sn_command.specs.declared.fault.Fault.TheVariants.{Queries, Switch, Head, Cut, Bad, Plan, Misfit, Tree, Unshown, Budget, Reports, TooLarge}
+use Rattle.sn_command.specs.declared.fault.Fault.TheVariants.{Queries, Switch, Head, Cut, Bad, HeadOf, CutOf, BadOf, Plan, Misfit, Tree, Unshown, Budget, Reports, TooLarge}
 
 abbrev pub fault_status : Fault → ℕ
 fault_status (Queries fault) = 3
@@ -10,6 +10,9 @@ fault_status (Switch fault) = 4
 fault_status (Head fault) = 5
 fault_status (Cut at) = 5
 fault_status (Bad at) = 5
+fault_status (HeadOf fault file) = 5
+fault_status (CutOf at file) = 5
+fault_status (BadOf at file) = 5
 fault_status (Plan fault) = 6
 fault_status (Misfit misfit) = 6
 fault_status (Tree fault) = 7

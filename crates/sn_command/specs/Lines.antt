@@ -15,7 +15,7 @@ use Rattle.sn_command.specs.declared.fault.TextKind.TheVariants as texts
 use Rattle.sn_command.specs.declared.fault.TreeKind.{TreeKind}
 use Rattle.sn_command.specs.declared.fault.TreeKind.TheVariants as trees
 use Rattle.sn_command.specs.declared.fault.Fault.{Fault}
-use Rattle.sn_command.specs.declared.fault.Fault.TheVariants.{Queries, Switch, Head, Cut, Bad, Plan, Misfit, Tree, Unshown, Budget, Reports, TooLarge}
+use Rattle.sn_command.specs.declared.fault.Fault.TheVariants.{Queries, Switch, Head, Cut, Bad, HeadOf, CutOf, BadOf, Plan, Misfit, Tree, Unshown, Budget, Reports, TooLarge}
 use Rattle.sn_command.specs.declared.refusal.Refusal.{Refusal}
 use Rattle.sn_command.specs.declared.refusal.Refusal.TheVariants.{Memory, Usage, Missing, ReadFault, WriteFault, Refused}
 
@@ -71,18 +71,22 @@ report_kind reports.AfterEnd = codes "AfterEnd"
 report_kind reports.Window = codes "Window"
 report_kind reports.Unfinished = codes "Unfinished"
 
-abbrev pub head_line : HeadFault → List ℕ
-head_line heads.Short = codes "sonata: capture Short byte 0\n"
-head_line heads.Magic = codes "sonata: capture Magic byte 0\n"
-head_line heads.Version = codes "sonata: capture Version byte 4\n"
-head_line heads.Link = codes "sonata: capture Link byte 20\n"
+-- what is said of a refused header
+abbrev pub head_words : HeadFault → List ℕ
+head_words heads.Short = codes "sonata: capture Short byte 0"
+head_words heads.Magic = codes "sonata: capture Magic byte 0"
+head_words heads.Version = codes "sonata: capture Version byte 4"
+head_words heads.Link = codes "sonata: capture Link byte 20"
 
 abbrev pub fault_line : Fault → List ℕ
 fault_line (Queries fault) = codes "sonata: queries " ++ query_kind fault.kind ++ codes " line " ++ decimal fault.line ++ 10 ∷ []
 fault_line (Switch fault) = codes "sonata: switch " ++ text_kind fault.kind ++ codes " line " ++ decimal fault.line ++ 10 ∷ []
-fault_line (Head fault) = head_line fault
+fault_line (Head fault) = head_words fault ++ 10 ∷ []
 fault_line (Cut at) = codes "sonata: capture Cut byte " ++ decimal at ++ 10 ∷ []
 fault_line (Bad at) = codes "sonata: capture Bad byte " ++ decimal at ++ 10 ∷ []
+fault_line (HeadOf fault file) = head_words fault ++ codes " file " ++ decimal file ++ 10 ∷ []
+fault_line (CutOf at file) = codes "sonata: capture Cut byte " ++ decimal at ++ codes " file " ++ decimal file ++ 10 ∷ []
+fault_line (BadOf at file) = codes "sonata: capture Bad byte " ++ decimal at ++ codes " file " ++ decimal file ++ 10 ∷ []
 fault_line (Plan fault) = codes "sonata: plan " ++ text_kind fault.kind ++ codes " line " ++ decimal fault.line ++ 10 ∷ []
 fault_line (Misfit misfit) = (codes "sonata: plan " ++ misfit_kind misfit.kind ++ codes " want ") ++
     (decimal misfit.want ++ codes " got " ++ decimal misfit.got ++ 10 ∷ [])

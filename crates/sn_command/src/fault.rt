@@ -98,6 +98,24 @@ pub enum Fault {
     Cut(u64),
     /// The record of the answered capture that begins at this byte can't be one.
     Bad(u64),
+    /// The header of one of several captures is refused.
+    HeadOf {
+        fault: HeadFault,
+        /// Which capture it is, from 1.
+        file: u64,
+    },
+    /// One of several captures ends within the record that begins at this byte.
+    CutOf {
+        at: u64,
+        /// Which capture it is, from 1.
+        file: u64,
+    },
+    /// The record of one of several captures that begins at this byte can't be one.
+    BadOf {
+        at: u64,
+        /// Which capture it is, from 1.
+        file: u64,
+    },
     /// The plan text is refused.
     Plan(TextFault),
     /// The plan doesn't fit.
@@ -125,6 +143,7 @@ impl Fault {
             Fault::Queries(_) => 3,
             Fault::Switch(_) => 4,
             Fault::Head(_) | Fault::Cut(_) | Fault::Bad(_) => 5,
+            Fault::HeadOf { .. } | Fault::CutOf { .. } | Fault::BadOf { .. } => 5,
             Fault::Plan(_) | Fault::Misfit(_) => 6,
             Fault::Tree(_) | Fault::Unshown(_) => 7,
             Fault::Budget(_) => 8,

@@ -4,7 +4,7 @@ ghost use Rattle.std.specs.Prelude.{◌≡◌, List, [], ◌∷◌, ◌++◌, co
 ghost use Rattle.std.specs.Fmt.{decimal};
 ghost use Rattle.sn_command.specs.Desks.{sunk};
 ghost use Rattle.sn_command.specs.Ends.{end_line, IsTold};
-ghost use Rattle.sn_command.specs.Lines.{query_kind, text_kind, misfit_kind, tree_kind, report_kind, head_line, fault_line, line_of};
+ghost use Rattle.sn_command.specs.Lines.{query_kind, text_kind, misfit_kind, tree_kind, report_kind, head_words, fault_line, line_of};
 ghost use Rattle.sn_command.specs.Told.{Tells};
 
 use crate::fault::{Fault, ReportFault, Spent, TextFault, TreeFlaw, TreeKind};
@@ -16,16 +16,45 @@ use sn_pcap::header::HeadFault;
 use sn_plan_fit::misfit::{Misfit, MisfitKind};
 use sn_types_read::fault::QueryFault;
 
-/// The line on a file that has no header of a capture.
-fn head_line(fault: HeadFault) -> &'static [u8]
-    ensures { result.now ≡ head_line fault }
+/// What is said of a file that has no header of a capture.
+fn head_words(fault: HeadFault) -> &'static [u8]
+    ensures { result.now ≡ head_words fault }
 {
     match fault {
-        HeadFault::Short => b"sonata: capture Short byte 0\n",
-        HeadFault::Magic => b"sonata: capture Magic byte 0\n",
-        HeadFault::Version => b"sonata: capture Version byte 4\n",
-        HeadFault::Link => b"sonata: capture Link byte 20\n",
+        HeadFault::Short => b"sonata: capture Short byte 0",
+        HeadFault::Magic => b"sonata: capture Magic byte 0",
+        HeadFault::Version => b"sonata: capture Version byte 4",
+        HeadFault::Link => b"sonata: capture Link byte 20",
     }
+}
+
+/// Prints the line `WORDS`.
+fn tell_words<E: Sink>(words: &[u8], err: &mut E) -> bool
+    ensures { Tells (words.now ++ 10 ∷ []) result (sunk E.Sink err.old) (sunk E.Sink err.new) }
+{
+    tell_pieces(&[Piece::Text(words), Piece::Text(b"\n")], err)
+}
+
+/// Prints the line `WORDS file NUMBER`, on one of several captures.
+fn tell_file<E: Sink>(words: &[u8], file: u64, err: &mut E) -> bool
+    ensures { Tells (words.now ++ codes " file " ++ decimal file ++ 10 ∷ []) result (sunk E.Sink err.old) (sunk E.Sink err.new) }
+{
+    tell_pieces(
+        &[
+            Piece::Text(words),
+            Piece::Text(b" file "),
+            Piece::Number(file),
+            Piece::Text(b"\n"),
+        ],
+        err,
+    )
+}
+
+/// Prints the line `WORDS NUMBER file NUMBER`, on a byte of one of several captures.
+fn tell_byte_of<E: Sink>(words: &[u8], byte: u64, file: u64, err: &mut E) -> bool
+    ensures { Tells (words.now ++ decimal byte ++ codes " file " ++ decimal file ++ 10 ∷ []) result (sunk E.Sink err.old) (sunk E.Sink err.new) }
+{
+    tell_two_numbers(words, byte, b" file ", file, err)
 }
 
 /// Prints the line `WORDS NUMBER`.
@@ -214,9 +243,12 @@ fn tell_fault<E: Sink>(fault: Fault, err: &mut E) -> bool
     match fault {
         Fault::Queries(fault) => tell_queries(fault, err),
         Fault::Switch(fault) => tell_text_fault(b"sonata: switch ", fault, err),
-        Fault::Head(fault) => tell_text(head_line(fault), err),
+        Fault::Head(fault) => tell_words(head_words(fault), err),
         Fault::Cut(at) => tell_byte(b"sonata: capture Cut byte ", at, err),
         Fault::Bad(at) => tell_byte(b"sonata: capture Bad byte ", at, err),
+        Fault::HeadOf { fault, file } => tell_file(head_words(fault), file, err),
+        Fault::CutOf { at, file } => tell_byte_of(b"sonata: capture Cut byte ", at, file, err),
+        Fault::BadOf { at, file } => tell_byte_of(b"sonata: capture Bad byte ", at, file, err),
         Fault::Plan(fault) => tell_text_fault(b"sonata: plan ", fault, err),
         Fault::Misfit(misfit) => tell_misfit(misfit, err),
         Fault::Tree(fault) => tell_text_fault(b"sonata: tree ", fault, err),

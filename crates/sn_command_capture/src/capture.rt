@@ -39,7 +39,7 @@ fn write_window<A: Answering, I: Inputs, O: Sink>(
     requires { HoldsSome (A.hand answering.old) number }
     ensures runs { (closed : List Window) (tuples : List (List ℕ)) → 0 < length tuples → A.hand answering.old closed number tuples →
         Runs [] (Does (closed_as ((A.wording answering.old).stops (closed ++ (number, tuples) ∷ []) number tuples)
-            ((A.wording answering.old).block (closed ++ (number, tuples) ∷ []) number tuples) tt)) (world I.Inputs O.Sink desk.old) result
+        ((A.wording answering.old).block (closed ++ (number, tuples) ∷ []) number tuples) tt)) (world I.Inputs O.Sink desk.old) result
         (world I.Inputs O.Sink desk.new) }
     ensures closed { OnOk result ((closed : List Window) (tuples : List (List ℕ)) → 0 < length tuples → A.hand answering.old closed number tuples →
         A.idle answering.new (closed ++ (number, tuples) ∷ [])) }
@@ -61,7 +61,7 @@ fn next_window<A: Answering, I: Inputs, O: Sink>(
     requires above { at_hand < number }
     ensures runs { (closed : List Window) (tuples : List (List ℕ)) → 0 < length tuples → A.hand answering.old closed at_hand tuples →
         Runs [] (Does (closed_as ((A.wording answering.old).stops (closed ++ (at_hand, tuples) ∷ []) at_hand tuples)
-            ((A.wording answering.old).block (closed ++ (at_hand, tuples) ∷ []) at_hand tuples) tt)) (world I.Inputs O.Sink desk.old) result
+        ((A.wording answering.old).block (closed ++ (at_hand, tuples) ∷ []) at_hand tuples) tt)) (world I.Inputs O.Sink desk.old) result
         (world I.Inputs O.Sink desk.new) }
     ensures begun { OnOk result ((closed : List Window) (tuples : List (List ℕ)) → 0 < length tuples → A.hand answering.old closed at_hand tuples →
         AreRising None ((closed ++ (at_hand, tuples) ∷ []) ++ (number, []) ∷ []) →

@@ -31,7 +31,7 @@ pub record Searched : Type 0 where
 abbrev pub searched_of : Certified → Searched
 searched_of c = record { read = queries_of c.typed; limits = c.limits; certificate = c.certificate }
 
--- The search adds the certificate of the plan that costs least over a training capture: the plan, its cost and its tree, behind this
+-- The search adds the certificate of the plan that costs least over a training capture: the plan, its cost and its tree, after this
 -- text. A refusal adds nothing.
 abbrev pub SearchesAfter : List ℕ → Queries → Switch → Training → ℕ → Stage Searched
 SearchesAfter before read limits training nodes =

@@ -38,7 +38,7 @@ fn write_certificate<I: Inputs, O: Sink>(
 }
 
 /// Reads the queries, the switch and the training capture, searches for the plan that costs least, and writes it with its cost
-/// and its tree, behind a text. At most this many nodes of the tree are expanded.
+/// and its tree, after a text. At most this many nodes of the tree are expanded.
 pub fn certify_after<I: Inputs, O: Sink>(
     alloc: Global,
     before: &[u8],

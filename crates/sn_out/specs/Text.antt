@@ -39,6 +39,15 @@ cut_words = codes "capture cut at byte "
 unfoldable pub bad_words : List ℕ
 bad_words = codes "capture bad at byte "
 
+unfoldable pub capture_words : List ℕ
+capture_words = codes "capture "
+
+unfoldable pub cut_behind_words : List ℕ
+cut_behind_words = codes " cut at byte "
+
+unfoldable pub bad_behind_words : List ℕ
+bad_behind_words = codes " bad at byte "
+
 unfoldable pub levels_words : List ℕ
 levels_words = codes " levels "
 
@@ -175,6 +184,13 @@ abbrev pub damage_line : Ending → List ℕ
 damage_line Clean = []
 damage_line (Cut at) = cut_words ++ decimal at ++ 10 ∷ []
 damage_line (Bad at) = bad_words ++ decimal at ++ 10 ∷ []
+
+-- `capture I cut at byte B` or `capture I bad at byte B` of the capture that has this number among several, from 1; no line for a
+-- capture without damage
+abbrev pub damage_line_of : ℕ → Ending → List ℕ
+damage_line_of file Clean = []
+damage_line_of file (Cut at) = capture_words ++ decimal file ++ cut_behind_words ++ decimal at ++ 10 ∷ []
+damage_line_of file (Bad at) = capture_words ++ decimal file ++ bad_behind_words ++ decimal at ++ 10 ∷ []
 
 -- ---- what can be printed
 

@@ -1,17 +1,13 @@
 -- The words and the work of a command, over plain values.
-use Rattle.std.proofs.Common.{◌≡◌, ◌⊎◌, ℕ, List, [], ◌∷◌, Bool, true, false, Option, Some, None, Result, Err, inl, inr, refl, ap, subst, sym, ◌∙◌}
-use Rattle.std.specs.Prelude.{String, not, ◌||◌}
-use Rattle.std.specs.String.{string_bytes}
-use Rattle.std.specs.declared.alloc.Global.{Global}
-use Rattle.std.specs.List.{list_any}
-use Rattle.std.proofs.lemmas.Bool.{true≢false}
+use Rattle.std.proofs.Common.{◌≡◌, ℕ, suc, ◌+◌, ◌≤◌, List, ◌∷◌, ◌++◌, append-nil, arith, length, Bool, true, false, Option, Some, None, Result, Err, refl, ap, subst, sym, ◌∙◌}
+use Rattle.std.specs.Prelude.{codes}
 use Rattle.sn_cli.specs.declared.command.Command.{Command}
 use Rattle.sn_cli.specs.declared.command.Command.TheVariants as commands
-use Rattle.sn_cli.specs.Grammar.{Spells}
+use Rattle.sn_cli.specs.Grammar.{Spells, no_options}
 use Rattle.sn_cli.specs.Reading.{command_of}
-use Rattle.sn_cli.specs.Words.{texts}
 use Rattle.sn_cli.proofs.GrammarLemmas.{read_is_spelled, spelled_is_read}
 use Rattle.sn_cli.proofs.NumberLemmas.{none_some}
+use Rattle.sn_cli.proofs.OptionLemmas.{no_words}
 use Rattle.sn_command.specs.declared.refusal.Refusal.{Refusal}
 use Rattle.sn_command.specs.declared.refusal.Refusal.TheVariants.{Usage, WriteFault}
 use Rattle.sn_command.specs.Outcomes.{Stage}
@@ -30,6 +26,9 @@ of_four P e f g h here = rw (← e, ← f, ← g, ← h) here
 pub of_three : (P : List ℕ → List ℕ → List ℕ → Type 0) {a b c x y z : List ℕ} → a ≡ x → b ≡ y → c ≡ z → P a b c → P x y z
 of_three P e f g h = rw (← e, ← f, ← g) h
 
+pub of_captures : (P : List ℕ → List ℕ → List ℕ → List (List ℕ) → Type 0) {a b c x y z : List ℕ} {d v : List (List ℕ)} → a ≡ x → b ≡ y → c ≡ z → d ≡ v → P a b c d → P x y z v
+of_captures P e f g h here = rw (← e, ← f, ← g, ← h) here
+
 -- the words spell a command or none
 pub by_command : {G : Type 0} (words : List (List ℕ)) → ((command : Command) → Spells words command → G) → (((command : Command) → Spells words command → ⊥) → G) → G
 by_command {G} words some none = of (command_of words) refl
@@ -37,6 +36,21 @@ by_command {G} words some none = of (command_of words) refl
     of : (o : Option Command) → command_of words ≡ o → G
     of None e = none (λ command spells. none_some (sym e ∙ spelled_is_read words command spells))
     of (Some command) e = some command (read_is_spelled words command e)
+
+-- the words of `many`: the command word, three texts, and the captures
+pub record IsMany (words : List (List ℕ)) : Type 0 where
+  pub least : 4 ≤ length words
+  pub most : length words ≤ 12
+
+pub many_words : (words : List (List ℕ)) (captures : ℕ) → Spells words (commands.Many captures) → IsMany words
+many_words words captures s =
+    let l = s.2 in
+    let few : captures ≤ 8 = s.1 in
+    let names : length l.names ≡ 3 + captures = l.as_many in
+    let all : words ≡ codes "many" ∷ l.names =
+    l.are ∙ ap (λ (ws : List (List ℕ)). codes "many" ∷ (l.names ++ ws)) (no_words l.behind no_options l.options_are refl) ∙ ap (λ (ws : List (List ℕ)). codes "many" ∷ ws) (append-nil l.names) in
+    let long : length words ≡ suc (length l.names) = ap length all in
+    record { least = omega (arith, names, long); most = omega (arith, few, names, long) }
 
 -- work that was begun
 pub record Begun (before : World) (answer : Result (Unit {0}) Refusal) (now : World) : Type 0 where
@@ -66,6 +80,7 @@ by_work told commands.Finish words w = begun w
 by_work told commands.Check words w = begun w
 by_work told (commands.Live nodes schedule trace) words w = by_live told nodes schedule trace words w
 by_work told commands.Detect words w = begun w
+by_work told (commands.Many captures) words w = begun w
 by_work told (commands.Gen number) words w = begun w
 by_work told (commands.Job number) words w = begun w
 

@@ -1,6 +1,6 @@
 -- to be believed
 -- What the top call is called with and leaves, and the work of each command.
-use Rattle.std.specs.Prelude.{◌≡◌, ℕ, List, [], ◌∷◌, Bool, true, false, Result, Err}
+use Rattle.std.specs.Prelude.{◌≡◌, ℕ, List, [], ◌∷◌, Bool, true, false, drop, Result, Err}
 use Rattle.sn_io.specs.declared.inputs.Inputs.{Ghosts as InputsOf}
 use Rattle.sn_io.specs.declared.sink.Sink.{Ghosts as SinkOf}
 use Rattle.sn_cli.specs.declared.command.Command.{Command}
@@ -19,6 +19,7 @@ use Rattle.sn_command_finish.specs.Finish.{Finish}
 use Rattle.sn_command_job.specs.Gen.{Gen}
 use Rattle.sn_command_job.specs.Job.{Job}
 use Rattle.sn_command_live.specs.Live.{Live, Plan, TracedLive}
+use Rattle.sn_command_many.specs.Several.{Several}
 use Rattle.sn_command_run.specs.Planned.{Telling}
 use Rattle.sn_command_run.specs.Run.{Run}
 use Rattle.sn_top.specs.Plain.{Plain}
@@ -56,6 +57,9 @@ IsWork told commands.Check words before answer now =
 IsWork told (commands.Live nodes schedule trace) words before answer now = IsLiveWork told nodes schedule trace words before answer now
 IsWork told commands.Detect words before answer now =
     WorksFrom 2 (word_at words 1 ∷ word_at words 2 ∷ word_at words 3 ∷ []) (Detects (word_at words 1) (word_at words 2) (word_at words 3)) before answer now
+IsWork told (commands.Many captures) words before answer now =
+    WorksFrom 2 (word_at words 2 ∷ word_at words 1 ∷ word_at words 3 ∷ drop 4 words)
+    (Several (word_at words 1) (word_at words 2) (word_at words 3) (drop 4 words)) before answer now
 IsWork told (commands.Gen number) words before answer now = WorksFrom 2 [] (Gen number) before answer now
 IsWork told (commands.Job number) words before answer now = WorksFrom 2 [] (Job told number) before answer now
 

@@ -1,5 +1,5 @@
 //! The top call: words in, texts and a status out.
-ghost use Rattle.std.specs.Prelude.{◌≡◌, ◌↔◌, [], ◌∷◌, ℕ, Bool, false, true};
+ghost use Rattle.std.specs.Prelude.{◌≡◌, ◌↔◌, [], ◌∷◌, ℕ, Bool, drop, false, true};
 ghost use Rattle.sn_cli.specs.declared.command.Command.{Command};
 ghost use Rattle.sn_cli.specs.Grammar.{Spells};
 ghost use Rattle.sn_cli.specs.Words.{texts, word_at};
@@ -9,10 +9,12 @@ ghost use Rattle.sn_command_emit.specs.Emit.{Emit};
 ghost use Rattle.sn_command_finish.specs.Finish.{Finish};
 ghost use Rattle.sn_command_live.specs.Headline.{KeepsHeadline};
 ghost use Rattle.sn_command_live.specs.Live.{Live, Plan, TracedLive};
+ghost use Rattle.sn_command_many.specs.Several.{Several};
 ghost use Rattle.sn_command_job.specs.Gen.{Gen};
 ghost use Rattle.sn_command_job.specs.Job.{Job};
 ghost use Rattle.sn_command.specs.Desks.{files_of, sunk, world};
 ghost use Rattle.sn_command.specs.Ends.{end_status, IsCommandRun, IsStatusTold};
+ghost use Rattle.sn_command.specs.Runs.{WorksFrom};
 ghost use Rattle.sn_command.specs.Worlds.{OutRose};
 ghost use Rattle.sn_top.specs.Plain.{Plain};
 ghost use Rattle.sn_command_run.specs.Run.{Run};
@@ -35,6 +37,7 @@ use sn_command_live::law::runs_of_live_keep_the_headline;
 use sn_command_live::live::live;
 use sn_command_live::plan::plan;
 use sn_command_live::traced::live_traced;
+use sn_command_many::several::many;
 use sn_command_run::run::run as answer_along;
 use sn_core_drive::machine::Machine;
 use sn_io::inputs::Inputs;
@@ -84,6 +87,24 @@ fn work_live<M: Machine, I: Inputs, O: Sink>(
     }
 }
 
+/// Does the work of `many`, whose captures are all words after the three texts.
+fn work_many<I: Inputs, O: Sink>(
+    alloc: Global,
+    given: &[String],
+    desk: &mut Desk<'_, I, O>,
+) -> Result<(), Refusal>
+    requires { (captures : ℕ) × Spells (texts given.now) (Command.Many captures) }
+    ensures { WorksFrom 2 (word_at (texts given.now) 2 ∷ word_at (texts given.now) 1 ∷ word_at (texts given.now) 3 ∷ drop 4 (texts given.now))
+        (Several (word_at (texts given.now) 1) (word_at (texts given.now) 2) (word_at (texts given.now) 3) (drop 4 (texts given.now)))
+        (world I.Inputs O.Sink desk.old) result (world I.Inputs O.Sink desk.new) }
+{
+    let switch = word(given, 1);
+    let queries = word(given, 2);
+    let plan = word(given, 3);
+    let (_, captures) = given.split_at(4);
+    many(alloc, switch, queries, plan, captures, desk)
+}
+
 /// Does the work of a command.
 fn work<M: Machine, I: Inputs, O: Sink>(
     alloc: Global,
@@ -91,6 +112,7 @@ fn work<M: Machine, I: Inputs, O: Sink>(
     given: &[String],
     desk: &mut Desk<'_, I, O>,
 ) -> Result<(), Refusal>
+    requires { Spells (texts given.now) command }
     ensures { IsWork M.told command (texts given.now) (world I.Inputs O.Sink desk.old) result (world I.Inputs O.Sink desk.new) }
 {
     let first = word(given, 1);
@@ -112,6 +134,7 @@ fn work<M: Machine, I: Inputs, O: Sink>(
             trace,
         } => work_live::<M, I, O>(alloc, nodes, schedule, trace, given, desk),
         Command::Detect => detect(alloc, first, second, third, desk),
+        Command::Many { .. } => work_many(alloc, given, desk),
         Command::Gen { number } => generate(alloc, number, desk),
         Command::Job { number } => job::<M, I, O>(alloc, number, desk),
     }
@@ -180,6 +203,12 @@ pub fn top<M: Machine, I: Inputs, O: Sink, E: Sink>(
     ensures detect { Spells (texts words.now) Command.Detect →
         IsCommandRun (word_at (texts words.now) 1 ∷ word_at (texts words.now) 2 ∷ word_at (texts words.now) 3 ∷ [])
         (Detects (word_at (texts words.now) 1) (word_at (texts words.now) 2) (word_at (texts words.now) 3))
+        (around I.Inputs O.Sink E.Sink files.old out.old err.old) result (around I.Inputs O.Sink E.Sink files.new out.new err.new) }
+
+    // `many SWITCH QUERIES PLAN CAPTURE CAPTURE { CAPTURE }`: the run is that of its stages.
+    ensures many { (captures : ℕ) → Spells (texts words.now) (Command.Many captures) →
+        IsCommandRun (word_at (texts words.now) 2 ∷ word_at (texts words.now) 1 ∷ word_at (texts words.now) 3 ∷ drop 4 (texts words.now))
+        (Several (word_at (texts words.now) 1) (word_at (texts words.now) 2) (word_at (texts words.now) 3) (drop 4 (texts words.now)))
         (around I.Inputs O.Sink E.Sink files.old out.old err.old) result (around I.Inputs O.Sink E.Sink files.new out.new err.new) }
 
     // `gen NUMBER`: the run is that of its stage, which reads no file.

@@ -1,4 +1,5 @@
-use Rattle.std.proofs.Common.{List, ℕ, subst}
+use Rattle.std.proofs.Common.{List, [], ◌∷◌, ◌++◌, codes, ℕ, subst}
+use Rattle.std.specs.Fmt.{decimal}
 use Rattle.sn_command.specs.Desks.{sunk}
 use Rattle.sn_command.specs.Told.{Tells}
 use Rattle.sn_command.proofs.lines.tell_fault.Goals as goal
@@ -11,13 +12,23 @@ returns-in-Switch g c = rw c.in-Switch.is c.tell_text_fault.ensures
 
 pub returns-in-Head : goal.returns-in-Head
 returns-in-Head g c =
-    rw c.in-Head.is (subst (λ (line : List ℕ). Tells line c.tell_text.result (sunk g.E.Sink c.args.err.now) (sunk g.E.Sink c.tell_text.new.err)) c.head_line.ensures c.tell_text.ensures)
+    rw c.in-Head.is (subst (λ (words : List ℕ). Tells (words ++ 10 ∷ []) c.tell_words.result (sunk g.E.Sink c.args.err.now) (sunk g.E.Sink c.tell_words.new.err)) c.head_words.ensures c.tell_words.ensures)
 
 pub returns-in-Cut : goal.returns-in-Cut
 returns-in-Cut g c = rw c.in-Cut.is c.tell_byte.ensures
 
 pub returns-in-Bad : goal.returns-in-Bad
 returns-in-Bad g c = rw c.in-Bad.is c.tell_byte-in-Bad.ensures
+
+pub returns-in-HeadOf : goal.returns-in-HeadOf
+returns-in-HeadOf g c =
+    rw c.in-HeadOf.is (subst (λ (words : List ℕ). Tells (words ++ codes " file " ++ decimal c.in-HeadOf.file ++ 10 ∷ []) c.tell_file.result (sunk g.E.Sink c.args.err.now) (sunk g.E.Sink c.tell_file.new.err)) c.head_words-in-HeadOf.ensures c.tell_file.ensures)
+
+pub returns-in-CutOf : goal.returns-in-CutOf
+returns-in-CutOf g c = rw c.in-CutOf.is c.tell_byte_of.ensures
+
+pub returns-in-BadOf : goal.returns-in-BadOf
+returns-in-BadOf g c = rw c.in-BadOf.is c.tell_byte_of-in-BadOf.ensures
 
 pub returns-in-Plan : goal.returns-in-Plan
 returns-in-Plan g c = rw c.in-Plan.is c.tell_text_fault-in-Plan.ensures
@@ -38,4 +49,4 @@ pub returns-in-Reports : goal.returns-in-Reports
 returns-in-Reports g c = rw c.in-Reports.is c.tell_reports.ensures
 
 pub returns-in-TooLarge : goal.returns-in-TooLarge
-returns-in-TooLarge g c = rw c.in-TooLarge.is c.tell_text-in-TooLarge.ensures
+returns-in-TooLarge g c = rw c.in-TooLarge.is c.tell_text.ensures

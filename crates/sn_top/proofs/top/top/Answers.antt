@@ -62,6 +62,12 @@ returns-clause-detect g c = λ spells.
     let out : c.out-1.given.0 ≡ c.run-answer.new.desk.out.now = search rules in
     rw (c.status_of.ensures, files, out) (command_run _ _ c.run-answer.result _ _ _ _ (c.run-answer.ensures.works commands.Detect spells) c.tell.ensures)
 
+pub returns-clause-many : goal.returns-clause-many
+returns-clause-many g c = λ captures spells.
+    let files : c.files-1.given.0 ≡ c.run-answer.new.desk.files.now = search rules in
+    let out : c.out-1.given.0 ≡ c.run-answer.new.desk.out.now = search rules in
+    rw (c.status_of.ensures, files, out) (command_run _ _ c.run-answer.result _ _ _ _ (c.run-answer.ensures.works (commands.Many captures) spells) c.tell.ensures)
+
 pub returns-clause-generated : goal.returns-clause-generated
 returns-clause-generated g c = λ number spells.
     let files : c.files-1.given.0 ≡ c.run-answer.new.desk.files.now = search rules in

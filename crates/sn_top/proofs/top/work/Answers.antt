@@ -1,4 +1,6 @@
-use Rattle.std.proofs.Common.{List, ℕ, [], ◌∷◌}
+use Rattle.std.proofs.Common.{List, ℕ, [], ◌∷◌, subst}
+use Rattle.sn_cli.specs.Grammar.{Spells}
+use Rattle.sn_cli.specs.Words.{texts}
 use Rattle.sn_command_check.specs.Check.{Check}
 use Rattle.sn_command_detect.specs.Detects.{Detects}
 use Rattle.sn_command_emit.specs.Emit.{Emit}
@@ -38,6 +40,12 @@ returns-in-Check g c =
 pub returns-in-Detect : goal.returns-in-Detect
 returns-in-Detect g c =
     rw c.in-Detect.is (of_three (λ (queries plan capture : List ℕ). WorksFrom 2 (queries ∷ plan ∷ capture ∷ []) (Detects queries plan capture) (world g.I.Inputs g.O.Sink c.args.desk.now) c.detect.result (world g.I.Inputs g.O.Sink c.detect.new.desk)) c.word-first.ensures c.word-second.ensures c.word-third.ensures c.detect.ensures)
+
+pub work_many-requires : goal.work_many-requires
+work_many-requires g c = (c.in-Many.captures, subst (Spells (texts c.args.given.now)) c.in-Many.is c.requires)
+
+pub returns-in-Many : goal.returns-in-Many
+returns-in-Many g c = rw c.in-Many.is c.work_many.ensures
 
 pub returns-in-Gen : goal.returns-in-Gen
 returns-in-Gen g c = rw c.in-Gen.is c.generate.ensures

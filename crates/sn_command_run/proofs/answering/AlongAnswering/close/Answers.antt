@@ -18,4 +18,3 @@ returns-clause-text g c = λ closed tuples some h.
 
 pub returns-clause-goes_on : goal.returns-clause-goes_on
 returns-clause-goes_on g c = λ closed tuples some h. plan_never_stops c.args.self.now.form g.M.Machine.told (plan_of c.args.self.now) (closed ++ (c.args.number, tuples) ∷ []) c.args.number tuples
-

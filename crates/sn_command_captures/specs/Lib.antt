@@ -1,0 +1,5 @@
+pub mod Captures
+pub mod Windows
+pub mod Counted
+pub mod Shares
+pub mod Answered

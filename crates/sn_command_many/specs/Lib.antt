@@ -1,0 +1,4 @@
+pub mod Together
+pub mod Several
+pub mod Joining
+pub mod Giving

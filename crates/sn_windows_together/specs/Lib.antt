@@ -1,0 +1,4 @@
+pub mod Since
+pub mod Together
+pub mod Merging
+pub mod Laws

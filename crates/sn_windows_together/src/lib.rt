@@ -1,0 +1,4 @@
+//! The windows that several captures have together.
+#![tactic(auto)]
+
+pub mod law;
