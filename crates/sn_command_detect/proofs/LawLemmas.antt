@@ -7,7 +7,8 @@ use Rattle.sn_base.proofs.Lists.{all_weaker, by_test, nat_same, none_some, some_
 use Rattle.sn_command_detect.specs.Detected.{AnsweredIn, AreExact, AreInTime, PrintedIn, look_in, looks_in, stays_in, watched_from}
 use Rattle.sn_command_detect.proofs.EntryLemmas.{as_many, entry_at, path_ends, path_some}
 use Rattle.sn_detect.specs.declared.look.Look.{Look}
-use Rattle.sn_detect.specs.Looks.{InTime, Rise, holds, look_at, refined_at, unrefined_at}
+use Rattle.sn_detect.specs.Keeping.{InTime, Rise}
+use Rattle.sn_detect.specs.Looks.{holds, look_at, refined_at, unrefined_at}
 use Rattle.sn_detect.specs.Stays.{HeldIn, IsInTime, IsStay, ToldIn}
 use Rattle.sn_detect.proofs.LookLemmas.{stay_in_time, stays_are}
 use Rattle.sn_detect.proofs.StayLemmas.{same_stays}

@@ -8,7 +8,7 @@ use Rattle.sn_command_detect.specs.Watching.{AreAfter, AreGiven, IsAfter, IsAtHa
 use Rattle.sn_detect.specs.declared.detect.Detect.{Detect}
 use Rattle.sn_detect.specs.declared.look.Look.{Look}
 use Rattle.sn_detect.specs.Finding.{stays_of}
-use Rattle.sn_detect.specs.Looks.{look_of}
+use Rattle.sn_detect.specs.Keeping.{look_of}
 use Rattle.sn_refine.specs.Refined.{Windows, column_of, level_rows}
 use Rattle.sn_refine.specs.Steps.{Set, kept_at, kept_of, parts_in, windows_of}
 use Rattle.sn_refine.proofs.Windows.{NoneBetween, Remembers, above_last, earlier, here, later, parts_refined, remembered, row_refined}

@@ -7,7 +7,7 @@ use Rattle.sn_command_detect.specs.declared.watch.Watch.{Watch}
 use Rattle.sn_detect.specs.declared.detect.Detect.{Detect}
 use Rattle.sn_detect.specs.declared.look.Look.{Look}
 use Rattle.sn_detect.specs.Finding.{stays_of}
-use Rattle.sn_detect.specs.Looks.{look_of}
+use Rattle.sn_detect.specs.Keeping.{look_of}
 use Rattle.sn_refine.specs.Steps.{Set, kept_at, kept_of, parts_in}
 use Rattle.sn_types.specs.declared.typed_query.TypedQuery.{TypedQuery}
 use Rattle.sn_types.specs.Typed.{HasWidths, query_at}

@@ -71,7 +71,7 @@ impl Watch {
         ensures queries { self.new.typed.queries ≡ self.old.typed.queries }
         ensures entries { self.new.plan.entries ≡ self.old.plan.entries }
     {
-        self.tuples = Seq::new(self.alloc);
+        self.tuples.clear();
     }
 
     /// The lines after the last window.

@@ -6,7 +6,3 @@ module _ {X Y : Type 0} {P Q R S T : Type 0} where
   pub on_four : (r : Result X Y) → OnOk r P → OnOk r Q → OnOk r R → OnOk r S → (P → Q → R → S → T) → OnOk r T
   on_four (Ok x) one two three four f = f one two three four
   on_four (Err e) one two three four f = tt
-
-pub on_one : {X Y P Q : Type 0} (r : Result X Y) → OnOk r P → (P → Q) → OnOk r Q
-on_one (Ok x) one f = f one
-on_one (Err e) one f = tt

@@ -9,7 +9,8 @@ use Rattle.sn_command_captures.specs.Answered.{Shared, windows_in}
 use Rattle.sn_command_captures.specs.Counted.{left_of}
 use Rattle.sn_command_captures.specs.declared.share.Share.{Share}
 use Rattle.sn_command_many.specs.Joining.{last_number}
-use Rattle.sn_command_many.specs.Together.{held_in, joined}
+use Rattle.sn_command_many.specs.Together.{held_in}
+use Rattle.sn_engine_many.specs.Answers.{in_one}
 use Rattle.sn_multi.specs.Branches.{together}
 use Rattle.sn_refine.proofs.Windows.{earlier, here, later}
 use Rattle.sn_windows.specs.Rising.{AreRising, IsAbove}
@@ -37,7 +38,7 @@ rising_up [] = tt
 rising_up (n ∷ ns) = put_up None n (rising ns) tt (rising_up ns)
 
 module _ (ls : List Rows) where
-  up_rising : (before : Option ℕ) (ns : List ℕ) → Up before ns → AreRising before (map joined (map (shared_in ls) ns))
+  up_rising : (before : Option ℕ) (ns : List ℕ) → Up before ns → AreRising before (map in_one (map (shared_in ls) ns))
   up_rising before [] up = tt
   up_rising before (n ∷ ns) up = (up.0, up_rising (Some n) ns up.1)
 
@@ -45,7 +46,7 @@ module _ (ls : List Rows) where
   as_many [] = tt
   as_many (n ∷ ns) = (length-map ls (in_window n), as_many ns)
 
-pub windows_rise : (shares : List Share) → AreRising None (map joined (windows_in shares))
+pub windows_rise : (shares : List Share) → AreRising None (map in_one (windows_in shares))
 windows_rise shares = up_rising (map left_of shares) None (numbers_in (map left_of shares)) (rising_up (flat_map (map number_at) (map left_of shares)))
 
 -- each holds the tuples of each capture
@@ -55,7 +56,7 @@ windows_each shares =
 
 -- ---- a window among those that rise
 
-below : (n : ℕ) (done : List Shared) (w : Shared) (rest : List Shared) → AreRising (Some n) (map joined (done ++ w ∷ rest)) → (v : ℕ) → IsAbove (last_number (Some n) done) v → n < v
+below : (n : ℕ) (done : List Shared) (w : Shared) (rest : List Shared) → AreRising (Some n) (map in_one (done ++ w ∷ rest)) → (v : ℕ) → IsAbove (last_number (Some n) done) v → n < v
 below n [] w rest rises v above = above
 below n (d ∷ done) w rest rises v above = let first : n < d.0 = rises.0 in let behind : d.0 < v = below d.0 done w rest rises.1 v above in omega (arith, first, behind)
 
@@ -65,18 +66,18 @@ pub record IsNext (before : Option ℕ) (done : List Shared) (w : Shared) (rest 
   pub none : (v : ℕ) → IsAbove (last_number before done) v → v < w.0 → held_in (done ++ w ∷ rest) v ≡ None
   pub holds : held_in (done ++ w ∷ rest) w.0 ≡ Some (together w.1)
 
-pub is_next : (before : Option ℕ) (done : List Shared) (w : Shared) (rest : List Shared) → AreRising before (map joined (done ++ w ∷ rest)) → IsNext before done w rest
+pub is_next : (before : Option ℕ) (done : List Shared) (w : Shared) (rest : List Shared) → AreRising before (map in_one (done ++ w ∷ rest)) → IsNext before done w rest
 is_next before [] w rest rises = record {
   above = rises.0;
-  none = λ v above lt. earlier (joined w) (map joined rest) v rises.1 lt;
-  holds = here (joined w) (map joined rest);
+  none = λ v above lt. earlier (in_one w) (map in_one rest) v rises.1 lt;
+  holds = here (in_one w) (map in_one rest);
 }
 is_next before (d ∷ done) w rest rises =
     let r : IsNext (Some d.0) done w rest = is_next (Some d.0) done w rest rises.1 in
     record {
       above = r.above;
-      none = λ v above lt. later (joined d) (map joined (done ++ w ∷ rest)) v (below d.0 done w rest rises.1 v above) ∙ r.none v above lt;
-      holds = later (joined d) (map joined (done ++ w ∷ rest)) w.0 (below d.0 done w rest rises.1 w.0 r.above) ∙ r.holds;
+      none = λ v above lt. later (in_one d) (map in_one (done ++ w ∷ rest)) v (below d.0 done w rest rises.1 v above) ∙ r.none v above lt;
+      holds = later (in_one d) (map in_one (done ++ w ∷ rest)) w.0 (below d.0 done w rest rises.1 w.0 r.above) ∙ r.holds;
     }
 
 pub last_push : (before : Option ℕ) (done : List Shared) (w : Shared) → last_number before (done ++ w ∷ []) ≡ Some w.0

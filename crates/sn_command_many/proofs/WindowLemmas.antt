@@ -1,6 +1,7 @@
 -- One window of several switches after another.
-use Rattle.std.proofs.Common.{◌≡◌, ℕ, ◌+◌, ◌≤◌, List, [], ◌∷◌, ◌++◌, map, sum, length, None, Some, false, ap, sym, ◌∙◌, subst, arith}
+use Rattle.std.proofs.Common.{◌≡◌, ℕ, ◌+◌, ◌≤◌, List, [], ◌∷◌, ◌++◌, map, sum, length, None, Some, Result, Ok, Err, false, ap, sym, ◌∙◌, subst, arith}
 use Rattle.std.specs.List.{AllByRecursion}
+use Rattle.std.specs.Result.{OnOk}
 use Rattle.std.proofs.lemmas.List.{map-append}
 use Rattle.std.proofs.lemmas.List.Sums.{sum_by-append, sum_by-cons}
 use Rattle.sn_base.proofs.Lists.{all_rest, all_weaker}
@@ -11,10 +12,9 @@ use Rattle.sn_command_captures.specs.Shares.{IsSound}
 use Rattle.sn_command_captures.specs.declared.share.Share.{Share}
 use Rattle.sn_command_many.proofs.GiveLemmas.{all_given}
 use Rattle.sn_command_many.proofs.RiseLemmas.{IsNext, is_next, last_push}
-use Rattle.sn_command_many.proofs.SentLemmas.{sent_right}
 use Rattle.sn_command_many.specs.Giving.{HasTaken, given_each}
 use Rattle.sn_command_many.specs.Joining.{IsAfter, plan_of}
-use Rattle.sn_command_many.specs.Together.{answers_in, emitted_at, emitted_in, held_in, joined}
+use Rattle.sn_command_many.specs.Together.{answers_in, emitted_at, emitted_in, held_in}
 use Rattle.sn_command_many.specs.declared.joint.Joint.{Joint}
 use Rattle.sn_command_run.proofs.PartLemmas.{parts_fit}
 use Rattle.sn_core_drive.specs.Telling.{IsSortedPart}
@@ -24,7 +24,8 @@ use Rattle.sn_engine_lockstep.proofs.Along.{window_right}
 use Rattle.sn_engine_lockstep.specs.Sources.{kept_in}
 use Rattle.sn_engine_lockstep.specs.Windows.{Follows, Remembers, parts_from, refined_from, window_of}
 use Rattle.sn_engine_lockstep.specs.declared.source.Source.{Source}
-use Rattle.sn_engine_many.specs.Answers.{shared_sent}
+use Rattle.sn_engine_many.proofs.Seen.{sent_right}
+use Rattle.sn_engine_many.specs.Answers.{in_one, shared_sent}
 use Rattle.sn_engine_many.specs.Phases.{AreBegun, AreBetween, is_begun, is_between}
 use Rattle.sn_engine_many.specs.Switches.{no_tuples}
 use Rattle.sn_engine_many.specs.declared.many.Many.{Many}
@@ -47,6 +48,11 @@ use Rattle.sn_windows_together.specs.Together.{windows_of}
 
 abbrev Captures : Type 0
 Captures = List (List (List ℕ))
+
+-- what holds whatever is answered holds of a success
+pub on_ok : {X Y : Type 0} {P : Type 0} (r : Result X Y) → P → OnOk r P
+on_ok (Ok x) h = h
+on_ok (Err e) h = tt
 
 pub between_isnt_begun : (phase : Phase) → phase ≡ Between → is_begun phase ≡ false
 between_isnt_begun phase e = ap is_begun e
@@ -119,7 +125,7 @@ module _ (a : Joint) (all done rest : List Shared) (number : ℕ) (captures : Ca
   kept = kept_in queries a.many.last number
 
   next : IsNext None done window rest
-  next = is_next None done window rest (subst (λ (ws : List Shared). AreRising None (map joined ws)) whole h.rises)
+  next = is_next None done window rest (subst (λ (ws : List Shared). AreRising None (map in_one ws)) whole h.rises)
 
   holds : held_in all number ≡ Some (together captures)
   holds = ap (λ (ws : List Shared). held_in ws number) whole ∙ next.holds

@@ -3,12 +3,13 @@
 use Rattle.std.specs.Prelude.{◌≡◌, ℕ, List, [], ◌∷◌, ◌≤◌, Option, None, Some, length, map}
 use Rattle.std.specs.List.{AllByRecursion}
 use Rattle.sn_command_captures.specs.Answered.{Shared}
-use Rattle.sn_command_many.specs.Together.{emitted_in, held_in, joined}
+use Rattle.sn_command_many.specs.Together.{emitted_in, held_in}
 use Rattle.sn_command_many.specs.declared.joint.Joint.{Joint}
 use Rattle.sn_command_run.specs.Planned.{Planned}
 use Rattle.sn_emit.specs.Making.{CanMake}
 use Rattle.sn_emit.specs.Plans.{pieces_from}
 use Rattle.sn_engine_lockstep.specs.Windows.{Remembers, window_of}
+use Rattle.sn_engine_many.specs.Answers.{in_one}
 use Rattle.sn_engine_many.specs.Phases.{AreBetween}
 use Rattle.sn_engine_many.specs.declared.phase.Phase.TheVariants.{Between}
 use Rattle.sn_plan_fit.specs.Fits.{AreEntriesOf}
@@ -34,7 +35,7 @@ pub record IsAfter (a : Joint) (all done : List Shared) : Type 0 where
   pub queries : a.many.engine.t.queries ≡ a.typed.queries
   pub few : length a.many.switches.items ≤ 8
   pub each : AllByRecursion (λ (w : Shared). length w.1 ≡ length a.many.switches.items) all
-  pub rises : AreRising None (map joined all)
+  pub rises : AreRising None (map in_one all)
   pub phase : a.many.phase ≡ Between
   pub between : AreBetween a.typed.queries a.depth a.plan.entries a.many.switches.items a.many.engine.lanes.items
   pub remembers : Remembers a.typed.queries a.plan.entries (held_in all) a.many.last

@@ -3,7 +3,7 @@ ghost use Rattle.std.specs.Prelude.{◌≡◌, ◌≤◌, List, [], IfOk, None, 
 ghost use Rattle.std.specs.List.{AllByRecursion};
 ghost use Rattle.sn_command_captures.specs.Answered.{Shared};
 ghost use Rattle.sn_command_many.specs.Joining.{IsAfter, plan_of};
-ghost use Rattle.sn_command_many.specs.Together.{joined};
+ghost use Rattle.sn_engine_many.specs.Answers.{in_one};
 ghost use Rattle.sn_plan_fit.specs.Fits.{Fits};
 ghost use Rattle.sn_switch.specs.Texts.{IsSwitch};
 ghost use Rattle.sn_windows.specs.Rising.{AreRising};
@@ -40,7 +40,7 @@ impl Joint {
         requires few { switches ≤ 8 }
         ensures plan { IfOk result (λ joint. plan_of joint ≡ record { queries = typed.queries; depth = switch.now.chain; entries = plan.entries }) }
         ensures begun { IfOk result (λ joint. (all : List Shared) → AllByRecursion (λ w. length w.1 ≡ switches) all →
-            AreRising None (map joined all) → IsAfter joint all []) }
+            AreRising None (map in_one all) → IsAfter joint all []) }
     {
         let many = Many::make(&typed, switch, &plan, switches)?;
         Ok(Joint {

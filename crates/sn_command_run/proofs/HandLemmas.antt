@@ -73,10 +73,6 @@ last_sound (w ∷ ws) number tuples h = last_sound ws number tuples h.1
 
 -- ---- answers
 
-pub on_ok : {X Y : Type 0} {P : Type 0} (r : Result X Y) → P → OnOk r P
-on_ok (Ok x) h = h
-on_ok (Err e) h = tt
-
 pub one_told : (a b : Answers) (o : Option Answers) (found : List Answers) → o ≡ last_from None found → o ≡ Some a → found ≡ b ∷ [] → a ≡ b
 one_told a b o found is some one = some_is a b (sym some ∙ is ∙ ap (last_from None) one)
   where

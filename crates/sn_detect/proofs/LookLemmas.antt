@@ -14,7 +14,8 @@ use Rattle.sn_refine_laws.proofs.Sorting.{AreOrdered, gt, ordered, sorted_all, s
 use Rattle.sn_detect.specs.declared.look.Look.{Look}
 use Rattle.sn_detect.specs.declared.stay.Stay.{Stay}
 use Rattle.sn_detect.specs.Finding.{event, events_of, found_on, look_events, stays_of}
-use Rattle.sn_detect.specs.Looks.{HoldOn, InTime, Rise, holds, look_at}
+use Rattle.sn_detect.specs.Keeping.{HoldOn, InTime, Rise}
+use Rattle.sn_detect.specs.Looks.{holds, look_at}
 use Rattle.sn_detect.specs.Stays.{AreStays, HeldIn, IsInTime, IsPrinted, IsStay, ToldIn}
 use Rattle.sn_detect.proofs.StayLemmas.{Has, InOrder, IsUpTo, either, found_stays, is_event, is_kind, same_stays}
 

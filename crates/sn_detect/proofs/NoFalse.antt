@@ -14,7 +14,7 @@ use Rattle.sn_types.specs.declared.typed_query.TypedQuery.{TypedQuery}
 use Rattle.sn_refine_laws.specs.Told.{EndsFinest}
 use Rattle.sn_refine_laws.proofs.Prefixes.{queries_filtered}
 use Rattle.sn_refine_laws.proofs.Sorting.{sorted_filter}
-use Rattle.sn_detect.specs.Looks.{is_let_in}
+use Rattle.sn_detect.specs.Keeping.{is_let_in}
 
 pub no_false : (window q : ℕ) (queries : List TypedQuery) → ∥ IsTyped window queries ∥₁ → q < length queries → (path : List ℕ) → EndsFinest (query_at queries q) path → (kept : ℕ → Set) (tuples : List (List ℕ)) (last : ℕ) (field : Field)
     → length path ≡ suc (suc last) → (query_at queries q).field ≡ Some field

@@ -26,7 +26,8 @@ use Rattle.sn_refine_laws.specs.Told.{EndsFinest, is_told}
 use Rattle.sn_refine_laws.proofs.Queries.{level_range}
 use Rattle.sn_refine_laws.proofs.Windows.{told_first, told_held, told_own}
 use Rattle.sn_detect.specs.declared.look.Look.{Look}
-use Rattle.sn_detect.specs.Looks.{AreUpTo, HoldOn, InTime, OnTheWay, Rise, holds, look_at, prefix_of, refined_at, unrefined_at}
+use Rattle.sn_detect.specs.Keeping.{AreUpTo, HoldOn, InTime, OnTheWay, Rise, prefix_of}
+use Rattle.sn_detect.specs.Looks.{holds, look_at, refined_at, unrefined_at}
 
 -- ---- numbers (as in sn_refine's Held, where they are private)
 

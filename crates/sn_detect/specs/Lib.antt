@@ -1,3 +1,4 @@
 pub mod Looks
+pub mod Keeping
 pub mod Stays
 pub mod Finding

@@ -6,7 +6,7 @@ ghost use Rattle.std.proofs.Math.Bridge.{le_prop};
 ghost use Rattle.sn_refine_laws.specs.Monotone.{is_monotone};
 ghost use Rattle.sn_refine_laws.specs.Told.{EndsFinest};
 ghost use Rattle.sn_fields.specs.declared.field.Field.{Field};
-ghost use Rattle.sn_detect.specs.Looks.{AreUpTo, InTime, OnTheWay, Rise, is_let_in, look_of, time_prop, upto_prop, way_prop, ends_prop, path_prop, rise_prop};
+ghost use Rattle.sn_detect.specs.Keeping.{AreUpTo, InTime, OnTheWay, Rise, is_let_in, look_of, time_prop, upto_prop, way_prop, ends_prop, path_prop, rise_prop};
 ghost use Rattle.sn_detect.specs.Stays.{AreStays, HeldIn, IsInTime, ToldIn};
 ghost use Rattle.sn_detect.specs.Finding.{stays_of};
 ghost use Rattle.sn_refine.specs.Refined.{column_of, level_rows};

@@ -3,7 +3,7 @@ ghost use Rattle.std.specs.Prelude.{◌≡◌, List};
 ghost use Rattle.sn_detect.specs.declared.look.Look.{Look};
 ghost use Rattle.sn_detect.specs.declared.stay.Stay.{Stay};
 ghost use Rattle.sn_detect.specs.Finding.{stays_of};
-ghost use Rattle.sn_detect.specs.Looks.{Rise};
+ghost use Rattle.sn_detect.specs.Keeping.{Rise};
 ghost use Rattle.sn_detect.specs.Stays.{AreStays, HeldIn, ToldIn};
 
 /// Windows that rise have exactly one list of stays: the one that is found.

@@ -107,9 +107,9 @@ fn rises_from(levels: &[u32], finest: u32, may: bool, ops: &[TOp]) -> bool
     }
 }
 
-/// Whether a query is monotone: filters without relaxed constants, maps and at most one distinct, then a reduce by a sum, the
-/// greater number or the bitwise or, and then only filters that ask whether its value is above a constant that no level has
-/// greater than the finest.
+/// Whether a query is monotone. It has one branch: filters without relaxed constants, maps and at most one distinct, then a reduce by
+/// a sum, the greater number or the bitwise or, and then only filters that ask by `>` or `>=`, without `&`, whether its value is
+/// above a constant. No level of the refine line has a greater constant there than the finest one has.
 pub fn monotone(t: &Typed, q: u32) -> bool
     requires { q < length t.now.queries }
     ensures { result ≡ is_monotone (query_at t.now.queries q) }

@@ -178,13 +178,13 @@ module _ (queries : List TypedQuery) (depth : ℕ) (windows : Windows) (w : ℕ)
       moved : (i : ℕ) → n + suc i ≡ suc n + i
       moved i = omega arith
 
-entries_known : (queries : List TypedQuery) (es : List Entry) → AreEntriesOf queries es → AllByRecursion (λ (e : Entry). AllByRecursion (λ (p : Piece). is_among e.levels p.level ≡ true) e.pieces) es
+pub entries_known : (queries : List TypedQuery) (es : List Entry) → AreEntriesOf queries es → AllByRecursion (λ (e : Entry). AllByRecursion (λ (p : Piece). is_among e.levels p.level ≡ true) e.pieces) es
 entries_known [] [] h = tt
 entries_known [] (e ∷ es) h = absurd h
 entries_known (q ∷ queries) [] h = absurd h
 entries_known (q ∷ queries) (e ∷ es) h = (levels_known q e h.0, entries_known queries es h.1)
 
-entries_rise : (queries : List TypedQuery) (es : List Entry) → AreEntriesOf queries es → AllByRecursion (λ (e : Entry). IsRising e.levels) es
+pub entries_rise : (queries : List TypedQuery) (es : List Entry) → AreEntriesOf queries es → AllByRecursion (λ (e : Entry). IsRising e.levels) es
 entries_rise [] [] h = tt
 entries_rise [] (e ∷ es) h = absurd h
 entries_rise (q ∷ queries) [] h = absurd h

@@ -1,5 +1,5 @@
 -- One place of a list changed, and the lane of a frame found by its place.
-use Rattle.std.proofs.Common.{◌≡◌, ℕ, zero, suc, List, [], ◌∷◌, ◌&&◌, ◌==◌, fold, length, Bool, true, false, cond, Some, slice_get, slice_set, refl, ap, sym, ◌∙◌, subst}
+use Rattle.std.proofs.Common.{◌≡◌, ℕ, zero, suc, List, [], ◌∷◌, ◌&&◌, ◌==◌, fold, length, true, false, Some, slice_get, slice_set, refl, ap, sym, ◌∙◌, subst}
 use Rattle.std.specs.List.{AllByRecursion}
 use Rattle.sn_base.specs.declared.lane.Lane.{Lane}
 use Rattle.sn_base.proofs.Lists.{nat_self, some_same, none_some}

@@ -1,9 +1,9 @@
 -- All lanes of a window, one of them after a tuple or at its end.
-use Rattle.std.proofs.Common.{◌≡◌, ◌≢◌, ℕ, zero, suc, ◌+◌, ◌<◌, ◌≤◌, List, [], ◌∷◌, ◌++◌, ◌==◌, map, fold, length, Option, Some, IfSome, slice_get, slice_set, nat_lt, refl, ap, sym, ◌∙◌, subst, arith, eq-eqb}
+use Rattle.std.proofs.Common.{◌≡◌, ◌≢◌, ℕ, suc, ◌+◌, ◌<◌, ◌≤◌, List, [], ◌∷◌, ◌++◌, ◌==◌, map, fold, length, Option, Some, IfSome, slice_get, slice_set, refl, ap, sym, ◌∙◌, subst, arith, eq-eqb}
 use Rattle.std.specs.List.{AllByRecursion}
 use Rattle.std.specs.Option.{option_map, option_to_list}
-use Rattle.std.proofs.lemmas.Bool.{false≢true, ltb-true, ltb-false}
-use Rattle.sn_base.proofs.Lists.{by_test, nat_same, some_same, none_some, index_within}
+use Rattle.std.proofs.lemmas.Bool.{false≢true}
+use Rattle.sn_base.proofs.Lists.{by_test, nat_same, some_same, index_within}
 use Rattle.sn_base.specs.declared.lane.Lane.{Lane}
 use Rattle.sn_emit.specs.declared.sender.Sender.{Sender}
 use Rattle.sn_emit.specs.Making.{CanMake}

@@ -1,5 +1,6 @@
 -- to be believed
--- The items that leave the switch before the cut of their piece, since a register had no room for a row, or after a distinct.
+-- The items that leave the switch before the cut of their piece: the rows for which the registers of an operator had no room, and what
+-- a reduce holds where they had none for a row at the distinct before it.
 use Rattle.std.specs.Prelude.{ℕ, List, [], ◌∷◌, map, sum, sum_by, Bool, true, nat_lt, Option, Some}
 use Rattle.std.specs.List.{count_by}
 use Rattle.sn_emit.specs.Plans.{Placed, items_of, pieces_from}

@@ -149,7 +149,7 @@ impl Driver {
     pub fn early(&self) -> u64
         ensures { result ≡ early_total self.now.engine.lanes.items }
     {
-        // so many items at most
+        // this counts all items, so the sum of the early ones is a u64
         let _most = self.engine.count;
         early_total(&self.engine.lanes)
     }

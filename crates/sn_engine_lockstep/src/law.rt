@@ -1,9 +1,9 @@
-//! What a plan answers over windows. A program never calls these functions; each states a fact about the definitions that
-//! the contracts of `Driver` cite.
+//! What a plan answers over windows. A program never calls these functions. The first two say what the definitions that the contracts
+//! of `Driver` cite come to; the others are about windows one after another, each with the prefixes that the one before it answered.
 ghost use Rattle.std.specs.Prelude.{◌≡◌, ℕ, List, None, map};
 ghost use Rattle.std.specs.List.{AllByRecursion};
 ghost use Rattle.sn_engine_lockstep.specs.declared.source.Source.{Source};
-ghost use Rattle.sn_engine_lockstep.specs.Early.{early_by, early_total};
+ghost use Rattle.sn_engine_lockstep.specs.Early.{early_by, early_from, early_total, plan_early};
 ghost use Rattle.sn_engine_lockstep.specs.Sources.{source_of, sources_of};
 ghost use Rattle.sn_engine_lockstep.specs.Windows.{answers_from, parts_from, plan_answers, sent_by};
 ghost use Rattle.sn_engine_lockstep.specs.Work.{AreIdle, done};
@@ -53,4 +53,11 @@ pub fn answers_are_those_of_the_window()
 pub fn windows_get_the_answers_of_the_plan()
     ensures { (queries : List TypedQuery) (depth : ℕ) (entries : List Entry) (given : List Window) → AreEntriesOf queries entries → AreRising None given →
         answers_from queries depth entries None given ≡ map (λ g. plan_answers queries depth entries (windows_of given) g.0) given }
+{}
+
+/// The items of such windows that leave the switch before the cut of their piece, counted over the tuples that the lanes admit,
+/// are as many as the pieces send so of the tuples that their levels see.
+pub fn windows_count_what_is_early()
+    ensures { (queries : List TypedQuery) (depth : ℕ) (entries : List Entry) (given : List Window) → AreEntriesOf queries entries → AreRising None given →
+        early_from queries depth entries None given ≡ map (λ g. plan_early queries depth entries (windows_of given) g.0) given }
 {}

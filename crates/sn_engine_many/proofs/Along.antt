@@ -1,48 +1,47 @@
 -- Windows of several switches one after another.
-use Rattle.std.proofs.Common.{◌≡◌, ℕ, List, [], ◌∷◌, map, None, Some, refl, ap, ◌∙◌}
-use Rattle.sn_base.proofs.Lists.{map_both}
+use Rattle.std.proofs.Common.{◌≡◌, ℕ, List, [], ◌∷◌, map, sum, Option, None, Some, refl, ap, ◌∙◌}
 use Rattle.sn_emit.specs.Plans.{pieces_from}
-use Rattle.sn_engine_lockstep.proofs.Laws.{all_windows}
+use Rattle.sn_engine_lockstep.proofs.Along.{window_right}
 use Rattle.sn_engine_lockstep.specs.Sources.{kept_in}
-use Rattle.sn_engine_lockstep.specs.Windows.{answers_from, parts_from, plan_answers, sent_by}
-use Rattle.sn_engine_many.specs.Answers.{SharedWindow, in_one, shared_from, shared_sent}
+use Rattle.sn_engine_lockstep.specs.Windows.{Follows, Remembers, parts_from, window_of}
+use Rattle.sn_engine_many.proofs.Seen.{sent_right}
+use Rattle.sn_engine_many.specs.Answers.{SharedWindow, in_one, many_answers, many_sent, shared_answers, shared_from}
 use Rattle.sn_multi.specs.Branches.{together}
 use Rattle.sn_plan_fit.specs.Fits.{AreEntriesOf}
 use Rattle.sn_plan_grammar.specs.declared.plan.Entry.{Entry}
+use Rattle.sn_refine.proofs.Windows.{above_last, earlier, here, later}
+use Rattle.sn_refine.specs.Refined.{Windows}
 use Rattle.sn_refine.specs.Steps.{windows_of}
 use Rattle.sn_types.specs.declared.answers.Answers.{Answers}
 use Rattle.sn_types.specs.declared.answers.Part.{Part}
 use Rattle.sn_types.specs.declared.typed_query.TypedQuery.{TypedQuery}
-use Rattle.sn_windows.specs.Rising.{AreRising}
+use Rattle.sn_windows.specs.Rising.{AreRising, IsAbove}
 
-abbrev parts_of_all : List Answers → List (List Part)
-parts_of_all = map (λ (a : Answers). a.parts)
+-- a window that follows, where the answers before it were those along the plan
+many_right : (queries : List TypedQuery) (depth : ℕ) (es : List Entry) (windows : Windows) (last : Option Answers) (w : ℕ) (captures : List (List (List ℕ))) → AreEntriesOf queries es
+    → windows w ≡ Some (together captures) → Follows windows last w → Remembers queries es windows last
+    → shared_answers queries depth es (kept_in queries last w) w captures ≡ many_answers queries depth es windows w captures
+many_right queries depth es windows last w captures h is f r =
+    ap (λ n. with n (parts_from queries (kept_in queries last w) (together captures) 0 es)) (sent_right queries depth es windows last w captures h f r)
+    ∙ ap (λ (a : Answers). with (sum (map (many_sent queries depth windows w captures) (pieces_from 0 es))) a.parts) (window_right queries depth es windows last w (together captures) h is f r)
+  where
+    with : ℕ → List Part → Answers
+    with n parts = record { window = w; emitted = n; parts = parts }
 
-abbrev made : ℕ → ℕ → List Part → Answers
-made window emitted parts = record { window = window; emitted = emitted; parts = parts }
-
--- the number of items doesn't count for the answers after it
-same_parts : (queries : List TypedQuery) (depth : ℕ) (es : List Entry) (window n m : ℕ) (parts : List Part) (given : List SharedWindow)
-    → parts_of_all (shared_from queries depth es (Some (made window n parts)) given) ≡ parts_of_all (answers_from queries depth es (Some (made window m parts)) (map in_one given))
-same_parts queries depth es window n m parts [] = refl
-same_parts queries depth es window n m parts (g ∷ rest) =
-    let kept = kept_in queries (Some (made window n parts)) g.0 in
-    let now = parts_from queries kept (together g.1) 0 es in
-    ap (λ (others : List (List Part)). now ∷ others)
-    (same_parts queries depth es g.0 (shared_sent queries depth (pieces_from 0 es) kept g.1) (sent_by queries depth (pieces_from 0 es) kept (together g.1)) now rest)
+from : (queries : List TypedQuery) (depth : ℕ) (es : List Entry) (windows : Windows) → AreEntriesOf queries es → (last : Option Answers) (given : List SharedWindow) → AreRising (window_of last) (map in_one given)
+    → ((v : ℕ) → IsAbove (window_of last) v → windows v ≡ windows_of (map in_one given) v) → Remembers queries es windows last
+    → shared_from queries depth es last given ≡ map (λ (g : SharedWindow). many_answers queries depth es windows g.0 g.1) given
+from queries depth es windows h last [] rises agrees remembers = refl
+from queries depth es windows h last (g ∷ rest) rises agrees remembers =
+    let now = shared_answers queries depth es (kept_in queries last g.0) g.0 g.1 in
+    let others = map in_one rest in
+    let e : now ≡ many_answers queries depth es windows g.0 g.1 =
+    many_right queries depth es windows last g.0 g.1 h (agrees g.0 rises.0 ∙ here (in_one g) others)
+    (record { above = rises.0; none = λ v above lt. agrees v above ∙ earlier (in_one g) others v rises.1 lt }) remembers in
+    ap (λ a. a ∷ shared_from queries depth es (Some now) rest) e
+    ∙ ap (λ later_ones. many_answers queries depth es windows g.0 g.1 ∷ later_ones)
+    (from queries depth es windows h (Some now) rest rises.1 (λ v lt. agrees v (above_last (window_of last) g.0 v rises.0 lt) ∙ later (in_one g) others v lt) (ap (λ (a : Answers). a.parts) e))
 
 pub all_shared : (queries : List TypedQuery) (depth : ℕ) (es : List Entry) (given : List SharedWindow) → AreEntriesOf queries es → AreRising None (map in_one given)
-    → parts_of_all (shared_from queries depth es None given) ≡ map (λ (g : SharedWindow). (plan_answers queries depth es (windows_of (map in_one given)) g.0).parts) given
-all_shared queries depth es given h rises =
-    from given
-    ∙ ap parts_of_all (all_windows queries depth es (map in_one given) h rises)
-    ∙ map_both (λ g. plan_answers queries depth es (windows_of (map in_one given)) g.0) (λ (a : Answers). a.parts) (map in_one given)
-    ∙ map_both in_one (λ g. (plan_answers queries depth es (windows_of (map in_one given)) g.0).parts) given
-  where
-    from : (gs : List SharedWindow) → parts_of_all (shared_from queries depth es None gs) ≡ parts_of_all (answers_from queries depth es None (map in_one gs))
-    from [] = refl
-    from (g ∷ rest) =
-        let kept = kept_in queries None g.0 in
-        let now = parts_from queries kept (together g.1) 0 es in
-        ap (λ (others : List (List Part)). now ∷ others)
-        (same_parts queries depth es g.0 (shared_sent queries depth (pieces_from 0 es) kept g.1) (sent_by queries depth (pieces_from 0 es) kept (together g.1)) now rest)
+    → shared_from queries depth es None given ≡ map (λ (g : SharedWindow). many_answers queries depth es (windows_of (map in_one given)) g.0 g.1) given
+all_shared queries depth es given h rises = from queries depth es (windows_of (map in_one given)) h None given rises (λ v above. refl) tt

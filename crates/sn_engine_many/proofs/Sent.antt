@@ -21,7 +21,8 @@ use Rattle.sn_engine_split.specs.Branches.{query_value}
 use Rattle.sn_multi.proofs.Pipes.{pipe_turned}
 use Rattle.sn_multi.proofs.Typed.{queries_merged}
 use Rattle.sn_multi.specs.Branches.{AreOfSwitches, together}
-use Rattle.sn_multi.specs.Switches.{switch_items, turned}
+use Rattle.sn_multi.specs.Switches.{switch_items}
+use Rattle.sn_multi.specs.Turned.{turned}
 use Rattle.sn_ops.specs.Packets.{packet_rows}
 use Rattle.sn_pipe.specs.Pipes.{rows_let_in}
 use Rattle.sn_pipe_items.specs.Items.{items}

@@ -1,14 +1,16 @@
 -- to be believed
 -- What several switches send in a window.
-use Rattle.std.specs.Prelude.{ℕ, List, [], ◌∷◌, map, length, sum, Option, Some}
+use Rattle.std.specs.Prelude.{ℕ, zero, suc, List, [], ◌∷◌, map, length, slice_index, sum, Option, None, Some}
 use Rattle.sn_emit.specs.Plans.{Placed, level_before, pieces_from}
 use Rattle.sn_engine_lockstep.specs.Sources.{kept_in, source_of}
-use Rattle.sn_engine_lockstep.specs.Windows.{parts_from}
+use Rattle.sn_engine_lockstep.specs.Windows.{parts_from, refined_from}
 use Rattle.sn_engine_lockstep.specs.declared.source.Source.{Source}
-use Rattle.sn_multi.specs.Branches.{together}
+use Rattle.sn_multi.specs.Branches.{many_items, together}
 use Rattle.sn_multi.specs.Switches.{all_items}
 use Rattle.sn_pipe.specs.Pipes.{rows_let_in}
+use Rattle.sn_plan_fit.specs.Paths.{place_in}
 use Rattle.sn_plan_grammar.specs.declared.plan.Entry.{Entry}
+use Rattle.sn_refine.specs.Refined.{Windows, answered, before, refined_rows}
 use Rattle.sn_refine.specs.Steps.{Set}
 use Rattle.sn_report.specs.declared.frame.Item.{Item}
 use Rattle.sn_types.specs.Cuts.{size_at}
@@ -35,6 +37,30 @@ shared_answers queries depth entries kept w captures = record {
   window = w;
   emitted = shared_sent queries depth (pieces_from 0 entries) kept captures;
   parts = parts_from queries kept (together captures) 0 entries;
+}
+
+-- ---- along the plan
+
+-- Those tuples of one capture in a window that the level at a place of a path sees: all where it is the first, or else those whose prefix
+-- the level before it answered in the window before, where the windows are those of all captures together.
+abbrev pub seen_of : TypedQuery → Windows → List ℕ → ℕ → ℕ → List (List ℕ) → List (List ℕ)
+seen_of query windows path zero w tuples = tuples
+seen_of query windows path (suc j) w tuples = answered query (slice_index path j) (before (refined_rows query windows path j) w) tuples
+
+-- how many items a piece sends in all switches, of what its level sees of each capture
+abbrev pub many_sent : List TypedQuery → ℕ → Windows → ℕ → List (List (List ℕ)) → Placed → ℕ
+many_sent queries depth windows w captures x =
+    let query = query_at queries x.query in
+    length (many_items query x.piece.branch x.piece.level None x.piece.cut depth x.piece.slots
+    (map (seen_of query windows x.path (place_in x.path x.piece.level) w) captures))
+
+-- The answers of a plan in a window: the refined answers of its queries along their paths to the tuples of all captures together, and
+-- the number of the items that its pieces send in all switches.
+abbrev pub many_answers : List TypedQuery → ℕ → List Entry → Windows → ℕ → List (List (List ℕ)) → Answers
+many_answers queries depth entries windows w captures = record {
+  window = w;
+  emitted = sum (map (many_sent queries depth windows w captures) (pieces_from 0 entries));
+  parts = refined_from queries windows w 0 entries;
 }
 
 -- ---- one window after another

@@ -3,7 +3,7 @@
 use Rattle.std.specs.Prelude.{ℕ, suc, List, [], ◌∷◌, map, take, Option, None, Some}
 use Rattle.sn_engine.specs.Intakes.{lane_at}
 use Rattle.sn_engine.specs.declared.intake.Intake.{Intake}
-use Rattle.sn_multi.specs.Switches.{retagged}
+use Rattle.sn_multi.specs.Turned.{retagged}
 use Rattle.sn_report.specs.Frames.{operator_of}
 use Rattle.sn_report.specs.declared.frame.Frame.{Frame}
 use Rattle.sn_report.specs.declared.frame.Frame.TheVariants.{Row, End}

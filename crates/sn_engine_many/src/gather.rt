@@ -1,8 +1,9 @@
 //! What the switches have gathered goes to the one engine.
-ghost use Rattle.std.specs.Prelude.{◌≡◌, ◌<◌, IfOk, IfSome, OnOk, fold, length, map};
-ghost use Rattle.std.specs.List.{flat_map};
+ghost use Rattle.std.specs.Prelude.{◌≡◌, ◌<◌, ◌⊎◌, ◌↔◌, IfOk, IfSome, IsNone, None, OnOk, fold, length, map, true};
+ghost use Rattle.std.specs.List.{flat_map, list_all, list_any};
 ghost use Rattle.sn_engine.specs.Answers.{parts_of};
-ghost use Rattle.sn_engine.specs.Intakes.{AreIntakes, IsIntake, after_frame, emptied, lane_at, total};
+ghost use Rattle.sn_engine.specs.Intakes.{AreIntakes, IsIntake, after_frame, emptied, has_ended, lane_at, total};
+ghost use Rattle.sn_engine.specs.Taking.{take_fault};
 ghost use Rattle.sn_engine_many.specs.Turns.{end_of, frames_of, lane_tag, turn};
 ghost use Rattle.sn_types.specs.Typed.{query_at};
 
@@ -29,8 +30,9 @@ fn turn(tag: Option<Tag>, item: &Item) -> Item
     ensures { result ≡ turn tag item.now }
 {
     let after = match (tag, item.tag) {
-        (Some(Tag::At(held)), Tag::At(number)) => number as u32 == held as u32 + 1,
-        (Some(Tag::Partial(held)), Tag::At(number)) => number as u32 == held as u32 + 1,
+        (Some(Tag::At(held)), Tag::At(number)) | (Some(Tag::Partial(held)), Tag::At(number)) => {
+            number as u32 == held as u32 + 1
+        }
         _ => false,
     };
     match tag {
@@ -42,26 +44,24 @@ fn turn(tag: Option<Tag>, item: &Item) -> Item
     }
 }
 
-/// The name of a lane in frames. `None` where one of its numbers has no byte there, as no plan's.
+/// The name of a lane in frames. `None` exactly where one of its numbers has no byte there, as no plan's.
 fn name_of(x: &Intake) -> Option<Lane>
-    ensures { IfSome result (λ lane. lane ≡ lane_at x.now.query x.now.place x.now.branch) }
+    ensures some { IfSome result (λ lane. lane ≡ lane_at x.now.query x.now.place x.now.branch) }
+    ensures none { IsNone result ↔ ((255 < x.now.query) ⊎ (255 < x.now.place) ⊎ (255 < x.now.branch)) }
 {
-    match (
-        u8::try_from(x.query),
-        u8::try_from(x.place),
-        u8::try_from(x.branch),
-    ) {
-        (Ok(query), Ok(level), Ok(branch)) => Some(Lane {
-            query,
-            level,
-            branch,
-        }),
-        _ => None,
+    if x.query > 255 || x.place > 255 || x.branch > 255 {
+        return None;
     }
+    Some(Lane {
+        query: x.query as u8,
+        level: x.place as u8,
+        branch: x.branch as u8,
+    })
 }
 
 /// The engine takes a frame.
 fn take(engine: &mut Engine, frame: &Frame) -> Result<(), Memory>
+    ensures no_fault { OnOk result (take_fault engine.old.t.queries engine.old.lanes.items engine.old.closed frame.now ≡ None) }
     ensures taken { OnOk result (engine.new.lanes.items ≡ after_frame engine.old.lanes.items frame.now) }
     ensures queries { engine.new.t.queries ≡ engine.old.t.queries }
 {
@@ -99,34 +99,44 @@ pub(crate) fn gather(engine: &mut Engine, t: &Typed, lanes: &[Intake]) -> Result
     Ok(())
 }
 
-/// The engine takes one End for each of these lanes.
-pub(crate) fn end_lanes(engine: &mut Engine, lanes: &[Intake], window: u64) -> Result<(), Memory>
-    ensures taken { OnOk result (engine.new.lanes.items ≡ fold after_frame engine.old.lanes.items (map (end_of window) lanes.now)) }
+/// The engine takes the End of a lane.
+fn end_lane(engine: &mut Engine, x: &Intake, window: u64) -> Result<(), Memory>
+    ensures taken { OnOk result (engine.new.lanes.items ≡ after_frame engine.old.lanes.items (end_of window x.now)) }
+    ensures ended { OnOk result (list_any (has_ended window) engine.new.lanes.items ≡ true) }
     ensures queries { engine.new.t.queries ≡ engine.old.t.queries }
 {
+    let Some(lane) = name_of(x) else {
+        return Err(Memory);
+    };
+    take(engine, &Frame::End(lane, window))?;
+    Ok(())
+}
+
+/// The engine takes one End for each of these lanes. `Memory` also where there is none, though each plan has one.
+pub(crate) fn end_lanes(engine: &mut Engine, lanes: &[Intake], window: u64) -> Result<(), Memory>
+    ensures taken { OnOk result (engine.new.lanes.items ≡ fold after_frame engine.old.lanes.items (map (end_of window) lanes.now)) }
+    ensures ended { OnOk result (list_any (has_ended window) engine.new.lanes.items ≡ true) }
+    ensures queries { engine.new.t.queries ≡ engine.old.t.queries }
+{
+    if lanes.is_empty() {
+        return Err(Memory);
+    }
     for x in lanes {
-        let Some(lane) = name_of(x) else {
-            return Err(Memory);
-        };
-        take(engine, &Frame::End(lane, window))?;
+        end_lane(engine, x, window)?;
     }
     Ok(())
 }
 
 /// The engine answers the window that all lanes have ended.
-pub(crate) fn close(engine: &mut Engine, window: u64) -> Result<Answers, Memory>
-    ensures window { IfOk result (λ answers. answers.window ≡ window) }
+pub(crate) fn close(engine: &mut Engine) -> Result<Answers, Memory>
+    ensures ended { IfOk result (λ answers. list_all (has_ended answers.window) engine.old.lanes.items ≡ true) }
     ensures emitted { IfOk result (λ answers. answers.emitted ≡ total engine.old.lanes.items) }
     ensures parts { IfOk result (λ answers. answers.parts ≡ parts_of engine.old.t.queries engine.old.lanes.items) }
     ensures emptied { OnOk result (engine.new.lanes.items ≡ map emptied engine.old.lanes.items) }
     ensures queries { engine.new.t.queries ≡ engine.old.t.queries }
 {
     match engine.close_window() {
-        Ok(answers) => Ok(Answers {
-            window,
-            emitted: answers.emitted,
-            parts: answers.parts,
-        }),
+        Ok(answers) => Ok(answers),
         Err(_) => Err(Memory),
     }
 }

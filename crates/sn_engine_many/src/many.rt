@@ -79,9 +79,7 @@ fn switches_of(t: &Typed, chain: u32, short: &Plan, count: u32) -> Result<Vec<Dr
     let mut switches = Vec::new(t.alloc);
     for _ in 0..count {
         let switch = switch_of(t, chain, short)?;
-        if let Err(_) = switches.push(switch) {
-            return Err(Memory);
-        }
+        switches.push(switch)?;
     }
     Ok(switches)
 }
@@ -112,12 +110,12 @@ fn answer(switches: &mut [Driver], engine: &mut Engine, window: u64) -> Result<A
         return Err(Memory);
     };
     end_lanes(engine, &first.engine.lanes, window)?;
-    let answers = close(engine, window)?;
+    let answers = close(engine)?;
     Ok(answers)
 }
 
 impl Many {
-    /// So many switches that run a plan that fits. No window is begun.
+    /// As many switches as `switches` says, each with a plan that fits. No window is begun.
     pub fn make(t: &Typed, s: &Switch, plan: &Plan, switches: u32) -> Result<Many, Memory>
         requires switch { IsSwitch s.now }
         requires fits { Fits t.now.queries s.now plan.now.entries }

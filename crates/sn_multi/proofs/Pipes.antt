@@ -1,4 +1,4 @@
--- A pipe that ends right behind its first stateful operator sends what a switch of several sends, but for the tags.
+-- A pipe that ends right after its first stateful operator sends what a switch of several sends, but for the tags.
 use Rattle.std.proofs.Common.{◌≡◌, ℕ, suc, List, [], ◌∷◌, ◌++◌, map, filter, take, Bool, true, false, cond, refl, ap, sym, ◌∙◌, subst, arith}
 use Rattle.std.proofs.lemmas.List.{map-append}
 use Rattle.sn_base.proofs.BagLemmas.{bag_back, bag_map, bag_same, bag_then}
@@ -16,7 +16,8 @@ use Rattle.sn_pipe_items.proofs.OrderLemmas.{items_bag}
 use Rattle.sn_report.specs.declared.frame.Item.{Item}
 use Rattle.sn_report.specs.declared.frame.Tag.{Tag}
 use Rattle.sn_report.specs.declared.frame.Tag.TheVariants.{At, Partial}
-use Rattle.sn_multi.specs.Switches.{beyond, firsts, retagged, short, switch_items, turned}
+use Rattle.sn_multi.specs.Switches.{beyond, firsts, switch_items}
+use Rattle.sn_multi.specs.Turned.{retagged, short, turned}
 use Rattle.sn_multi.proofs.Merging.{tagged_append}
 
 abbrev item_of : Tag → Row → Item

@@ -1,15 +1,13 @@
 -- to be believed
 -- The items of several switches that run the same prefix, each on its own rows.
-use Rattle.std.specs.Prelude.{ℕ, suc, List, [], ◌∷◌, ◌++◌, map, filter, take, not, if◌then◌else◌}
+use Rattle.std.specs.Prelude.{ℕ, suc, List, [], ◌∷◌, ◌++◌, map, filter, take, not}
 use Rattle.std.specs.List.{flat_map}
 use Rattle.sn_base.specs.Groups.{Row, once, same_row}
 use Rattle.sn_base.specs.Operators.{Grouping, Op, key_of}
 use Rattle.sn_base.specs.Operators.Op.{Filter, Map, Distinct, Reduce}
 use Rattle.sn_chain.specs.Chain.{has_home}
 use Rattle.sn_pipe_items.specs.Items.{held, tagged}
-use Rattle.sn_pipe_items.specs.Value.{is_at}
 use Rattle.sn_report.specs.declared.frame.Item.{Item}
-use Rattle.sn_report.specs.declared.frame.Tag.{Tag}
 use Rattle.sn_report.specs.declared.frame.Tag.TheVariants.{At, Partial}
 
 -- Each stateful operator has a chain of so many registers; the registers of the operator at number i have size i slots each.
@@ -37,25 +35,3 @@ module _ (depth : ℕ) (size : ℕ → ℕ) where
   -- those of all switches, switch by switch
   abbrev pub all_items : ℕ → List Op → List (List Row) → List Item
   all_items cut ops flows = flat_map (switch_items 0 (take cut ops)) flows
-
--- ---- by a pipe
-
--- a prefix up to its first stateful operator
-abbrev pub short : List Op → List Op
-short [] = []
-short (Filter t ∷ ops) = Filter t ∷ short ops
-short (Map f ∷ ops) = Map f ∷ short ops
-short (Distinct ∷ ops) = Distinct ∷ []
-short (Reduce g ∷ ops) = Reduce g ∷ []
-
--- an item that stands behind operator i is given this tag
-abbrev pub retagged : ℕ → Tag → Item → Item
-retagged i tag item = if is_at (suc i) item.tag then record { tag = tag; row = item.row } else item
-
--- the items of a pipe that ends right behind its first stateful operator, with the tags of many switches; the first operator has number i
-abbrev pub turned : ℕ → List Op → Item → Item
-turned i [] item = item
-turned i (Filter t ∷ ops) item = turned (suc i) ops item
-turned i (Map f ∷ ops) item = turned (suc i) ops item
-turned i (Distinct ∷ ops) item = retagged i (At i) item
-turned i (Reduce g ∷ ops) item = retagged i (Partial i) item

@@ -1,5 +1,5 @@
 -- serves proofs
--- Where a column of rows stands behind operators.
+-- Where a column of rows stands after operators.
 use Rattle.std.specs.Prelude.{◌≡◌, ℕ, ◌<◌, List, [], ◌∷◌, length, Bool, slice_index}
 use Rattle.sn_base.specs.Groups.{Row}
 use Rattle.sn_base.specs.Operators.{Op}

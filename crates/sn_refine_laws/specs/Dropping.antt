@@ -11,7 +11,7 @@ use Rattle.sn_report.specs.declared.frame.Tag.{Tag}
 use Rattle.sn_report.specs.declared.frame.Tag.TheVariants.{At, Partial}
 use Rattle.sn_refine_laws.specs.Carrying.{CarriesTo}
 
--- Where the column of an item stands: `places i` is its place in the rows that come to operator i. A Partial row stands behind
+-- Where the column of an item stands: `places i` is its place in the rows that come to operator i. A Partial row stands after
 -- its reduce.
 abbrev pub place_of_tag : (ℕ → ℕ) → Tag → ℕ
 place_of_tag places (At i) = places i

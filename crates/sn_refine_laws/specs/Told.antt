@@ -1,4 +1,4 @@
--- serves proofs
+-- to be believed
 -- What refined answers tell of the unrefined ones.
 use Rattle.std.specs.Prelude.{◌≡◌, ℕ, suc, ◌+◌, ◌<◌, ◌≤◌, List, length, Bool, true, nat_eq, slice_index, unwrap_or}
 use Rattle.std.specs.List.{list_any}

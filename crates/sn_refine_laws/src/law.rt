@@ -17,7 +17,7 @@ ghost use Rattle.sn_refine.specs.Refined.{Windows, before, column_of, level_rows
 ghost use Rattle.sn_types.specs.Typed.{HasWidths, IsTyped, query_at};
 ghost use Rattle.sn_types.specs.declared.typed_query.TypedQuery.{TypedQuery};
 
-/// Where operators carry a column, rows may be kept by its numbers before the operators or behind them.
+/// Where operators carry a column, rows may be kept by its numbers before the operators or after them.
 pub fn filters_commute()
     ensures { (keep : ℕ → Bool) (ops : List Op) (p q : ℕ) (rows : List Row) → CarryTo ops p q →
         through ops (filter (passes keep p) rows) ≡ filter (passes keep q) (through ops rows) }
@@ -35,7 +35,7 @@ pub fn prefixes_are_asked_of_rows()
         (query_rows (query_at queries q) level None tuples) }
 {}
 
-/// No false row: the refined answers at a level behind another are exactly those rows of the level's answers to all tuples
+/// No false row: the refined answers at a level after another are exactly those rows of the level's answers to all tuples
 /// of the window whose refinement column, masked to the level before, was answered in the window before.
 pub fn refined_rows_are_rows_of_the_level()
     ensures { (window q j w : ℕ) (queries : List TypedQuery) (field : Field) (windows : Windows) (path : List ℕ) →

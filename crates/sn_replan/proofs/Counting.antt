@@ -2,38 +2,18 @@
 use Rattle.std.proofs.Common.{◌≡◌, ℕ, List, [], ◌∷◌, ◌++◌, map, Option, Some, None, refl, ap, sym, ◌∙◌}
 use Rattle.std.proofs.lemmas.List.{map-append}
 use Rattle.sn_emit.specs.Plans.{pieces_from}
-use Rattle.sn_engine_lockstep.specs.Early.{early, early_by, early_from, plan_early}
+use Rattle.sn_engine_lockstep.specs.Early.{early_by, early_from, plan_early}
 use Rattle.sn_engine_lockstep.specs.Known.{last_from}
 use Rattle.sn_engine_lockstep.specs.Sources.{kept_in}
-use Rattle.sn_engine_lockstep.specs.Windows.{Remembers, answers_from, plan_answers, window_answers, window_of}
-use Rattle.sn_engine_lockstep.proofs.Along.{measure_right, window_right}
+use Rattle.sn_engine_lockstep.specs.Windows.{answers_from, window_answers, window_of}
 use Rattle.sn_engine_lockstep.proofs.Driving.{end_is, end_of}
+use Rattle.sn_engine_lockstep.proofs.Earlies.{all_early_windows}
 use Rattle.sn_plan_fit.specs.Fits.{AreEntriesOf}
 use Rattle.sn_plan_grammar.specs.declared.plan.Entry.{Entry}
-use Rattle.sn_refine.specs.Refined.{Windows}
 use Rattle.sn_refine.specs.Steps.{windows_of}
-use Rattle.sn_refine.proofs.Windows.{above_last, earlier, here, later}
 use Rattle.sn_types.specs.declared.answers.Answers.{Answers}
 use Rattle.sn_types.specs.declared.typed_query.TypedQuery.{TypedQuery}
 use Rattle.sn_windows.specs.Rising.{AreRising, IsAbove, Window}
-
-from : (queries : List TypedQuery) (depth : ℕ) (es : List Entry) (windows : Windows) → AreEntriesOf queries es → (last : Option Answers) (given : List Window) → AreRising (window_of last) given
-    → ((v : ℕ) → IsAbove (window_of last) v → windows v ≡ windows_of given v) → Remembers queries es windows last
-    → early_from queries depth es last given ≡ map (λ g. plan_early queries depth es windows g.0) given
-from queries depth es windows h last [] rises agrees remembers = refl
-from queries depth es windows h last (g ∷ rest) rises agrees remembers =
-    let now = window_answers queries depth es (kept_in queries last g.0) g.0 g.1 in
-    let is = agrees g.0 rises.0 ∙ here g rest in
-    let e : now ≡ plan_answers queries depth es windows g.0 =
-    window_right queries depth es windows last g.0 g.1 h is (record { above = rises.0; none = λ v above lt. agrees v above ∙ earlier g rest v rises.1 lt }) remembers in
-    ap (λ n. n ∷ early_from queries depth es (Some now) rest)
-    (measure_right queries depth es windows last g.0 g.1 early h is (record { above = rises.0; none = λ v above lt. agrees v above ∙ earlier g rest v rises.1 lt }) remembers)
-    ∙ ap (λ others. plan_early queries depth es windows g.0 ∷ others)
-    (from queries depth es windows h (Some now) rest rises.1 (λ v lt. agrees v (above_last (window_of last) g.0 v rises.0 lt) ∙ later g rest v lt) (ap (λ (a : Answers). a.parts) e))
-
-pub all_windows : (queries : List TypedQuery) (depth : ℕ) (es : List Entry) (given : List Window) → AreEntriesOf queries es → AreRising None given
-    → early_from queries depth es None given ≡ map (λ g. plan_early queries depth es (windows_of given) g.0) given
-all_windows queries depth es given h rises = from queries depth es (windows_of given) h None given rises (λ v above. refl) tt
 
 -- ---- one window more
 
@@ -56,7 +36,7 @@ module _ (queries : List TypedQuery) (depth : ℕ) (entries : List Entry) where
       let right : Window → ℕ = λ g. plan_early queries depth entries (windows_of all) g.0 in
       let now : ℕ = early_next closed number tuples in
       let e : early_from queries depth entries None closed ++ now ∷ [] ≡ map right closed ++ right (number, tuples) ∷ [] =
-      sym (one_more None closed number tuples) ∙ all_windows queries depth entries all h rising ∙ map-append right closed ((number, tuples) ∷ []) in
+      sym (one_more None closed number tuples) ∙ all_early_windows queries depth entries all h rising ∙ map-append right closed ((number, tuples) ∷ []) in
       sym (end_is now (early_from queries depth entries None closed) now) ∙ ap (end_of now) e ∙ end_is now (map right closed) (right (number, tuples))
 
   -- a window after the last one that was answered comes after all of them

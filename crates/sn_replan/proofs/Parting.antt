@@ -7,6 +7,13 @@ use Rattle.sn_types.specs.declared.typed_query.TypedQuery.{TypedQuery}
 use Rattle.sn_windows.specs.Rising.{Window}
 use Rattle.sn_replan.specs.Epochs.{AreEpochs, Follow, GoesOn, IsLeft, Span, Spans, epochs_from, is_over, only, span, then_from}
 
+-- a list that holds a window isn't empty
+cons_nil : {w : Window} {rest : List Window} → w ∷ rest ≡ [] → ⊥
+cons_nil e = cc
+
+some_window : {G : Type 0} {w : Window} {rest : List Window} → w ∷ rest ≡ [] → G
+some_window e = absurd (cons_nil e)
+
 module _ {P F : Type 0} (queries : List TypedQuery) (depth : ℕ) (entries_of : P → List Entry) (planned : Window → Result P F) (most : ℕ) where
   abbrev all : List (Span P) → List Window
   all spans = flat_map (λ (a : Span P). a.windows) spans
@@ -25,6 +32,7 @@ module _ {P F : Type 0} (queries : List TypedQuery) (depth : ℕ) (entries_of : 
     plan : begins.plan ≡ p
     own : List Window
     windows : begins.windows ≡ past ++ own
+    holds : own ≡ [] → given ≡ []
     goes_on : Goes p past own
     follow : Follow queries depth entries_of planned most begins more s.refused
     left : List Window
@@ -44,6 +52,7 @@ module _ {P F : Type 0} (queries : List TypedQuery) (depth : ℕ) (entries_of : 
     plan = refl;
     own = own;
     windows = refl;
+    holds = λ e. e;
     goes_on = goes;
     follow = tt;
     left = [];
@@ -63,9 +72,11 @@ module _ {P F : Type 0} (queries : List TypedQuery) (depth : ℕ) (entries_of : 
         plan = refl;
         own = w ∷ [];
         windows = refl;
+        holds = some_window;
         goes_on = tt;
         follow = subst (λ (xs : List (Span P)). Follow queries depth entries_of planned most (span plan (before ++ w ∷ [])) xs (from next [] (v ∷ rest)).refused) (sym f.spans) (
           record { front = before; last = w; windows = refl; over = over; next = is ∙ ap Ok (sym f.plan) },
+          λ e. some_window (f.holds (sym f.windows ∙ e)),
           subst (λ (ws : List Window). Goes f.begins.plan [] ws) (sym f.windows) (subst (λ (p : P). Goes p [] f.own) (sym f.plan) f.goes_on),
           f.follow,
         );
@@ -80,6 +91,7 @@ module _ {P F : Type 0} (queries : List TypedQuery) (depth : ℕ) (entries_of : 
     plan = refl;
     own = w ∷ [];
     windows = refl;
+    holds = some_window;
     goes_on = tt;
     follow = record { front = before; last = w; windows = refl; over = over; next = is };
     left = v ∷ rest;
@@ -96,6 +108,7 @@ module _ {P F : Type 0} (queries : List TypedQuery) (depth : ℕ) (entries_of : 
     spans = f.spans;
     plan = f.plan;
     own = w ∷ f.own;
+    holds = some_window;
     windows = f.windows ∙ append_assoc before (w ∷ []) f.own;
     goes_on = goes_more plan before f.own w under f.goes_on;
     follow = f.follow;

@@ -61,11 +61,11 @@ module _ {P F : Type 0} (queries : List TypedQuery) (depth : ℕ) (entries_of : 
     pub over : is_over a.plan a.windows last.0 ≡ true
     pub next : planned last ≡ answer
 
-  -- each epoch but the last is over, and the next one has the plan that is planned on its last window
+  -- each epoch but the last is over, and the next one has the plan that is planned on its last window, and a window
   abbrev pub Follow : Span P → List (Span P) → Option F → Type 0
   Follow a [] None = Unit {0}
   Follow a [] (Some fault) = IsOver a (Err fault)
-  Follow a (b ∷ more) refused = IsOver a (Ok b.plan) × GoesOn b.plan [] b.windows × Follow b more refused
+  Follow a (b ∷ more) refused = IsOver a (Ok b.plan) × (b.windows ≡ [] → ⊥) × GoesOn b.plan [] b.windows × Follow b more refused
 
   -- windows that no epoch has are there exactly where a plan was refused
   abbrev pub IsLeft : List Window → Option F → Type 0

@@ -3,9 +3,10 @@ ghost use Rattle.std.specs.Prelude.{◌≡◌, length};
 ghost use Rattle.sn_engine_lockstep.specs.Known.{AreKnown, are_known_prop};
 
 use crate::copies::copy_answers;
-use crate::give::{Unheard, give};
+use crate::give::give;
 use sn_base::memory::Memory;
 use sn_engine_lockstep::driver::Driver;
+use sn_engine_lockstep::wire::Nobody;
 use sn_fields::tuple::Tuple;
 use sn_plan_grammar::plan::Plan;
 use sn_switch::switch::Switch;
@@ -79,7 +80,7 @@ impl Epoch {
         let mut driver = self.driver;
         driver.begin(&last, w)?;
         give(&mut driver, tuples)?;
-        driver.drain(&mut Unheard, w)?;
+        driver.drain(&mut Nobody, w)?;
         let early = driver.early();
         let answers = driver.finish(w)?;
         let copied = copy_answers(driver.alloc, &answers)?;

@@ -12,7 +12,7 @@ use sn_types::typed::Typed;
 /// The caller is told where a window was over, and may then put another plan in place.
 #[derive(Drop)]
 pub struct Epochs {
-    /// The current one. None once memory ran out: then no call answers any more.
+    /// The current one. `None` once memory ran out: then each call answers `Memory`.
     pub epoch: Option<Epoch>,
     /// How many items of a window may leave the switch before the cut of their piece.
     pub most: u64,

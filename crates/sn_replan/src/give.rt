@@ -10,25 +10,8 @@ ghost use Rattle.sn_types.specs.Typed.{HasWidths};
 
 use sn_base::memory::Memory;
 use sn_engine_lockstep::driver::Driver;
-use sn_engine_lockstep::wire::Wire;
+use sn_engine_lockstep::wire::Nobody;
 use sn_fields::tuple::Tuple;
-use sn_report::frame::Frame;
-
-/// No one is told of the frames.
-#[derive(Drop)]
-pub(crate) struct Unheard;
-
-impl Wire for Unheard {
-    ghost use Rattle.std.specs.Prelude.{[]};
-
-    ghost told = { λ wire. [] };
-
-    ghost word = { λ frame. [] };
-
-    fn sent(&mut self, _: &Frame) -> Result<(), Memory> {
-        Ok(())
-    }
-}
 
 /// Gives the tuples of the window that was begun, in their order.
 pub(crate) fn give(driver: &mut Driver, tuples: &[Tuple]) -> Result<(), Memory>
@@ -43,10 +26,9 @@ pub(crate) fn give(driver: &mut Driver, tuples: &[Tuple]) -> Result<(), Memory>
     ensures queries { driver.new.engine.t.queries ≡ driver.old.engine.t.queries }
     ensures sources { driver.new.sources ≡ driver.old.sources }
 {
-    let mut wire = Unheard;
     for tuple in tuples {
         tuple.widths();
-        driver.packet(&mut wire, tuple)?;
+        driver.packet(&mut Nobody, tuple)?;
     }
     Ok(())
 }

@@ -50,7 +50,7 @@ fn wide_rows_hold_eight_columns(rt: HostRuntime) -> Result<(), Fail> {
 #[test]
 fn short_rows_become_wide(rt: HostRuntime) -> Result<(), Fail> {
     let short = ShortRow::new(&[7, u64::MAX]).ok_or("no row")?;
-    let rows = RowSeq::from_slice(rt.alloc(), &[short, short])?;
+    let rows = RowSeq::from_slice(rt.alloc(), [short, short].as_slice())?;
     let list = RowList::Short(rows);
     assert_eq!(rt; list.len(), 2);
     let wide = Row::new(&[7, u128::from(u64::MAX)]).ok_or("no row")?;

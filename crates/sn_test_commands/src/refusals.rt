@@ -22,7 +22,7 @@ const PLAIN: [(Refusal, u8, &str); 5] = [
 ];
 
 /// Faults of files, and a budget that is spent.
-const FAULTS: [(Fault, u8, &str); 10] = [
+const FAULTS: [(Fault, u8, &str); 13] = [
     (
         Fault::Queries(QueryFault {
             kind: Kind::UnknownField,
@@ -42,6 +42,24 @@ const FAULTS: [(Fault, u8, &str); 10] = [
     (Fault::Head(HeadFault::Link), 5, "capture Link byte 20"),
     (Fault::Cut(164), 5, "capture Cut byte 164"),
     (Fault::Bad(24), 5, "capture Bad byte 24"),
+    (
+        Fault::HeadOf {
+            fault: HeadFault::Magic,
+            file: 2,
+        },
+        5,
+        "capture Magic byte 0 file 2",
+    ),
+    (
+        Fault::CutOf { at: 164, file: 1 },
+        5,
+        "capture Cut byte 164 file 1",
+    ),
+    (
+        Fault::BadOf { at: 24, file: 8 },
+        5,
+        "capture Bad byte 24 file 8",
+    ),
     (
         Fault::Plan(TextFault {
             kind: TextKind::Expected,

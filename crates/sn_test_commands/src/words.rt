@@ -5,7 +5,7 @@ use std::alloc::Global;
 use std::test::Fail;
 
 /// Each command, its options in any order, and the ends of the ranges of numbers.
-const SPELT: [(&str, Command); 20] = [
+const SPELT: [(&str, Command); 22] = [
     ("plain,q,c", Command::Plain),
     ("plan,s,q,t", Command::Plan { nodes: 100_000 }),
     ("run,s,q,p,c", Command::Run { csv: false }),
@@ -13,6 +13,8 @@ const SPELT: [(&str, Command); 20] = [
     ("emit,s,q,p,c", Command::Emit),
     ("finish,q,p,r", Command::Finish),
     ("detect,q,p,c", Command::Detect),
+    ("many,s,q,p,c,d", Command::Many { captures: 2 }),
+    ("many,s,q,p,c,c,c,c,c,c,c,c", Command::Many { captures: 8 }),
     ("check,s,q,t,p", Command::Check),
     ("gen,0", Command::Gen { number: 0 }),
     (
@@ -94,6 +96,9 @@ plain,q,-
 plain,,c
 Plain,q,c
 plain,q,c,--csv
+many,s,q,p,c
+many,s,q,p,c,c,c,c,c,c,c,c,c
+many,s,q,p,c,d,--csv
 run,s,q,p,c,--csv=1
 run,s,q,p,c,--csv,--csv
 plan,--nodes,5,s,q,t

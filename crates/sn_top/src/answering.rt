@@ -31,7 +31,7 @@ impl Answering for Unsplit {
 
     fn pass(&mut self, at_hand: u64, _: u64, tuple: &Tuple) -> Result<Seq<u8>, Stop> {
         let text = window_text(self.alloc, &self.typed, at_hand, self.tuples.as_slice())?;
-        self.tuples = Seq::new(self.alloc);
+        self.tuples.clear();
         self.tuples.push(*tuple)?;
         Ok(text)
     }

@@ -375,7 +375,7 @@ module _ (show : Shows) (switch queries train written : List ℕ) (nodes : ℕ) 
       (then_given [] k.limits due (text_given switch SwitchIn later k.is_switch.bytes k.limits held_switch k.is_switch.is)
       (then_given [] c.plan due (text_given written PlanIn later text c.plan held_text plan_in)
       (then_given [] tt due fitting
-      (answered_given (plan_wording along) (window_ns k.read) train later k.is_training.bytes capture.windows capture.ending held_train.is capture.is each_few (ends_there k.is_training.bytes capture.ending k.is_training.has.few)))))
+      (answered_given (plan_wording along) (λ windows number tuples. refl) (window_ns k.read) train later k.is_training.bytes capture.windows capture.ending held_train.is capture.is each_few (ends_there k.is_training.bytes capture.ending k.is_training.has.few)))))
 
   cost_sent : c.cost ≡ emitted_in along capture.windows
   cost_sent =

@@ -5,10 +5,14 @@ use Rattle.sn_engine.specs.Answers.{parts_of}
 use Rattle.sn_engine.specs.Intakes.{emptied, total}
 use Rattle.sn_engine_lockstep.specs.declared.driver.Driver.{Driver}
 use Rattle.sn_engine_many.proofs.Answered.{each_widths, lanes_answer, lanes_are, lanes_empty, lanes_sent}
+use Rattle.sn_engine_many.proofs.Ending.{one_window}
 use Rattle.sn_engine_many.proofs.Plans.{shorts_can}
 use Rattle.sn_engine_many.specs.Switches.{IsResting, shorts_of}
 use Rattle.sn_types.specs.declared.typed_query.TypedQuery.{TypedQuery}
 use Rattle.sn_engine_many.proofs.many.answer.Goals as goal
+
+pub returns-clause-window : goal.returns-clause-window
+returns-clause-window c = one_window c.args.window c.in_ok-answers.answers.window c.end_lanes.new.engine.lanes.items c.in_ok-end_lanes.ensures.ended c.in_ok-answers.ensures.ended
 
 pub returns-clause-answers : goal.returns-clause-answers
 returns-clause-answers c = λ typed_for depth queries entries kept captures t paths can widths same b.

@@ -4,10 +4,9 @@ use Rattle.sn_command_capture.proofs.StandLemmas.{ok_weaker}
 use Rattle.sn_command_captures.proofs.AnswerLemmas.{all_rise}
 use Rattle.sn_command_captures.specs.Answered.{Shared, windows_in}
 use Rattle.sn_command_captures.specs.Counted.{left_of}
-use Rattle.sn_command_many.proofs.WindowLemmas.{WasClosed, answers_fit, answers_right, as_many, begun_isnt_between, between_isnt_begun, next_stands, window_over}
+use Rattle.sn_command_many.proofs.WindowLemmas.{WasClosed, answers_fit, answers_right, as_many, begun_isnt_between, between_isnt_begun, next_stands, on_ok, window_over}
 use Rattle.sn_command_many.specs.Joining.{IsAfter, plan_of}
 use Rattle.sn_command_many.specs.Together.{answers_in}
-use Rattle.sn_command_run.proofs.HandLemmas.{on_ok}
 use Rattle.sn_out.specs.Text.{block_text}
 use Rattle.sn_types.specs.declared.answers.Answers.{Answers}
 use Rattle.sn_windows.specs.Windows.{in_window}

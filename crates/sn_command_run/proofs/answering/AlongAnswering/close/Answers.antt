@@ -13,7 +13,7 @@ returns-clause-text g c = λ closed tuples some h.
     let all : List Window = closed ++ (number, tuples) ∷ [] in
     let e = c.in_ok-answers.ensures in
     let queries : (plan_of a).queries ≡ c.close_window.new.self.typed.queries = sym (ap (λ (p : Planned). p.queries) e.plan) in
-    subst (λ (form : Form). c.in_ok-text.text.items ≡ (wording_in form g.M.Machine.told (plan_of a)).block all number tuples) e.form
+    subst (λ (form : Form). c.in_ok-text.text ≡ (wording_in form g.M.Machine.told (plan_of a)).block all number tuples) e.form
     (c.in_ok-text.ensures g.M.Machine.told (plan_of a) all number tuples queries (e.answers closed tuples some h))
 
 pub returns-clause-goes_on : goal.returns-clause-goes_on

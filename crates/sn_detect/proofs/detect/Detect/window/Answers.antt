@@ -8,7 +8,7 @@ use Rattle.sn_refine.specs.Steps.{Set, kept_at, kept_of, parts_in, rows_at}
 use Rattle.sn_types.specs.Typed.{finest_level, query_at}
 use Rattle.sn_types.specs.declared.typed_query.TypedQuery.{TypedQuery}
 use Rattle.sn_detect.specs.declared.look.Look.{Look}
-use Rattle.sn_detect.specs.Looks.{AreUpTo, InTime, OnTheWay, Rise, is_let_in}
+use Rattle.sn_detect.specs.Keeping.{AreUpTo, InTime, OnTheWay, Rise, is_let_in}
 use Rattle.sn_detect.proofs.NoFalse.{no_false}
 use Rattle.sn_detect.proofs.Stepping.{last_part, rise_more, time_kept, upto_kept, way_kept}
 use Rattle.sn_detect.proofs.detect.Detect.window.Goals as goal

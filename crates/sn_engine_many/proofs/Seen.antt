@@ -1,23 +1,21 @@
--- What the switches send is what they send of the tuples that the levels see.
+-- What the switches send with the prefixes that their lanes admit is what they send of the tuples that the levels see.
 use Rattle.std.proofs.Common.{◌≡◌, ℕ, zero, suc, ◌+◌, ◌<◌, List, [], ◌∷◌, ◌++◌, map, length, sum, true, Option, None, Some, slice_get, slice_index, refl, ap, sym, ◌∙◌, subst, arith}
 use Rattle.std.specs.List.{AllByRecursion}
 use Rattle.std.proofs.lemmas.List.{map-append}
 use Rattle.sn_base.specs.Rising.{IsRising}
-use Rattle.sn_command_many.specs.Together.{seen_by, sent_of}
 use Rattle.sn_emit.specs.Plans.{Placed, level_before, pieces_from, placed}
-use Rattle.sn_engine_lockstep.proofs.Along.{kept_right}
-use Rattle.sn_engine_lockstep.proofs.Apart.{levels_known, place_is}
+use Rattle.sn_engine_lockstep.proofs.Along.{entries_known, entries_rise, kept_right}
+use Rattle.sn_engine_lockstep.proofs.Apart.{place_is}
 use Rattle.sn_engine_lockstep.proofs.Changes.{all_get}
-use Rattle.sn_engine_lockstep.proofs.Seeing.{rows_let_seen}
-use Rattle.sn_engine_lockstep.proofs.Seeing as seeing
+use Rattle.sn_engine_lockstep.proofs.Seeing.{rows_let_seen, seen_by}
 use Rattle.sn_engine_lockstep.specs.Sources.{kept_in, source_at, source_of}
 use Rattle.sn_engine_lockstep.specs.Windows.{Follows, Remembers}
 use Rattle.sn_engine_lockstep.specs.declared.source.Source.{Source}
-use Rattle.sn_engine_many.specs.Answers.{shared_items, shared_sent}
+use Rattle.sn_engine_many.specs.Answers.{many_sent, seen_of, shared_items, shared_sent}
 use Rattle.sn_multi.specs.Switches.{all_items}
 use Rattle.sn_ops.specs.Packets.{packet_rows}
 use Rattle.sn_pipe.specs.Pipes.{rows_let_in}
-use Rattle.sn_plan_fit.specs.Fits.{AreEntriesOf, IsEntryOf}
+use Rattle.sn_plan_fit.specs.Fits.{AreEntriesOf}
 use Rattle.sn_plan_fit.specs.Paths.{is_among, place_in}
 use Rattle.sn_plan_grammar.specs.declared.plan.Entry.{Entry}
 use Rattle.sn_plan_grammar.specs.declared.plan.Piece.{Piece}
@@ -33,18 +31,6 @@ use Rattle.sn_types.specs.declared.typed_query.TypedQuery.{TypedQuery}
 abbrev Captures : Type 0
 Captures = List (List (List ℕ))
 
-entries_known : (queries : List TypedQuery) (es : List Entry) → AreEntriesOf queries es → AllByRecursion (λ (e : Entry). AllByRecursion (λ (p : Piece). is_among e.levels p.level ≡ true) e.pieces) es
-entries_known [] [] h = tt
-entries_known [] (e ∷ es) h = absurd h
-entries_known (q ∷ queries) [] h = absurd h
-entries_known (q ∷ queries) (e ∷ es) h = (levels_known q e h.0, entries_known queries es h.1)
-
-entries_rise : (queries : List TypedQuery) (es : List Entry) → AreEntriesOf queries es → AllByRecursion (λ (e : Entry). IsRising e.levels) es
-entries_rise [] [] h = tt
-entries_rise [] (e ∷ es) h = absurd h
-entries_rise (q ∷ queries) [] h = absurd h
-entries_rise (q ∷ queries) (e ∷ es) h = let entry : IsEntryOf q e = h.0 in (entry.path.rising, entries_rise queries es h.1)
-
 module _ (queries : List TypedQuery) (depth : ℕ) (windows : Windows) (w : ℕ) (kept : Source → Set) where
   abbrev kept_before : ℕ → List ℕ → ℕ → Set
   kept_before q path j = kept (source_at q (Some (slice_index path j)))
@@ -54,30 +40,30 @@ module _ (queries : List TypedQuery) (depth : ℕ) (windows : Windows) (w : ℕ)
   IsRight q path = (j : ℕ) → j < length path → kept_before q path j ≡ prefixes_of (query_at queries q) (before (refined_rows (query_at queries q) windows path j) w)
 
   seen_right : (q : ℕ) (path : List ℕ) (tuples : List (List ℕ)) (place : ℕ) → IsRight q path → place < length path
-      → seeing.seen_by (query_at queries q) path (kept_before q path) tuples place ≡ seen_by (query_at queries q) windows path place w tuples
+      → seen_by (query_at queries q) path (kept_before q path) tuples place ≡ seen_of (query_at queries q) windows path place w tuples
   seen_right q path tuples zero right lt = refl
   seen_right q path tuples (suc j) right lt =
       held_answered (query_at queries q) (slice_index path j) (before (refined_rows (query_at queries q) windows path j) w) (kept_before q path j) tuples (right j (omega (arith, lt)))
 
   rows_right : (q : ℕ) (path : List ℕ) (b level : ℕ) → IsRight q path → place_in path level < length path → (captures : Captures)
       → map (rows_let_in (query_at queries q) b level (level_before path level) (kept (source_at q (level_before path level)))) captures
-      ≡ map (packet_rows (query_at queries q) b level None) (map (seen_by (query_at queries q) windows path (place_in path level) w) captures)
+      ≡ map (packet_rows (query_at queries q) b level None) (map (seen_of (query_at queries q) windows path (place_in path level) w) captures)
   rows_right q path b level right lt [] = refl
   rows_right q path b level right lt (tuples ∷ captures) =
       let query : TypedQuery = query_at queries q in
       let let_in : List (List ℕ) → List (List ℕ) = rows_let_in query b level (level_before path level) (kept (source_at q (level_before path level))) in
-      let seen : List (List ℕ) → List (List ℕ) = seen_by query windows path (place_in path level) w in
+      let seen : List (List ℕ) → List (List ℕ) = seen_of query windows path (place_in path level) w in
       ap (λ (rows : List (List ℕ)). rows ∷ map let_in captures)
       (rows_let_seen query q path kept tuples b level ∙ ap (packet_rows query b level None) (seen_right q path tuples (place_in path level) right lt))
       ∙ ap (λ (others : Captures). packet_rows query b level None (seen tuples) ∷ others) (rows_right q path b level right lt captures)
 
   module _ (captures : Captures) where
-    -- how many items are sent of a piece
+    -- how many items are sent of a piece with the prefixes that its lane admits
     abbrev sent : Placed → ℕ
     sent x = length (shared_items queries depth x (kept (source_of x)) captures)
 
     abbrev due : Placed → ℕ
-    due x = sent_of queries depth windows (w, captures) x
+    due = many_sent queries depth windows w captures
 
     piece_right : (q : ℕ) (path : List ℕ) (p : Piece) → IsRight q path → is_among path p.level ≡ true → sent (placed q path p) ≡ due (placed q path p)
     piece_right q path p right known =
@@ -113,7 +99,7 @@ module _ (queries : List TypedQuery) (depth : ℕ) (windows : Windows) (w : ℕ)
 
 -- in a window that follows, where the answers before it were those along the plan
 pub sent_right : (queries : List TypedQuery) (depth : ℕ) (es : List Entry) (windows : Windows) (last : Option Answers) (w : ℕ) (captures : Captures) → AreEntriesOf queries es → Follows windows last w
-    → Remembers queries es windows last → shared_sent queries depth (pieces_from 0 es) (kept_in queries last w) captures ≡ sum (map (sent_of queries depth windows (w, captures)) (pieces_from 0 es))
+    → Remembers queries es windows last → shared_sent queries depth (pieces_from 0 es) (kept_in queries last w) captures ≡ sum (map (many_sent queries depth windows w captures) (pieces_from 0 es))
 sent_right queries depth es windows last w captures h f r =
     let rise = entries_rise queries es h in
     ap sum (entries_right queries depth windows w (kept_in queries last w) captures 0 es
