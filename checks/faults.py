@@ -100,18 +100,21 @@ CALLS = {
     'emit': ['switch', 'queries', 'plan', 'capture'],
     'finish': ['queries', 'plan', 'reports'],
     'detect': ['queries', 'plan', 'capture'],
+    'many': ['switch', 'queries', 'plan', 'capture', 'capture'],
     'live': ['switch', 'queries', 'capture', 'capture'],
     'live --trace': ['switch', 'queries', 'capture', 'capture'],
+    'replan': ['switch', 'queries', 'capture', 'capture'],
     'gen': [],
     'job': [],
 }
-# those that take a number in the place of files
+# those that take a number in the place of files, and the one that takes it after them
 NUMBERS = {'gen': ['7'], 'job': ['7']}
+MOST = {'replan': ['1']}
 
 
 def words(call, names):
     command, _, option = call.partition(' ')
-    return [command, *NUMBERS.get(command, []), *(names[name] for name in CALLS[call]), *([option] if option else [])]
+    return [command, *NUMBERS.get(command, []), *(names[name] for name in CALLS[call]), *MOST.get(command, []), *([option] if option else [])]
 
 
 # ---- a call of the system that fails

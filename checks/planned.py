@@ -10,6 +10,7 @@
     planned.py many SWITCH QUERIES PLAN CAPTURE CAPTURE { CAPTURE }
     planned.py check SWITCH QUERIES TRAIN PLANTREE
     planned.py live SWITCH QUERIES TRAIN CAPTURE [--nodes N] [--schedule K] [--trace]
+    planned.py replan SWITCH QUERIES TRAIN CAPTURE MOST [--nodes N]
     planned.py gen NUMBER
     planned.py job NUMBER
 
@@ -21,7 +22,7 @@ import sys
 
 import plain as unsplit
 from plain import read, told
-from reference import costs, fields, generated, grammar, many as several, nets, plans, split, stays, switches, tokens, typing_rules, words
+from reference import costs, epochs, fields, generated, grammar, many as several, nets, plans, split, stays, switches, tokens, typing_rules, words
 
 
 class Refused(Exception):
@@ -181,6 +182,33 @@ def live(given):
     return answered(command, window, queries, switch, chosen.plan(), capture_name, costs.certificate(table, chosen))
 
 
+def replan(given):
+    switch_name, queries_name, train_name, capture_name = given.files
+    window, queries = read_queries(queries_name)
+    switch = read_switch(switch_name)
+    nodes = given.options.get('--nodes', USUAL_NODES)
+    table = trained(window, queries, switch, train_name)
+    chosen = found(table, nodes)
+    text = b'epoch 0\n' + costs.certificate(table, chosen)
+
+    def planned(windows):
+        later = costs.Costs(queries, switch, windows)
+        best = costs.best(later, nodes)
+        return best.plan(), costs.certificate(later, best)
+
+    def along(window, queries, switch, entries, file):
+        windows, ending = split.windows_of(window, file)
+        done = b''
+        try:
+            for piece in epochs.texts(windows, ending, queries, switch, entries, given.number, planned):
+                done += piece
+        except costs.Budget as budget:
+            raise Refused(8, 'budget %d bound %d' % (nodes, *budget.args), text + done) from budget
+        return done, ending
+
+    return answered(along, window, queries, switch, chosen.plan(), capture_name, text)
+
+
 def check(given):
     switch_name, queries_name, train_name, certificate_name = given.files
     window, queries = read_queries(queries_name)
@@ -221,7 +249,7 @@ def job(given):
     return ('\n'.join(lines) + '\n').encode()
 
 
-COMMANDS = {'plain': plain, 'plan': plan, 'run': run, 'emit': over_capture(split.emit), 'finish': finish, 'detect': detect, 'many': many, 'check': check, 'live': live, 'gen': gen, 'job': job}
+COMMANDS = {'plain': plain, 'plan': plan, 'run': run, 'emit': over_capture(split.emit), 'finish': finish, 'detect': detect, 'many': many, 'check': check, 'live': live, 'replan': replan, 'gen': gen, 'job': job}
 
 
 def answer(*spoken):

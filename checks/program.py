@@ -59,6 +59,8 @@ def built(executable):
         found.add('run --csv')
     if answers_words(executable, 'live', *[nothing] * 4, '--schedule', '1', '--trace'):
         found.add('live --schedule')
+    if answers_words(executable, 'replan', *[nothing] * 4, '0'):
+        found.add('replan')
     if answers_words(executable, 'gen', '0'):
         found.add('gen')
     if answers_words(executable, 'job', '7'):

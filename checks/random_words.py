@@ -23,7 +23,7 @@ def spoken(draw):
     """A list of words, mostly close to those of a command."""
     name = draw.choice(list(words.FILES))
     said = [name] + ['absent%d' % i for i in range(words.FILES[name])]
-    if words.FILES[name] == 0:
+    if words.FILES[name] == 0 or name in words.WITH_NUMBER:
         said.append(draw.choice(NUMBERS))
     options = [option(draw, draw.choice(['--nodes', '--csv', '--schedule', '--trace'] + words.OPTIONS.get(name, []) * 4)) for _ in range(draw.choice([0, 0, 1, 1, 2, 3]))]
     said += [word for one in options for word in one]
@@ -51,7 +51,7 @@ def wanted(executable, said):
     given = words.read(said)
     if given is None or given.name not in built(executable) or '--csv' in given.options and 'run --csv' not in built(executable):
         return 2, b'', 'sonata: usage\n'
-    if given.number is not None or ('--schedule' in given.options or '--trace' in given.options) and 'live --schedule' not in built(executable):
+    if given.number is not None and not given.files or ('--schedule' in given.options or '--trace' in given.options) and 'live --schedule' not in built(executable):
         return None
     return 9, b'', 'sonata: read fault\n'
 

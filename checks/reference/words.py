@@ -3,9 +3,10 @@
 import re
 from dataclasses import dataclass, field
 
-FILES = {'plain': 2, 'plan': 3, 'run': 4, 'emit': 4, 'finish': 3, 'detect': 3, 'many': 5, 'check': 4, 'live': 4, 'gen': 0, 'job': 0}
+FILES = {'plain': 2, 'plan': 3, 'run': 4, 'emit': 4, 'finish': 3, 'detect': 3, 'many': 5, 'check': 4, 'live': 4, 'replan': 4, 'gen': 0, 'job': 0}
 MOST_FILES = {'many': 11}
-OPTIONS = {'plan': ['--nodes'], 'run': ['--csv'], 'live': ['--nodes', '--schedule', '--trace']}
+WITH_NUMBER = ('replan',)
+OPTIONS = {'plan': ['--nodes'], 'run': ['--csv'], 'live': ['--nodes', '--schedule', '--trace'], 'replan': ['--nodes']}
 DIGITS = re.compile('[0-9]{1,10}\\Z')
 RANGES = {'--nodes': (1, 1000000), '--schedule': (0, 4294967295), 'number': (0, 4294967295)}
 
@@ -53,4 +54,9 @@ def read(words):
     command.files = list(words[1:1 + count])
     if len(command.files) < count or any(not word or word.startswith('-') for word in command.files):
         return None
-    return command if read_options(command, list(words[1 + count:])) else None
+    rest = list(words[1 + count:])
+    if words[0] in WITH_NUMBER:
+        command.number, rest = number_of(rest[0], 'number') if rest else None, rest[1:]
+        if command.number is None:
+            return None
+    return command if read_options(command, rest) else None

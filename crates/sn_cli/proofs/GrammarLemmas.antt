@@ -9,9 +9,9 @@ use Rattle.sn_base.proofs.Lists.{by_test, or_none, none_is as is_free}
 use Rattle.sn_cli.specs.declared.command.Command.{Command}
 use Rattle.sn_cli.specs.declared.command.Command.TheVariants as commands
 use Rattle.sn_cli.specs.declared.options.Options.{Options}
-use Rattle.sn_cli.specs.Words.{texts}
+use Rattle.sn_cli.specs.Words.{IsNumber, texts, word_at}
 use Rattle.sn_cli.specs.Grammar.{no_options, Line, Numbered, Spells}
-use Rattle.sn_cli.specs.Reading.{same, is_flag, flag_of, numbered_of, options_from, all_file_words, line_of, lone_number, bare_of, plan_of, run_of, live_of, many_of, command_with, command_of}
+use Rattle.sn_cli.specs.Reading.{same, is_flag, flag_of, numbered_of, options_from, all_file_words, line_of, lone_number, bare_of, plan_of, run_of, live_of, many_of, number_of, replan_at, replan_of, replan_with, command_with, command_of}
 use Rattle.sn_cli.proofs.NumberLemmas.{and_left, and_right, none_some, some_same, taken, passed, number_is, is_number}
 use Rattle.sn_cli.proofs.OptionLemmas.{flag_step, options_found, options_are_said, no_words, word_is}
 use Rattle.sn_base.proofs.Tests.{not_to_false as is_false}
@@ -138,6 +138,17 @@ live_is o c e =
     (λ is. (sym (some_same (taken (not o.csv) _ _ is e)), made o (record { nodes = o.nodes; schedule = o.schedule; csv = false; trace = o.trace }) refl refl (is_false o.csv is) refl))
     (λ isnt. absurd (none_some (passed (not o.csv) _ _ isnt e)))
 
+replan_is : (n : ℕ) (o : Options) (c : Command) → replan_with n o ≡ Some c → (c ≡ commands.Replan n (unwrap_or o.nodes 100000)) × (o ≡ record { nodes = o.nodes; schedule = None; csv = false; trace = false })
+replan_is n o c e =
+    let test : Bool = is_none o.schedule && not o.csv && not o.trace in
+    by_test test
+    (λ is.
+    let a = and_left (is_none o.schedule && not o.csv) (not o.trace) is in (
+      sym (some_same (taken test _ _ is e)),
+      made o (record { nodes = o.nodes; schedule = None; csv = false; trace = false }) refl (is_free o.schedule (and_left (is_none o.schedule) (not o.csv) a)) (is_false o.csv (and_right (is_none o.schedule) (not o.csv) a)) (is_false o.trace (and_right (is_none o.schedule && not o.csv) (not o.trace) is)),
+    ))
+    (λ isnt. absurd (none_some (passed test _ _ isnt e)))
+
 -- ---- commands
 
 module _ (rest : List (List ℕ)) (c : Command) where
@@ -164,6 +175,14 @@ module _ (rest : List (List ℕ)) (c : Command) where
       let b = behind live_of (line_of 4 rest) c e in
       let is = live_is b.value c b.gives in
       subst (λ (d : Command). Spells (codes "live" ∷ rest) d) (sym is.0) (b.value.nodes, b.value.schedule, line_is (codes "live") 4 rest _ (b.is ∙ ap (λ o. Some o) is.1), refl, refl)
+
+  replan_found : replan_of rest ≡ Some c → Spells (codes "replan" ∷ rest) c
+  replan_found e =
+      let b = behind (replan_at rest) (line_of 5 rest) c e in
+      let n = behind (λ most. replan_with most b.value) (number_of 0 4294967295 (word_at rest 4)) c b.gives in
+      let is = replan_is n.value b.value c n.gives in
+      subst (λ (d : Command). Spells (codes "replan" ∷ rest) d) (sym is.0)
+      (b.value.nodes, line_is (codes "replan") 5 rest _ (b.is ∙ ap (λ o. Some o) is.1), number_is 0 4294967295 (word_at rest 4) n.value n.is, refl)
 
   gen_found : option_map (λ n. commands.Gen n) (lone_number rest) ≡ Some c → Spells (codes "gen" ∷ rest) c
   gen_found e = let m = mapped (λ n. commands.Gen n) (lone_number rest) c e in subst (λ (d : Command). Spells (codes "gen" ∷ rest) d) (sym m.2) (lone_is (codes "gen") rest m.0 m.1)
@@ -204,8 +223,9 @@ module _ (rest : List (List ℕ)) (c : Command) where
       (by_word word (codes "live") _ _ live_found
       (by_word word (codes "detect") _ _ (bare_found (codes "detect") 3 commands.Detect (λ words l. l))
       (by_word word (codes "many") _ _ many_found
+      (by_word word (codes "replan") _ _ replan_found
       (by_word word (codes "gen") _ _ gen_found
-      (by_word word (codes "job") _ _ job_found (λ e. absurd (none_some e))))))))))))
+      (by_word word (codes "job") _ _ job_found (λ e. absurd (none_some e)))))))))))))
 
 -- what is read is spelled
 pub read_is_spelled : (words : List (List ℕ)) (c : Command) → command_of words ≡ Some c → Spells words c
@@ -240,6 +260,12 @@ spelled_is_read words (commands.Many captures) (few, most, l) =
     let all : words ≡ codes "many" ∷ l.names = l.are ∙ ap (λ ws. codes "many" ∷ (l.names ++ ws)) (no_words l.behind no_options l.options_are refl) ∙ ap (λ ws. codes "many" ∷ ws) (append-nil l.names) in
     let rest : s.rest ≡ l.names = same_rest (sym s.are ∙ all) in
     ap command_of s.are ∙ many_read s.rest captures few most (ap length rest ∙ l.as_many) s.is
+spelled_is_read words (commands.Replan early most) (given, l, n, e) =
+    let opts : Options = record { nodes = given; schedule = None; csv = false; trace = false } in
+    let s = stands (codes "replan") 5 opts words l in
+    ap command_of s.are ∙ ap (option_and_then (replan_at s.rest)) s.is
+    ∙ ap (option_and_then (λ k. replan_with k opts)) (is_number 0 4294967295 (word_at s.rest 4) early (subst (λ (ws : List (List ℕ)). IsNumber 0 4294967295 (word_at ws 5) early) s.are n))
+    ∙ ap (λ k. Some (commands.Replan early k)) (sym e)
 spelled_is_read words (commands.Gen number) n = ap command_of n.are ∙ ap (option_map (λ n. commands.Gen n)) (is_number 0 4294967295 n.word number n.is)
 spelled_is_read words (commands.Job number) n = ap command_of n.are ∙ ap (option_map (λ n. commands.Job n)) (is_number 0 4294967295 n.word number n.is)
 

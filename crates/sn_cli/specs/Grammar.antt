@@ -5,7 +5,7 @@ use Rattle.std.specs.List.{list_all}
 use Rattle.sn_cli.specs.declared.command.Command.{Command}
 use Rattle.sn_cli.specs.declared.command.Command.TheVariants as commands
 use Rattle.sn_cli.specs.declared.options.Options.{Options}
-use Rattle.sn_cli.specs.Words.{is_file_word, IsNumber}
+use Rattle.sn_cli.specs.Words.{is_file_word, word_at, IsNumber}
 
 -- no option is given
 abbrev pub no_options : Options
@@ -66,6 +66,10 @@ Spells words (commands.Live most turn events) =
 Spells words commands.Detect = Line (codes "detect") 3 no_options words
 -- `many SWITCH QUERIES PLAN CAPTURE CAPTURE { CAPTURE }`, of 2 to 8 captures
 Spells words (commands.Many captures) = (2 ≤ captures) × (captures ≤ 8) × Line (codes "many") (3 + captures) no_options words
+-- `replan SWITCH QUERIES TRAIN CAPTURE MOST [--nodes N]`: the fifth word is a number from 0 to 4294967295
+Spells words (commands.Replan early most) =
+    (given : Option ℕ) × Line (codes "replan") 5 (record { nodes = given; schedule = None; csv = false; trace = false }) words
+    × IsNumber 0 4294967295 (word_at words 5) early × (most ≡ unwrap_or given 100000)
 -- `gen NUMBER`
 Spells words (commands.Gen number) = Numbered (codes "gen") number words
 -- `job NUMBER`

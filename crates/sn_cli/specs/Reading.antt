@@ -7,7 +7,7 @@ use Rattle.std.specs.Cmp.Lexicographic.{pointwise}
 use Rattle.sn_cli.specs.declared.command.Command.{Command}
 use Rattle.sn_cli.specs.declared.command.Command.TheVariants as commands
 use Rattle.sn_cli.specs.declared.options.Options.{Options}
-use Rattle.sn_cli.specs.Words.{is_file_word, is_digit, decimal_value}
+use Rattle.sn_cli.specs.Words.{is_file_word, is_digit, decimal_value, word_at}
 use Rattle.sn_cli.specs.Grammar.{no_options}
 
 -- two words are the same
@@ -88,6 +88,17 @@ many_of rest =
     if nat_lt (length rest) 5 || nat_lt 11 (length rest) then None
     else option_and_then (bare_of (commands.Many (length rest - 3))) (line_of (length rest) rest)
 
+abbrev pub replan_with : ℕ → Options → Option Command
+replan_with most given =
+    if is_none given.schedule && not given.csv && not given.trace then Some (commands.Replan most (unwrap_or given.nodes 100000)) else None
+
+-- the fifth word is a number too
+abbrev pub replan_at : List (List ℕ) → Options → Option Command
+replan_at rest given = option_and_then (λ most. replan_with most given) (number_of 0 4294967295 (word_at rest 4))
+
+abbrev pub replan_of : List (List ℕ) → Option Command
+replan_of rest = option_and_then (replan_at rest) (line_of 5 rest)
+
 abbrev pub command_with : List ℕ → List (List ℕ) → Option Command
 command_with word rest =
     if same word (codes "plain") then option_and_then (bare_of commands.Plain) (line_of 2 rest)
@@ -99,6 +110,7 @@ command_with word rest =
     else if same word (codes "live") then option_and_then live_of (line_of 4 rest)
     else if same word (codes "detect") then option_and_then (bare_of commands.Detect) (line_of 3 rest)
     else if same word (codes "many") then many_of rest
+    else if same word (codes "replan") then replan_of rest
     else if same word (codes "gen") then option_map (λ n. commands.Gen n) (lone_number rest)
     else if same word (codes "job") then option_map (λ n. commands.Job n) (lone_number rest)
     else None

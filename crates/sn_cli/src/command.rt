@@ -44,6 +44,13 @@ pub enum Command {
         /// How many captures there are, one for each switch, 2 to 8.
         captures: u32,
     },
+    /// `replan SWITCH QUERIES TRAIN CAPTURE MOST [--nodes N]`: a plan, and the answers along plans that follow the traffic.
+    Replan {
+        /// How many items of a window may leave the switch before their cut.
+        most: u32,
+        /// The most nodes that a tree may expand, 1 to 1000000.
+        nodes: u32,
+    },
     /// `gen NUMBER`: a made capture.
     Gen {
         /// The number of the capture.

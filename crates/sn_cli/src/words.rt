@@ -2,8 +2,8 @@
 ghost use Rattle.std.specs.Prelude.{◌≡◌, IfOk, IsErr};
 ghost use Rattle.sn_cli.specs.declared.command.Command.{Command};
 ghost use Rattle.sn_cli.specs.Grammar.{Spells};
-ghost use Rattle.sn_cli.specs.Reading.{all_file_words, line_of, lone_number, bare_of, plan_of, run_of, live_of, many_of, command_with, command_of};
-ghost use Rattle.sn_cli.specs.Words.{texts, is_file_word};
+ghost use Rattle.sn_cli.specs.Reading.{all_file_words, line_of, lone_number, bare_of, plan_of, run_of, live_of, many_of, replan_with, replan_of, command_with, command_of};
+ghost use Rattle.sn_cli.specs.Words.{texts, is_file_word, word_at};
 
 use crate::command::{Command, WordFault};
 use crate::numbers::number;
@@ -137,6 +137,42 @@ fn many(rest: &[String]) -> Option<Command>
     bare(Command::Many { captures }, line(rest, rest.len())?)
 }
 
+/// The word at a place, and an empty one after the last.
+fn word(words: &[String], place: usize) -> &str
+    ensures { result.now ≡ word_at (texts words.now) place }
+{
+    match words.get(place) {
+        Some(word) => word.as_str(),
+        None => "",
+    }
+}
+
+fn replan_with(most: u32, given: Options) -> Option<Command>
+    ensures { result ≡ replan_with most given }
+{
+    match given {
+        Options {
+            nodes,
+            schedule: None,
+            csv: false,
+            trace: false,
+        } => Some(Command::Replan {
+            most,
+            nodes: nodes.unwrap_or(NODES),
+        }),
+        _ => None,
+    }
+}
+
+/// `replan`, whose last word before the options is a number.
+fn replan(rest: &[String]) -> Option<Command>
+    ensures { result ≡ replan_of (texts rest.now) }
+{
+    let given = line(rest, 5)?;
+    let most = number(word(rest, 4), 0, u32::MAX)?;
+    replan_with(most, given)
+}
+
 /// The command of a command word and the words after it.
 fn command(word: &str, rest: &[String]) -> Option<Command>
     ensures { result ≡ command_with word.now (texts rest.now) }
@@ -151,6 +187,7 @@ fn command(word: &str, rest: &[String]) -> Option<Command>
         "live" => live(line(rest, 4)?),
         "detect" => bare(Command::Detect, line(rest, 3)?),
         "many" => many(rest),
+        "replan" => replan(rest),
         "gen" => Some(Command::Gen {
             number: lone_number(rest)?,
         }),

@@ -81,6 +81,7 @@ by_work told commands.Check words w = begun w
 by_work told (commands.Live nodes schedule trace) words w = by_live told nodes schedule trace words w
 by_work told commands.Detect words w = begun w
 by_work told (commands.Many captures) words w = begun w
+by_work told (commands.Replan early most) words w = begun w
 by_work told (commands.Gen number) words w = begun w
 by_work told (commands.Job number) words w = begun w
 

@@ -20,6 +20,7 @@ use Rattle.sn_command_job.specs.Gen.{Gen}
 use Rattle.sn_command_job.specs.Job.{Job}
 use Rattle.sn_command_live.specs.Live.{Live, Plan, TracedLive}
 use Rattle.sn_command_many.specs.Several.{Several}
+use Rattle.sn_command_replan.specs.Replan.{Replans}
 use Rattle.sn_command_run.specs.Planned.{Telling}
 use Rattle.sn_command_run.specs.Run.{Run}
 use Rattle.sn_top.specs.Plain.{Plain}
@@ -60,6 +61,9 @@ IsWork told commands.Detect words before answer now =
 IsWork told (commands.Many captures) words before answer now =
     WorksFrom 2 (word_at words 2 ∷ word_at words 1 ∷ word_at words 3 ∷ drop 4 words)
     (Several (word_at words 1) (word_at words 2) (word_at words 3) (drop 4 words)) before answer now
+IsWork told (commands.Replan early most) words before answer now =
+    WorksFrom 2 (word_at words 2 ∷ word_at words 1 ∷ word_at words 3 ∷ word_at words 4 ∷ [])
+    (Replans (word_at words 1) (word_at words 2) (word_at words 3) (word_at words 4) early most) before answer now
 IsWork told (commands.Gen number) words before answer now = WorksFrom 2 [] (Gen number) before answer now
 IsWork told (commands.Job number) words before answer now = WorksFrom 2 [] (Job told number) before answer now
 

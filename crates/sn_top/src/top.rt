@@ -7,6 +7,7 @@ ghost use Rattle.sn_command_check.specs.Check.{Check};
 ghost use Rattle.sn_command_detect.specs.Detects.{Detects};
 ghost use Rattle.sn_command_emit.specs.Emit.{Emit};
 ghost use Rattle.sn_command_finish.specs.Finish.{Finish};
+ghost use Rattle.sn_command_replan.specs.Replan.{Replans};
 ghost use Rattle.sn_command_live.specs.Headline.{KeepsHeadline};
 ghost use Rattle.sn_command_live.specs.Live.{Live, Plan, TracedLive};
 ghost use Rattle.sn_command_many.specs.Several.{Several};
@@ -38,6 +39,7 @@ use sn_command_live::live::live;
 use sn_command_live::plan::plan;
 use sn_command_live::traced::live_traced;
 use sn_command_many::several::many;
+use sn_command_replan::replan::replan;
 use sn_command_run::run::run as answer_along;
 use sn_core_drive::machine::Machine;
 use sn_io::inputs::Inputs;
@@ -135,6 +137,9 @@ fn work<M: Machine, I: Inputs, O: Sink>(
         } => work_live::<M, I, O>(alloc, nodes, schedule, trace, given, desk),
         Command::Detect => detect(alloc, first, second, third, desk),
         Command::Many { .. } => work_many(alloc, given, desk),
+        Command::Replan { most, nodes } => replan(
+            alloc, first, second, third, fourth, most, nodes, desk,
+        ),
         Command::Gen { number } => generate(alloc, number, desk),
         Command::Job { number } => job::<M, I, O>(alloc, number, desk),
     }
@@ -209,6 +214,13 @@ pub fn top<M: Machine, I: Inputs, O: Sink, E: Sink>(
     ensures many { (captures : ℕ) → Spells (texts words.now) (Command.Many captures) →
         IsCommandRun (word_at (texts words.now) 2 ∷ word_at (texts words.now) 1 ∷ word_at (texts words.now) 3 ∷ drop 4 (texts words.now))
         (Several (word_at (texts words.now) 1) (word_at (texts words.now) 2) (word_at (texts words.now) 3) (drop 4 (texts words.now)))
+        (around I.Inputs O.Sink E.Sink files.old out.old err.old) result (around I.Inputs O.Sink E.Sink files.new out.new err.new) }
+
+    // `replan SWITCH QUERIES TRAIN CAPTURE MOST`, with the number of `--nodes`: the run is that of its stages. The answers of each epoch are those
+    // along its plan, and the epochs change exactly after the windows that are over.
+    ensures replanned { (early nodes : ℕ) → Spells (texts words.now) (Command.Replan early nodes) →
+        IsCommandRun (word_at (texts words.now) 2 ∷ word_at (texts words.now) 1 ∷ word_at (texts words.now) 3 ∷ word_at (texts words.now) 4 ∷ [])
+        (Replans (word_at (texts words.now) 1) (word_at (texts words.now) 2) (word_at (texts words.now) 3) (word_at (texts words.now) 4) early nodes)
         (around I.Inputs O.Sink E.Sink files.old out.old err.old) result (around I.Inputs O.Sink E.Sink files.new out.new err.new) }
 
     // `gen NUMBER`: the run is that of its stage, which reads no file.

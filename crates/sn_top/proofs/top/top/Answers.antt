@@ -110,6 +110,12 @@ returns-clause-headline g c = λ as_they nodes schedule spells.
     let out : c.out-1.given.0 ≡ c.run-answer.new.desk.out.now = search rules in
     rw (c.status_of.ensures, files, out) (c.runs_of_live_keep_the_headline.ensures _ _ _ _ nodes _ _ _ (command_run _ _ c.run-answer.result _ _ _ _ (live_as_they_are nodes schedule (texts c.args.words.now) as_they (c.run-answer.ensures.works (commands.Live nodes schedule false) spells)) c.tell.ensures))
 
+pub returns-clause-replanned : goal.returns-clause-replanned
+returns-clause-replanned g c = λ early nodes spells.
+    let files : c.files-1.given.0 ≡ c.run-answer.new.desk.files.now = search rules in
+    let out : c.out-1.given.0 ≡ c.run-answer.new.desk.out.now = search rules in
+    rw (c.status_of.ensures, files, out) (command_run _ _ c.run-answer.result _ _ _ _ (c.run-answer.ensures.works (commands.Replan early nodes) spells) c.tell.ensures)
+
 pub returns-clause-job : goal.returns-clause-job
 returns-clause-job g c = λ number spells.
     let files : c.files-1.given.0 ≡ c.run-answer.new.desk.files.now = search rules in

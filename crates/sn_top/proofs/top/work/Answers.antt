@@ -6,6 +6,7 @@ use Rattle.sn_command_detect.specs.Detects.{Detects}
 use Rattle.sn_command_emit.specs.Emit.{Emit}
 use Rattle.sn_command_finish.specs.Finish.{Finish}
 use Rattle.sn_command_live.specs.Live.{Plan}
+use Rattle.sn_command_replan.specs.Replan.{Replans}
 use Rattle.sn_command_run.specs.Run.{Run}
 use Rattle.sn_command.specs.Desks.{world}
 use Rattle.sn_command.specs.Runs.{WorksFrom}
@@ -46,6 +47,10 @@ work_many-requires g c = (c.in-Many.captures, subst (Spells (texts c.args.given.
 
 pub returns-in-Many : goal.returns-in-Many
 returns-in-Many g c = rw c.in-Many.is c.work_many.ensures
+
+pub returns-in-Replan : goal.returns-in-Replan
+returns-in-Replan g c =
+    rw c.in-Replan.is (of_four (λ (switch queries train capture : List ℕ). WorksFrom 2 (queries ∷ switch ∷ train ∷ capture ∷ []) (Replans switch queries train capture c.in-Replan.most c.in-Replan.nodes) (world g.I.Inputs g.O.Sink c.args.desk.now) c.replan.result (world g.I.Inputs g.O.Sink c.replan.new.desk)) c.word-first.ensures c.word-second.ensures c.word-third.ensures c.word-fourth.ensures c.replan.ensures)
 
 pub returns-in-Gen : goal.returns-in-Gen
 returns-in-Gen g c = rw c.in-Gen.is c.generate.ensures

@@ -1,0 +1,5 @@
+pub mod StandingLemmas
+pub mod BlockLemmas
+pub mod PlannedLemmas
+pub mod WorkLemmas
+pub mod ReplanLemmas

@@ -1,0 +1,8 @@
+//! The command `replan`: a capture is answered along plans that follow its traffic.
+#![tactic(auto)]
+
+pub mod answering;
+mod planned;
+pub mod replan;
+pub mod replanning;
+pub mod text;
