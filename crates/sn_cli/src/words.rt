@@ -2,7 +2,8 @@
 ghost use Rattle.std.specs.Prelude.{◌≡◌, IfOk, IsErr};
 ghost use Rattle.sn_cli.specs.declared.command.Command.{Command};
 ghost use Rattle.sn_cli.specs.Grammar.{Spells};
-ghost use Rattle.sn_cli.specs.Reading.{all_file_words, line_of, lone_number, bare_of, plan_of, run_of, live_of, many_of, replan_with, replan_of, command_with, command_of};
+ghost use Rattle.sn_cli.specs.Reading.{all_file_words, line_of, lone_number, bare_of, plan_of, run_of, live_of, many_of, replan_with, replan_of};
+ghost use Rattle.sn_cli.specs.Reading.{command_with, command_of};
 ghost use Rattle.sn_cli.specs.Words.{texts, is_file_word, word_at};
 
 use crate::command::{Command, WordFault};

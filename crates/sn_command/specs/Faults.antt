@@ -2,7 +2,8 @@
 -- The status of each fault.
 use Rattle.std.specs.Prelude.{ℕ}
 use Rattle.sn_command.specs.declared.fault.Fault.{Fault}
-use Rattle.sn_command.specs.declared.fault.Fault.TheVariants.{Queries, Switch, Head, Cut, Bad, HeadOf, CutOf, BadOf, Plan, Misfit, Tree, Unshown, Budget, Reports, TooLarge}
+use Rattle.sn_command.specs.declared.fault.Fault.TheVariants.{Queries, Switch, Head, Cut, Bad, HeadOf, CutOf, BadOf}
+use Rattle.sn_command.specs.declared.fault.Fault.TheVariants.{Plan, Misfit, Tree, Unshown, Budget, Reports, TooLarge}
 
 abbrev pub fault_status : Fault → ℕ
 fault_status (Queries fault) = 3

@@ -15,7 +15,8 @@ use Rattle.sn_command.specs.declared.fault.TextKind.TheVariants as texts
 use Rattle.sn_command.specs.declared.fault.TreeKind.{TreeKind}
 use Rattle.sn_command.specs.declared.fault.TreeKind.TheVariants as trees
 use Rattle.sn_command.specs.declared.fault.Fault.{Fault}
-use Rattle.sn_command.specs.declared.fault.Fault.TheVariants.{Queries, Switch, Head, Cut, Bad, HeadOf, CutOf, BadOf, Plan, Misfit, Tree, Unshown, Budget, Reports, TooLarge}
+use Rattle.sn_command.specs.declared.fault.Fault.TheVariants.{Queries, Switch, Head, Cut, Bad, HeadOf, CutOf, BadOf}
+use Rattle.sn_command.specs.declared.fault.Fault.TheVariants.{Plan, Misfit, Tree, Unshown, Budget, Reports, TooLarge}
 use Rattle.sn_command.specs.declared.refusal.Refusal.{Refusal}
 use Rattle.sn_command.specs.declared.refusal.Refusal.TheVariants.{Memory, Usage, Missing, ReadFault, WriteFault, Refused}
 

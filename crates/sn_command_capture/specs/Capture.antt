@@ -1,7 +1,7 @@
 -- to be believed
 -- The stages of an answered capture.
-use Rattle.std.specs.Prelude.{◌≡◌, ℕ, nat_lt, List, [], ◌∷◌, ◌++◌, Bool, true, false, ◌||◌, length, take, map, filter, Result, Ok, Err, Option, Some, None, is_none}
-use Rattle.std.specs.Prelude.{if◌then◌else◌}
+use Rattle.std.specs.Prelude.{◌≡◌, ℕ, nat_lt, List, [], ◌∷◌, ◌++◌, Bool, true, false, ◌||◌, length, take, map, filter, Result, Ok, Err, Option, Some, None}
+use Rattle.std.specs.Prelude.{is_none, if◌then◌else◌}
 use Rattle.std.specs.FinMap.{get}
 use Rattle.std.specs.List.{flat_map}
 use Rattle.std.specs.Option.{option_or}

@@ -11,6 +11,7 @@ some_none fault e = absurd cc
 -- windows that never stop do it in time
 pub never_stopped : (wording : Wording) → NeverStops wording → StopsInTime wording
 never_stopped wording never = record {
-  causal = λ closed number tuples more rising. never (closed ++ (number, tuples) ∷ more) number tuples ∙ sym (never (closed ++ (number, tuples) ∷ []) number tuples);
+  causal = λ closed number tuples more rising.
+      never (closed ++ (number, tuples) ∷ more) number tuples ∙ sym (never (closed ++ (number, tuples) ∷ []) number tuples);
   late = λ windows number tuples fault e. some_none fault (sym (never windows number tuples) ∙ e);
 }

@@ -11,6 +11,7 @@ use sn_detect::detect::Detect;
 use sn_detect::monotone::monotone;
 use sn_detect::stay::Stay;
 use sn_out::stays::{push_bound_line, push_stay_line};
+use sn_refine::members::place_of;
 use sn_types::typed::Typed;
 
 /// The column that has the addresses of a refined query.
@@ -18,7 +19,7 @@ fn column_in(t: &Typed, q: u32) -> Column
     requires { q < length t.now.queries }
     ensures { result ≡ column_in (query_at t.now.queries q) }
 {
-    let place = t.refine_column(q).unwrap_or(0) as usize;
+    let place = place_of(t, q) as usize;
     match t.final_schema(q).as_slice().get(place) {
         Some(column) => *column,
         None => Column {

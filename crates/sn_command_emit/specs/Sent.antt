@@ -96,4 +96,5 @@ abbrev pub no_lines : List Window → Ending → List ℕ
 no_lines windows ending = []
 
 abbrev pub frames_wording : Planned → Wording
-frames_wording p = record { first = []; block = frames_block p; stops = λ windows number tuples. None; unfinished = λ closed number tuples. []; last = no_lines }
+frames_wording p =
+    record { first = []; block = frames_block p; stops = λ windows number tuples. None; unfinished = λ closed number tuples. []; last = no_lines }

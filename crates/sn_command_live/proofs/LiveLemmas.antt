@@ -1,5 +1,5 @@
 -- The stages of `plan` and `live` have one outcome each.
-use Rattle.std.proofs.Common.{ℕ, List}
+use Rattle.std.proofs.Common.{ℕ, List, []}
 use Rattle.sn_command_capture.proofs.AnsweredLemmas.{one_answered}
 use Rattle.sn_command_search.proofs.Verdicts.{one_search}
 use Rattle.sn_command_texts.proofs.Verdicts.{one_queries, one_switch}
@@ -12,22 +12,22 @@ use Rattle.sn_command.proofs.OneLemmas.{one_does, one_judges, one_text, one_then
 use Rattle.sn_command_run.specs.TraceWording.{traced_wording}
 use Rattle.sn_command_training.specs.Training.{TrainingIn}
 use Rattle.sn_command_training.proofs.TrainingLemmas.{one_training}
-use Rattle.sn_command_live.specs.Live.{Certifies, Live, Plan, TracedLive, trained_windows}
+use Rattle.sn_command_live.specs.Live.{CertifiesAfter, Live, Plan, TracedLive, trained_windows}
 
-one_certifies : (switch queries train : List ℕ) (nodes : ℕ) → HasOne (Certifies switch queries train nodes)
-one_certifies switch queries train nodes =
+pub one_certifies : (before switch queries train : List ℕ) (nodes : ℕ) → HasOne (CertifiesAfter before switch queries train nodes)
+one_certifies before switch queries train nodes =
     one_then (one_text queries QueriesIn one_queries) (λ read.
     one_then (one_text switch SwitchIn one_switch) (λ limits.
     one_then (one_text train (TrainingIn (window_ns read)) (one_training (window_ns read))) (λ training.
     one_then (one_judges (one_search limits read.queries (trained_windows training) nodes)) (λ certificate. one_does _))))
 
 pub one_plan_run : (switch queries train : List ℕ) (nodes : ℕ) → HasOne (Plan switch queries train nodes)
-one_plan_run switch queries train nodes = one_then (one_certifies switch queries train nodes) (λ found. one_does _)
+one_plan_run switch queries train nodes = one_then (one_certifies [] switch queries train nodes) (λ found. one_does _)
 
 pub one_live_run : (told : Telling) (switch queries train capture : List ℕ) (nodes : ℕ) → HasOne (Live told switch queries train capture nodes)
 one_live_run told switch queries train capture nodes =
-    one_then (one_certifies switch queries train nodes) (λ found. one_answered (told_wording told (planned found.read found.limits found.certificate.plan)) (window_ns found.read) capture)
+    one_then (one_certifies [] switch queries train nodes) (λ found. one_answered (told_wording told (planned found.read found.limits found.certificate.plan)) (window_ns found.read) capture)
 
 pub one_traced_run : (schedule : ℕ) (told : Telling) (switch queries train capture : List ℕ) (nodes : ℕ) → HasOne (TracedLive schedule told switch queries train capture nodes)
 one_traced_run schedule told switch queries train capture nodes =
-    one_then (one_certifies switch queries train nodes) (λ found. one_answered (traced_wording schedule (planned found.read found.limits found.certificate.plan) told) (window_ns found.read) capture)
+    one_then (one_certifies [] switch queries train nodes) (λ found. one_answered (traced_wording schedule (planned found.read found.limits found.certificate.plan) told) (window_ns found.read) capture)

@@ -48,8 +48,8 @@ pub fn certify_after<I: Inputs, O: Sink>(
     nodes: u32,
     desk: &mut Desk<'_, I, O>,
 ) -> Result<Certified, Refusal>
-    ensures works { WorksFrom 2 (queries.now ∷ switch.now ∷ train.now ∷ []) (CertifiesAfter before.now switch.now queries.now train.now nodes) (world I.Inputs O.Sink desk.old)
-        (seen_as searched_of result) (world I.Inputs O.Sink desk.new) }
+    ensures works { WorksFrom 2 (queries.now ∷ switch.now ∷ train.now ∷ []) (CertifiesAfter before.now switch.now queries.now train.now nodes)
+        (world I.Inputs O.Sink desk.old) (seen_as searched_of result) (world I.Inputs O.Sink desk.new) }
     ensures limits { IfOk result (λ c. IsSwitch c.limits) }
     ensures fits { IfOk result (λ c. Fits c.typed.queries c.limits c.certificate.plan.entries) }
 {

@@ -3,3 +3,4 @@ pub mod BlockLemmas
 pub mod PlannedLemmas
 pub mod WorkLemmas
 pub mod ReplanLemmas
+pub mod OneLemmas

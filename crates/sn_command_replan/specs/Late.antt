@@ -40,7 +40,8 @@ module _ (f : Followed) where
   refused_late plan before (w ∷ v ∷ more) fault e =
       let now : List Window = before ++ w ∷ [] in
       by_test (is_over f.queries f.limits.chain entries_of (planned_on f) f.most plan now w.0)
-      (λ over. then_late plan now (λ next. from next [] (v ∷ more)) (planned_on f w) (planned_late w) (λ next other k. refused_late next [] (v ∷ more) other k) fault
+      (λ over. then_late plan now (λ next. from next [] (v ∷ more)) (planned_on f w) (planned_late w)
+      (λ next other k. refused_late next [] (v ∷ more) other k) fault
       (sym (ap (λ b. (if b then then_from (span plan now) (λ next. from next [] (v ∷ more)) (planned_on f w) else from plan now (v ∷ more)).refused) over) ∙ e))
       (λ on. refused_late plan now (v ∷ more) fault
       (sym (ap (λ b. (if b then then_from (span plan now) (λ next. from next [] (v ∷ more)) (planned_on f w) else from plan now (v ∷ more)).refused) on) ∙ e))

@@ -2,6 +2,7 @@
 #![tactic(auto)]
 
 pub mod answering;
+pub mod law;
 mod planned;
 pub mod replan;
 pub mod replanning;

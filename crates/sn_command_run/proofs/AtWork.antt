@@ -1,5 +1,5 @@
 -- A plan at work whose machine is watched and given one supply more, over plain values.
-use Rattle.std.proofs.Common.{◌≡◌, ℕ, zero, suc, ◌<◌, ◌&&◌, List, [], ◌∷◌, ◌++◌, Option, None, true, is_none, inl, inr, refl, ap, sym, subst, ◌∙◌, arith}
+use Rattle.std.proofs.Common.{◌≡◌, ℕ, ◌<◌, ◌&&◌, List, [], ◌∷◌, ◌++◌, Option, None, is_none, inl, inr, ap, sym, subst, ◌∙◌, arith}
 use Rattle.std.specs.Prelude.{length}
 use Rattle.std.proofs.lemmas.Bool.{lt-ltb}
 use Rattle.sn_command_capture.specs.Gathering.{all_of}
@@ -14,7 +14,7 @@ use Rattle.sn_core.specs.declared.supply.Supply.{Supply}
 use Rattle.sn_core.specs.declared.supply.Supply.TheVariants.{Numbered, End}
 use Rattle.sn_core.specs.declared.supply.Window.{Window as At}
 use Rattle.sn_core.specs.declared.supply.Window.TheVariants.{Begun, Idle}
-use Rattle.sn_core_drive.specs.Schedules.{IsRun, is_still}
+use Rattle.sn_core_drive.specs.Schedules.{IsRun}
 use Rattle.sn_core_drive.specs.declared.machine.Machine.{Ghosts as MachineOf}
 use Rattle.sn_core_drive.specs.declared.note.Note.{Note}
 use Rattle.sn_core_net.specs.States.{State, Works}
@@ -25,7 +25,7 @@ use Rattle.sn_command_run.proofs.AlongLemmas.{rising_again}
 use Rattle.sn_command_run.proofs.HandLemmas.{all_emitted, used_earlier, used_end}
 use Rattle.sn_core_trace.specs.Lines.{lines_of}
 use Rattle.sn_core_trace.specs.Plain.{plain_state}
-use Rattle.sn_core_trace.specs.Turns.{Turns, Watch, events_in, no_turn, parted, turns, turns_on, up_to_close, watch_on, watched_on}
+use Rattle.sn_core_trace.specs.Turns.{Turns, Watch, events_in, no_turn, parted, turns_on, up_to_close, watch_on, watched_on}
 use Rattle.sn_types.specs.declared.answers.Answers.{Answers}
 use Rattle.sn_command_run.specs.TraceWatching.{IsAtWork, IsIdle, IsWatched}
 use Rattle.sn_command_run.specs.TraceWording.{behind_windows, lines_before, lines_behind, works_of}

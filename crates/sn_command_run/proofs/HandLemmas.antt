@@ -1,8 +1,7 @@
 -- A plan whose machine is given tuple after tuple, over plain values.
-use Rattle.std.proofs.Common.{◌≡◌, ℕ, ◌+◌, ◌<◌, List, [], ◌∷◌, ◌++◌, map, Option, None, Some, Result, Ok, Err, inl, inr, true, refl, ap, sym, subst, ◌∙◌, arith}
+use Rattle.std.proofs.Common.{◌≡◌, ℕ, ◌+◌, ◌<◌, List, [], ◌∷◌, ◌++◌, map, Option, None, Some, inl, inr, true, refl, ap, sym, subst, ◌∙◌, arith}
 use Rattle.std.specs.Prelude.{◌≤◌, is_none, length}
 use Rattle.std.specs.List.{AllByRecursion}
-use Rattle.std.specs.Result.{OnOk}
 use Rattle.sn_base.proofs.Lists.{all_append, all_weaker}
 use Rattle.sn_command_capture.proofs.RisingLemmas.{rising_next}
 use Rattle.sn_command_capture.specs.Gathering.{all_of}

@@ -1,6 +1,6 @@
 -- serves proofs
 -- What is kept of a plan that answers the windows of a capture by a machine.
-use Rattle.std.specs.Prelude.{◌≡◌, ℕ, ◌<◌, List, [], ◌∷◌, ◌++◌, map, sum, length, Option, None, Some}
+use Rattle.std.specs.Prelude.{◌≡◌, ℕ, ◌<◌, List, [], ◌∷◌, ◌++◌, map, sum, length, Option, None}
 use Rattle.std.specs.List.{AllByRecursion, flat_map}
 use Rattle.sn_command_capture.specs.Gathering.{all_of}
 use Rattle.sn_windows.specs.Rising.{AreRising, Window}

@@ -64,7 +64,8 @@ abbrev pub plan_lines : Planned → List Window → Ending → List ℕ
 plan_lines p windows ending = damage_line ending ++ total_line (length windows) (Some (emitted_in p windows))
 
 abbrev pub plan_wording : Planned → Wording
-plan_wording p = record { first = []; block = plan_block p; stops = λ windows number tuples. None; unfinished = λ closed number tuples. []; last = plan_lines p }
+plan_wording p =
+    record { first = []; block = plan_block p; stops = λ windows number tuples. None; unfinished = λ closed number tuples. []; last = plan_lines p }
 
 -- the same, where the answers are reported
 abbrev pub told_block : Telling → Planned → List Window → ℕ → List (List ℕ) → List ℕ

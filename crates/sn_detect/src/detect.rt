@@ -16,12 +16,12 @@ ghost use Rattle.sn_windows.specs.Rising.{IsAbove};
 
 use crate::finding::stays_of;
 use crate::look::Look;
-use crate::rows::column;
 use crate::stay::Stay;
 use sn_base::memory::Memory;
 use sn_base::seq::Seq;
 use sn_base::short_row::ShortRow;
 use sn_fields::tuple::Tuple;
+use sn_refine::members::{column, place_of};
 use sn_refine::refined::{Refined, first_rows};
 use sn_types::typed::Typed;
 use std::alloc::Global;
@@ -64,7 +64,7 @@ fn addresses(alloc: Global, t: &Typed, q: u32, rows: &[ShortRow]) -> Result<Seq<
     requires { q < length t.now.queries }
     ensures { IfOk result (λ numbers. numbers ≡ column_of (query_at t.now.queries q) rows.now) }
 {
-    let place = t.refine_column(q).unwrap_or(0) as usize;
+    let place = place_of(t, q);
     let mut numbers = Seq::new(alloc);
     for row in rows {
         numbers.push(column(row, place))?;

@@ -4,11 +4,11 @@ ghost use Rattle.sn_detect.specs.Finding.{begun, event, events_of, found_on, fro
 ghost use Rattle.sn_detect.specs.Finding.{with_event, with_held, with_told};
 
 use crate::look::Look;
-use crate::rows::column;
 use crate::stay::Stay;
 use sn_base::memory::Memory;
 use sn_base::seq::Seq;
 use sn_base::short_row::ShortRow;
+use sn_refine::members::column;
 use sn_refine::refined::sorted;
 use std::alloc::Global;
 

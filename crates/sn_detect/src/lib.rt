@@ -6,5 +6,4 @@ mod finding;
 pub mod law;
 pub mod look;
 pub mod monotone;
-mod rows;
 pub mod stay;

@@ -99,7 +99,8 @@ impl Engine {
 
     /// The engine of a plan that several switches run. Each stops in a branch at the first operator that has registers, and what it
     /// sends of this operator has its number: rows of an overflow and the rows that a distinct saw first as `At`, what a reduce
-    /// holds as `Partial`. Nothing has come, and no window was closed.
+    /// holds as `Partial`. Where no operator before the cut has registers, a switch sends the rows that come to the cut, as `At` the cut.
+    /// Nothing has come, and no window was closed.
     pub fn make_many(alloc: Global, t: &Typed, plan: &Plan) -> Result<Engine, Memory>
         requires { HasShape t.now.queries plan.now.entries }
         ensures queries { IfOk result (λ engine. engine.t.queries ≡ t.now.queries) }

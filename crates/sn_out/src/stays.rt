@@ -92,7 +92,8 @@ fn push_bound(text: &mut Vec<u8>, bound: bool) -> Result<(), Memory>
     push_bytes(text, b"\n")
 }
 
-/// Adds the line of a query: its name, the number of its levels, and whether the bound on the delay holds.
+/// Adds the line of a query: its name, the number of levels of its path in the plan, and whether the bound on the delay holds, that
+/// is, whether the query is monotone.
 pub fn push_bound_line(
     text: &mut Vec<u8>,
     name: &Name,
@@ -133,7 +134,8 @@ fn push_printed(text: &mut Vec<u8>, printed: Option<u64>) -> Result<(), Memory>
     push_bytes(text, b"\n")
 }
 
-/// Adds the line of a stay: an address of this column, its first and last window, and the one in which it was printed.
+/// Adds the line of a stay: an address of this column, its first and last window, and the one in which it was printed; `None` is
+/// `never`.
 pub fn push_stay_line(
     text: &mut Vec<u8>,
     column: &Column,

@@ -12,8 +12,8 @@ use sn_base::short_row::ShortRow;
 use sn_types::typed::Typed;
 use std::alloc::Global;
 
-/// The column at a place, and 0 where there is none.
-fn column(row: &ShortRow, place: u32) -> u64
+/// The number of a row in the column at a place, and 0 where there is none.
+pub fn column(row: &ShortRow, place: u32) -> u64
     ensures { result ≡ slice_index row.now place }
 {
     match row.get(place as usize) {
@@ -22,8 +22,8 @@ fn column(row: &ShortRow, place: u32) -> u64
     }
 }
 
-/// The place of the refinement column, and the first where the query isn't refined.
-fn place_of(t: &Typed, q: u32) -> u32
+/// The place of a query's refinement column, and the first where the query isn't refined.
+pub fn place_of(t: &Typed, q: u32) -> u32
     requires { q < length t.now.queries }
     ensures { result ≡ unwrap_or (query_at t.now.queries q).column 0 }
 {
