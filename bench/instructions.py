@@ -2,7 +2,8 @@
 """Counts the instructions that `sonata plain` and the C program take for each packet, by callgrind of valgrind.
 
 Other programs on the machine don't disturb this count. With --queries the given query files are counted on sonata alone, and with --parts it is told where
-the instructions go, by the names of functions; what the compiler took into another function counts there. Needs valgrind, a C compiler and libpcap-dev."""
+the instructions go, by the names of functions; what the compiler took into another function counts there. With --following `live` and `replan` are counted on
+sonata alone, as bench/plans.py measures them, but trained on 2000 packets. Needs valgrind, a C compiler and libpcap-dev."""
 
 import argparse
 import os
@@ -12,6 +13,7 @@ import subprocess
 import sys
 import tempfile
 
+import plans
 import run
 
 
@@ -49,6 +51,14 @@ def parts(folder):
     return found
 
 
+def following(given, folder):
+    """The instructions of `live` and of `replan` for each packet, without those of the plan that both make first."""
+    for kind in ('few', 'many'):
+        plan, live, replan = (counted([os.path.abspath(given.sonata), *words], folder) for words in plans.following_words(kind, given, folder, 2000).values())
+        print('%s: live %.0f instructions a packet, replan %.0f, ratio %.2f; with the plan %.2f'
+              % (kind, (live - plan) / given.packets, (replan - plan) / given.packets, (replan - plan) / (live - plan), replan / live), flush=True)
+
+
 def words_given():
     words = argparse.ArgumentParser(description=__doc__, formatter_class=argparse.RawDescriptionHelpFormatter)
     words.add_argument('--sonata', default=run.USUAL, help='the program to measure (default: the one that this clone built)')
@@ -56,6 +66,7 @@ def words_given():
     words.add_argument('--number', type=int, default=7, help='the number from which the captures are drawn')
     words.add_argument('--parts', action='store_true', help='tell where the instructions go')
     words.add_argument('--queries', nargs='+', help='query files to count on sonata alone')
+    words.add_argument('--following', action='store_true', help='count `live` and `replan` where no plan changes')
     return words.parse_args()
 
 
@@ -65,6 +76,9 @@ def main():
         print('skipped: no valgrind')
         return 0
     with tempfile.TemporaryDirectory(prefix='sonata-bench-') as folder:
+        if given.following:
+            following(given, folder)
+            return 0
         baseline = None if given.queries else run.build('baseline', folder, '-lpcap')
         for kind in ('few', 'many'):
             capture = run.generate(kind, given.packets, given.number, folder)

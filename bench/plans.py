@@ -7,6 +7,8 @@ along     `run`, `emit` and `finish` with the queries of three.query and the pla
           are compared with those of `plain`, and the text of `run` with that of switch.c, which does by hand what this plan says.
 late      `detect` with the same queries, along the plan of full.plan, whose paths have one level, and along paths of two. It answers each query twice, in one
           reading.
+following `replan` where no plan changes, whatever comes too early, against `live`, with the same queries, the switch of full.switch, and a training capture of
+          20000 packets. Both make the same plan first; what they take beyond `plan` is the answering alone. The texts are compared.
 training  `plan` and `check` with the queries and the switch of the generated job, at several sizes of the capture. `plan --nodes 1` ends behind the cost
           table, so it is the training alone, and what `plan` takes beyond it is the search and the printing of the tree.
 job       `job 7` against `plain` with its queries on the capture of 8.
@@ -32,7 +34,7 @@ EIGHT = 'window 1000000\n' + ''.join('query q%d { refine ip.dst: 8, 16, 24, 32; 
 # The three queries of three.query at a coarse level and the finest one.
 TWO_LEVELS = 'plan\n' + ''.join('query %s path 8, 32;\n' % name + ''.join('piece %d %d cut 0;\n' % (level, branch) for level in (8, 32) for branch in range(branches))
                                 for name, branches in (('newconn', 1), ('spread', 1), ('slow', 2)))
-GOALS = {('detect', 'plain'): 2.2, ('run', 'plain'): 2, ('emit', 'plain'): 2, ('run', 'emit'): 1.2, ('run fitting', 'plain'): 2, ('emit fitting', 'plain'): 2, ('run fitting', 'emit fitting'): 1.2, ('training', 'plain'): 15, ('job', 'plain'): 40}
+GOALS = {('detect', 'plain'): 2.2, ('run', 'plain'): 2, ('emit', 'plain'): 2, ('run', 'emit'): 1.2, ('run fitting', 'plain'): 2, ('emit fitting', 'plain'): 2, ('run fitting', 'emit fitting'): 1.2, ('training', 'plain'): 15, ('job', 'plain'): 40, ('replan', 'live'): 1.1}
 
 sys.path.insert(0, CHECKS)
 import program  # noqa: E402
@@ -136,6 +138,32 @@ def late(given, measurer, folder):
     return good
 
 
+def following_words(kind, given, folder, trained=20000):
+    """The words of `plan`, `live` and `replan` for a generated capture, trained on a small one of its kind. No number of items is over the greatest one."""
+    train = os.path.join(folder, 'train.pcap')
+    os.rename(run.generate(kind, trained, given.number + 1, folder), train)
+    three, capture = (SWITCH, run.QUERIES, train), run.generate(kind, given.packets, given.number, folder)
+    return {'plan': ['plan', *three], 'live': ['live', *three, capture], 'replan': ['replan', *three, capture, '4294967295']}
+
+
+def following(given, measurer, folder):
+    """Whether `replan` answers what `live` does."""
+    good = True
+    for kind in given.kinds:
+        part = Part(given, measurer, folder, 'following the traffic, %s: %d packets' % (kind, given.packets))
+        for label, words in following_words(kind, given, folder).items():
+            part.add(label, *words)
+        run.read_once(part.words['live'][-1])
+        part.measure()
+        part.tell(given.packets, over='live')
+        plan, live, replan = (part.found[label].seconds for label in ('plan', 'live', 'replan'))
+        print('  what replan takes beyond the plan, over what live does: %.2f' % ((replan - plan) / max(1e-6, live - plan)))
+        equal = run.bytes_of(part.outs['replan']) == b'epoch 0\n' + run.bytes_of(part.outs['live'])
+        print('  answers %s, statuses %s' % ('equal' if equal else 'DIFFER', sorted({one.status for one in part.found.values()})))
+        good = good and equal
+    return good
+
+
 def written(folder, name, text):
     path = os.path.join(folder, name)
     with open(path, 'w') as file:
@@ -204,18 +232,18 @@ def reading(given, measurer, folder):
     return run.bytes_of(part.outs['plan']) == run.bytes_of(part.outs['reading'])
 
 
-PARTS = {'along': (along, {'run'}), 'late': (late, {'detect'}), 'training': (training, {'plan'}), 'job': (job, {'job', 'gen'}), 'search': (search, {'plan'}), 'reading': (reading, {'plan'})}
+PARTS = {'along': (along, {'run'}), 'late': (late, {'detect'}), 'following': (following, {'live', 'replan'}), 'training': (training, {'plan'}), 'job': (job, {'job', 'gen'}), 'search': (search, {'plan'}), 'reading': (reading, {'plan'})}
 
 
 def words_given():
     words = argparse.ArgumentParser(description=__doc__, formatter_class=argparse.RawDescriptionHelpFormatter)
     words.add_argument('parts', nargs='*', metavar='PART', default=['along', 'training', 'job'], help='of %s (default: along training job)' % ', '.join(PARTS))
     words.add_argument('--sonata', default=run.USUAL, help='the program to measure (default: the one that this clone built)')
-    words.add_argument('--packets', type=int, default=1000000, help='packets of each capture of `along` and `late`')
+    words.add_argument('--packets', type=int, default=1000000, help='packets of each answered capture of `along`, `late` and `following`')
     words.add_argument('--training', type=int, nargs='+', default=[20000, 2000000], metavar='PACKETS', help='packets of training captures (default 20000 2000000)')
     words.add_argument('--number', type=int, default=7, help='the number from which the captures are drawn')
     words.add_argument('--runs', type=int, default=5, help='runs of each command; the least processor time counts (above 500000 packets of training it is one)')
-    words.add_argument('--kinds', nargs='+', default=['few', 'many'], choices=['few', 'many'], help='captures of `along` and `late`')
+    words.add_argument('--kinds', nargs='+', default=['few', 'many'], choices=['few', 'many'], help='captures of `along`, `late` and `following`')
     words.add_argument('--keep', metavar='FOLDER', help='put outputs there, and leave them')
     given = words.parse_args()
     if set(given.parts) - set(PARTS):

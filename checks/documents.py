@@ -23,7 +23,7 @@ PAIR = re.compile(r'```(query|refused)\n(.*?)```\n+```(answer|line)\n(.*?)```', 
 BLOCK = re.compile(r'```sh\n(.*?)```(?:\n+```shows\n(.*?)```)?', re.S)
 # (the README and those around plans: blocks of other kinds than sh, as bash, aren't run)
 SESSIONS = ['README.md', 'FORMATS.md', 'PLANS.md', 'TOUR.md', 'SCALE.md']
-COMMAND = re.compile(r'\bsonata (plain|plan|run|emit|finish|detect|check|live|gen|job) [^-|;&>\n]+( --csv)?')
+COMMAND = re.compile(r'\bsonata (plain|plan|run|emit|finish|detect|many|check|live|replan|gen|job) [^-|;&>\n]+( --csv)?')
 TOOLS = re.compile(r'^(?:.*\| *)?(editcap|mergecap|reordercap|psql|xxd|jq|tcpdump) ', re.M)
 DASK = re.compile(r'examples/scale/(?:parts|rest)\.py')
 PICTURE = re.compile(r'^/usr/bin/python3 \S*view/(?:layout|tree|emitted|answers|report)\.py .*\n', re.M)

@@ -5,7 +5,8 @@ Each recipe makes its capture in network namespaces of its own (it needs root, t
 where a row of the query begins with the addresses of the attack and ends with a number that the recipe allows. In peace no query may have a row.
 
 Then the refined queries of refined/, on captures that recipes/written.py writes: the program must find the plans that stand there, check them, and find
-each attack by them, no later than a window for each further level. Where the program has no plans, these are skipped. --only-refined needs no root."""
+each attack by them, no later than a window for each further level. Where the program has no plans, these are skipped. Then the days of turning/, on which
+`run` and `live` must send what yesterday's plan sends, and `replan` what plans send that follow the traffic. --only-refined needs no root."""
 
 import argparse
 import os
@@ -34,6 +35,11 @@ ATTACKS = [
     ('ttl_anomalies', 'mixed_ttl', ['10.77.0.50', '64', '113'], 3, 176, 176),
     ('ttl_anomalies', 'low_ttl', ['10.77.0.1'], 1, 3, 15),
 ]
+
+TURNING = os.path.join(HERE, 'turning')
+# Switch, day, how many items may be too early, what yesterday's plan sends of today, what plans send that follow the traffic, and how many these are. The first
+# day is counted by hand in docs/PLANS.md, the second by the reading in checks/reference.
+DAYS = [('few', 'few-', 3, 96, 78, 2), ('turning', '', 290, 4844, 3572, 2)]
 
 
 def make(recipe, folder):
@@ -91,10 +97,14 @@ def try_peace(program, name, folder):
     return not loud
 
 
+def has_words(program, *words):
+    """Whether the program has these words as a command. One without it answers them with status 2."""
+    return subprocess.run([program, *words], capture_output=True).returncode != 2
+
+
 def has_plans(program):
-    """Whether the program has the commands around plans. One without them answers their words with status 2."""
-    return all(subprocess.run([program, name, *['no such file'] * files], capture_output=True).returncode != 2
-               for name, files in (('plan', 3), ('check', 4), ('run', 4)))
+    """Whether the program has the commands around plans."""
+    return all(has_words(program, name, *['no such file'] * files) for name, files in (('plan', 3), ('check', 4), ('run', 4)))
 
 
 def refined(name, kind):
@@ -143,11 +153,37 @@ def try_refined(program, folder):
     return good + [try_planned_attack(program, attack, kind, captures[attack[0]]) for attack in ATTACKS for kind in ('quiet', 'attack')]
 
 
+def try_day(program, folder, name, day, most, along, following, plans):
+    """Whether `run`, `live` and `replan` send of a day what they should."""
+    switch, queries, yesterday, today = (os.path.join(TURNING, name + '.switch'), os.path.join(TURNING, 'turning.query'),
+                                         os.path.join(folder, day + 'yesterday.pcap'), os.path.join(folder, day + 'today.pcap'))
+    plan = os.path.join(folder, name + '.plan')
+    with open(plan, 'w') as file:
+        file.write(output(program, 'plan', switch, queries, yesterday))
+    found = {'run': output(program, 'run', switch, queries, plan, today), 'live': output(program, 'live', switch, queries, yesterday, today),
+             'replan': output(program, 'replan', switch, queries, yesterday, today, str(most))}
+    sent = {command: int(text.split()[-1]) for command, text in found.items()}
+    epochs = sum(line.startswith('epoch ') for line in found['replan'].splitlines())
+    good = sent == {'run': along, 'live': along, 'replan': following} and epochs == plans
+    told = ', '.join('%s sends %d' % one for one in sent.items())
+    print('%-17s %-17s %s' % ('turning', name, '%s along %d plans' % (told, epochs) if good else 'NOT AS IT STANDS: ' + told))
+    return good
+
+
+def try_turning(program, folder):
+    """Try the days that turn, on captures that are written into a folder."""
+    if not has_plans(program) or not has_words(program, 'replan', *['no such file'] * 4, '0'):
+        print('days that turn: skipped, the program has no replan')
+        return []
+    subprocess.run([sys.executable, os.path.join(HERE, 'recipes', 'turning.py'), folder], check=True)
+    return [try_day(program, folder, *day) for day in DAYS]
+
+
 def main():
     words = argparse.ArgumentParser(description=__doc__, formatter_class=argparse.RawDescriptionHelpFormatter)
     words.add_argument('--sonata', default=USUAL, help='the program (default: the one that this clone built)')
     words.add_argument('--captures', metavar='FOLDER', help='use the captures there, and leave those that are made')
-    words.add_argument('--only-refined', action='store_true', help='try the refined queries alone')
+    words.add_argument('--only-refined', action='store_true', help='try the refined queries and the days that turn alone')
     given = words.parse_args()
     with tempfile.TemporaryDirectory(prefix='sonata-examples-') as passing:
         folder, good = given.captures or passing, []
@@ -156,6 +192,7 @@ def main():
             good += [try_attack(given.sonata, attack, folder) for attack in ATTACKS]
             good += [try_peace(given.sonata, name, folder) for name in dict.fromkeys(attack[0] for attack in ATTACKS)]
         good += try_refined(given.sonata, os.path.join(passing, 'written'))
+        good += try_turning(given.sonata, os.path.join(passing, 'turning'))
     print('%d of %d as they should be' % (sum(good), len(good)))
     return 0 if all(good) else 1
 

@@ -5,8 +5,8 @@
     answers.py answers.csv --queries QUERIES --level 32 -o answers.svg
     sonata plain QUERIES CAPTURE | answers.py - -o answers.svg
 
-Printed answers are read too: those of `plain`, `run` and `finish`. The axis goes from window 0 to the last one, whether it has a row or not. CSV doesn't
-tell of windows without a row: --windows says how many there are.
+Printed answers are read too: those of `plain`, `run`, `finish`, `many`, `live` and `replan`. The axis goes from window 0 to the last one, whether it has a row or
+not. CSV doesn't tell of windows without a row: --windows says how many there are.
 
 A row's last column is its number, where it has more than one, and gives the darkness of its square, from the query's least number to its greatest. Where
 there are more than 800 windows a square stands for several, by the greatest of their numbers. Its key

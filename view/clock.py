@@ -1,5 +1,5 @@
 #!/usr/bin/env python3
-"""Gives answers clock times: a filter over what `plain`, `run`, `run --csv`, `finish` and `live` print.
+"""Gives answers clock times: a filter over what `plain`, `run`, `run --csv`, `finish`, `many`, `live` and `replan` print.
 
     sonata run SWITCH QUERIES PLAN CAPTURE | clock.py --capture CAPTURE --queries QUERIES
     clock.py today.txt --capture today.pcap --queries tour.query --local --greatest
@@ -19,7 +19,7 @@ import times
 
 
 def timed_text(lines, clock, greatest):
-    """The lines of printed answers, with times at the windows. The plan and the tree before those of `live` stay."""
+    """The lines of printed answers, with times at the windows. The plans and trees of `live` and `replan` stay."""
     ahead = False
     for line in lines:
         words = line.split()
@@ -33,7 +33,7 @@ def timed_text(lines, clock, greatest):
             yield line
             rows = list(itertools.islice(lines, int(words[5])))
             yield from (sorted(rows, key=last_number) if greatest else rows)
-        elif words[:1] in (['total'], ['capture'], ['event']):
+        elif words[:1] in (['total'], ['capture'], ['event'], ['epoch']):
             yield line
         else:
             raise ValueError

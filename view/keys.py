@@ -9,7 +9,7 @@
 Keys are those of the finest level of each query, its own in the query file's order and the first to be answered first. The times are those at which the
 first window begins and the last one ends, so what was found may begin and end up to a window inside of them, and outside where it was below the query's
 threshold: packets.py tells the times of its packets. A key is the keys of a query's join or last reduce, and the number is its last column. Answers are
-those of `plain`, `run`, `finish` and `live`, and CSV. Needs nothing but Python."""
+those of `plain`, `run`, `finish`, `many`, `live` and `replan`, and CSV. Needs nothing but Python."""
 
 import argparse
 import sys

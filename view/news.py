@@ -5,7 +5,7 @@
     sonata live .. | news.py - --queries tour.query --first 1794268800 --known known.json --days 7
 
 A key is new where KNOWN doesn't have it, or had it last more than --days ago. KNOWN is written again, with this answer's keys; where it isn't there, all
-keys are new. Answers are those of `plain`, `run`, `finish` and `live`, and CSV. Needs nothing but Python."""
+keys are new. Answers are those of `plain`, `run`, `finish`, `many`, `live` and `replan`, and CSV. Needs nothing but Python."""
 
 import argparse
 import json

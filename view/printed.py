@@ -1,4 +1,4 @@
-"""Reads what `sonata` answered: printed answers of `plain`, `run`, `finish` and `live`, or the CSV of `run --csv`."""
+"""Reads what `sonata` answered: printed answers of `plain`, `run`, `finish`, `many`, `live` and `replan`, or the CSV of `run --csv`."""
 
 import csv
 import itertools
@@ -28,19 +28,25 @@ def passed_on(name, write):
         os.dup2(os.open(os.devnull, os.O_WRONLY), sys.stdout.fileno())
 
 
+def without_plans(lines):
+    """Lines of answers, an iterator, without the plans and trees that stand before or between them, and without the lines of epochs."""
+    for line in lines:
+        if line == 'plan\n':
+            # (this reads on up to that line)
+            if 'done\n' not in lines:
+                raise ValueError
+        elif not line.startswith('epoch '):
+            yield line
+
+
 def blocks(file):
     """The answers in order: for each window its number alone, and for each query and level of it the rows. CSV tells neither windows without a row nor
     queries without one."""
     first = file.readline()
-    if first == 'plan\n':
-        for line in file:
-            if line == 'done\n':
-                break
-        first = file.readline()
     if first.startswith(HEADING):
         yield from csv_blocks(csv.reader(file))
     else:
-        yield from text_blocks(line.split() for line in itertools.chain([first], file))
+        yield from text_blocks(line.split() for line in without_plans(itertools.chain([first], file)))
 
 
 def csv_blocks(records):

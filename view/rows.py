@@ -1,5 +1,5 @@
 #!/usr/bin/env python3
-"""Writes answers as JSON lines for jq, one for each row: a filter over what `plain`, `run`, `finish` and `run --csv` print.
+"""Writes answers as JSON lines for jq, one for each row: a filter over what `plain`, `run`, `finish`, `many`, `live`, `replan` and `run --csv` print.
 
     sonata run SWITCH QUERIES PLAN CAPTURE | rows.py --queries QUERIES | jq -c 'select(.query == "opened" and .n > 500)'
     rows.py today.csv --queries tour.query --capture today.pcap | jq -r '[.time, .d, .n] | @tsv'

@@ -1,10 +1,15 @@
-"""The texts that the pictures read (queries, switch, plan, tree), by the reader of checks/reference. Nothing here is proved."""
+"""The texts that the pictures read (queries, switch, plan, tree, the epochs of `replan`), by the reader of checks/reference. Nothing here is proved."""
 
+import collections
 import os
+import re
 import sys
 
 sys.path.insert(0, os.path.join(os.path.dirname(os.path.abspath(__file__)), '..', 'checks'))
 from reference import costs, grammar, plans, switches, tokens, typing_rules  # noqa: E402
+
+
+Epoch = collections.namedtuple('Epoch', 'number entries cost windows')
 
 
 def held(name):
@@ -50,6 +55,25 @@ def read_certificate(name):
         reader = costs.TreeReader(text)
         return reader.plan(), *reader.tree()
     return accepted(name, read)
+
+
+def epoch_of(text):
+    """The epoch of a text that begins with its number: the entries of its plan, what that costs, and its windows, each with the number of tuples sent."""
+    head, _, answers = text.partition(b'\ndone\n')
+    number, _, plan = head.partition(b'\n')
+    cost = re.search(rb'^cost (\d+);$', plan, re.M)
+    if cost is None:
+        raise tokens.Fault('Expected', 1)
+    windows = re.findall(rb'^window (\d+) emitted (\d+)$', answers, re.M)
+    return Epoch(int(number), plans.parse(plan), int(cost[1]), [(int(window), int(sent)) for window, sent in windows])
+
+
+def read_epochs(name):
+    """The epochs of what `replan` printed."""
+    found = accepted(name, lambda text: [epoch_of(part) for part in re.split(rb'^epoch ', text, flags=re.M)[1:]])
+    if not found:
+        sys.exit('%s: not what `sonata replan` prints' % name)
+    return found
 
 
 def shaped(queries, entries):

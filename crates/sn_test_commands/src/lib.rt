@@ -8,6 +8,8 @@ mod checks;
 #[cfg(test)]
 mod commands;
 #[cfg(test)]
+mod epochs;
+#[cfg(test)]
 mod files;
 #[cfg(test)]
 mod finishing;

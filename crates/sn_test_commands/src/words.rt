@@ -5,7 +5,7 @@ use std::alloc::Global;
 use std::test::Fail;
 
 /// Each command, its options in any order, and the ends of the ranges of numbers.
-const SPELT: [(&str, Command); 22] = [
+const SPELT: [(&str, Command); 24] = [
     ("plain,q,c", Command::Plain),
     ("plan,s,q,t", Command::Plan { nodes: 100_000 }),
     ("run,s,q,p,c", Command::Run { csv: false }),
@@ -15,6 +15,20 @@ const SPELT: [(&str, Command); 22] = [
     ("detect,q,p,c", Command::Detect),
     ("many,s,q,p,c,d", Command::Many { captures: 2 }),
     ("many,s,q,p,c,c,c,c,c,c,c,c", Command::Many { captures: 8 }),
+    (
+        "replan,s,q,t,c,0",
+        Command::Replan {
+            most: 0,
+            nodes: 100_000,
+        },
+    ),
+    (
+        "replan,s,q,t,c,4294967295,--nodes,5",
+        Command::Replan {
+            most: 4_294_967_295,
+            nodes: 5,
+        },
+    ),
     ("check,s,q,t,p", Command::Check),
     ("gen,0", Command::Gen { number: 0 }),
     (
@@ -107,6 +121,13 @@ plan,s,q,t,--nodes
 plan,s,q,t,--nodes,5,--nodes,5
 plan,s,q,t,--schedule,5
 live,s,q,t,c,--nodes,5,d
+replan,s,q,t,c
+replan,s,q,t,c,4294967296
+replan,s,q,t,c,-1
+replan,s,q,t,c,5,6
+replan,s,q,t,c,5,--schedule,5
+replan,s,q,t,c,--nodes,5
+replan,s,q,t,c,--nodes,5,5
 gen
 gen,1,2
 plan,s,q,t,--nodes,0
