@@ -114,7 +114,7 @@ class Reader:
         return self.listed(lambda before: self.name(before), self.is_name, 8)
 
     def relaxed(self, _):
-        level = self.number(0, 64)
+        level = self.number(0, 128)
         self.symbol(':')
         return level, self.number()
 
@@ -130,7 +130,7 @@ class Reader:
         if self.is_keyword('at'):
             self.step()
             self.symbol('(')
-            relaxed = self.listed(self.relaxed, lambda: self.is_number(0, 64), 4)
+            relaxed = self.listed(self.relaxed, lambda: self.is_number(0, 128), 4)
             self.symbol(')')
         return Condition(name, mask, comparison, constant, relaxed)
 
@@ -218,7 +218,7 @@ class Reader:
         query.refine_line = self.step().line
         query.refine_field = self.name()
         self.symbol(':')
-        query.levels = self.listed(lambda before: self.number(0, 64), lambda: self.is_number(0, 64), 4)
+        query.levels = self.listed(lambda before: self.number(0, 128), lambda: self.is_number(0, 128), 4)
         self.symbol(';')
 
     def join(self, query):

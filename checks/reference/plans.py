@@ -41,7 +41,7 @@ class PlanReader(Reader):
 
     def piece(self):
         self.step()
-        piece = Piece(self.number(0, 64), self.number(0, 1), 0)
+        piece = Piece(self.number(0, 128), self.number(0, 1), 0)
         self.keyword('cut')
         piece.cut = self.number(0, 12)
         if self.is_keyword('slots'):
@@ -56,7 +56,7 @@ class PlanReader(Reader):
         self.keyword('query')
         name = self.any_name()
         self.keyword('path')
-        entry = Entry(name, self.numbers(0, 64, 4))
+        entry = Entry(name, self.numbers(0, 128, 4))
         self.symbol(';')
         while self.is_keyword('piece') and len(entry.pieces) < 8:
             entry.pieces.append(self.piece())

@@ -113,7 +113,7 @@ pub few_lanes : (window : ℕ) (queries : List TypedQuery) (es : List Entry) →
 few_lanes window queries es t h =
     let most = few_in_all window queries es t h in
     let is = pieces_in 0 es in
-    let low : 1040 < 2 ^ 32 = lit< tt in
+    let low : 2064 < 2 ^ 32 = lit< tt in
     omega (arith, most, is, low)
 
 -- ---- lanes of which nothing has come

@@ -73,13 +73,13 @@ pieces_faces seen (p ∷ ps) later f =
 entry_faces : (e : Entry) (later : List Chunk) → entry_rule.fits kept e → mark_faces (entry_rule.spell e) ++ map face_of later ≡ map face_of (entry_chunks e later)
 unfolding entry_rule pieces_rule
 entry_faces e later f =
-    let levels : List Mark = (numbers 4 0 64).spell e.levels in
+    let levels : List Mark = (numbers 4 0 128).spell e.levels in
     let pieces : List Mark = items_spelled piece_rule.spell e.pieces in
     ap (λ (l : List Lexeme). word (codes "query") ∷ word e.name ∷ word (codes "path") ∷ l)
     (faces_append (levels ++ plain (symbol 2) ∷ []) pieces (map face_of later)
     ∙ faces_append levels (plain (symbol 2) ∷ []) (mark_faces pieces ++ map face_of later)
     ∙ ap (λ (l : List Lexeme). mark_faces levels ++ (symbol 2 ∷ l)) (pieces_faces [] e.pieces later f.1.1.1.1)
-    ∙ list_faces 4 0 64 e.levels (chunk (symbol 2) line_end ∷ pieces_chunks e.pieces later))
+    ∙ list_faces 4 0 128 e.levels (chunk (symbol 2) line_end ∷ pieces_chunks e.pieces later))
 
 entries_faces : (seen es : List Entry) → fit_from (full 8 Expected) (λ s. entry_rule) kept seen es → mark_faces (items_spelled entry_rule.spell es) ≡ map face_of (entries_chunks es)
 entries_faces seen [] f = refl
@@ -128,7 +128,7 @@ pieces_bare (p ∷ ps) = let a = piece_bare p in let b = pieces_bare ps in rw (a
 
 entry_bare : (e : Entry) → entry_rule.bare e ≡ e
 unfolding entry_rule pieces_rule
-entry_bare e = let a = numbers_bare 4 0 64 e.levels in let b = pieces_bare e.pieces in rw (a, b) refl
+entry_bare e = let a = numbers_bare 4 0 128 e.levels in let b = pieces_bare e.pieces in rw (a, b) refl
 
 entries_bare : (es : List Entry) → map entry_rule.bare es ≡ es
 entries_bare [] = refl

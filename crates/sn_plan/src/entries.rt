@@ -62,7 +62,7 @@ fn entry<'a>(alloc: Global, at: Lexer<'a>) -> Result<(Entry, Lexer<'a>), Stop<'a
         Err(stop) => return Err(stop),
     };
     let rest = word(rest, b"path")?;
-    let (levels, rest) = match numbers(alloc, 4, 0, 64, rest) {
+    let (levels, rest) = match numbers(alloc, 4, 0, 128, rest) {
         Ok(found) => found,
         Err(stop) => return Err(stop),
     };

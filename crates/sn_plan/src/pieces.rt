@@ -56,7 +56,7 @@ fn piece<'a>(alloc: Global, at: Lexer<'a>) -> Result<(Piece, Lexer<'a>), Stop<'a
     ensures { Reads result (piece_rule.read kept (left at.entry)) }
 {
     let rest = word(at, b"piece")?;
-    let (level, rest) = small_number(rest, 0, 64)?;
+    let (level, rest) = small_number(rest, 0, 128)?;
     let (branch, rest) = small_number(rest, 0, 1)?;
     let rest = word(rest, b"cut")?;
     let (cut, rest) = small_number(rest, 0, 12)?;

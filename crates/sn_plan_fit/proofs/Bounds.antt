@@ -45,7 +45,7 @@ pub record BranchBounds (b : TypedBranch) : Type 0 where
 
 pub record QueryBounds (q : TypedQuery) : Type 0 where
   pub branches : length q.branches ≤ 2
-  pub levels : AllByRecursion (λ l. l ≤ 64) q.levels
+  pub levels : AllByRecursion (λ l. l ≤ 128) q.levels
   pub each : AllByRecursion BranchBounds q.branches
 
 branch_bounds : (b : Branch) → BranchLimits b → BranchBounds (typed_branch b.ops)
@@ -53,7 +53,7 @@ branch_bounds b h =
     let is = length-typed_ops (packet_columns b.ops) b.ops in
     record { few = omega (arith, is, h.count.to_most); narrow = branch_narrow b.ops h.each }
 
-pub levels_low : (refine : Option Refine) → IfSome refine RefineLimits → AllByRecursion (λ l. l ≤ 64) (levels_of refine)
+pub levels_low : (refine : Option Refine) → IfSome refine RefineLimits → AllByRecursion (λ l. l ≤ 128) (levels_of refine)
 levels_low None h = (omega arith, tt)
 levels_low (Some r) h = h.levels
 
@@ -82,23 +82,23 @@ bounded window queries t =
 
 -- ---- pieces of an entry
 
-rising_short : (n : ℕ) (ms : List ℕ) → n ≤ 64 → AllByRecursion (λ q. n < q) ms → IsRising ms → AllByRecursion (λ q. q ≤ 64) ms → length ms + n ≤ 64
+rising_short : (n : ℕ) (ms : List ℕ) → n ≤ 128 → AllByRecursion (λ q. n < q) ms → IsRising ms → AllByRecursion (λ q. q ≤ 128) ms → length ms + n ≤ 128
 rising_short n [] l a h low = omega (arith, l)
 rising_short n (m ∷ ms) l a h low = let rest = rising_short m ms low.0 h.0 h.1 low.1 in omega (arith, rest, a.0)
 
-path_short : (path : List ℕ) → IsRising path → AllByRecursion (λ q. q ≤ 64) path → length path ≤ 65
+path_short : (path : List ℕ) → IsRising path → AllByRecursion (λ q. q ≤ 128) path → length path ≤ 129
 path_short [] h low = omega arith
 path_short (n ∷ ns) h low = let k = rising_short n ns low.0 h.0 h.1 low.1 in omega (arith, k)
 
-among_low : (levels : List ℕ) (l : ℕ) → AllByRecursion (λ q. q ≤ 64) levels → is_among levels l ≡ true → l ≤ 64
+among_low : (levels : List ℕ) (l : ℕ) → AllByRecursion (λ q. q ≤ 128) levels → is_among levels l ≡ true → l ≤ 128
 among_low [] l low e = cc
 among_low (m ∷ ms) l low e =
     by_test (nat_eq l m)
     (λ is. let same = nat_same l m is in omega (arith, same, low.0))
     (λ isnt. among_low ms l low.1 (sym (ap (λ (b : Bool). b || list_any (nat_eq l) ms) isnt) ∙ e))
 
-path_low : (levels path : List ℕ) → AllByRecursion (λ q. q ≤ 64) levels → AllByRecursion (λ l. is_among levels l ≡ true) path → AllByRecursion (λ q. q ≤ 64) path
-path_low levels path low h = all_weaker (λ (l : ℕ). is_among levels l ≡ true) (λ q. q ≤ 64) (λ l e. among_low levels l low e) path h
+path_low : (levels path : List ℕ) → AllByRecursion (λ q. q ≤ 128) levels → AllByRecursion (λ l. is_among levels l ≡ true) path → AllByRecursion (λ q. q ≤ 128) path
+path_low levels path low h = all_weaker (λ (l : ℕ). is_among levels l ≡ true) (λ q. q ≤ 128) (λ l e. among_low levels l low e) path h
 
 pub level_length : (level n : ℕ) (bs : List TypedBranch) → length (level_places level n bs) ≡ length bs
 level_length level n [] = refl
@@ -112,7 +112,7 @@ places_length bs (l ∷ ls) h =
     let is = length-append (level_places l 0 bs) (places bs ls) in
     omega (arith, rest, here, is, h)
 
-few_pieces : (q : TypedQuery) (e : Entry) → QueryBounds q → IsEntryOf q e → length e.pieces ≤ 130
+few_pieces : (q : TypedQuery) (e : Entry) → QueryBounds q → IsEntryOf q e → length e.pieces ≤ 258
 few_pieces q e b h =
     let short = path_short e.levels h.path.rising (path_low q.levels e.levels b.levels h.path.known) in
     let most = places_length q.branches e.levels b.branches in
@@ -120,11 +120,11 @@ few_pieces q e b h =
     omega (arith, short, most, is)
 
 -- a plan has few pieces
-pub few_in_all : (window : ℕ) (qs : List TypedQuery) (es : List Entry) → ∥ IsTyped window qs ∥₁ → AreEntriesOf qs es → sum_by (λ e. length e.pieces) es ≤ 1040
+pub few_in_all : (window : ℕ) (qs : List TypedQuery) (es : List Entry) → ∥ IsTyped window qs ∥₁ → AreEntriesOf qs es → sum_by (λ e. length e.pieces) es ≤ 2064
 few_in_all window qs es t h =
     ∥∥₁_elim t le_prop (λ t. let b = bounded window qs t in let most = few_in_each qs es b.each h in let count = b.count in omega (arith, most, count))
   where
-    few_in_each : (rest : List TypedQuery) (es : List Entry) → AllByRecursion QueryBounds rest → AreEntriesOf rest es → sum_by (λ e. length e.pieces) es ≤ 130 * length rest
+    few_in_each : (rest : List TypedQuery) (es : List Entry) → AllByRecursion QueryBounds rest → AreEntriesOf rest es → sum_by (λ e. length e.pieces) es ≤ 258 * length rest
     few_in_each [] [] b h = omega arith
     few_in_each [] (e ∷ es) b h = absurd h
     few_in_each (q ∷ rest) [] b h = absurd h
@@ -285,7 +285,7 @@ entry_little s path q (p ∷ ps) w bounds f =
 -- ---- all pieces
 
 plan_little : (s : Switch) (qs : List TypedQuery) (es : List Entry) → IsSwitch s → AllByRecursion QueryBounds qs → AreEntriesOf qs es → PiecesFit (PieceFits s) qs es
-    → AreLittle (130 * length qs) (all_registers s.chain qs es) (all_metadata qs es)
+    → AreLittle (258 * length qs) (all_registers s.chain qs es) (all_metadata qs es)
 plan_little s [] es w bounds paths f = record { few = omega arith; light = tt; narrow = omega arith }
 plan_little s (q ∷ qs) [] w bounds paths f = absurd paths
 plan_little s (q ∷ qs) (e ∷ es) w bounds paths f =

@@ -30,7 +30,7 @@ sizes_bounded = embedded_bounded to_sizes from_sizes (maybe_bounded (is_word (co
 
 piece_bounded : Bounded flaws piece_rule
 unfolding piece_rule
-piece_bounded = renamed_bounded to_piece from_piece (behind_bounded (keyword_bounded flaws (codes "piece")) (pair_bounded (number_in_bounded flaws 0 64) (pair_bounded (number_in_bounded flaws 0 1)
+piece_bounded = renamed_bounded to_piece from_piece (behind_bounded (keyword_bounded flaws (codes "piece")) (pair_bounded (number_in_bounded flaws 0 128) (pair_bounded (number_in_bounded flaws 0 1)
     (behind_bounded (keyword_bounded flaws (codes "cut")) (pair_bounded (number_in_bounded flaws 0 12) (before_bounded sizes_bounded (sign_bounded flaws 2)))))))
 
 pieces_bounded : Bounded flaws pieces_rule
@@ -40,7 +40,7 @@ pieces_bounded = many_bounded pieces_alike (full_allows flaws 8 Expected refl) (
 entry_bounded : Bounded flaws entry_rule
 unfolding entry_rule
 entry_bounded = renamed_bounded to_entry from_entry (behind_bounded (keyword_bounded flaws (codes "query")) (pair_bounded name_bounded
-    (behind_bounded (keyword_bounded flaws (codes "path")) (pair_bounded (before_bounded (numbers_bounded 4 0 64 (omega arith)) (sign_bounded flaws 2)) pieces_bounded))))
+    (behind_bounded (keyword_bounded flaws (codes "path")) (pair_bounded (before_bounded (numbers_bounded 4 0 128 (omega arith)) (sign_bounded flaws 2)) pieces_bounded))))
 
 plan_bounded : Bounded flaws plan_rule
 unfolding plan_rule entries_rule

@@ -103,7 +103,7 @@ piece_good =
     let a = free_pair (number_in_good 0 12 (omega arith)) (before_sign 2 sizes_good sizes_end) (λ us. refl) in
     let b = after_word (codes "cut") a in
     let d = free_pair (number_in_good 0 1 (omega arith)) b (λ us. refl) in
-    let e = free_pair (number_in_good 0 64 (omega arith)) d (λ us. refl) in
+    let e = free_pair (number_in_good 0 128 (omega arith)) d (λ us. refl) in
     renamed_good to_piece from_piece (λ a. refl) (λ b. refl)
     (after_word (codes "piece") e)
 
@@ -137,7 +137,7 @@ pieces_good = many_good pieces_alike
 pub entry_good : Good entry_rule
 unfolding entry_rule
 entry_good =
-    let a = free_pair (before_sign 2 (numbers_good 4 0 64 (omega arith)) (λ t us e. numbers_end 4 0 64 t us (ap (is_symbol 3) e))) pieces_good (λ us. refl) in
+    let a = free_pair (before_sign 2 (numbers_good 4 0 128 (omega arith)) (λ t us e. numbers_end 4 0 128 t us (ap (is_symbol 3) e))) pieces_good (λ us. refl) in
     let b = after_word (codes "path") a in
     let d = free_pair name_good b (λ us. refl) in
     renamed_good to_entry from_entry (λ a. refl) (λ b. refl)

@@ -33,7 +33,7 @@ unfolding piece_rule
 piece_able =
     let a = pair_able (number_in_good 0 12 (omega arith)) (number_in_able 0 12 (omega arith)) (before_able sizes_good sizes_able (sign_able 2)) in
     let b = pair_able (number_in_good 0 1 (omega arith)) (number_in_able 0 1 (omega arith)) (after_word_able (codes "cut") a) in
-    let d = pair_able (number_in_good 0 64 (omega arith)) (number_in_able 0 64 (omega arith)) b in
+    let d = pair_able (number_in_good 0 128 (omega arith)) (number_in_able 0 128 (omega arith)) b in
     renamed_able to_piece from_piece (λ a. refl) (after_word_able (codes "piece") d)
 
 -- ---- entries
@@ -45,9 +45,9 @@ pieces_able = many_able pieces_alike (λ seen e. kept_steps piece_able.keeps)
 entry_able : Able entry_rule
 unfolding entry_rule
 entry_able =
-    let levels = numbers_good 4 0 64 (omega arith) in
-    let path = before_sign 2 levels (λ t us e. numbers_end 4 0 64 t us (ap (is_symbol 3) e)) in
-    let a = pair_able path (before_able levels (numbers_able 4 0 64 (omega arith)) (sign_able 2)) pieces_able in
+    let levels = numbers_good 4 0 128 (omega arith) in
+    let path = before_sign 2 levels (λ t us e. numbers_end 4 0 128 t us (ap (is_symbol 3) e)) in
+    let a = pair_able path (before_able levels (numbers_able 4 0 128 (omega arith)) (sign_able 2)) pieces_able in
     renamed_able to_entry from_entry (λ a. refl) (after_word_able (codes "query") (pair_able name_good name_able (after_word_able (codes "path") a)))
 
 entries_able : Able entries_rule

@@ -62,7 +62,7 @@ from_piece p = (p.level, (p.branch, (p.cut, (p.slots, p.stages))))
 unfoldable pub piece_rule : Rule Piece
 piece_rule =
     renamed to_piece from_piece (keyword (codes "piece")
-    ▸ pair (number_in 0 64) (pair (number_in 0 1) (keyword (codes "cut") ▸ pair (number_in 0 12) (sizes_rule ◂ sign SEMICOLON))))
+    ▸ pair (number_in 0 128) (pair (number_in 0 1) (keyword (codes "cut") ▸ pair (number_in 0 12) (sizes_rule ◂ sign SEMICOLON))))
 
 -- ---- entries
 
@@ -78,7 +78,7 @@ pieces_rule = many (is_word (codes "piece")) (full 8 Expected) (λ seen. piece_r
 
 -- entry = "query" NAME "path" NUM { "," NUM } ";" { piece }
 unfoldable pub entry_rule : Rule Entry
-entry_rule = renamed to_entry from_entry (keyword (codes "query") ▸ pair name (keyword (codes "path") ▸ pair (numbers 4 0 64 ◂ sign SEMICOLON) pieces_rule))
+entry_rule = renamed to_entry from_entry (keyword (codes "query") ▸ pair name (keyword (codes "path") ▸ pair (numbers 4 0 128 ◂ sign SEMICOLON) pieces_rule))
 
 abbrev pub to_plan : List Entry → Plan
 to_plan entries = record { entries = entries }

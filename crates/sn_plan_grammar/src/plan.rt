@@ -24,7 +24,7 @@ pub struct Entry {
 /// What the switch does for a branch at a level.
 #[derive(Drop)]
 pub struct Piece {
-    /// The level, 0 to 64.
+    /// The level, 0 to 128.
     pub level: u32,
     /// The branch, 0 or 1.
     pub branch: u32,

@@ -69,4 +69,4 @@ queries_rule = series (query_rule []) (is_word (codes "query")) (full 8 TooMany)
 
 -- NUM of a level
 abbrev pub level_rule : Rule ℕ
-level_rule = number_in 0 64
+level_rule = number_in 0 128

@@ -25,7 +25,7 @@ use std::alloc::Global;
 fn relax<'a>(at: Lexer<'a>) -> Result<(Relax, Lexer<'a>), Stop<'a>>
     ensures { Reads result (relax_rule.read kept (left at.entry)) }
 {
-    let (level, rest) = number(at, 0, 64)?;
+    let (level, rest) = number(at, 0, 128)?;
     let rest = symbol(rest, COLON)?;
     let (value, rest) = number(rest, 0, u64::MAX)?;
     Ok((
@@ -45,7 +45,7 @@ impl Commas for RelaxItems {
 
     ghost limit = { 4 };
 
-    ghost begun = { past_number 0 64 };
+    ghost begun = { past_number 0 128 };
 
     ghost rule = { λ taken. relax_rule };
 
@@ -56,7 +56,7 @@ impl Commas for RelaxItems {
     }
 
     fn past(piece: Piece<'_>) -> Flaw {
-        past_number_of(piece, 0, 64)
+        past_number_of(piece, 0, 128)
     }
 
     fn item<'a>(

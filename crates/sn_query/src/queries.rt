@@ -31,7 +31,7 @@ use std::alloc::Global;
 fn level<'a>(at: Lexer<'a>) -> Result<(u32, Lexer<'a>), Stop<'a>>
     ensures { Reads result (level_rule.read kept (left at.entry)) }
 {
-    let (level, rest) = number(at, 0, 64)?;
+    let (level, rest) = number(at, 0, 128)?;
     Ok((level as u32, rest))
 }
 
@@ -43,7 +43,7 @@ impl Commas for LevelItems {
 
     ghost limit = { 4 };
 
-    ghost begun = { past_number 0 64 };
+    ghost begun = { past_number 0 128 };
 
     ghost rule = { λ taken. level_rule };
 
@@ -54,7 +54,7 @@ impl Commas for LevelItems {
     }
 
     fn past(piece: Piece<'_>) -> Flaw {
-        past_number_of(piece, 0, 64)
+        past_number_of(piece, 0, 128)
     }
 
     fn item<'a>(

@@ -88,12 +88,12 @@ past_col_ok bad = refl
 
 relax_bounded : Bounded flaws relax_rule
 unfolding relax_rule
-relax_bounded = renamed_bounded to_relax from_relax (pair_bounded (number_in_bounded flaws 0 64) (signed_any 7))
+relax_bounded = renamed_bounded to_relax from_relax (pair_bounded (number_in_bounded flaws 0 128) (signed_any 7))
 
 relaxes_bounded : Bounded flaws relaxes_rule
 unfolding relaxes_rule
 relaxes_bounded = embedded_bounded to_relaxes from_relaxes (maybe_bounded (is_word (codes "at")) (behind_bounded (keyword_bounded flaws (codes "at")) (behind_bounded (sign_bounded flaws 5)
-    (before_bounded (commas_bounded 4 relax_listed (past_number_ok 0 64) (λ seen. relax_bounded)) (sign_bounded flaws 6)))))
+    (before_bounded (commas_bounded 4 relax_listed (past_number_ok 0 128) (λ seen. relax_bounded)) (sign_bounded flaws 6)))))
 
 cond_bounded : Bounded flaws cond_rule
 unfolding cond_rule
@@ -170,7 +170,7 @@ post_op_bounded = renamed_bounded to_op from_op (pair_bounded (line_of_sign_boun
 refine_bounded : Bounded flaws refine_rule
 unfolding refine_rule levels_rule
 refine_bounded = renamed_bounded to_refine from_refine (pair_bounded (line_of_word_bounded flaws (codes "refine")) (pair_bounded (name_bounded [])
-    (behind_bounded (sign_bounded flaws 7) (before_bounded (commas_bounded 4 levels_listed (past_number_ok 0 64) (λ seen. number_in_bounded flaws 0 64)) (sign_bounded flaws 2)))))
+    (behind_bounded (sign_bounded flaws 7) (before_bounded (commas_bounded 4 levels_listed (past_number_ok 0 128) (λ seen. number_in_bounded flaws 0 128)) (sign_bounded flaws 2)))))
 
 branch_bounded : Bounded flaws branch_rule
 unfolding branch_rule

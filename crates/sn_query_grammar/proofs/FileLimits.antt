@@ -20,11 +20,11 @@ use Rattle.sn_query_grammar.proofs.ItemLimits.{counted, items_apart}
 use Rattle.sn_query_grammar.proofs.TokenLimits.{number_within, name_unseen}
 use Rattle.sn_query_grammar.proofs.OpLimits.{keys_keep, op_keeps, post_op_keeps}
 
-levels_keep : (levels : List ℕ) → levels_rule.fits kept levels → Within 1 4 (length levels) × AllByRecursion (λ l. l ≤ 64) levels
+levels_keep : (levels : List ℕ) → levels_rule.fits kept levels → Within 1 4 (length levels) × AllByRecursion (λ l. l ≤ 128) levels
 unfolding levels_rule
 levels_keep levels h =
-    let items : IsListOf 4 (λ seen. number_in 0 64) levels = commas_list 4 (past_number 0 64) (λ seen. number_in 0 64) levels (omega arith) h in
-    (counted items, items_are 4 (λ seen. number_in 0 64) (λ l. l ≤ 64) levels (λ seen a f. (number_within 0 64 a f).to_most) items.items)
+    let items : IsListOf 4 (λ seen. number_in 0 128) levels = commas_list 4 (past_number 0 128) (λ seen. number_in 0 128) levels (omega arith) h in
+    (counted items, items_are 4 (λ seen. number_in 0 128) (λ l. l ≤ 128) levels (λ seen a f. (number_within 0 128 a f).to_most) items.items)
 
 refine_keeps : (r : Refine) → refine_rule.fits kept r → RefineLimits r
 unfolding refine_rule

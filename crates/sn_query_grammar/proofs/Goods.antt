@@ -25,28 +25,28 @@ use Rattle.sn_query_grammar.proofs.Names.{name_good, name_past, any_good, number
 pub relax_good : Good relax_rule
 unfolding relax_rule
 relax_good = renamed_good to_relax from_relax (λ a. refl) (λ b. refl)
-    (free_pair (number_in_good 0 64 (omega arith)) (after_sign 7 any_good) (λ us. refl))
+    (free_pair (number_in_good 0 128 (omega arith)) (after_sign 7 any_good) (λ us. refl))
 
 relax_free : (t : Tok) (us : List Tok) → relax_rule.follow (t ∷ us) ≡ true
 unfolding relax_rule
 relax_free t us = refl
 
-relax_past : Past (past_number 0 64) relax_rule
+relax_past : Past (past_number 0 128) relax_rule
 unfolding relax_rule
-relax_past = embedded_past (past_number 0 64) to_relax (λ b. Some (from_relax b)) (record { back = λ a f. refl; forth = λ b a e. let h : from_relax b ≡ a = cc in ap to_relax (sym h) })
-    (pair_past (past_number 0 64) (after_sign 7 any_good) (number_past 0 64))
+relax_past = embedded_past (past_number 0 128) to_relax (λ b. Some (from_relax b)) (record { back = λ a f. refl; forth = λ b a e. let h : from_relax b ≡ a = cc in ap to_relax (sym h) })
+    (pair_past (past_number 0 128) (after_sign 7 any_good) (number_past 0 128))
 
-pub relax_listed : Listed (past_number 0 64) (λ (seen : List Relax). relax_rule)
-relax_listed = always_listed (past_number 0 64) relax_good (λ t us e. relax_free t us) relax_past
+pub relax_listed : Listed (past_number 0 128) (λ (seen : List Relax). relax_rule)
+relax_listed = always_listed (past_number 0 128) relax_good (λ t us e. relax_free t us) relax_past
 
 abbrev pub relaxes : Rule (List Relax)
-relaxes = commas 4 (past_number 0 64) (λ seen. relax_rule)
+relaxes = commas 4 (past_number 0 128) (λ seen. relax_rule)
 
 pub relaxes_good_in : Good relaxes
 relaxes_good_in = commas_good 4 relax_listed
 
 relaxes_sign : (t : Tok) (us : List Tok) → t.face ≡ symbol 6 → relaxes.follow (t ∷ us) ≡ true
-relaxes_sign t us e = commas_sign 4 (past_number 0 64) (λ seen. relax_rule) t us (ap (is_symbol 3) e) (relax_free t us)
+relaxes_sign t us e = commas_sign 4 (past_number 0 128) (λ seen. relax_rule) t us (ap (is_symbol 3) e) (relax_free t us)
 
 abbrev pub at_rule : Rule (List Relax)
 at_rule = keyword (codes "at") ▸ sign 5 ▸ (relaxes ◂ sign 6)

@@ -24,16 +24,16 @@ use Rattle.sn_query_grammar.proofs.TokenLimits.{number_within, name_unseen}
 
 -- ---- filters
 
-relax_keeps : (r : Relax) → relax_rule.fits kept r → r.level ≤ 64
+relax_keeps : (r : Relax) → relax_rule.fits kept r → r.level ≤ 128
 unfolding relax_rule
-relax_keeps r h = (number_within 0 64 r.level h.0).to_most
+relax_keeps r h = (number_within 0 128 r.level h.0).to_most
 
-relaxes_keep : (rs : List Relax) → relaxes_rule.fits kept rs → (length rs ≤ 4) × AllByRecursion (λ r. r.level ≤ 64) rs
+relaxes_keep : (rs : List Relax) → relaxes_rule.fits kept rs → (length rs ≤ 4) × AllByRecursion (λ r. r.level ≤ 128) rs
 unfolding relaxes_rule
 relaxes_keep [] h = (omega arith, tt)
 relaxes_keep (r ∷ rs) h =
-    let items : IsListOf 4 (λ seen. relax_rule) (r ∷ rs) = commas_list 4 (past_number 0 64) (λ seen. relax_rule) (r ∷ rs) (omega arith) h.1.1.0 in
-    (items.count.1, items_are 4 (λ seen. relax_rule) (λ r. r.level ≤ 64) (r ∷ rs) (λ seen a f. relax_keeps a f) items.items)
+    let items : IsListOf 4 (λ seen. relax_rule) (r ∷ rs) = commas_list 4 (past_number 0 128) (λ seen. relax_rule) (r ∷ rs) (omega arith) h.1.1.0 in
+    (items.count.1, items_are 4 (λ seen. relax_rule) (λ r. r.level ≤ 128) (r ∷ rs) (λ seen a f. relax_keeps a f) items.items)
 
 cond_keeps : (c : Cond) → cond_rule.fits kept c → CondLimits c
 unfolding cond_rule

@@ -304,8 +304,8 @@ post_ops_alike = always_alike (is_symbol 4) 12 TooMany post_op_good (λ t us e. 
 
 -- ---- refinement
 
-pub levels_listed : Listed (past_number 0 64) (λ (seen : List ℕ). number_in 0 64)
-levels_listed = always_listed (past_number 0 64) (number_in_good 0 64 (omega arith)) (λ t us e. refl) (number_past 0 64)
+pub levels_listed : Listed (past_number 0 128) (λ (seen : List ℕ). number_in 0 128)
+levels_listed = always_listed (past_number 0 128) (number_in_good 0 128 (omega arith)) (λ t us e. refl) (number_past 0 128)
 
 pub levels_good : Good levels_rule
 unfolding levels_rule
@@ -313,7 +313,7 @@ levels_good = commas_good 4 levels_listed
 
 levels_end : (k : ℕ) → (k == 3) ≡ false → (t : Tok) (us : List Tok) → t.face ≡ symbol k → levels_rule.follow (t ∷ us) ≡ true
 unfolding levels_rule
-levels_end k n t us e = commas_sign 4 (past_number 0 64) (λ seen. number_in 0 64) t us (ap (is_symbol 3) e ∙ n) refl
+levels_end k n t us e = commas_sign 4 (past_number 0 128) (λ seen. number_in 0 128) t us (ap (is_symbol 3) e ∙ n) refl
 
 pub refine_good : Good refine_rule
 unfolding refine_rule

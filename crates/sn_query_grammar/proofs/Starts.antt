@@ -32,7 +32,7 @@ mapped_few f seen h = omega (arith, length-map seen f)
 
 relax_able : Able relax_rule
 unfolding relax_rule
-relax_able = renamed_able to_relax from_relax (λ a. refl) (pair_able (number_in_good 0 64 (omega arith)) (number_in_able 0 64 (omega arith)) (after_sign_able 7 any_able))
+relax_able = renamed_able to_relax from_relax (λ a. refl) (pair_able (number_in_good 0 128 (omega arith)) (number_in_able 0 128 (omega arith)) (after_sign_able 7 any_able))
 
 relaxes_able : Able relaxes_rule
 unfolding relaxes_rule
@@ -149,7 +149,7 @@ post_able = many_able post_ops_alike (λ seen e. kept_steps post_op_able.keeps)
 
 levels_able : Able levels_rule
 unfolding levels_rule
-levels_able = let level = number_in_able 0 64 (omega arith) in commas_able 4 levels_listed level (λ seen l. able_next level)
+levels_able = let level = number_in_able 0 128 (omega arith) in commas_able 4 levels_listed level (λ seen l. able_next level)
 
 refine_able : Able refine_rule
 unfolding refine_rule

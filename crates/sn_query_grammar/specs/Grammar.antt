@@ -41,7 +41,7 @@ abbrev pub from_relax : Relax → ℕ × ℕ
 from_relax r = (r.level, r.value)
 
 unfoldable pub relax_rule : Rule Relax
-relax_rule = renamed to_relax from_relax (pair (number_in 0 64) (sign COLON ▸ any_number))
+relax_rule = renamed to_relax from_relax (pair (number_in 0 128) (sign COLON ▸ any_number))
 
 -- [ "at" "(" relax { "," relax } ")" ]
 abbrev pub to_relaxes : Option (List Relax) → List Relax
@@ -55,7 +55,7 @@ from_relaxes (r ∷ rs) = Some (Some (r ∷ rs))
 unfoldable pub relaxes_rule : Rule (List Relax)
 relaxes_rule =
     embedded to_relaxes from_relaxes (maybe (is_word (codes "at"))
-    (keyword (codes "at") ▸ sign OPEN ▸ (commas 4 (past_number 0 64) (λ seen. relax_rule) ◂ sign CLOSE)))
+    (keyword (codes "at") ▸ sign OPEN ▸ (commas 4 (past_number 0 128) (λ seen. relax_rule) ◂ sign CLOSE)))
 
 -- cond = NAME [ "&" NUM ] CMP NUM [ "at" .. ]
 abbrev pub to_cond : Name × (Option ℕ × (Cmp × (ℕ × List Relax))) → Cond
@@ -257,7 +257,7 @@ from_refine r = (r.line, (r.field, r.levels))
 
 -- NUM { "," NUM }
 unfoldable pub levels_rule : Rule (List ℕ)
-levels_rule = commas 4 (past_number 0 64) (λ seen. number_in 0 64)
+levels_rule = commas 4 (past_number 0 128) (λ seen. number_in 0 128)
 
 -- refine = "refine" NAME ":" NUM { "," NUM } ";"
 unfoldable pub refine_rule : Rule Refine

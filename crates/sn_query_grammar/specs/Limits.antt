@@ -24,7 +24,7 @@ pub record Within (least most n : ℕ) : Type 0 where
 
 pub record CondLimits (c : Cond) : Type 0 where
   pub count : length c.relaxed ≤ 4
-  pub levels : AllByRecursion (λ r. r.level ≤ 64) c.relaxed
+  pub levels : AllByRecursion (λ r. r.level ≤ 128) c.relaxed
 
 -- a constant has 64 bits, and a shift is by less than 64; a sum of columns and a ratio stand after a join alone
 abbrev pub IsBranchExpr : Expr → Type 0
@@ -72,7 +72,7 @@ PostOp (what.Reduce r) = ⊥
 
 pub record RefineLimits (r : Refine) : Type 0 where
   pub count : Within 1 4 (length r.levels)
-  pub levels : AllByRecursion (λ l. l ≤ 64) r.levels
+  pub levels : AllByRecursion (λ l. l ≤ 128) r.levels
 
 pub record BranchLimits (b : Branch) : Type 0 where
   pub count : Within 1 12 (length b.ops)

@@ -31,7 +31,7 @@ pub struct Refine {
     /// The line of the word `refine`.
     pub line: u32,
     pub field: Name,
-    /// One to four prefix lengths in bits, each 0 to 64.
+    /// One to four prefix lengths in bits, each 0 to 128.
     pub levels: Seq<u32>,
 }
 
@@ -114,7 +114,7 @@ pub struct Cond {
 /// The constant of a condition at one level.
 #[derive(Clone, Copy, Debug, PartialEq, Eq)]
 pub struct Relax {
-    /// The prefix length in bits, 0 to 64.
+    /// The prefix length in bits, 0 to 128.
     pub level: u32,
     pub value: u64,
 }

@@ -19,7 +19,7 @@ struct LevelText;
 impl Shown for LevelText {
     type Item = u32;
 
-    ghost spell = { (number_in 0 64).spell };
+    ghost spell = { (number_in 0 128).spell };
 
     fn put(alloc: Global, item: &u32, out: &mut Printer) -> Result<(), Memory> {
         out.number(alloc, u64::from(*item))

@@ -366,11 +366,11 @@ plan query 1 path 0;
 = sonata: plan Expected line 1
 
 plan query q path
-64; piece 0 0 cut 0;
+128; piece 0 0 cut 0;
 = sonata: plan Path want 0 got 0
 
 plan query q path
-65; piece 0 0 cut 0;
+129; piece 0 0 cut 0;
 = sonata: plan Expected line 2
 
 plan query q path 1, 2, 3, 4; piece 0 0 cut 0;
@@ -380,11 +380,11 @@ plan query q path 1, 2, 3, 4
 , 5; piece 0 0 cut 0;
 = sonata: plan Expected line 2
 
-plan query q path 0; piece 64 0 cut 0;
+plan query q path 0; piece 128 0 cut 0;
 = sonata: plan Path want 0 got 0
 
 plan query q path 0; piece
-65 0 cut 0;
+129 0 cut 0;
 = sonata: plan Expected line 2
 
 plan query q path 0; piece 0 1 cut 0;

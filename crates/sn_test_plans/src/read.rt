@@ -86,7 +86,7 @@ fn names_the_first_fault_of_a_plan(rt: HostRuntime) {
     for (text, want) in [
         (b"plan cost".as_slice(), PlanFault::Expected { line: 1 }),
         (b"plan query cost path 0;\n@", PlanFault::Lex { line: 2 }),
-        (b"plan query q path 65;", PlanFault::Expected { line: 1 }),
+        (b"plan query q path 129;", PlanFault::Expected { line: 1 }),
         (
             b"plan query q path 1, 2, 3, 4\n, 5;",
             PlanFault::Expected { line: 2 },

@@ -77,7 +77,7 @@ refine ip.dst: 8, 16, 24, 31,
 = sonata: queries TooMany line 3
 
 refine ip.dst: 8, 16, 24, 31,
-65; packets | map ip.dst as d;
+129; packets | map ip.dst as d;
 = sonata: queries Expected line 3
 
 refine ip.dst: 8,
@@ -86,6 +86,14 @@ refine ip.dst: 8,
 
 refine ip.dst: 8,
 65; packets | map ip.dst as d;
+= sonata: queries Levels line 2
+
+refine ip.dst: 8,
+128; packets | map ip.dst as d;
+= sonata: queries Levels line 2
+
+refine ip.dst: 8,
+129; packets | map ip.dst as d;
 = sonata: queries Expected line 3
 
 refine ip.dst: 8, 16, 24, 32; packets | map ip.dst as d, 1 as n | filter n > 1 at (8: 1, 16: 2, 24: 3, 32: 4);
@@ -96,15 +104,15 @@ refine ip.dst: 8, 16, 24, 32; packets | map ip.dst as d, 1 as n | filter n > 1 a
 = sonata: queries TooMany line 3
 
 refine ip.dst: 8, 16, 24, 32; packets | map ip.dst as d, 1 as n | filter n > 1 at (8: 1, 16: 2, 24: 3, 32: 4,
-65: 5);
+129: 5);
 = sonata: queries Expected line 3
 
 refine ip.dst: 8, 16, 24, 32; packets | map ip.dst as d, 1 as n | filter n > 1 at (
-64: 1);
+128: 1);
 = sonata: queries Levels line 2
 
 refine ip.dst: 8, 16, 24, 32; packets | map ip.dst as d, 1 as n | filter n > 1 at (
-65: 1);
+129: 1);
 = sonata: queries Expected line 3
 
 packets | map ip.dst >> 63 as d;

@@ -126,7 +126,7 @@ branch_all P [] n b h e = cc
 branch_all P (x ∷ xs) zero b h e = let k : x ≡ b = cc in subst P k h.0
 branch_all P (x ∷ xs) (suc n) b h e = branch_all P xs n b h.1 e
 
-piece_of : (s : Switch) (q : TypedQuery) (path : List ℕ) (p : Piece) → IsSwitch s → HasBounds q → p.level ≤ 64 → GoodPiece s q path p → IsPieceOf p
+piece_of : (s : Switch) (q : TypedQuery) (path : List ℕ) (p : Piece) → IsSwitch s → HasBounds q → p.level ≤ 128 → GoodPiece s q path p → IsPieceOf p
 piece_of s q path p is h level g =
     let b = branch_of q p.branch in
     let narrow = branch_all IsNarrow q.branches p.branch b h.narrow g.known in
@@ -147,26 +147,26 @@ of_places : (P : ℕ → Type 0) (ps : List Piece) → AllByRecursion (λ (x : P
 of_places P [] h = tt
 of_places P (p ∷ ps) h = (h.0, of_places P ps h.1)
 
--- levels of a query that has at most four, none above 64
+-- levels of a query that has at most four, none above 128
 pub record HasLevelsIn (q : TypedQuery) : Type 0 where
-  pub low : AllByRecursion (λ level. level ≤ 64) q.levels
+  pub low : AllByRecursion (λ level. level ≤ 128) q.levels
   pub name : IsName q.name
 
 entry_in : (s : Switch) (q : TypedQuery) (e : Entry) → IsSwitch s → HasBounds q → HasLevelsIn q → IsEntryOf q e → HasPieces q e → AllByRecursion (λ p. OnBranch (λ b. PieceFits s e.levels b p) (piece_branch q p)) e.pieces → IsEntryIn e
 entry_in s q e is h k of has fits =
     let g = good_entry s q e of fits in
     let path : path_of (path_number q.levels e.levels) q.levels ≡ e.levels = path_of_number q.levels e.levels h.levels.rising of.path in
-    let low : AllByRecursion (λ level. level ≤ 64) e.levels = subst (AllByRecursion (λ level. level ≤ 64)) path (path_all (λ level. level ≤ 64) (path_number q.levels e.levels) q.levels k.low) in
+    let low : AllByRecursion (λ level. level ≤ 128) e.levels = subst (AllByRecursion (λ level. level ≤ 128)) path (path_all (λ level. level ≤ 128) (path_number q.levels e.levels) q.levels k.low) in
     let short = path_short (path_number q.levels e.levels) q.levels in
     let long = ap length path in
     let most = h.few in
-    let levels : AllByRecursion (λ (p : Piece). p.level ≤ 64) e.pieces =
-    of_places (λ level. level ≤ 64) e.pieces (subst (AllByRecursion (λ (x : Place). x.0 ≤ 64)) (sym of.pieces) (places_all (λ level. level ≤ 64) q.branches e.levels low)) in
+    let levels : AllByRecursion (λ (p : Piece). p.level ≤ 128) e.pieces =
+    of_places (λ level. level ≤ 128) e.pieces (subst (AllByRecursion (λ (x : Place). x.0 ≤ 128)) (sym of.pieces) (places_all (λ level. level ≤ 128) q.branches e.levels low)) in
     record {
       name = subst IsName (sym of.name) k.name;
-      levels = record { some = some_level e.levels of.path; few = omega (arith, short, long, most); each = all_weaker (λ n. n ≤ 64) (λ n. (0 ≤ n) × (n ≤ 64)) (λ n le. (omega arith, le)) e.levels low };
+      levels = record { some = some_level e.levels of.path; few = omega (arith, short, long, most); each = all_weaker (λ n. n ≤ 128) (λ n. (0 ≤ n) × (n ≤ 128)) (λ n le. (omega arith, le)) e.levels low };
       few = has.few;
-      each = all_two (λ (p : Piece). p.level ≤ 64) (GoodPiece s q e.levels) IsPieceOf (λ p le good. piece_of s q e.levels p is h le good) e.pieces levels g.good;
+      each = all_two (λ (p : Piece). p.level ≤ 128) (GoodPiece s q e.levels) IsPieceOf (λ p le good. piece_of s q e.levels p is h le good) e.pieces levels g.good;
     }
   where
     path_short : (m : ℕ) (ls : List ℕ) → length (path_of m ls) ≤ length ls

@@ -62,7 +62,7 @@ sizes_fit (n ∷ slots) (m ∷ stages) (both s t) = (tt, (numbers_fit 2 1 65536 
 
 -- what the grammar has of a piece
 pub record IsPieceOf (p : Piece) : Type 0 where
-  pub level : p.level ≤ 64
+  pub level : p.level ≤ 128
   pub branch : p.branch ≤ 1
   pub cut : p.cut ≤ 12
   pub sizes : AreSizes p.slots p.stages
@@ -70,7 +70,7 @@ pub record IsPieceOf (p : Piece) : Type 0 where
 piece_fits : (p : Piece) → IsPieceOf p → piece_rule.fits kept p
 unfolding piece_rule
 piece_fits p h =
-    (tt, (fits_range 0 64 p.level (omega arith) h.level, (fits_range 0 1 p.branch (omega arith) h.branch, (tt, (fits_range 0 12 p.cut (omega arith) h.cut, (sizes_fit p.slots p.stages h.sizes, tt))))))
+    (tt, (fits_range 0 128 p.level (omega arith) h.level, (fits_range 0 1 p.branch (omega arith) h.branch, (tt, (fits_range 0 12 p.cut (omega arith) h.cut, (sizes_fit p.slots p.stages h.sizes, tt))))))
 
 -- ---- entries
 
@@ -91,14 +91,14 @@ name_fits name h = let a : (length name == 0) ≡ false = not_zero (length name)
 
 pub record IsEntryIn (e : Entry) : Type 0 where
   pub name : IsName e.name
-  pub levels : AreListed 4 0 64 e.levels
+  pub levels : AreListed 4 0 128 e.levels
   pub few : length e.pieces ≤ 8
   pub each : AllByRecursion IsPieceOf e.pieces
 
 entry_fits : (e : Entry) → IsEntryIn e → entry_rule.fits kept e
 unfolding entry_rule pieces_rule
 entry_fits e h =
-    (tt, (name_fits e.name h.name, (tt, ((numbers_fit 4 0 64 e.levels h.levels, tt), fits_from 8 piece_rule [] e.pieces (all_weaker IsPieceOf (piece_rule.fits kept) piece_fits e.pieces h.each) (let f = h.few in omega (arith, f))))))
+    (tt, (name_fits e.name h.name, (tt, ((numbers_fit 4 0 128 e.levels h.levels, tt), fits_from 8 piece_rule [] e.pieces (all_weaker IsPieceOf (piece_rule.fits kept) piece_fits e.pieces h.each) (let f = h.few in omega (arith, f))))))
 
 -- one to eight entries
 pub record AreEntries (es : List Entry) : Type 0 where
@@ -177,7 +177,7 @@ entry_fine e later h f = (
     h.name.fine,
     (
       (refl, refl, (refl, (refl, (refl, (refl, tt))))),
-      list_fine e.levels (chunk (symbol 2) line_end ∷ pieces_chunks e.pieces later) (small_listed 4 0 64 e.levels (omega arith) h.levels) (omega arith, pieces_fine e.pieces later h.each f),
+      list_fine e.levels (chunk (symbol 2) line_end ∷ pieces_chunks e.pieces later) (small_listed 4 0 128 e.levels (omega arith) h.levels) (omega arith, pieces_fine e.pieces later h.each f),
     ),
   ),
 )
