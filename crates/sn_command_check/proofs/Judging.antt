@@ -27,12 +27,13 @@ module _ (s : Switch) (queries : List TypedQuery) (table : CostTable) where
   counted_of numbers found tuples seen e f counted =
       subst (λ (ns : List ℕ). AreCounted s queries (trained ns tuples) (entry_in table)) e (subst (λ (ts : List (List ℕ)). AreCounted s queries (trained found ts) (entry_in table)) f counted)
 
-  pub answers_same : (given : List Window) (plan : Plan) (space : Space) (list choices : List ℕ) (cost : ℕ) (found nodes : List Node) (r : Result (Unit {0}) TreeFault) → AreCounted s queries given (entry_in table)
-      → space ≡ plans_of s (entry_in table) queries → list ≡ choices → choices ≡ plan_choices s queries plan.entries → IsPlan (plans_of s (entry_in table) queries) choices → found ≡ nodes
-      → Answers r (tree_fault space list cost found) → Answers r (tree_fault (trained_plans s queries given) (plan_choices s queries plan.entries) cost nodes)
-  answers_same given plan space list choices cost found nodes r counted e f g is h =
-      let same : tree_fault space list cost found ≡ tree_fault (trained_plans s queries given) (plan_choices s queries plan.entries) cost nodes =
-      ap (λ (sp : Space). tree_fault sp list cost found) e
+  pub answers_same : (given : List Window) (plan : Plan) (space : Space) (list choices : List ℕ) (paid cost : ℕ) (found nodes : List Node) (r : Result (Unit {0}) TreeFault) → AreCounted s queries given (entry_in table)
+      → space ≡ plans_of s (entry_in table) queries → list ≡ choices → choices ≡ plan_choices s queries plan.entries → IsPlan (plans_of s (entry_in table) queries) choices → paid ≡ cost → found ≡ nodes
+      → Answers r (tree_fault space list paid found) → Answers r (tree_fault (trained_plans s queries given) (plan_choices s queries plan.entries) cost nodes)
+  answers_same given plan space list choices paid cost found nodes r counted e f g is p h =
+      let same : tree_fault space list paid found ≡ tree_fault (trained_plans s queries given) (plan_choices s queries plan.entries) cost nodes =
+      ap (λ (c : ℕ). tree_fault space list c found) p
+      ∙ ap (λ (sp : Space). tree_fault sp list cost found) e
       ∙ ap (λ (l : List ℕ). tree_fault (plans_of s (entry_in table) queries) l cost found) f
       ∙ fault_alike (plans_of s (entry_in table) queries) (trained_plans s queries given) (counted_alike s queries given (entry_in table) counted) choices is.partial cost found
       ∙ ap (λ (l : List ℕ). tree_fault (trained_plans s queries given) l cost found) g

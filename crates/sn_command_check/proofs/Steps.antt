@@ -18,5 +18,6 @@ pub of_text : (read : Queries) (limits : Switch) (training : Training) {t u : Li
     → Runs [] (PlanTree read limits training u) before answer now
 of_text read limits training {before = before} {now} {answer} e r = subst (λ (x : List ℕ). Runs [] (PlanTree read limits training x) before answer now) e r
 
-pub of_count : (cost : ℕ) {n m : ℕ} {before now : World} {answer : Result (Unit {0}) Refusal} → n ≡ m → Runs [] (Adds (yes_line cost n)) before answer now → Runs [] (Adds (yes_line cost m)) before answer now
-of_count cost {before = before} {now} {answer} e r = subst (λ (k : ℕ). Runs [] (Adds (yes_line cost k)) before answer now) e r
+pub of_line : {paid cost n m : ℕ} {before now : World} {answer : Result (Unit {0}) Refusal} → paid ≡ cost → n ≡ m → Runs [] (Adds (yes_line paid n)) before answer now → Runs [] (Adds (yes_line cost m)) before answer now
+of_line {paid} {n = n} {m} {before = before} {now} {answer} e f r =
+    subst (λ (k : ℕ). Runs [] (Adds (yes_line k m)) before answer now) e (subst (λ (k : ℕ). Runs [] (Adds (yes_line paid k)) before answer now) f r)

@@ -42,9 +42,9 @@ fn check_text<I: Inputs, O: Sink>(
 {
     let (plan, byte) = judge_plan(alloc, text)?;
     test_fit(typed, limits, &plan)?;
-    let (cost, tree) = judge_tree(alloc, text, byte)?;
-    test_tree(alloc, typed, limits, training, &plan, cost, &tree)?;
-    say_yes(cost, tree.as_slice().len() as u64, desk)
+    let tree = judge_tree(text, byte)?;
+    test_tree(alloc, typed, limits, training, &plan, &tree)?;
+    say_yes(tree.cost(), tree.count(), desk)
 }
 
 /// `check SWITCH QUERIES TRAIN PLANTREE`: reads the queries, the switch, the training capture and the plan, tests the plan, and says

@@ -9,8 +9,8 @@ use sn_command_texts::texts::plan_refusal;
 use sn_plan::parse as parse_plan;
 use sn_plan_grammar::plan::Plan;
 use sn_tree_text::fault::TextFault as TreeTextFault;
+use sn_tree_text::found::Found;
 use sn_tree_text::parse as parse_tree;
-use sn_tree_text::tree::Tree;
 use std::alloc::Global;
 
 /// The plan of a text, and the byte where the word `cost` or the end of the text stands after it.
@@ -36,11 +36,11 @@ fn tree_refusal(fault: TreeTextFault) -> Refusal
 }
 
 /// The cost and the tree of a text, from this byte on. Lines are counted from the front of the text.
-pub(crate) fn judge_tree(alloc: Global, text: &[u8], from: u64) -> Result<(u64, Tree), Refusal>
+pub(crate) fn judge_tree<'a>(text: &'a [u8], from: u64) -> Result<Found<'a>, Refusal>
     requires { length text.now ≤ 2 ^ 30 }
-    ensures { Answers (TreeBehind text.now from) result }
+    ensures { Answers (TreeBehind text.entry.now from) result }
 {
-    match parse_tree(alloc, text, from) {
+    match parse_tree(text, from) {
         Ok(found) => Ok(found),
         Err(fault) => Err(tree_refusal(fault)),
     }

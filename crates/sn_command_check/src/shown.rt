@@ -15,9 +15,9 @@ use sn_plan_grammar::plan::Plan;
 use sn_plan_lists::choosing::choices_of;
 use sn_plan_space::planning::Planning;
 use sn_switch::switch::Switch;
-use sn_tree::check::check_tree;
+use sn_tree::check::check_nodes;
 use sn_tree::fault::TreeFault;
-use sn_tree_text::tree::Tree;
+use sn_tree_text::found::Found;
 use sn_types::typed::Typed;
 use std::alloc::Global;
 
@@ -41,27 +41,32 @@ fn flaw_refusal(fault: TreeFault) -> Refusal
 }
 
 /// Refuses a cost and a tree that don't show that no plan costs less than this one over training windows, for their first
-/// fault.
+/// fault. The nodes are taken from the text one by one.
 pub(crate) fn test_tree(
     alloc: Global,
     t: &Typed,
     s: &Switch,
     training: &Training,
     plan: &Plan,
-    cost: u64,
-    tree: &Tree,
+    tree: &Found<'_>,
 ) -> Result<(), Refusal>
     requires switch { IsSwitch s.now }
     requires order { IsInOrder training.now }
     requires fits { Fits t.now.queries s.now plan.now.entries }
-    ensures { Answers (ShownFor s.now t.now.queries (trained training.now.numbers training.now.tuples) plan.now cost tree.now) result }
+    ensures { Answers (ShownFor s.now t.now.queries (trained training.now.numbers training.now.tuples) plan.now tree.now.0 tree.now.1) result }
 {
     let tuples = training.tuples.as_slice();
     let table = build(t, s, tuples, training.numbers.as_slice())?;
     let planning = Planning::make(t, s, &table)?;
     let choices = choices_of(t, s, plan)?;
-    let nodes = tree.as_slice();
-    match check_tree(alloc, &planning, choices.as_slice(), cost, nodes) {
+    let mut nodes = tree.nodes();
+    match check_nodes(
+        alloc,
+        &planning,
+        choices.as_slice(),
+        tree.cost(),
+        &mut nodes,
+    ) {
         Ok(()) => Ok(()),
         Err(fault) => Err(flaw_refusal(fault)),
     }

@@ -1,6 +1,14 @@
 //! Texts of trees that are accepted, and texts with one fault each.
+use crate::two_queries::{TwoQueries, plan};
+use sn_base::memory::Memory;
+use sn_base::seq::Seq;
+use sn_tree::check::check_nodes;
+use sn_tree::fault::TreeFault;
+use sn_tree::source::Nodes;
 use sn_tree_space::node::Node;
 use sn_tree_text::fault::TextFault;
+use sn_tree_text::found::Found;
+use sn_tree_text::tree::Tree;
 use sn_tree_text::{parse, print};
 use std::test::Fail;
 
@@ -14,19 +22,33 @@ const COST: u64 = 88;
 /// The lines of the tree.
 const LINES: &[u8] = b"E 4\nE 4\nB 8\nB 8\nE 4\nE 4\nE 4\nP 6\nB 6\nE 4\nX\n";
 
-fn fault(rt: &HostRuntime, text: &[u8], from: u64) -> Option<TextFault> {
+fn fault(text: &[u8], from: u64) -> Option<TextFault> {
     if text.len() > 1000 {
         return None;
     }
-    parse(rt.alloc(), text, from).err()
+    parse(text, from).err()
+}
+
+/// The nodes of a text, the first twenty at most, and the number that it says there are.
+fn nodes_of(rt: &HostRuntime, found: &Found<'_>) -> Result<(Tree, u64), Memory> {
+    let mut tree = Seq::new(rt.alloc());
+    let mut nodes = found.nodes();
+    for _ in 0..20 {
+        if let Some(node) = nodes.next()? {
+            tree.push(node)?;
+        }
+    }
+    Ok((tree, found.count()))
 }
 
 #[test]
-fn reads_and_prints_a_tree(rt: HostRuntime) {
-    match parse(rt.alloc(), WHOLE, COST) {
+fn reads_and_prints_a_tree(rt: HostRuntime) -> Result<(), Fail> {
+    match parse(WHOLE, COST) {
         Err(_) => assert!(rt; false),
-        Ok((cost, tree)) => {
-            assert_eq!(rt; cost, 6);
+        Ok(found) => {
+            assert_eq!(rt; found.cost(), 6);
+            let (tree, count) = nodes_of(&rt, &found)?;
+            assert_eq!(rt; count, 11);
             assert_eq!(rt;
                 tree.as_slice(),
                 [
@@ -50,34 +72,78 @@ fn reads_and_prints_a_tree(rt: HostRuntime) {
             }
         }
     }
+    Ok(())
+}
+
+/// The fault of the cost and the tree of a text for the plan of the worked example, where it is read.
+fn tree_fault(rt: &HostRuntime, text: &[u8]) -> Option<Result<(), TreeFault>> {
+    if text.len() > 1000 {
+        return None;
+    }
+    let found = parse(text, 0).ok()?;
+    let mut nodes = found.nodes();
+    Some(check_nodes(rt.alloc(), &TwoQueries, &plan(), found.cost(), &mut nodes))
 }
 
 #[test]
-fn reads_other_layouts(rt: HostRuntime) {
+fn checks_a_tree_in_its_text(rt: HostRuntime) {
+    let shown = b"cost 6; tree E 4 E 4 B 8 B 8 E 4 E 4 E 4 P 6 B 6 E 4 X done";
+    assert_eq!(rt; tree_fault(&rt, shown), Some(Ok(())));
+    let costly = b"cost 7; tree E 4 E 4 B 8 B 8 E 4 E 4 E 4 P 6 B 6 E 4 X done";
+    let want = TreeFault::Cost {
+        node: 0,
+        want: 6,
+        got: 7,
+    };
+    assert_eq!(rt; tree_fault(&rt, costly), Some(Err(want)));
+    let short = b"cost 6; tree E 4 E 4 B 8 B 8 E 4 E 4 E 4 P 6 B 6 E 4 done";
+    let want = TreeFault::Shape {
+        node: 10,
+        want: 0,
+        got: 0,
+    };
+    assert_eq!(rt; tree_fault(&rt, short), Some(Err(want)));
+    let without = b"cost 6; tree E 4 E 4 B 8 B 8 E 4 E 4 E 4 B 6 B 6 E 4 X done";
+    let want = TreeFault::NoPlan {
+        node: 11,
+        want: 0,
+        got: 0,
+    };
+    assert_eq!(rt; tree_fault(&rt, without), Some(Err(want)));
+}
+
+#[test]
+fn reads_other_layouts(rt: HostRuntime) -> Result<(), Fail> {
     for text in [
         b"cost 6;tree P 6 done".as_slice(),
         b"# front\n cost 0x6 ; tree # a comment\r\n\tP 006 done # behind it",
         b"cost 6;\ntree\nP 6\ndone\n#",
     ] {
-        match parse(rt.alloc(), text, 0) {
+        match parse(text, 0) {
             Err(_) => assert!(rt; false),
-            Ok((cost, tree)) => {
-                assert_eq!(rt; cost, 6);
+            Ok(found) => {
+                assert_eq!(rt; found.cost(), 6);
+                let (tree, count) = nodes_of(&rt, &found)?;
+                assert_eq!(rt; count, 1);
                 assert_eq!(rt; tree.as_slice(), [Node::Chosen(6)].as_slice());
             }
         }
     }
+    Ok(())
 }
 
 #[test]
-fn reads_a_tree_without_nodes_and_the_greatest_number(rt: HostRuntime) {
-    match parse(rt.alloc(), b"cost 18446744073709551615; tree done", 0) {
+fn reads_a_tree_without_nodes_and_the_greatest_number(rt: HostRuntime) -> Result<(), Fail> {
+    match parse(b"cost 18446744073709551615; tree done", 0) {
         Err(_) => assert!(rt; false),
-        Ok((cost, tree)) => {
-            assert_eq!(rt; cost, u64::MAX);
+        Ok(found) => {
+            assert_eq!(rt; found.cost(), u64::MAX);
+            let (tree, count) = nodes_of(&rt, &found)?;
+            assert_eq!(rt; count, 0);
             assert_eq!(rt; tree.as_slice().len(), 0);
         }
     }
+    Ok(())
 }
 
 #[test]
@@ -102,7 +168,7 @@ fn names_the_first_fault_of_a_tree(rt: HostRuntime) {
         (b"cost 6; tree done;", TextFault::Expected { line: 1 }),
         (b"cost 6; tree done\n!", TextFault::Lex { line: 2 }),
     ] {
-        assert_eq!(rt; fault(&rt, text, 0), Some(want));
+        assert_eq!(rt; fault(text, 0), Some(want));
     }
 }
 
@@ -110,11 +176,11 @@ fn names_the_first_fault_of_a_tree(rt: HostRuntime) {
 fn counts_the_lines_of_the_whole_text(rt: HostRuntime) -> Result<(), Fail> {
     // A plan without a cost: its end is the fault.
     let plan = b"plan\nquery b path 0;\npiece 0 0 cut 0;\n";
-    assert_eq!(rt; fault(&rt, plan, 38), Some(TextFault::Expected { line: 4 }));
+    assert_eq!(rt; fault(plan, 38), Some(TextFault::Expected { line: 4 }));
     // Without the word `tree` and all after it.
     let cost = b"plan\nquery b path 0;\npiece 0 0 cut 0;\ncost 6;\n";
-    assert_eq!(rt; fault(&rt, cost, 38), Some(TextFault::Expected { line: 5 }));
+    assert_eq!(rt; fault(cost, 38), Some(TextFault::Expected { line: 5 }));
     // What stands before the byte isn't looked at.
-    assert_eq!(rt; fault(&rt, b"; ;\n;cost 6;\ntree done", 5), None);
+    assert_eq!(rt; fault(b"; ;\n;cost 6;\ntree done", 5), None);
     Ok(())
 }

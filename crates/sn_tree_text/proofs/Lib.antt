@@ -1,4 +1,5 @@
 pub mod Picks
+pub mod Fronts
 pub mod Places
 pub mod Trees
 pub mod Readings

@@ -3,6 +3,7 @@
 
 mod canonical;
 pub mod fault;
+pub mod found;
 pub mod law;
 mod nodes;
 mod place;

@@ -1,23 +1,19 @@
 //! The nodes of a tree text, and all that stands around them.
-ghost use Rattle.std.specs.Prelude.{◌≡◌, ℕ, List, codes};
+ghost use Rattle.std.specs.Prelude.{◌≡◌, codes};
 ghost use Rattle.sn_text_rules.specs.Rules.{kept};
-ghost use Rattle.sn_text_rules.specs.Words.{keyword, never, ◌▸◌, any_number};
+ghost use Rattle.sn_text_rules.specs.Words.{keyword, ◌▸◌, any_number};
 ghost use Rattle.sn_text.specs.Lexing.{left};
 ghost use Rattle.sn_text.specs.Reading.{Reads, ReadsAll, Peeked};
 ghost use Rattle.sn_plan_grammar.specs.TreeGrammar.{node_rule, begins, nodes_rule, tree_rule};
-ghost use Rattle.sn_plan_grammar.proofs.TreeGoods.{nodes_alike};
+ghost use Rattle.sn_tree_text.specs.Counting.{GoesPast};
 
-use crate::tree::Tree;
-use sn_base::seq::Seq;
-use sn_text::list::{Items, further};
+use crate::found::Found;
 use sn_text::place::Lexer;
 use sn_text::scan::scan;
 use sn_text::stop::Stop;
 use sn_text::words::{end, is_the_word, next_is_word, number, symbol, word};
-use sn_text_rules::Flaw;
 use sn_text_rules::symbols::SEMICOLON;
 use sn_tree_space::node::Node;
-use std::alloc::Global;
 
 /// A number after a letter.
 fn lettered<'a>(at: Lexer<'a>, letter: &[u8]) -> Result<(u64, Lexer<'a>), Stop<'a>>
@@ -29,7 +25,7 @@ fn lettered<'a>(at: Lexer<'a>, letter: &[u8]) -> Result<(u64, Lexer<'a>), Stop<'
 }
 
 #[tactic(auto, using(crate::proofs::Picks::node_cases))]
-fn node<'a>(at: Lexer<'a>) -> Result<(Node, Lexer<'a>), Stop<'a>>
+pub(crate) fn node<'a>(at: Lexer<'a>) -> Result<(Node, Lexer<'a>), Stop<'a>>
     ensures { Reads result (node_rule.read kept (left at.entry)) }
 {
     if next_is_word(at, b"X") {
@@ -60,56 +56,34 @@ fn node_begins(at: Lexer<'_>) -> bool
         || is_the_word(found.piece, b"P")
 }
 
-/// The nodes of a tree, without a limit.
-struct TreeNodes;
-
-impl Items for TreeNodes {
-    type Item = Node;
-
-    ghost goes = { λ items. begins };
-
-    ghost shut = { λ items. never };
-
-    ghost rule = { λ items seen. node_rule };
-
-    ghost laws = { λ items. nodes_alike };
-
-    fn begins(&self, at: Lexer<'_>) -> bool {
-        node_begins(at)
-    }
-
-    fn shut_by(&self, _seen: &[Node]) -> Option<Flaw> {
-        None
-    }
-
-    fn item<'a>(
-        &self,
-        _alloc: Global,
-        _seen: &[Node],
-        at: Lexer<'a>,
-    ) -> Result<(Node, Lexer<'a>), Stop<'a>> {
-        node(at)
-    }
-}
-
+/// The number of the nodes that stand here, and the place after them.
 #[tactic(auto, unfolding(sn_plan_grammar::specs::TreeGrammar::nodes_rule))]
-fn nodes<'a>(alloc: Global, at: Lexer<'a>) -> Result<(Tree, Lexer<'a>), Stop<'a>>
-    ensures { Reads result (nodes_rule.read kept (left at.entry)) }
+fn past_nodes<'a>(at: Lexer<'a>) -> Result<(u64, Lexer<'a>), Stop<'a>>
+    ensures { GoesPast (left at.entry) result (nodes_rule.read kept (left at.entry)) }
 {
-    further(alloc, &TreeNodes, Seq::new(alloc), at)
+    let mut count = 0;
+    let mut place = at;
+    'nodes: loop {
+        if !node_begins(place) {
+            return Ok((count, place));
+        }
+        let (_, after) = node(place)?;
+        count += 1;
+        place = after;
+    }
 }
 
 /// The cost and the tree, and nothing after them.
 #[tactic(auto, unfolding(sn_plan_grammar::specs::TreeGrammar::tree_rule))]
-pub(crate) fn read<'a>(alloc: Global, at: Lexer<'a>) -> Result<(u64, Tree), Stop<'a>>
+pub(crate) fn read<'a>(at: Lexer<'a>) -> Result<Found<'a>, Stop<'a>>
     ensures { ReadsAll result (tree_rule.read kept (left at.entry)) }
 {
     let rest = word(at, b"cost")?;
     let (cost, rest) = number(rest, 0, u64::MAX)?;
     let rest = symbol(rest, SEMICOLON)?;
-    let rest = word(rest, b"tree")?;
-    let (tree, rest) = nodes(alloc, rest)?;
+    let first = word(rest, b"tree")?;
+    let (count, rest) = past_nodes(first)?;
     let rest = word(rest, b"done")?;
     end(rest)?;
-    Ok((cost, tree))
+    Ok(Found { cost, count, first })
 }

@@ -8,14 +8,13 @@ ghost use Rattle.sn_tree_text.specs.Texts.{StandsFor, IsFault, IsValue, fault_of
 ghost use Rattle.sn_text_rules.specs.Tokens.{first_line};
 
 use crate::fault::TextFault;
+use crate::found::Found;
 use crate::nodes::read;
 use crate::place::lexer_at;
-use crate::tree::Tree;
 use sn_text::place::Lexer;
 use sn_text::scan::scan;
 use sn_text::stop::Stop;
 use sn_text_rules::Flaw;
-use std::alloc::Global;
 
 fn fault(flaw: Flaw, line: u32) -> TextFault
     ensures { result ≡ fault_of flaw line }
@@ -52,17 +51,17 @@ fn answer(stop: Stop<'_>) -> TextFault
 /// # Errors
 /// `Memory` where memory runs out, and else what is wrong with the first token with which no text of a cost and a tree goes on.
 /// Where the text ends in place of the word `cost`, that is its end.
-pub fn parse(alloc: Global, text: &[u8], from: u64) -> Result<(u64, Tree), TextFault>
+pub fn parse<'a>(text: &'a [u8], from: u64) -> Result<Found<'a>, TextFault>
     requires { length text.now ≤ 2 ^ 30 }
     // What is read is what the text stands for.
-    ensures found { IfOk result (λ x. StandsFor (from_byte from (tokens_of text.now)) x.0 x.1) }
+    ensures found { IfOk result (λ x. StandsFor (from_byte from (tokens_of text.entry.now)) x.0 x.1) }
     // What the text stands for is read, unless memory runs out.
-    ensures only { (cost : ℕ) (nodes : List Node) → StandsFor (from_byte from (tokens_of text.now)) cost nodes → IsValue cost nodes result }
+    ensures only { (cost : ℕ) (nodes : List Node) → StandsFor (from_byte from (tokens_of text.entry.now)) cost nodes → IsValue cost nodes result }
     // Else the first fault.
-    ensures fault { IfErr result (λ e. IsFault (from_byte from (tokens_of text.now)) e) }
+    ensures fault { IfErr result (λ e. IsFault (from_byte from (tokens_of text.entry.now)) e) }
 {
-    match read(alloc, lexer_at(text, from)) {
-        Ok((cost, tree)) => Ok((cost, tree)),
+    match read(lexer_at(text, from)) {
+        Ok(found) => Ok(found),
         Err(stop) => Err(answer(stop)),
     }
 }
