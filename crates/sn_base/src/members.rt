@@ -48,6 +48,13 @@ impl Members {
         }
     }
 
+    /// How many prefixes are in the set.
+    pub fn len(&self) -> u64
+        ensures { result ≡ set.len self.now }
+    {
+        self.prefixes.len() as u64
+    }
+
     /// Whether a prefix is in the set.
     pub fn has(&self, prefix: u128) -> bool
         ensures { result ≡ set.contains self.now prefix }

@@ -42,9 +42,9 @@ abbrev whole : ℕ → ℕ → ℕ → ℕ → ℕ
 whole debt lanes tuples windows = debt + (2 * lanes + 1) * tuples + (2 * lanes + 2) * windows
 
 module _ {Pipe Tuple Item Kept Answers : Type 0} (w : Workings Pipe Tuple Item Kept Answers) (law : AreLawful w) where
-  module _ (room : ℕ) (lanes : List (Lane Pipe Item)) (installs : List Kept) (waiting : Option Answers) where
+  module _ (room : ℕ) (lanes : List (Lane Pipe Item)) (installs : List Kept) (last : Option (ℕ × List Kept)) (waiting : Option Answers) where
     abbrev net_of : Option (Supply Tuple) → Window → Net Pipe Tuple Item Kept Answers
-    net_of held window = record { room = room; held = held; window = window; lanes = lanes; installs = installs; waiting = waiting }
+    net_of held window = record { room = room; held = held; window = window; lanes = lanes; installs = installs; last = last; waiting = waiting }
 
     abbrev Works : Event → Option (Supply Tuple) → Window → List (Supply Tuple) → Type 0
     Works event held window following = Stands w held lanes window → first_need_that_fails (net_of held window) event ≡ None → suc (work w (after_event w (net_of held window) event) following) ≤ work w (net_of held window) following
@@ -156,11 +156,11 @@ module _ {Pipe Tuple Item Kept Answers : Type 0} (w : Workings Pipe Tuple Item K
         (with_first_window d e l ((2 * l + 1) * t) ((2 * l + 2) * k) ((2 * l + 2) * suc k) (omega (arith, more)) (mul-suc (2 * l + 2) k)))
 
   pub step_works : (net : Net Pipe Tuple Item Kept Answers) (event : Event) (following : List (Supply Tuple)) → IsNet w net → first_need_that_fails net event ≡ None → suc (work w (after_event w net event) following) ≤ work w net following
-  step_works net Packet following h may = packet net.room net.lanes net.installs net.waiting net.held net.window following h.stands may
-  step_works net (ReadOut lane) following h may = read_out net.room net.lanes net.installs net.waiting lane net.held net.window following h.stands may
-  step_works net (Deliver lane) following h may = deliver net.room net.lanes net.installs net.waiting lane net.held net.window following h.stands may
-  step_works net CloseWindow following h may = close net.room net.lanes net.installs net.waiting net.held net.window following h.some_lane h.stands may
-  step_works net Install following h may = install net.room net.lanes net.installs net.waiting net.held net.window following h.stands may
+  step_works net Packet following h may = packet net.room net.lanes net.installs net.last net.waiting net.held net.window following h.stands may
+  step_works net (ReadOut lane) following h may = read_out net.room net.lanes net.installs net.last net.waiting lane net.held net.window following h.stands may
+  step_works net (Deliver lane) following h may = deliver net.room net.lanes net.installs net.last net.waiting lane net.held net.window following h.stands may
+  step_works net CloseWindow following h may = close net.room net.lanes net.installs net.last net.waiting net.held net.window following h.some_lane h.stands may
+  step_works net Install following h may = install net.room net.lanes net.installs net.last net.waiting net.held net.window following h.stands may
 
   pub give_works : (net : Net Pipe Tuple Item Kept Answers) (supply : Supply Tuple) (following : List (Supply Tuple)) → net.held ≡ None → work w (given net supply) following ≤ work w net (supply ∷ following)
-  give_works net supply following none = give net.room net.lanes net.installs net.waiting supply net.held net.window following none
+  give_works net supply following none = give net.room net.lanes net.installs net.last net.waiting supply net.held net.window following none

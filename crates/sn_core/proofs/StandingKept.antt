@@ -16,7 +16,7 @@ use Rattle.sn_core.specs.declared.supply.Window.TheVariants.{Idle, Begun, Closed
 use Rattle.sn_core.specs.Needs.{first_full, first_need_that_fails, first_open, has_room, is_empty, is_over, needs, needs_of_all, passes}
 use Rattle.sn_core.specs.Events.{after_event, all_started, change_at, emptied, given, kept_for, row_frames, window_from, delivered, delivered_of, with_next, with_next_of, with_start, with_tuple, without_answers}
 use Rattle.sn_core.specs.Due.{fresh}
-use Rattle.sn_core.specs.Standing.{HasEndLast, IsAtRest, IsAtWork, IsNet, IsNoEarlier, Stands}
+use Rattle.sn_core.specs.Standing.{HasEndLast, IsAtRest, IsAtWork, IsNet, IsNoEarlier, KeepsLast, Stands}
 use Rattle.sn_core.specs.Workings.{AreLawful, Workings}
 use Rattle.sn_core.proofs.Items.{ended_lane}
 use Rattle.sn_core.proofs.DueKept.{is_late}
@@ -169,9 +169,9 @@ module _ {Pipe Tuple Item Kept Answers : Type 0} (w : Workings Pipe Tuple Item K
   length_started (lane ∷ lanes) [] = ap suc (length_started lanes [])
   length_started (lane ∷ lanes) (kept ∷ sets) = ap suc (length_started lanes sets)
 
-  module _ (room : ℕ) (lanes : List (Lane Pipe Item)) (installs : List Kept) (waiting : Option Answers) where
+  module _ (room : ℕ) (lanes : List (Lane Pipe Item)) (installs : List Kept) (last : Option (ℕ × List Kept)) (waiting : Option Answers) where
     abbrev parts : Option (Supply Tuple) → Window → Net Pipe Tuple Item Kept Answers
-    parts held window = record { room = room; held = held; window = window; lanes = lanes; installs = installs; waiting = waiting }
+    parts held window = record { room = room; held = held; window = window; lanes = lanes; installs = installs; last = last; waiting = waiting }
 
     abbrev Stays : Event → Option (Supply Tuple) → Window → Type 0
     Stays event held window = IsNet w (parts held window) → first_need_that_fails (parts held window) event ≡ None → IsNet w (after_event w (parts held window) event)
@@ -190,6 +190,7 @@ module _ {Pipe Tuple Item Kept Answers : Type 0} (w : Workings Pipe Tuple Item K
         record {
           some_room = h.some_room;
           some_lane = long (map (with_tuple w tuple) lanes) (length-map lanes (with_tuple w tuple)) h.some_lane;
+          keeps = tt;
           stands = (tt, all_mapped (IsAtWork w (nat_lt number n)) (IsAtWork w false) (with_tuple w tuple) (tuple_work tuple (nat_lt number n) (not_less number n (omega (arith, equal)))) lanes h.stands.1);
         }
 
@@ -202,6 +203,7 @@ module _ {Pipe Tuple Item Kept Answers : Type 0} (w : Workings Pipe Tuple Item K
         record {
           some_room = h.some_room;
           some_lane = long (change_at (with_next w) lanes lane) (length_changed (with_next w) lanes lane) h.some_lane;
+          keeps = tt;
           stands = (h.stands.0, all_changed (IsAtWork w (is_over number held)) (λ x. not x.ended) (with_next w) (next_work (is_over number held) over.0) lanes lane is_open.0 h.stands.1);
         }
 
@@ -211,6 +213,7 @@ module _ {Pipe Tuple Item Kept Answers : Type 0} (w : Workings Pipe Tuple Item K
         record {
           some_room = h.some_room;
           some_lane = long (change_at delivered lanes lane) (length_changed delivered lanes lane) h.some_lane;
+          keeps = h.keeps;
           stands = (h.stands.0, all_changed (λ x. fresh w w.nothing x ≡ x) (λ x. not (is_empty x)) delivered (λ x full e. none_first x full (fresh_ring x e)) lanes lane some.0 h.stands.1);
         }
     deliver lane held (Closed number) h may =
@@ -218,6 +221,7 @@ module _ {Pipe Tuple Item Kept Answers : Type 0} (w : Workings Pipe Tuple Item K
         record {
           some_room = h.some_room;
           some_lane = long (change_at delivered lanes lane) (length_changed delivered lanes lane) h.some_lane;
+          keeps = h.keeps;
           stands = (h.stands.0, all_changed IsAtRest (λ x. not (is_empty x)) delivered (λ x full rest. none_first x full rest.ring) lanes lane some.0 h.stands.1);
         }
     deliver lane held (Begun number) h may =
@@ -225,6 +229,7 @@ module _ {Pipe Tuple Item Kept Answers : Type 0} (w : Workings Pipe Tuple Item K
         record {
           some_room = h.some_room;
           some_lane = long (change_at delivered lanes lane) (length_changed delivered lanes lane) h.some_lane;
+          keeps = tt;
           stands = (h.stands.0, all_changed (IsAtWork w (is_over number held)) (λ x. not (is_empty x)) delivered (first_work (is_over number held)) lanes lane some.0 h.stands.1);
         }
 
@@ -236,6 +241,7 @@ module _ {Pipe Tuple Item Kept Answers : Type 0} (w : Workings Pipe Tuple Item K
         record {
           some_room = h.some_room;
           some_lane = long (map emptied lanes) (length-map lanes emptied) h.some_lane;
+          keeps = refl;
           stands = (is_late w law (is_over number held) lanes h.some_lane closed h.stands.1, all_emptied (is_over number held) lanes closed h.stands.1);
         }
 
@@ -246,6 +252,7 @@ module _ {Pipe Tuple Item Kept Answers : Type 0} (w : Workings Pipe Tuple Item K
     install (Some End) (Closed number) h may = record {
       some_room = h.some_room;
       some_lane = long (all_started w lanes []) (length_started lanes []) h.some_lane;
+      keeps = λ e. some_not_none End e;
       stands = (refl, started_fresh lanes h.stands.1);
     }
     install (Some (Numbered n tuple)) (Closed number) h may =
@@ -253,6 +260,7 @@ module _ {Pipe Tuple Item Kept Answers : Type 0} (w : Workings Pipe Tuple Item K
         record {
           some_room = h.some_room;
           some_lane = long (all_started w lanes sets) (length_started lanes sets) h.some_lane;
+          keeps = tt;
           stands = (omega arith, subst (λ b. AllByRecursion (IsAtWork w b) (all_started w lanes sets)) (sym (not_less n n (omega arith))) (started_work lanes sets h.stands.1));
         }
 
@@ -262,22 +270,29 @@ module _ {Pipe Tuple Item Kept Answers : Type 0} (w : Workings Pipe Tuple Item K
     give supply (Begun number) fit h = (fit, all_same (IsAtWork w false) (IsAtWork w (is_over number (Some supply))) (later_work (is_over number (Some supply))) lanes h.1)
     give supply (Closed number) fit h = absurd (false≢true h.0)
 
+    give_keeps : (supply : Supply Tuple) (window : Window) → Stands w None lanes window → KeepsLast {Tuple = Tuple} None installs last window → KeepsLast (Some supply) installs last (window_from window supply)
+    give_keeps End Idle h keeps = λ e. some_not_none End e
+    give_keeps (Numbered n tuple) Idle h keeps = tt
+    give_keeps supply (Begun number) h keeps = tt
+    give_keeps supply (Closed number) h keeps = keeps
+
   pub event_keeps_net : (net : Net Pipe Tuple Item Kept Answers) (event : Event) → IsNet w net → first_need_that_fails net event ≡ None → IsNet w (after_event w net event)
-  event_keeps_net net Packet h may = packet net.room net.lanes net.installs net.waiting net.held net.window h may
-  event_keeps_net net (ReadOut lane) h may = read_out net.room net.lanes net.installs net.waiting lane net.held net.window h may
-  event_keeps_net net (Deliver lane) h may = deliver net.room net.lanes net.installs net.waiting lane net.held net.window h may
-  event_keeps_net net CloseWindow h may = close net.room net.lanes net.installs net.waiting net.held net.window h may
-  event_keeps_net net Install h may = install net.room net.lanes net.installs net.waiting net.held net.window h may
+  event_keeps_net net Packet h may = packet net.room net.lanes net.installs net.last net.waiting net.held net.window h may
+  event_keeps_net net (ReadOut lane) h may = read_out net.room net.lanes net.installs net.last net.waiting lane net.held net.window h may
+  event_keeps_net net (Deliver lane) h may = deliver net.room net.lanes net.installs net.last net.waiting lane net.held net.window h may
+  event_keeps_net net CloseWindow h may = close net.room net.lanes net.installs net.last net.waiting net.held net.window h may
+  event_keeps_net net Install h may = install net.room net.lanes net.installs net.last net.waiting net.held net.window h may
 
   pub give_keeps_net : (net : Net Pipe Tuple Item Kept Answers) (supply : Supply Tuple) → IsNet w net → net.held ≡ None → IsNoEarlier supply net.window → IsNet w (given net supply)
   give_keeps_net net supply h none fit = record {
     some_room = h.some_room;
     some_lane = h.some_lane;
-    stands = give net.room net.lanes net.installs net.waiting supply net.window fit (subst (λ (o : Option (Supply Tuple)). Stands w o net.lanes net.window) none h.stands);
+    keeps = give_keeps net.room net.lanes net.installs net.last net.waiting supply net.window (subst (λ (o : Option (Supply Tuple)). Stands w o net.lanes net.window) none h.stands) (subst (λ (o : Option (Supply Tuple)). KeepsLast o net.installs net.last net.window) none h.keeps);
+    stands = give net.room net.lanes net.installs net.last net.waiting supply net.window fit (subst (λ (o : Option (Supply Tuple)). Stands w o net.lanes net.window) none h.stands);
   }
 
   pub take_keeps_net : (net : Net Pipe Tuple Item Kept Answers) → IsNet w net → IsNet w (without_answers net)
-  take_keeps_net net h = record { some_room = h.some_room; some_lane = h.some_lane; stands = h.stands }
+  take_keeps_net net h = record { some_room = h.some_room; some_lane = h.some_lane; stands = h.stands; keeps = h.keeps }
 
   all_fresh : (lanes : List (Lane Pipe Item)) → AllByRecursion (λ lane. fresh w w.nothing lane ≡ lane) (map (fresh w w.nothing) lanes)
   all_fresh [] = tt
@@ -287,5 +302,6 @@ module _ {Pipe Tuple Item Kept Answers : Type 0} (w : Workings Pipe Tuple Item K
   new_is_net room lanes some_room some_lane = record {
     some_room = some_room;
     some_lane = omega (arith, some_lane, length-map lanes (fresh w w.nothing));
+    keeps = λ e. refl;
     stands = (refl, all_fresh lanes);
   }

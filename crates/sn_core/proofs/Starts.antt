@@ -3,8 +3,8 @@ use Rattle.std.proofs.Common.{◌≡◌, ℕ, List, [], ◌∷◌, map, Option, 
 use Rattle.sn_core.specs.Nets.{Lane}
 use Rattle.sn_core.specs.declared.supply.Frame.{Frame}
 use Rattle.sn_core.specs.declared.supply.Frame.TheVariants.{Row, Last}
-use Rattle.sn_core.specs.Events.{all_started, emptied, delivered, delivered_of, with_next, with_next_of, with_start, with_tuple}
-use Rattle.sn_core.specs.Due.{Tuples, answers_in, answers_of, fresh, items_from_start, kept_from}
+use Rattle.sn_core.specs.Events.{kept_from, all_started, emptied, delivered, delivered_of, with_next, with_next_of, with_start, with_tuple}
+use Rattle.sn_core.specs.Due.{Tuples, answers_in, answers_of, fresh, items_from_start}
 use Rattle.sn_core.specs.Workings.{AreLawful, Workings, items_of}
 
 abbrev pub at_pipe : {Pipe Item : Type 0} → Pipe → Lane Pipe Item
@@ -53,7 +53,7 @@ module _ {Pipe Tuple Item Kept Answers : Type 0} (w : Workings Pipe Tuple Item K
   answers_blank : (lanes : List (Lane Pipe Item)) (before : Option (ℕ × List Kept)) (xs : List (Tuples Tuple)) → answers_of w (map (blank w) lanes) before xs ≡ answers_of w lanes before xs
   answers_blank lanes before [] = refl
   answers_blank lanes before (x ∷ xs) =
-      let same : answers_in w (map (blank w) lanes) before x ≡ answers_in w lanes before x = ap (w.answers x.number) (items_blank x.tuples lanes (kept_from before x.number)) in
+      let same : answers_in w (map (blank w) lanes) before x ≡ answers_in w lanes before x = ap (w.answers (kept_from before x.number) x.number) (items_blank x.tuples lanes (kept_from before x.number)) in
       ap (λ (a : Answers). a ∷ answers_of w (map (blank w) lanes) (Some (x.number, w.kept_of a)) xs) same
       ∙ ap (λ ys. answers_in w lanes before x ∷ ys) (answers_blank lanes (Some (x.number, w.kept_of (answers_in w lanes before x))) xs)
 

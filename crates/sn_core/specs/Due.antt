@@ -8,7 +8,7 @@ use Rattle.sn_core.specs.declared.supply.Window.{Window}
 use Rattle.sn_core.specs.declared.supply.Supply.TheVariants.{Numbered, End}
 use Rattle.sn_core.specs.declared.supply.Frame.TheVariants.{Row, Last}
 use Rattle.sn_core.specs.declared.supply.Window.TheVariants.{Idle, Begun, Closed}
-use Rattle.sn_core.specs.Events.{kept_for}
+use Rattle.sn_core.specs.Events.{kept_from}
 use Rattle.sn_core.specs.Workings.{Workings, items_of}
 use Rattle.std.specs.Option.{option_to_list}
 
@@ -44,11 +44,6 @@ module _ {Tuple : Type 0} where
   behind_window window (End ∷ supplies) = End ∷ supplies
   behind_window window (Numbered number tuple ∷ supplies) = if nat_eq number window then behind_window window supplies else Numbered number tuple ∷ supplies
 
--- the prefixes for a window, from the number and the prefixes of the window before, if there was one
-abbrev pub kept_from : {Kept : Type 0} → Option (ℕ × List Kept) → ℕ → List Kept
-kept_from None number = []
-kept_from (Some before) number = kept_for before.0 before.1 number
-
 abbrev pub items_in : {Item : Type 0} → List (Frame Item) → List Item
 items_in [] = []
 items_in (Row item ∷ frames) = item ∷ items_in frames
@@ -73,7 +68,7 @@ module _ {Pipe Tuple Item Kept Answers : Type 0} (w : Workings Pipe Tuple Item K
   items_from_start tuples (lane ∷ lanes) (kept ∷ sets) = items_of w (w.start lane.pipe kept) tuples ∷ items_from_start tuples lanes sets
 
   abbrev pub answers_in : List (Lane Pipe Item) → Option (ℕ × List Kept) → Tuples Tuple → Answers
-  answers_in lanes before x = w.answers x.number (items_from_start x.tuples lanes (kept_from before x.number))
+  answers_in lanes before x = w.answers (kept_from before x.number) x.number (items_from_start x.tuples lanes (kept_from before x.number))
 
   -- the answers of windows, one after another, each along the prefixes of the window before
   abbrev pub answers_of : List (Lane Pipe Item) → Option (ℕ × List Kept) → List (Tuples Tuple) → List Answers
@@ -93,7 +88,8 @@ module _ {Pipe Tuple Item Kept Answers : Type 0} (w : Workings Pipe Tuple Item K
 
   abbrev pub due_in : Net Pipe Tuple Item Kept Answers → List (Supply Tuple) → Window → List Answers
   due_in net supplies Idle = answers_of net.lanes None (windows_of supplies)
-  due_in net supplies (Begun number) = and_later net.lanes number supplies (w.answers number (map (all_items (of_window number supplies)) net.lanes))
+  due_in net supplies (Begun number) =
+      and_later net.lanes number supplies (w.answers (kept_from net.last number) number (map (all_items (of_window number supplies)) net.lanes))
   due_in net supplies (Closed number) = answers_of net.lanes (Some (number, net.installs)) (windows_of supplies)
 
   abbrev pub due : Net Pipe Tuple Item Kept Answers → List (Supply Tuple) → List Answers

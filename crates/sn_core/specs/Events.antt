@@ -66,6 +66,11 @@ module _ {Pipe Tuple Item Kept Answers : Type 0} (w : Workings Pipe Tuple Item K
 abbrev pub kept_for : {Kept : Type 0} → ℕ → List Kept → ℕ → List Kept
 kept_for closed sets number = if nat_eq number (suc closed) then sets else []
 
+-- the prefixes for a window, from the number and the prefixes of the window before, if there was one
+abbrev pub kept_from : {Kept : Type 0} → Option (ℕ × List Kept) → ℕ → List Kept
+kept_from None number = []
+kept_from (Some before) number = kept_for before.0 before.1 number
+
 -- the prefixes to install for what is held, and the window that it begins
 abbrev pub kept_for_held : {Tuple Kept : Type 0} → ℕ → List Kept → Option (Supply Tuple) → List Kept
 kept_for_held closed sets None = []
@@ -85,11 +90,12 @@ module _ {Pipe Tuple Item Kept Answers : Type 0} (w : Workings Pipe Tuple Item K
 
   abbrev pub closes_with : Net Pipe Tuple Item Kept Answers → ℕ → Answers → Net Pipe Tuple Item Kept Answers
   closes_with net number answers =
-      record net { window = Closed number; lanes = map emptied net.lanes; installs = w.kept_of answers; waiting = Some answers }
+      let sets = w.kept_of answers in
+      record net { window = Closed number; lanes = map emptied net.lanes; installs = sets; last = Some (number, sets); waiting = Some answers }
 
   abbrev pub after_close : Net Pipe Tuple Item Kept Answers → Window → Net Pipe Tuple Item Kept Answers
   after_close net Idle = net
-  after_close net (Begun number) = closes_with net number (w.answers number (map (λ lane. lane.taken) net.lanes))
+  after_close net (Begun number) = closes_with net number (w.answers (kept_from net.last number) number (map (λ lane. lane.taken) net.lanes))
   after_close net (Closed number) = net
 
   abbrev pub after_install : Net Pipe Tuple Item Kept Answers → Window → Net Pipe Tuple Item Kept Answers

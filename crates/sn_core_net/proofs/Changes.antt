@@ -1,5 +1,5 @@
 -- What each event does to the state.
-use Rattle.std.proofs.Common.{◌≡◌, ℕ, ◌<◌, List, [], map, drop, length, true, not, is_none, nat_lt, get_or, set, slice_get, Option, None, Some, refl, ap, sym, ◌∙◌, subst}
+use Rattle.std.proofs.Common.{◌≡◌, ℕ, ◌<◌, List, [], map, drop, length, true, not, is_none, nat_lt, get_or, set, slice_get, Option, None, Some, refl, ap, ap₂, sym, ◌∙◌, subst}
 use Rattle.std.proofs.lemmas.List.{length-map}
 use Rattle.sn_core.proofs.Tests.{all_hold, need_holds, none_passes}
 use Rattle.sn_core.specs.Events as core
@@ -38,9 +38,9 @@ module _ (queries : List TypedQuery) (intakes : List Intake) (sources : List Sou
   abbrev works : Works
   works = works_of queries intakes sources
 
-  module _ (room : ℕ) (hs : List Holder) (xs : List Intake) (matched : length hs ≡ length xs) (installs : List Set) (waiting : Option Answers) where
+  module _ (room : ℕ) (hs : List Holder) (xs : List Intake) (matched : length hs ≡ length xs) (installs : List Set) (last : Option (ℕ × List Set)) (waiting : Option Answers) where
     abbrev at : Option (Supply (List ℕ)) → Window → State
-    at held window = state_of room held window hs xs installs waiting
+    at held window = state_of room held window hs xs installs last waiting
 
     -- what holds where a tuple may be taken
     pub packet_may : (held : Option (Supply (List ℕ))) (window : Window) → first_need_that_fails (at held window) event.Packet ≡ None →
@@ -52,7 +52,7 @@ module _ (queries : List TypedQuery) (intakes : List Intake) (sources : List Sou
         (own.0, (all_hold (first_full room (lanes_of hs xs)) Full None own.1).0)
 
     pub packet_changes : (held : Option (Supply (List ℕ))) (window : Window) (number : ℕ) (tuple : List ℕ) → held ≡ Some (Numbered number tuple) → first_need_that_fails (at held window) event.Packet ≡ None → are_roomy room hs ≡ true → are_unread hs ≡ true →
-        state_of room None window (all_took tuple hs) xs installs waiting ≡ after_event works (at held window) event.Packet
+        state_of room None window (all_took tuple hs) xs installs last waiting ≡ after_event works (at held window) event.Packet
     packet_changes held window number tuple is may roomy unread =
         let none = none_passes (λ (lane : Lane PipeState Item). not (has_room room lane)) (lanes_of hs xs) (packet_may held window may).1 in
         ap (λ (lanes : List (Lane PipeState Item)). record (at held window) { held = None; lanes = lanes }) (took_lanes queries (map emptied intakes) sources room tuple hs xs roomy unread none)
@@ -71,13 +71,13 @@ module _ (queries : List TypedQuery) (intakes : List Intake) (sources : List Sou
             ap (λ (x : Holder). not x.sender.ended) own ∙ sym (passes_left (λ x. not x.sender.ended) (λ x. not x.ended) (λ x y. refl) hs xs n h matched within) ∙ running.0,
           )
 
-      pub read_out_changes : (next : Holder) → ((x : Intake) → lane_of next x ≡ with_next works (lane_of h x)) → state_of room held window (set hs n next) xs installs waiting ≡ after_event works (at held window) (event.ReadOut n)
+      pub read_out_changes : (next : Holder) → ((x : Intake) → lane_of next x ≡ with_next works (lane_of h x)) → state_of room held window (set hs n next) xs installs last waiting ≡ after_event works (at held window) (event.ReadOut n)
       read_out_changes next is =
           ap (λ (lanes : List (Lane PipeState Item)). record (at held window) { lanes = lanes })
           (change_left (with_next works) hs xs n h next matched within (λ x. ap (λ (k : Holder). with_next works (lane_of k x)) (sym own) ∙ sym (is x)))
 
       pub deliver_changes : (next : Holder) (number : ℕ) (frame : Report) → slice_get h.ring.items 0 ≡ Some frame → next.sender ≡ h.sender → next.ring.items ≡ drop 1 h.ring.items →
-          state_of room held window (set hs n next) (core.change_at (λ x. taken x (report_of h.sender.lane number (frame_of frame))) xs n) installs waiting ≡ after_event works (at held window) (event.Deliver n)
+          state_of room held window (set hs n next) (core.change_at (λ x. taken x (report_of h.sender.lane number (frame_of frame))) xs n) installs last waiting ≡ after_event works (at held window) (event.Deliver n)
       deliver_changes next number frame first sender ring =
           let change : Intake → Intake = λ x. taken x (report_of h.sender.lane number (frame_of frame)) in
           ap (λ (lanes : List (Lane PipeState Item)). record (at held window) { lanes = lanes })
@@ -87,21 +87,21 @@ module _ (queries : List TypedQuery) (intakes : List Intake) (sources : List Sou
           ∙ ap (λ (frames : List Report). record (lane_of next (change x)) { ring = map frame_of frames }) (sym ring)))
 
     -- the answers are those of the items that the lanes have
-    pub close_changes : (held : Option (Supply (List ℕ))) (window : Window) (number : ℕ) (answers : Answers) (sets : List Set) → intakes ≡ xs → window ≡ Begun number → first_need_that_fails (at held window) event.CloseWindow ≡ None → ends_agree window xs ≡ true →
-        answers ≡ answers_of queries xs → sets ≡ map (prefixes_in queries answers.parts) sources →
-        state_of room held (Closed number) hs (map emptied xs) sets (Some answers) ≡ after_event works (at held window) event.CloseWindow
-    close_changes held window number answers sets here is may agreed value kept =
+    pub close_changes : (held : Option (Supply (List ℕ))) (window : Window) (number : ℕ) (answers : Answers) (sets others : List Set) → intakes ≡ xs → window ≡ Begun number → first_need_that_fails (at held window) event.CloseWindow ≡ None → ends_agree window xs ≡ true →
+        answers ≡ answers_of queries xs → sets ≡ map (prefixes_in queries answers.parts) sources → others ≡ map (prefixes_in queries answers.parts) sources →
+        state_of room held (Closed number) hs (map emptied xs) sets (Some (number, others)) (Some answers) ≡ after_event works (at held window) event.CloseWindow
+    close_changes held window number answers sets others here is may agreed value kept also =
         let behind = need_holds (is_begun_with (λ n. true) window) NotReading (needs_of_all (first_open (lanes_of hs xs)) Unfinished (needs (is_none waiting) Waiting None)) may in
         let closed = none_passes (λ (lane : Lane PipeState Item). not lane.closed) (lanes_of hs xs) (all_hold (first_open (lanes_of hs xs)) Unfinished (needs (is_none waiting) Waiting None) behind.1).0 in
         let again : all_ended number (map emptied intakes) (map (λ lane. lane.taken) (lanes_of hs xs)) ≡ xs =
         ap (λ (is : List Intake). all_ended number (map emptied is) (map (λ lane. lane.taken) (lanes_of hs xs))) here ∙ ended_again number hs xs matched closed (subst (λ (w : Window). ends_agree w xs ≡ true) is agreed) in
-        ap (λ (lanes : List (Lane PipeState Item)). record (at held window) { window = Closed number; lanes = lanes; installs = sets; waiting = Some answers }) (emptied_lanes hs xs)
-        ∙ ap (λ (ks : List Set). record (at held window) { window = Closed number; lanes = map core.emptied (lanes_of hs xs); installs = ks; waiting = Some answers }) kept
+        ap (λ (lanes : List (Lane PipeState Item)). record (at held window) { window = Closed number; lanes = lanes; installs = sets; last = Some (number, others); waiting = Some answers }) (emptied_lanes hs xs)
+        ∙ ap₂ (λ (ks ls : List Set). record (at held window) { window = Closed number; lanes = map core.emptied (lanes_of hs xs); installs = ks; last = Some (number, ls); waiting = Some answers }) kept also
         ∙ ap (closes_with works (at held window) number) (value ∙ ap (answers_of queries) (sym again))
         ∙ sym (ap (after_close works (at held window)) is)
 
     pub install_changes : (held : Option (Supply (List ℕ))) (window : Window) (closed : ℕ) (lanes : List Holder) → window ≡ Closed closed → lanes ≡ all_begun hs (kept_for_held closed installs held) →
-        state_of room held (window_of_held held) lanes xs [] waiting ≡ after_event works (at held window) event.Install
+        state_of room held (window_of_held held) lanes xs [] last waiting ≡ after_event works (at held window) event.Install
     install_changes held window closed lanes is begun =
         let kepts : List Set = kept_for_held closed installs held in
         ap (λ (ks : List Holder). record (at held window) { window = window_of_held held; lanes = lanes_of ks xs; installs = [] }) begun

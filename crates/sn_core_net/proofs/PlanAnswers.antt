@@ -3,7 +3,8 @@ use Rattle.std.proofs.Common.{◌≡◌, ℕ, suc, ◌+◌, ◌<◌, List, [], �
 use Rattle.std.specs.FinSet as set
 use Rattle.std.specs.List.{AllByRecursion}
 use Rattle.sn_base.proofs.Lists.{by_test, map_both, nat_same, nat_self, not_true}
-use Rattle.sn_core.specs.Due.{Tuples, answers_in, answers_of, items_from_start, kept_from}
+use Rattle.sn_core.specs.Due.{Tuples, answers_in, answers_of, items_from_start}
+use Rattle.sn_core.specs.Events.{kept_from}
 use Rattle.sn_core.specs.Nets.{Lane}
 use Rattle.sn_core.specs.Workings.{after_all, gives, items_of}
 use Rattle.sn_emit.specs.Making.{CanMake}

@@ -7,4 +7,4 @@ abbrev pub works : Net → Works
 works net = works_of net.engine.t.queries net.engine.lanes.items net.sources
 
 abbrev pub state : Net → State
-state net = state_of net.room net.held net.window net.lanes.items net.engine.lanes.items net.installs.items net.waiting
+state net = state_of net.room net.held net.window net.lanes.items net.engine.lanes.items net.installs.items net.last net.waiting

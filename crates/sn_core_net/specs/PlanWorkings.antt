@@ -33,8 +33,8 @@ all_ended window [] items = []
 all_ended window (x ∷ xs) [] = ended window [] x ∷ all_ended window xs []
 all_ended window (x ∷ xs) (items ∷ rest) = ended window items x ∷ all_ended window xs rest
 
--- A net over the pipes of a switch and these lanes of an engine: its answers are those of the engine, and the prefixes that they
--- keep for a lane are those of the lane's source.
+-- A net over the pipes of a switch and these lanes of an engine: its answers are those of the engine, which looks at no prefixes, and
+-- the prefixes that they keep for a lane are those of the lane's source.
 abbrev pub workings_of : List TypedQuery → List Intake → List Source → Workings PipeState (List ℕ) Item (set.FinSet nat_cmp) Answers
 workings_of queries intakes sources = record {
   item_of = item_of;
@@ -45,7 +45,7 @@ workings_of queries intakes sources = record {
   unwalked = unwalked;
   start = at_start;
   nothing = set.empty;
-  answers = λ window items. answers_of queries (all_ended window intakes items);
+  answers = λ sets window items. answers_of queries (all_ended window intakes items);
   kept_of = λ answers. map (prefixes_in queries answers.parts) sources;
 }
 

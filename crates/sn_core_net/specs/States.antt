@@ -1,8 +1,6 @@
 -- serves proofs
 -- The state of a net, as it is spoken of.
 use Rattle.std.specs.Prelude.{ℕ, List, [], ◌∷◌, map, is_some, Option}
-use Rattle.std.specs.FinSet as set
-use Rattle.std.specs.Ordering.{nat_cmp}
 use Rattle.sn_core.specs.Nets.{Lane, Net}
 use Rattle.sn_core.specs.Workings.{Workings}
 use Rattle.sn_core.specs.declared.supply.Supply.{Supply}
@@ -13,6 +11,7 @@ use Rattle.sn_engine.specs.declared.intake.Intake.{Intake}
 use Rattle.sn_core_net.specs.PlanWorkings.{workings_of}
 use Rattle.sn_core_net.specs.Settled.{settled}
 use Rattle.sn_pipe.specs.Pipes.{PipeState}
+use Rattle.sn_refine.specs.Steps.{Set}
 use Rattle.sn_report.specs.declared.frame.Item.{Item}
 use Rattle.sn_types.specs.declared.answers.Answers.{Answers}
 use Rattle.sn_types.specs.declared.typed_query.TypedQuery.{TypedQuery}
@@ -20,10 +19,10 @@ use Rattle.sn_core_net.specs.Reports.{frame_of}
 use Rattle.sn_core_net.specs.declared.holder.Holder.{Holder}
 
 abbrev pub State : Type 0
-State = Net PipeState (List ℕ) Item (set.FinSet nat_cmp) Answers
+State = Net PipeState (List ℕ) Item Set Answers
 
 abbrev pub Works : Type 0
-Works = Workings PipeState (List ℕ) Item (set.FinSet nat_cmp) Answers
+Works = Workings PipeState (List ℕ) Item Set Answers
 
 -- what a net is made over: the pipes of a switch, these lanes of an engine as they are when nothing has come, and the sources of
 -- their prefixes
@@ -39,6 +38,6 @@ lanes_of [] xs = []
 lanes_of (h ∷ hs) [] = []
 lanes_of (h ∷ hs) (x ∷ xs) = lane_of h x ∷ lanes_of hs xs
 
-abbrev pub state_of : ℕ → Option (Supply (List ℕ)) → Window → List Holder → List Intake → List (set.FinSet nat_cmp) → Option Answers → State
-state_of room held window hs xs installs waiting =
-    record { room = room; held = held; window = window; lanes = lanes_of hs xs; installs = installs; waiting = waiting }
+abbrev pub state_of : ℕ → Option (Supply (List ℕ)) → Window → List Holder → List Intake → List Set → Option (ℕ × List Set) → Option Answers → State
+state_of room held window hs xs installs last waiting =
+    record { room = room; held = held; window = window; lanes = lanes_of hs xs; installs = installs; last = last; waiting = waiting }

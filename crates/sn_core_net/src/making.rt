@@ -83,6 +83,7 @@ impl Net {
             engine,
             sources,
             installs,
+            last: None,
             waiting: None,
         })
     }

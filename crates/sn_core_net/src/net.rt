@@ -32,6 +32,8 @@ pub struct Net {
     pub sources: Seq<Source>,
     /// By lane: the prefixes to install, from the answers of the window that was closed last.
     pub installs: Vec<Members>,
+    /// What the engine keeps of its last close: the number of that window, and by lane the prefixes of its answers.
+    pub last: Option<(u64, Seq<Members>)>,
     /// The answers that wait to be taken.
     pub waiting: Option<Answers>,
     ghost matched: { length lanes.items ≡ length engine.lanes.items },
@@ -44,5 +46,5 @@ pub struct Net {
     ghost agreed: { ends_agree window engine.lanes.items ≡ true },
     ghost known: { AreKnown engine.t.queries sources } by { are_known_prop engine.t.queries sources },
     ghost standing: { ∥ IsNet (works_of engine.t.queries engine.lanes.items sources)
-        (state_of room held window lanes.items engine.lanes.items installs.items waiting) ∥₁ },
+        (state_of room held window lanes.items engine.lanes.items installs.items last waiting) ∥₁ },
 }

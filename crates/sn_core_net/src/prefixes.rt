@@ -18,15 +18,15 @@ fn sets_of(
     t: &Typed,
     parts: &[Part],
     sources: &[Source],
-) -> Result<Vec<Members>, Memory>
+) -> Result<Seq<Members>, Memory>
     requires { AreKnown t.now.queries sources.now }
-    ensures { IfOk result (λ sets. sets.items ≡ map (prefixes_in t.now.queries parts.now) sources.now) }
+    ensures { IfOk result (λ sets. sets ≡ map (prefixes_in t.now.queries parts.now) sources.now) }
 {
     let mut sets = Seq::new(alloc);
     for source in sources {
         sets.push(prefixes_in(alloc, t, parts, *source)?)?;
     }
-    Ok(sets.into_vec())
+    Ok(sets)
 }
 
 /// By lane: the prefixes that these answers keep for it.
@@ -34,9 +34,9 @@ pub(crate) fn prefix_sets(
     engine: &Engine,
     answers: &Answers,
     sources: &Seq<Source>,
-) -> Result<Vec<Members>, Memory>
+) -> Result<Seq<Members>, Memory>
     requires { AreKnown engine.now.t.queries sources.now }
-    ensures { IfOk result (λ sets. sets.items ≡ map (prefixes_in engine.now.t.queries answers.now.parts) sources.now) }
+    ensures { IfOk result (λ sets. sets ≡ map (prefixes_in engine.now.t.queries answers.now.parts) sources.now) }
 {
     let parts = answers.parts.as_slice();
     sets_of(engine.alloc, &engine.t, parts, sources.as_slice())

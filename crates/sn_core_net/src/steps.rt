@@ -20,6 +20,7 @@ use crate::net::Net;
 use crate::prefixes::prefix_sets;
 use sn_base::members::Members;
 use sn_base::memory::Memory;
+use sn_base::seq::Seq;
 use sn_core::event::Event;
 use sn_core::supply::{Supply, Window};
 use sn_engine::engine::Engine;
@@ -147,29 +148,34 @@ impl Net {
         Ok(())
     }
 
-    /// The answers of the window that all lanes have ended, and the prefixes that they keep for each lane.
-    fn answer(&self) -> Result<(Answers, Vec<Members>), Memory>
+    /// The answers of the window that all lanes have ended, and twice the prefixes that they keep for each lane: to install, and
+    /// for the engine to keep.
+    fn answer(&self) -> Result<(Answers, Vec<Members>, Seq<Members>), Memory>
         ensures answers { IfOk result (λ found. found.0 ≡ answers_of self.now.engine.t.queries self.now.engine.lanes.items) }
         ensures ended { IfOk result (λ found. list_all (has_ended found.0.window) self.now.engine.lanes.items ≡ true) }
         ensures sets { IfOk result (λ found. found.1.items ≡ map (prefixes_in self.now.engine.t.queries found.0.parts) self.now.sources) }
+        ensures kept { IfOk result (λ found. found.2 ≡ map (prefixes_in self.now.engine.t.queries found.0.parts) self.now.sources) }
     {
         let answers = value(&self.engine)?;
         let sets = prefix_sets(&self.engine, &answers, &self.sources)?;
-        Ok((answers, sets))
+        let kept = prefix_sets(&self.engine, &answers, &self.sources)?;
+        Ok((answers, sets.into_vec(), kept))
     }
 
     /// Closes the window, whose answers and prefixes these are.
-    fn close_with(&mut self, number: u64, answers: Answers, sets: Vec<Members>)
+    fn close_with(&mut self, number: u64, answers: Answers, sets: Vec<Members>, kept: Seq<Members>)
         requires begun { self.old.window ≡ Window.Begun number }
         requires may { first_need_that_fails (state self.old) Event.CloseWindow ≡ None }
         requires answers { answers ≡ answers_of self.old.engine.t.queries self.old.engine.lanes.items }
         requires ended { list_all (has_ended answers.window) self.old.engine.lanes.items ≡ true }
         requires sets { sets.items ≡ map (prefixes_in self.old.engine.t.queries answers.parts) self.old.sources }
+        requires kept { kept ≡ map (prefixes_in self.old.engine.t.queries answers.parts) self.old.sources }
         ensures state { state self.new ≡ after_event (works self.old) (state self.old) Event.CloseWindow }
         ensures works { works self.new ≡ works self.old }
     {
         self.engine.empty(answers.window);
         self.installs = sets;
+        self.last = Some((number, kept));
         self.waiting = Some(answers);
         self.window = Window::Closed(number);
     }
@@ -183,8 +189,8 @@ impl Net {
     {
         match self.window {
             Window::Begun(number) => {
-                let (answers, sets) = self.answer()?;
-                self.close_with(number, answers, sets);
+                let (answers, sets, kept) = self.answer()?;
+                self.close_with(number, answers, sets, kept);
                 Ok(())
             }
             _ => Ok(()),

@@ -8,7 +8,7 @@ use Rattle.std.proofs.lemmas.List.{length-map}
 use Rattle.sn_base.proofs.Lists.{map_both, filter_same}
 use Rattle.sn_core.specs.Debt.{debt_of_lanes, end_debt, tuples_in, window_debt, windows_in, work}
 use Rattle.sn_core.specs.Due.{coming}
-use Rattle.sn_core.specs.Events.{after_close, after_event, after_install, after_packet, all_started, change_at, emptied, given, kept_for_held, row_frames, delivered, delivered_of, with_next, with_next_of, with_start, with_tuple, without_answers}
+use Rattle.sn_core.specs.Events.{after_close, after_event, after_install, after_packet, all_started, change_at, emptied, given, kept_for_held, kept_from, row_frames, delivered, delivered_of, with_next, with_next_of, with_start, with_tuple, without_answers}
 use Rattle.sn_core.specs.Needs.{first_full, first_need_that_fails, first_open, has_room, is_begun_with, is_empty, is_of, is_over, is_tuple, needs, needs_of_all}
 use Rattle.sn_core.specs.Nets.{Lane}
 use Rattle.sn_core.specs.declared.event.Event.{Event}
@@ -133,7 +133,10 @@ module _ (queries : List TypedQuery) (intakes : List Intake) (sources : List Sou
   close_same s Idle = refl
   close_same s (Closed number) = refl
   close_same s (Begun number) =
-      ap₂ (λ (items : List (List Item)) (lanes : List One). record s { window = Closed number; lanes = lanes; installs = w.kept_of (w.answers number items); waiting = Some (w.answers number items) })
+      let kept : List (set.FinSet nat_cmp) = kept_from s.last number in
+      ap₂ (λ (items : List (List Item)) (lanes : List One).
+      let found = w.answers kept number items in
+      record s { window = Closed number; lanes = lanes; installs = w.kept_of found; last = Some (number, w.kept_of found); waiting = Some found })
       (map_both plain_lane (λ (lane : One). lane.taken) s.lanes) (both_ways plain_lane emptied emptied (λ lane. refl) s.lanes)
 
   install_same : (s : State) (window : Window) → after_install w (plain_state s) window ≡ plain_state (after_install w s window)

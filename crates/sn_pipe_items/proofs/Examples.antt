@@ -1,5 +1,5 @@
 -- Items and values of small windows, computed.
-use Rattle.std.proofs.Common.{◌≡◌, ◌≤◌, ◌<◌, ◌^◌, ℕ, List, [], ◌∷◌, refl, slice_index, nat_lt, arith}
+use Rattle.std.proofs.Common.{◌≡◌, ◌≤◌, ◌<◌, ◌^◌, ◌==◌, ℕ, List, [], ◌∷◌, Bool, filter, refl, slice_index, nat_lt, arith}
 use Rattle.sn_base.specs.Bags.{SameBag}
 use Rattle.sn_base.specs.Groups.{Row}
 use Rattle.sn_base.specs.Operators.{Op, through}
@@ -10,6 +10,7 @@ use Rattle.sn_report.specs.declared.frame.Item.{Item}
 use Rattle.sn_report.specs.declared.frame.Tag.{Tag}
 use Rattle.sn_report.specs.declared.frame.Tag.TheVariants.{At, Partial}
 use Rattle.sn_pipe_items.specs.Items.{items}
+use Rattle.sn_pipe_items.specs.Left.{left_of}
 use Rattle.sn_pipe_items.specs.Value.{value}
 use Rattle.sn_pipe_items.proofs.ItemsHadLemmas.{split_any}
 use Rattle.sn_pipe_items.proofs.OrderLemmas.{items_bag}
@@ -84,3 +85,23 @@ spread_law =
   where
     pow_above : 1 < 2 ^ 16
     pow_above = omega arith
+
+-- ---- items that are left
+
+-- the first column has this number, before and after each operator
+abbrev first_is : ℕ → ℕ → Row → Bool
+first_is n i row = slice_index row 0 == n
+
+-- of the counts of destination 2 both rows that overflowed are left, and they give its count
+counts_left : left_of (first_is 2) (one_slot 2 counts destinations) ≡ item (At 1) (2 ∷ 1 ∷ []) ∷ item (At 1) (2 ∷ 1 ∷ []) ∷ []
+counts_left = refl
+
+counts_left_value : value counts (left_of (first_is 2) (one_slot 2 counts destinations)) ≡ through counts (filter (first_is 2 0) destinations)
+counts_left_value = refl
+
+-- a part stays with its destination, and goes with it
+spread_left : left_of (first_is 9) (one_slot 5 spread pairs) ≡ one_slot 5 spread pairs
+spread_left = refl
+
+spread_dropped : left_of (first_is 8) (one_slot 5 spread pairs) ≡ []
+spread_dropped = refl

@@ -18,7 +18,7 @@ use Rattle.sn_types_faults.specs.Names.{Name, same_name}
 use Rattle.sn_types_faults.specs.Columns.{field_column, has_column}
 use Rattle.sn_types.specs.Typed.{is_field, packet_row, read_at}
 use Rattle.sn_types.proofs.Known.{IsKnown, same_row_self}
-use Rattle.sn_refine_laws.proofs.CarriedRows.{at_name, field_number, here, later}
+use Rattle.sn_types.proofs.CarriedPlaces.{at_name, field_number, here, later}
 use Rattle.sn_refine_laws.specs.Masking.{changed_at, shown}
 use Rattle.sn_refine_laws.proofs.Within.{IsWithin, within_map, within_same}
 

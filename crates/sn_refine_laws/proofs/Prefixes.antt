@@ -42,8 +42,9 @@ use Rattle.sn_types.proofs.Schemas.{IsSchema, columns_along, packet_schema, pack
 use Rattle.sn_types.proofs.Sound.{AreSound, sound_branch, sound_posts}
 use Rattle.sn_types.proofs.Sources.{later_none, none_in_both, none_in_each, source_of}
 use Rattle.sn_types.proofs.TypedRows.{scope_along}
-use Rattle.sn_refine_laws.proofs.CarriedQueries.{end_schema, is_key, join_kept, known_first, not_lost}
-use Rattle.sn_refine_laws.proofs.CarriedRows.{at_name, field_number, key_known, key_number, named}
+use Rattle.sn_refine_laws.proofs.CarriedQueries.{end_schema, is_key, join_kept}
+use Rattle.sn_types.proofs.NotLost.{known_first, not_lost}
+use Rattle.sn_types.proofs.CarriedPlaces.{at_name, field_number, key_known, key_number, named}
 use Rattle.sn_refine_laws.specs.Carrying.{CarryTo, passes}
 use Rattle.sn_refine_laws.proofs.Filtering.{through_filtered}
 use Rattle.sn_refine_laws.proofs.Levels.{masked_twice, read_masked}

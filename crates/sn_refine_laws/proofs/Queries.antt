@@ -1,5 +1,5 @@
 -- A monotone query at a coarser level answers the prefixes of what it answers at its finest level.
-use Rattle.std.proofs.Common.{◌≡◌, ℕ, zero, suc, ◌<◌, ◌≤◌, ◌-◌, ◌⊎◌, List, [], ◌∷◌, ◌++◌, map, filter, length, Bool, true, false, ◌||◌, nat_eq, nat_lt, slice_get, slice_index, Option, None, Some, is_some, unwrap_or, inl, inr, refl, ap, sym, ◌∙◌, subst, arith}
+use Rattle.std.proofs.Common.{◌≡◌, ℕ, zero, suc, ◌<◌, ◌≤◌, ◌-◌, ◌⊎◌, List, [], ◌∷◌, ◌++◌, map, filter, length, Bool, true, ◌||◌, nat_eq, nat_lt, slice_get, slice_index, Option, None, Some, is_some, unwrap_or, inl, inr, refl, ap, sym, ◌∙◌, subst, arith}
 use Rattle.std.specs.Prelude.{IfSome}
 use Rattle.std.specs.List.{AllByRecursion, list_any}
 use Rattle.std.specs.Option.{option_map}
@@ -44,8 +44,8 @@ use Rattle.sn_ops.proofs.PacketSteps.{some_branch}
 use Rattle.sn_engine_split.proofs.Typed.{rows_had}
 use Rattle.sn_refine_laws.specs.Counts.{IsRefined, IsUnrefined, KeepsQueryCounts}
 use Rattle.sn_refine_laws.proofs.CountLemmas.{counts}
-use Rattle.sn_refine_laws.proofs.CarriedQueries.{known_first}
-use Rattle.sn_refine_laws.proofs.CarriedRows.{at_name, named}
+use Rattle.sn_types.proofs.NotLost.{known_first}
+use Rattle.sn_types.proofs.CarriedPlaces.{at_name, named}
 use Rattle.sn_refine_laws.specs.Masking.{shown}
 use Rattle.sn_refine_laws.specs.Monotone.{is_monotone}
 use Rattle.sn_refine_laws.proofs.Behind.{coarser_answers}

@@ -26,7 +26,7 @@ use Rattle.sn_types.proofs.Known.{IsKnown, all_parts, same_row_self}
 use Rattle.sn_types.proofs.RowLemmas.{place_is}
 use Rattle.sn_types.proofs.Schemas.{IsSchema, mapped_whole, reduced_whole}
 use Rattle.sn_types.proofs.Sound.{IsSound}
-use Rattle.sn_refine_laws.proofs.CarriedRows.{at_name, copied, copy_of, found_name, here, is_first, is_later, apart_copy, key_known, later, mapped_known, mapped_number, named}
+use Rattle.sn_types.proofs.CarriedPlaces.{at_name, copied, copy_of, found_name, here, is_first, is_later, apart_copy, key_known, later, mapped_known, mapped_number, named}
 use Rattle.sn_refine_laws.specs.Carrying.{CarriesTo}
 use Rattle.sn_refine_laws.specs.Masking.{Follows, KeyFollows, changed_at}
 use Rattle.sn_refine_laws.proofs.Changed.{read_changed, read_other}

@@ -30,8 +30,8 @@ use Rattle.sn_types.proofs.Known.{IsKnown}
 use Rattle.sn_types.proofs.Schemas.{IsSchema, columns_along, schema_after}
 use Rattle.sn_types.proofs.Sound.{AreSound, IsSound}
 use Rattle.sn_types.proofs.Sources.{later_none}
-use Rattle.sn_refine_laws.proofs.CarriedQueries.{not_lost}
-use Rattle.sn_refine_laws.proofs.CarriedRows.{at_name}
+use Rattle.sn_types.proofs.NotLost.{not_lost}
+use Rattle.sn_types.proofs.CarriedPlaces.{at_name}
 use Rattle.sn_refine_laws.specs.Carrying.{CarriesTo}
 use Rattle.sn_refine_laws.specs.Masking.{AllFollow, AreThresholds, Follows, KeyFollows, keeps_row}
 use Rattle.sn_refine_laws.specs.Monotone.{are_thresholds, is_rising, rises_from}

@@ -122,6 +122,7 @@ pub record BranchSource (queries : List TypedQuery) (q b : ℕ) : Type 0 where
   pub each : AllByRecursion (λ op. BranchOp op.what) ops
   pub no_fault : first_fault (branch_places refine ops) ≡ None
   pub is : branch_at queries q b ≡ typed_branch ops
+  pub field : (query_at queries q).field ≡ field_of refine
 
 pub branch_source_of : (window : ℕ) (queries : List TypedQuery) (q b : ℕ) → IsTyped window queries → q < length queries → b < length (query_at queries q).branches → BranchSource queries q b
 branch_source_of window queries q b t lt within =
@@ -139,6 +140,7 @@ branch_source_of window queries q b t lt within =
       each = got.1.0.each;
       no_fault = got.1.1;
       is = ap (λ (bs : List TypedBranch). unwrap_or (slice_get bs b) blank_branch) branches ∙ got.2;
+      field = ap (λ (x : TypedQuery). x.field) s.is;
     }
 
 -- ---- counts

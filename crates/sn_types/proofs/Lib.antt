@@ -1,8 +1,11 @@
+pub mod CarriedPlaces
 pub mod Facts
+pub mod Following
 pub mod Items
 pub mod Joining
 pub mod Known
 pub mod Levels
+pub mod NotLost
 pub mod RefinedLemmas
 pub mod RowLemmas
 pub mod RowsAfter

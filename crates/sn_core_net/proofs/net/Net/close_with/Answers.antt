@@ -27,13 +27,13 @@ use Rattle.sn_core_net.proofs.net.Net.close_with.Goals as goal
 emptied_twice : (xs : List Intake) → map emptied (map emptied xs) ≡ map emptied xs
 emptied_twice xs = map_both emptied emptied xs
 
-changed : (net : Net) (number : ℕ) (answers : Answers) (sets : List Set) (ys : List Intake) → net.window ≡ Begun number → first_need_that_fails (state net) event.CloseWindow ≡ None → answers ≡ answers_of net.engine.t.queries net.engine.lanes.items →
-    sets ≡ map (prefixes_in net.engine.t.queries answers.parts) net.sources → ys ≡ map emptied net.engine.lanes.items →
-    state_of net.room net.held (Closed number) net.lanes.items ys sets (Some answers) ≡ after_event (works net) (state net) event.CloseWindow
-changed net number answers sets ys is may value kept empty =
+changed : (net : Net) (number : ℕ) (answers : Answers) (sets others : List Set) (ys : List Intake) → net.window ≡ Begun number → first_need_that_fails (state net) event.CloseWindow ≡ None → answers ≡ answers_of net.engine.t.queries net.engine.lanes.items →
+    sets ≡ map (prefixes_in net.engine.t.queries answers.parts) net.sources → others ≡ map (prefixes_in net.engine.t.queries answers.parts) net.sources → ys ≡ map emptied net.engine.lanes.items →
+    state_of net.room net.held (Closed number) net.lanes.items ys sets (Some (number, others)) (Some answers) ≡ after_event (works net) (state net) event.CloseWindow
+changed net number answers sets others ys is may value kept also empty =
     let xs : List Intake = net.engine.lanes.items in
-    ap (λ (zs : List Intake). state_of net.room net.held (Closed number) net.lanes.items zs sets (Some answers)) empty
-    ∙ close_changes net.engine.t.queries xs net.sources net.room net.lanes.items xs net.matched net.installs.items net.waiting net.held net.window number answers sets refl is may net.agreed value kept
+    ap (λ (zs : List Intake). state_of net.room net.held (Closed number) net.lanes.items zs sets (Some (number, others)) (Some answers)) empty
+    ∙ close_changes net.engine.t.queries xs net.sources net.room net.lanes.items xs net.matched net.installs.items net.last net.waiting net.held net.window number answers sets others refl is may net.agreed value kept also
 
 pub invariant_of-self : goal.invariant_of-self
 invariant_of-self c =
@@ -52,13 +52,13 @@ invariant_of-self c =
       agreed = refl;
       known = subst (λ (qs : List TypedQuery). AreKnown qs net.sources) (sym c.empty.ensures.queries) net.known;
       standing = event_stands net.engine.t.queries c.empty.new.self.t.queries xs ys net.sources c.empty.ensures.queries empty (state net)
-          (state_of net.room net.held (Closed c.args.number) net.lanes.items ys c.args.sets.items (Some c.args.answers)) event.CloseWindow net.standing c.requires.may
-          (changed net c.args.number c.args.answers c.args.sets.items ys c.requires.begun c.requires.may c.requires.answers c.requires.sets gone);
+          (state_of net.room net.held (Closed c.args.number) net.lanes.items ys c.args.sets.items (Some (c.args.number, c.args.kept)) (Some c.args.answers)) event.CloseWindow net.standing c.requires.may
+          (changed net c.args.number c.args.answers c.args.sets.items c.args.kept ys c.requires.begun c.requires.may c.requires.answers c.requires.sets c.requires.kept gone);
     }
 
 pub returns-clause-state : goal.returns-clause-state
 returns-clause-state c =
-    changed c.args.self.now c.args.number c.args.answers c.args.sets.items c.empty.new.self.lanes.items c.requires.begun c.requires.may c.requires.answers c.requires.sets c.empty.ensures.emptied
+    changed c.args.self.now c.args.number c.args.answers c.args.sets.items c.args.kept c.empty.new.self.lanes.items c.requires.begun c.requires.may c.requires.answers c.requires.sets c.requires.kept c.empty.ensures.emptied
 
 pub returns-clause-works : goal.returns-clause-works
 returns-clause-works c =

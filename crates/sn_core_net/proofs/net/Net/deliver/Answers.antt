@@ -59,10 +59,10 @@ module _ (net : Net) (n : ℕ) (h : Holder) (report : Report) (ys : List Intake)
   count = ap (λ (zs : List Intake). length zs) came ∙ length_changed change xs n
 
   changed : (ring : Buffer Report) → ring ≡ buffer (drop 1 h.ring.items) h.ring.capacity →
-      state_of net.room net.held net.window (set net.lanes.items n (record h { ring = ring })) ys net.installs.items net.waiting ≡ after_event (works net) (state net) (event.Deliver n)
+      state_of net.room net.held net.window (set net.lanes.items n (record h { ring = ring })) ys net.installs.items net.last net.waiting ≡ after_event (works net) (state net) (event.Deliver n)
   changed ring is =
-      ap (λ (zs : List Intake). state_of net.room net.held net.window (set net.lanes.items n (record h { ring = ring })) zs net.installs.items net.waiting) came
-      ∙ deliver_changes net.engine.t.queries xs net.sources net.room net.lanes.items xs net.matched net.installs.items net.waiting net.held net.window n within h own (record h { ring = ring }) (window_number net.window) report r.first refl
+      ap (λ (zs : List Intake). state_of net.room net.held net.window (set net.lanes.items n (record h { ring = ring })) zs net.installs.items net.last net.waiting) came
+      ∙ deliver_changes net.engine.t.queries xs net.sources net.room net.lanes.items xs net.matched net.installs.items net.last net.waiting net.held net.window n within h own (record h { ring = ring }) (window_number net.window) report r.first refl
       (ap (λ (b : Buffer Report). b.items) is)
 
 pub returns-in-None-clause-ok : goal.returns-in-None-clause-ok
@@ -103,7 +103,7 @@ invariant_of-self-in-Break-1 c =
       agreed = ap (ends_agree net.window) same ∙ net.agreed;
       known = subst (λ (qs : List TypedQuery). AreKnown qs net.sources) (sym c.take.ensures.queries) net.known;
       standing = same_stands net.engine.t.queries c.take.new.engine.t.queries net.engine.lanes.items c.take.new.engine.lanes.items net.sources c.take.ensures.queries (ap (λ (zs : List Intake). map emptied zs) same)
-          (λ zs. state_of net.room net.held net.window net.lanes.items zs net.installs.items net.waiting) same net.standing;
+          (λ zs. state_of net.room net.held net.window net.lanes.items zs net.installs.items net.last net.waiting) same net.standing;
     }
 
 pub invariant_of-self-2 : goal.invariant_of-self-2
@@ -133,7 +133,7 @@ invariant_of-self-2 c =
       agreed = agreed net n h c.in-Some.frame.now ys within own r by;
       known = subst (λ (qs : List TypedQuery). AreKnown qs net.sources) (sym c.take.ensures.queries) net.known;
       standing = event_stands net.engine.t.queries c.take.new.engine.t.queries net.engine.lanes.items ys net.sources c.take.ensures.queries (empty net n h c.in-Some.frame.now ys within own r by) (state net)
-          (state_of net.room net.held net.window (set hs n next) ys net.installs.items net.waiting) (event.Deliver n) net.standing c.requires.may (changed net n h c.in-Some.frame.now ys within own r by ring c.pop_front.ensures.items);
+          (state_of net.room net.held net.window (set hs n next) ys net.installs.items net.last net.waiting) (event.Deliver n) net.standing c.requires.may (changed net n h c.in-Some.frame.now ys within own r by ring c.pop_front.ensures.items);
     }
 
 pub returns-clause-ok : goal.returns-clause-ok

@@ -84,16 +84,16 @@ module _ (queries : List TypedQuery) (depth room : ℕ) (es : List Entry) (ss : 
   are_own_now : are_own 0 hs ≡ true
   are_own_now = ap (are_own 0) m.held ∙ new_own 0 room ss
 
-  state_is : state_of room None Idle hs xs installs None ≡ made (works_of others xs sources) room (lanes_of hs xs)
+  state_is : state_of room None Idle hs xs installs None None ≡ made (works_of others xs sources) room (lanes_of hs xs)
   state_is = ap₂ (λ (lanes : List (Lane PipeState Item)) (is : List Set). state_with room lanes is) are_fresh m.none
     where
       state_with : ℕ → List (Lane PipeState Item) → List Set → State
-      state_with room lanes is = record { room = room; held = None; window = Idle; lanes = lanes; installs = is; waiting = None }
+      state_with room lanes is = record { room = room; held = None; window = Idle; lanes = lanes; installs = is; last = None; waiting = None }
 
   some_lane : 0 < length pieces → 0 < length (lanes_of hs xs)
   some_lane some = omega (arith, some, length_lanes hs xs as_many, as_many_pieces)
 
-  stands : 1 ≤ room → 0 < length pieces → IsNet (works_of others xs sources) (state_of room None Idle hs xs installs None)
+  stands : 1 ≤ room → 0 < length pieces → IsNet (works_of others xs sources) (state_of room None Idle hs xs installs None None)
   stands some_room some =
       subst (λ (s : State). IsNet (works_of others xs sources) s) (sym state_is) (made_stands others xs sources room (lanes_of hs xs) (omega (arith, some_room)) (some_lane some))
 

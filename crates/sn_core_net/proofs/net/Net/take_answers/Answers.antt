@@ -19,6 +19,6 @@ invariant_of-self c =
       own = net.own;
       agreed = net.agreed;
       known = net.known;
-      standing = subst (λ (o : Option Answers). ∥ IsNet (works net) (state_of net.room net.held net.window net.lanes.items net.engine.lanes.items net.installs.items o) ∥₁) (sym c.take.ensures.after)
+      standing = subst (λ (o : Option Answers). ∥ IsNet (works net) (state_of net.room net.held net.window net.lanes.items net.engine.lanes.items net.installs.items net.last o) ∥₁) (sym c.take.ensures.after)
           (take_stands net.engine.t.queries net.engine.lanes.items net.sources (state net) net.standing);
     }
