@@ -1,15 +1,15 @@
 -- Residents by rising place, and what is read out of the cells.
 use Rattle.std.proofs.Common.{◌≡◌, ℕ, zero, suc, ◌+◌, ◌*◌, ◌≤◌, ◌<◌, ◌≢◌, List, [], ◌∷◌, map, length, Bool, true, false, cond, nat_eq, nat_le, Option, Some, None, refl, ap, sym, ◌∙◌, subst, add-zero, zero-add, arith}
-use Rattle.std.specs.List.{list_any, cons_option, filter_map, range_with_len, AllByRecursion}
+use Rattle.std.specs.List.{list_any, cons_option, filter_map, range_with_len}
 use Rattle.std.specs.Option.{option_map}
 use Rattle.std.specs.Map.{lookup}
 use Rattle.std.specs.Cmp.{IsEquivalence}
 use Rattle.std.specs.Cmp.Lexicographic.{nat_list_eq_equiv}
-use Rattle.std.proofs.lemmas.Bool.{false≢true, le-leb, lt-leb, or_parts}
+use Rattle.std.proofs.lemmas.Bool.{false≢true, le-leb, lt-leb}
 use Rattle.sn_base.specs.Bags.{SameBag}
 use Rattle.sn_base.specs.Bags.SameBag.{stays, behind, turned, joined}
 use Rattle.sn_base.specs.Groups.{Row, Apart, same_row}
-use Rattle.sn_base.proofs.Lists.{by_test, by_pushes, map_both, not_true, nat_same, nat_self, none_all}
+use Rattle.sn_base.proofs.Lists.{by_test, by_pushes, map_both, nat_same, nat_self, none_all}
 use Rattle.sn_base.proofs.BagLemmas.{all_bag, bag_map, bag_any, bag_back}
 use Rattle.sn_base.proofs.FoldedLemmas.{same_row_exact}
 use Rattle.sn_chain.specs.Residence.{free_place, seated_at, seated, residents}

@@ -1,7 +1,8 @@
 -- The cells of a chain, by the heads and tails in which they are stored.
-use Rattle.std.proofs.Common.{◌≡◌, ℕ, zero, suc, ◌-◌, ◌≤◌, ◌<◌, List, [], ◌∷◌, ◌++◌, map, take, drop, length, append-nil, length-append, Bool, true, false, cond, nat_eq, Some, None, get_or, set, min, replicate, refl, ap, sym, subst, ◌∙◌, arith}
+use Rattle.std.proofs.Common.{◌≡◌, ℕ, zero, suc, ◌-◌, ◌≤◌, ◌<◌, List, [], ◌∷◌, ◌++◌, map, take, drop, length, append-nil, length-append, Bool, true, false, cond, ◌&&◌, nat_eq, slice_index, Option, Some, None, IfSome, get_or, set, min, replicate, refl, ap, sym, subst, ◌∙◌, arith}
 use Rattle.std.specs.Cmp.Lexicographic.{nat_list_eq_equiv}
 use Rattle.std.specs.List.{AllByRecursion}
+use Rattle.std.specs.Option.{option_map}
 use Rattle.std.proofs.lemmas.Bool.{false≢true}
 use Rattle.std.proofs.lemmas.List.{get_or_past, length-map, length-take, take_all, take_at, take_min, take-append-drop, drop_all, drop_at}
 use Rattle.std.proofs.lemmas.List.Elements.{All-from_recursion, All-get_or}
@@ -9,50 +10,55 @@ use Rattle.std.proofs.lemmas.Slice.Eq.{bytes_eq-Decides}
 use Rattle.sn_base.specs.Groups.{Row, same_row}
 use Rattle.sn_base.proofs.Lists.{not_true, nat_same, nat_self}
 use Rattle.sn_base.proofs.FoldedLemmas.{same_row_exact}
-use Rattle.sn_chain.specs.Cells.{Cell, shown_by, all_shown_by, forgotten}
+use Rattle.sn_chain.specs.Cells.{Cell, untaken, shown_by, all_shown_by, forgotten}
 use Rattle.sn_chain.specs.Registers.{cell, holds}
-use Rattle.sn_chain.specs.Stored.{cell_of, cells_of, put_back, IsHead, AreStored}
-use Rattle.sn_chain.specs.declared.cells.Head.{Head}
+use Rattle.sn_chain.specs.Stored.{HeadState, untaken_head, untaken_tail, is_at, tail_of, cell_of, cells_of, put_back, IsHead, AreStored}
 use Rattle.sn_chain.proofs.Places.{read_cell}
 
-pub length-cells_of : (heads : List Head) (tails : List (List ℕ)) → length tails ≡ length heads → length (cells_of heads tails) ≡ length heads
+pub length-cells_of : (heads : List HeadState) (tails : List (List ℕ)) → length tails ≡ length heads → length (cells_of heads tails) ≡ length heads
 length-cells_of [] tails level = refl
 length-cells_of (h ∷ heads) [] level = absurd (omega (arith, level))
 length-cells_of (h ∷ heads) (t ∷ tails) level = ap suc (length-cells_of heads tails (omega (arith, level)))
 
 -- a head beside its tail
-pub cell_stored : (heads : List Head) (tails : List (List ℕ)) (i : ℕ) (e : Head) (d : Cell) → length tails ≡ length heads → i < length heads → get_or (cells_of heads tails) i d ≡ cell_of (get_or heads i e) (get_or tails i [])
+pub cell_stored : (heads : List HeadState) (tails : List (List ℕ)) (i : ℕ) (e : HeadState) (d : Cell) → length tails ≡ length heads → i < length heads → get_or (cells_of heads tails) i d ≡ cell_of (get_or heads i e) (get_or tails i [])
 cell_stored [] tails i e d level within = absurd (omega arith)
 cell_stored (h ∷ heads) [] i e d level within = absurd (omega (arith, level))
 cell_stored (h ∷ heads) (t ∷ tails) zero e d level within = refl
 cell_stored (h ∷ heads) (t ∷ tails) (suc i) e d level within = cell_stored heads tails i e d (omega (arith, level)) (omega arith)
 
 -- one head is written
-pub head_written : (heads : List Head) (tails : List (List ℕ)) (i : ℕ) (h : Head) → length tails ≡ length heads → cells_of (set heads i h) tails ≡ set (cells_of heads tails) i (cell_of h (get_or tails i []))
+pub head_written : (heads : List HeadState) (tails : List (List ℕ)) (i : ℕ) (h : HeadState) → length tails ≡ length heads → cells_of (set heads i h) tails ≡ set (cells_of heads tails) i (cell_of h (get_or tails i []))
 head_written [] tails i h level = refl
 head_written (g ∷ heads) [] i h level = absurd (omega (arith, level))
 head_written (g ∷ heads) (t ∷ tails) zero h level = refl
 head_written (g ∷ heads) (t ∷ tails) (suc i) h level = ap (λ cs. cell_of g t ∷ cs) (head_written heads tails i h (omega (arith, level)))
 
 -- and its tail too
-pub both_written : (heads : List Head) (tails : List (List ℕ)) (i : ℕ) (h : Head) (t : List ℕ) → length tails ≡ length heads → cells_of (set heads i h) (set tails i t) ≡ set (cells_of heads tails) i (cell_of h t)
+pub both_written : (heads : List HeadState) (tails : List (List ℕ)) (i : ℕ) (h : HeadState) (t : List ℕ) → length tails ≡ length heads → cells_of (set heads i h) (set tails i t) ≡ set (cells_of heads tails) i (cell_of h t)
 both_written [] tails i h t level = refl
 both_written (g ∷ heads) [] i h t level = absurd (omega (arith, level))
 both_written (g ∷ heads) (s ∷ tails) zero h t level = refl
 both_written (g ∷ heads) (s ∷ tails) (suc i) h t level = ap (λ cs. cell_of g s ∷ cs) (both_written heads tails i h t (omega (arith, level)))
 
-pub all_put_back : (heads : List Head) (tails : List (List ℕ)) → cells_of (map put_back heads) tails ≡ map forgotten (cells_of heads tails)
+pub all_put_back : (heads : List HeadState) (tails : List (List ℕ)) → cells_of (map put_back heads) tails ≡ map forgotten (cells_of heads tails)
 all_put_back [] tails = refl
 all_put_back (h ∷ heads) [] = refl
 all_put_back (h ∷ heads) (t ∷ tails) = ap (λ cs. forgotten (cell_of h t) ∷ cs) (all_put_back heads tails)
 
-pub heads_put_back : (heads : List Head) → AllByRecursion IsHead heads → AllByRecursion IsHead (map put_back heads)
+pub heads_put_back : (heads : List HeadState) → AllByRecursion IsHead heads → AllByRecursion IsHead (map put_back heads)
 heads_put_back [] are = tt
 heads_put_back (h ∷ heads) are = (record { room = are.0.room; long = are.0.long }, heads_put_back heads are.1)
 
-pub all_alike : (n : ℕ) (h : Head) (t : List ℕ) → cells_of (replicate n h) (replicate n t) ≡ replicate n (cell_of h t)
+pub all_alike : (n : ℕ) (h : HeadState) (t : List ℕ) → cells_of (replicate n h) (replicate n t) ≡ replicate n (cell_of h t)
 all_alike zero h t = refl
 all_alike (suc n) h t = ap (λ cs. cell_of h t ∷ cs) (all_alike n h t)
+
+-- cells that no key took yet
+pub all_untaken : (count value : ℕ) (heads : List HeadState) (tails : List (List ℕ)) → heads ≡ replicate count (untaken_head value) → tails ≡ replicate count untaken_tail
+    → cells_of heads tails ≡ replicate count (untaken value)
+all_untaken count value heads tails is is' =
+    ap (λ hs. cells_of hs tails) is ∙ ap (λ ts. cells_of (replicate count (untaken_head value)) ts) is' ∙ all_alike count (untaken_head value) untaken_tail
 
 -- ---- keys
 
@@ -115,9 +121,89 @@ far_other key front tail count long many differ =
 pub front_taken : (count : ℕ) (front : List ℕ) → length front ≡ 3 → take (min count 3) front ≡ take count front
 front_taken count front long = ap (λ n. take (min count n) front) (sym long) ∙ take_min count front
 
+-- ---- columns at places
+
+nothing_of : (n : ℕ) → let none : List ℕ = [] in take n none ≡ none
+nothing_of n = take_all n [] (omega arith)
+
+-- a key has its own number at each of its places, and past them any
+pub at_within : (key : Row) (place number : ℕ) → place < length key → nat_eq number (slice_index key place) ≡ is_at key place number
+at_within [] place number within = absurd (omega (arith, within))
+at_within (x ∷ key) zero number within = refl
+at_within (x ∷ key) (suc place) number within = at_within key place number (omega (arith, within))
+
+pub at_past : (key : Row) (place number : ℕ) → length key ≤ place → true ≡ is_at key place number
+at_past [] place number past = refl
+at_past (x ∷ key) zero number past = absurd (omega (arith, past))
+at_past (x ∷ key) (suc place) number past = at_past key place number (omega (arith, past))
+
+-- a key's first three columns are those of its head
+pub front_begins : (key : Row) → take (length key) (slice_index key 0 ∷ slice_index key 1 ∷ slice_index key 2 ∷ []) ≡ take 3 key
+front_begins [] = refl
+front_begins (a ∷ []) = refl
+front_begins (a ∷ b ∷ []) = refl
+front_begins (a ∷ b ∷ c ∷ key) = ap (λ xs. a ∷ b ∷ c ∷ xs) (nothing_of (length key))
+
+-- the columns after them are those of its tail
+pub tail_begins : (key : Row) → length key ≤ 8 → take (length key - 3) (tail_of key) ≡ drop 3 key
+tail_begins [] most = refl
+tail_begins (a ∷ []) most = refl
+tail_begins (a ∷ b ∷ []) most = refl
+tail_begins (a ∷ b ∷ c ∷ []) most = refl
+tail_begins (a ∷ b ∷ c ∷ d ∷ []) most = refl
+tail_begins (a ∷ b ∷ c ∷ d ∷ e ∷ []) most = refl
+tail_begins (a ∷ b ∷ c ∷ d ∷ e ∷ f ∷ []) most = refl
+tail_begins (a ∷ b ∷ c ∷ d ∷ e ∷ f ∷ g ∷ []) most = refl
+tail_begins (a ∷ b ∷ c ∷ d ∷ e ∷ f ∷ g ∷ h ∷ []) most = refl
+tail_begins (a ∷ b ∷ c ∷ d ∷ e ∷ f ∷ g ∷ h ∷ i ∷ key) most = absurd (omega (arith, most))
+
+and_true : (b : Bool) → (b && true) ≡ b
+and_true true = refl
+and_true false = refl
+
+-- the columns of a key and of a head are alike where each that the key has is
+abbrev pub begins : List ℕ → Row → Bool
+begins front key = is_at key 0 (slice_index front 0) && (is_at key 1 (slice_index front 1) && is_at key 2 (slice_index front 2))
+
+abbrev pub ends : List ℕ → Row → Bool
+ends tail key =
+    is_at key 3 (slice_index tail 0) && (is_at key 4 (slice_index tail 1)
+    && (is_at key 5 (slice_index tail 2) && (is_at key 6 (slice_index tail 3) && is_at key 7 (slice_index tail 4))))
+
+pub front_alike : (key front : List ℕ) → length front ≡ 3 → begins front key ≡ same_row (take (length key) front) (take 3 key)
+front_alike key [] long = absurd (omega (arith, long))
+front_alike key (x ∷ []) long = absurd (omega (arith, long))
+front_alike key (x ∷ y ∷ []) long = absurd (omega (arith, long))
+front_alike [] (x ∷ y ∷ z ∷ []) long = refl
+front_alike (a ∷ []) (x ∷ y ∷ z ∷ []) long = refl
+front_alike (a ∷ b ∷ []) (x ∷ y ∷ z ∷ []) long = refl
+front_alike (a ∷ b ∷ c ∷ key) (x ∷ y ∷ z ∷ []) long =
+    ap (λ t. nat_eq x a && (nat_eq y b && t)) (sym (and_true (nat_eq z c)))
+    ∙ ap (λ (xs : List ℕ). same_row (x ∷ y ∷ z ∷ xs) (a ∷ b ∷ c ∷ [])) (sym (nothing_of (length key)))
+front_alike key (x ∷ y ∷ z ∷ w ∷ front) long = absurd (omega (arith, long))
+
+pub tail_alike : (key tail : List ℕ) → length key ≤ 8 → length tail ≡ 5 → ends tail key ≡ same_row (take (length key - 3) tail) (drop 3 key)
+tail_alike key [] most long = absurd (omega (arith, long))
+tail_alike key (v ∷ []) most long = absurd (omega (arith, long))
+tail_alike key (v ∷ w ∷ []) most long = absurd (omega (arith, long))
+tail_alike key (v ∷ w ∷ x ∷ []) most long = absurd (omega (arith, long))
+tail_alike key (v ∷ w ∷ x ∷ y ∷ []) most long = absurd (omega (arith, long))
+tail_alike [] (v ∷ w ∷ x ∷ y ∷ z ∷ []) most long = refl
+tail_alike (a ∷ []) (v ∷ w ∷ x ∷ y ∷ z ∷ []) most long = refl
+tail_alike (a ∷ b ∷ []) (v ∷ w ∷ x ∷ y ∷ z ∷ []) most long = refl
+tail_alike (a ∷ b ∷ c ∷ []) (v ∷ w ∷ x ∷ y ∷ z ∷ []) most long = refl
+tail_alike (a ∷ b ∷ c ∷ d ∷ []) (v ∷ w ∷ x ∷ y ∷ z ∷ []) most long = refl
+tail_alike (a ∷ b ∷ c ∷ d ∷ e ∷ []) (v ∷ w ∷ x ∷ y ∷ z ∷ []) most long = refl
+tail_alike (a ∷ b ∷ c ∷ d ∷ e ∷ f ∷ []) (v ∷ w ∷ x ∷ y ∷ z ∷ []) most long = refl
+tail_alike (a ∷ b ∷ c ∷ d ∷ e ∷ f ∷ g ∷ []) (v ∷ w ∷ x ∷ y ∷ z ∷ []) most long = refl
+tail_alike (a ∷ b ∷ c ∷ d ∷ e ∷ f ∷ g ∷ h ∷ []) (v ∷ w ∷ x ∷ y ∷ z ∷ []) most long =
+    ap (λ t. nat_eq v d && (nat_eq w e && (nat_eq x f && (nat_eq y g && t)))) (sym (and_true (nat_eq z h)))
+tail_alike (a ∷ b ∷ c ∷ d ∷ e ∷ f ∷ g ∷ h ∷ i ∷ key) (v ∷ w ∷ x ∷ y ∷ z ∷ []) most long = absurd (omega (arith, most))
+tail_alike key (u ∷ v ∷ w ∷ x ∷ y ∷ z ∷ tail) most long = absurd (omega (arith, long))
+
 -- ---- what is read of the cells
 
-module _ (heads : List Head) (tails : List (List ℕ)) (cells : List Cell) (view_is : cells_of heads tails ≡ cells) (stored : AreStored heads tails) where
+module _ (heads : List HeadState) (tails : List (List ℕ)) (cells : List Cell) (view_is : cells_of heads tails ≡ cells) (stored : AreStored heads tails) where
   pub within_heads : (i : ℕ) → i < length cells → i < length heads
   within_heads i within = subst (λ (n : ℕ). i < n) (ap length (sym view_is) ∙ length-cells_of heads tails stored.level) within
 
@@ -125,7 +211,7 @@ module _ (heads : List Head) (tails : List (List ℕ)) (cells : List Cell) (view
   within_tails i within = subst (λ (n : ℕ). i < n) (sym stored.level) (within_heads i within)
 
   -- a head that was read
-  module _ (i : ℕ) (h : Head) (within : i < length heads) (is : h ≡ get_or heads i h) where
+  module _ (i : ℕ) (h : HeadState) (within : i < length heads) (is : h ≡ get_or heads i h) where
     pub cell_is : (d : Cell) → get_or cells i d ≡ cell_of h (get_or tails i [])
     cell_is d = ap (λ cs. get_or cs i d) (sym view_is) ∙ cell_stored heads tails i h d stored.level within ∙ ap (λ x. cell_of x (get_or tails i [])) (sym is)
 
@@ -157,3 +243,10 @@ module _ (heads : List Head) (tails : List (List ℕ)) (cells : List Cell) (view
   shown_past round i past =
       let long : length (all_shown_by round cells) ≡ length heads = length-map cells (shown_by round) ∙ ap length (sym view_is) ∙ length-cells_of heads tails stored.level in
       get_or_past (all_shown_by round cells) i None (omega (arith, long))
+
+-- ---- cells that are read
+
+-- what holds of what a cell holds, where its key is seen so
+pub seen_so : {X : Type 0} (seen : X → Row) (P : Row × ℕ → Type 0) (o : Option (X × ℕ)) → IfSome (option_map (λ e. (seen e.0, e.1)) o) P → IfSome o (λ e. P (seen e.0, e.1))
+seen_so seen P None h = h
+seen_so seen P (Some e) h = h

@@ -1,6 +1,6 @@
 //! A chain of registers.
 ghost use Rattle.std.specs.Prelude.{◌≡◌, ◌≤◌, ℕ, length, IfOk, IfSome};
-ghost use Rattle.std.specs.Option.{ForSome};
+ghost use Rattle.std.specs.Option.{ForSome, option_map};
 ghost use Rattle.sn_base.specs.Groups.{Row};
 ghost use Rattle.sn_chain.specs.Chain.{AreSlots, KeysStand, empty_chain, after_offer, answer_at, holder, vacancy};
 ghost use Rattle.sn_chain.specs.Limits.{largest_register};
@@ -9,9 +9,9 @@ ghost use Rattle.sn_chain.specs.Registers.{cell};
 use crate::cells::Cells;
 use crate::offer::Offer;
 use crate::register::{Found, look};
+use sn_base::any_row::AnyRow;
 use sn_base::fold::Fold;
 use sn_base::memory::Memory;
-use sn_base::short_row::ShortRow;
 use std::alloc::Global;
 use std::marker::Model;
 
@@ -21,15 +21,15 @@ pub const LARGEST_REGISTER: u64 = 65536;
 /// A chain of one to four registers with equally many slots each, which folds values by key. A key takes
 /// the first of its slots that is free, one in each register, and keeps it until the chain is cleared.
 #[derive(Drop)]
-pub struct Chain<F: Fold> {
+pub struct Chain<F: Fold, R: AnyRow> {
     fold: F,
     depth: u32,
     slots: u32,
     round: u32,
-    cells: Cells,
+    cells: Cells<R>,
 }
 
-impl<F: Fold> Model for Chain<F> {
+impl<F: Fold, R: AnyRow> Model for Chain<F, R> {
     ghost use Rattle.sn_chain.specs.Chain.{ChainState, chain_code};
     ghost use Rattle.sn_chain.specs.Cells.{all_shown_by, AreCells};
 
@@ -42,10 +42,10 @@ impl<F: Fold> Model for Chain<F> {
     ghost invariant = { λ a. AreCells (F.takes a.fold) a.depth a.slots a.round a.cells };
 }
 
-impl<F: Fold> Chain<F> {
+impl<F: Fold, R: AnyRow> Chain<F, R> {
     /// An empty chain of `depth` registers with `slots` slots each, 1 to 4 and 1 to [`LARGEST_REGISTER`]. All memory that
     /// the chain ever needs is taken here.
-    pub fn make(alloc: Global, fold: F, depth: u32, slots: u32) -> Result<Chain<F>, Memory>
+    pub fn make(alloc: Global, fold: F, depth: u32, slots: u32) -> Result<Chain<F, R>, Memory>
         requires some_depth { 1 ≤ depth }
         requires most_depth { depth ≤ 4 }
         requires some_slots { 1 ≤ slots }
@@ -62,7 +62,7 @@ impl<F: Fold> Chain<F> {
         depth: u32,
         slots: u32,
         round: u32,
-    ) -> Result<Chain<F>, Memory>
+    ) -> Result<Chain<F, R>, Memory>
         requires some_depth { 1 ≤ depth }
         requires most_depth { depth ≤ 4 }
         requires some_slots { 1 ≤ slots }
@@ -84,30 +84,30 @@ impl<F: Fold> Chain<F> {
     /// Offers a key with a value. `Held` exactly where the key is held, and its value becomes the fold's
     /// step from it to `v`. Else `New` exactly where one of the key's slots is free: the key takes the first,
     /// with value `v`. Else `Over`, and nothing changes. Takes no memory.
-    pub fn offer(&mut self, key: &ShortRow, v: u64) -> Offer
+    pub fn offer(&mut self, key: &R, v: u64) -> Offer
         requires { F.takes self.old.fold v }
-        ensures answer { result ≡ answer_at (holder self.old key.now) (vacancy self.old key.now) }
-        ensures after { self.new ≡ after_offer F.join self.old key.now v }
+        ensures answer { result ≡ answer_at (holder self.old (R.columns key.now)) (vacancy self.old (R.columns key.now)) }
+        ensures after { self.new ≡ after_offer F.join self.old (R.columns key.now) v }
     {
         self.offer_by(key, v, None)
     }
 
     /// Does what `offer` does, where the key's slots are known: slot `i` of `at` is that of register `i`, for
     /// each register of the chain. Takes no memory.
-    pub fn offer_at(&mut self, key: &ShortRow, v: u64, at: &[u32; 4]) -> Offer
+    pub fn offer_at(&mut self, key: &R, v: u64, at: &[u32; 4]) -> Offer
         requires had { F.takes self.old.fold v }
-        requires slots { AreSlots self.old.depth self.old.slots key.now at.now }
-        ensures answer { result ≡ answer_at (holder self.old key.now) (vacancy self.old key.now) }
-        ensures after { self.new ≡ after_offer F.join self.old key.now v }
+        requires slots { AreSlots self.old.depth self.old.slots (R.columns key.now) at.now }
+        ensures answer { result ≡ answer_at (holder self.old (R.columns key.now)) (vacancy self.old (R.columns key.now)) }
+        ensures after { self.new ≡ after_offer F.join self.old (R.columns key.now) v }
     {
         self.offer_by(key, v, Some(at))
     }
 
-    fn offer_by(&mut self, key: &ShortRow, v: u64, known: Option<&[u32; 4]>) -> Offer
+    fn offer_by(&mut self, key: &R, v: u64, known: Option<&[u32; 4]>) -> Offer
         requires had { F.takes self.old.fold v }
-        requires slots { ForSome known (λ at. AreSlots self.old.depth self.old.slots key.now at.now) }
-        ensures answer { result ≡ answer_at (holder self.old key.now) (vacancy self.old key.now) }
-        ensures after { self.new ≡ after_offer F.join self.old key.now v }
+        requires slots { ForSome known (λ at. AreSlots self.old.depth self.old.slots (R.columns key.now) at.now) }
+        ensures answer { result ≡ answer_at (holder self.old (R.columns key.now)) (vacancy self.old (R.columns key.now)) }
+        ensures after { self.new ≡ after_offer F.join self.old (R.columns key.now) v }
     {
         match look(&self.cells, self.round, self.depth, self.slots, key, known) {
             Found::Held(at) => {
@@ -125,10 +125,10 @@ impl<F: Fold> Chain<F> {
 
     /// The key and the fold at a place: place `i * slots + s` is slot `s` of register `i`. `None` exactly
     /// where the place is empty or past the end. Takes no memory.
-    pub fn get(&self, place: u32) -> Option<(ShortRow, u64)>
-        ensures value { result ≡ cell self.now.cells place }
+    pub fn get(&self, place: u32) -> Option<(R, u64)>
+        ensures value { option_map (λ e. (R.columns e.0, e.1)) result ≡ cell self.now.cells place }
         ensures had { IfSome result (λ e. F.takes self.now.fold e.1) }
-        ensures held { IfSome result (λ e. holder self.now e.0 ≡ Some place) }
+        ensures held { IfSome result (λ e. holder self.now (R.columns e.0) ≡ Some place) }
     {
         self.cells.shown(place as usize, self.round)
     }

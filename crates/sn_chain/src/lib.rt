@@ -3,6 +3,9 @@
 
 mod cells;
 pub mod chain;
+mod head;
 pub mod law;
+mod number_at;
 pub mod offer;
 mod register;
+mod tail;

@@ -10,7 +10,7 @@ ghost use Rattle.sn_chain.specs.Found.{found_at, IsWithin};
 ghost use Rattle.sn_chain.specs.Registers.{held_place, empty_place};
 
 use crate::cells::Cells;
-use sn_base::short_row::ShortRow;
+use sn_base::any_row::AnyRow;
 use sn_base::slot::slot_of;
 
 /// Where a key is, or may go.
@@ -24,12 +24,12 @@ pub(crate) enum Found {
 }
 
 /// A key's place in a register, by the key's slots where they are known.
-fn place(register: u32, key: &ShortRow, slots: u32, known: Option<&[u32; 4]>) -> usize
+fn place<R: AnyRow>(register: u32, key: &R, slots: u32, known: Option<&[u32; 4]>) -> usize
     requires register { register < 4 }
     requires some { 1 ≤ slots }
     requires most { slots ≤ largest_register }
-    requires known { ForSome known (λ at. slice_index at.now register ≡ slot register key.now slots) }
-    ensures value { result ≡ place_for slots key.now register }
+    requires known { ForSome known (λ at. slice_index at.now register ≡ slot register (R.columns key.now) slots) }
+    ensures value { result ≡ place_for slots (R.columns key.now) register }
     ensures within { result < register * slots + slots }
 {
     let slot = match known {
@@ -42,21 +42,21 @@ fn place(register: u32, key: &ShortRow, slots: u32, known: Option<&[u32; 4]>) ->
 /// Looks for a key in its cells, register by register, by the key's slots where they are known. Else a key
 /// that is held costs one hash for each register up to its own.
 #[inline(always)]
-pub(crate) fn look(
-    cells: &Cells,
+pub(crate) fn look<R: AnyRow>(
+    cells: &Cells<R>,
     round: u32,
     depth: u32,
     slots: u32,
-    key: &ShortRow,
+    key: &R,
     known: Option<&[u32; 4]>,
 ) -> Found
     requires depth { depth ≤ 4 }
     requires some { 1 ≤ slots }
     requires most { slots ≤ largest_register }
     requires cells { length cells.now ≡ depth * slots }
-    requires known { ForSome known (λ at. AreSlots depth slots key.now at.now) }
-    ensures found { result ≡ found_at (held_place same_row (all_shown_by round cells.now) (places_of depth slots key.now) key.now)
-        (empty_place (all_shown_by round cells.now) (places_of depth slots key.now)) }
+    requires known { ForSome known (λ at. AreSlots depth slots (R.columns key.now) at.now) }
+    ensures found { result ≡ found_at (held_place same_row (all_shown_by round cells.now) (places_of depth slots (R.columns key.now)) (R.columns key.now))
+        (empty_place (all_shown_by round cells.now) (places_of depth slots (R.columns key.now))) }
     ensures within { IsWithin result (length cells.now) }
 {
     let mut empty = None;

@@ -11,6 +11,7 @@ ghost use Rattle.sn_windows.specs.Blocks.{most_records};
 
 use crate::counts::counts_along;
 use sn_base::memory::Memory;
+use sn_base::row_seq::RowSeq;
 use sn_base::seq::Seq;
 use sn_base::short_row::ShortRow;
 use sn_types::typed::Typed;
@@ -30,7 +31,7 @@ pub fn counts_of(
     level: u32,
     chain: u32,
     slots: &[u32],
-    rows: Seq<ShortRow>,
+    rows: RowSeq<ShortRow>,
 ) -> Result<Seq<u64>, Memory>
     requires query { q < length t.now.queries }
     requires branch { b < length (query_at t.now.queries q).branches }

@@ -12,6 +12,7 @@ use crate::flow::Flow;
 use crate::sizes::by_size;
 use crate::stateless::pass_all;
 use sn_base::memory::Memory;
+use sn_base::row_seq::RowSeq;
 use sn_base::seq::Seq;
 use sn_base::short_row::ShortRow;
 use sn_types::cuts::is_stateful;
@@ -54,7 +55,7 @@ fn behind(
 }
 
 /// The rows of a window before the first operator, alone in a list.
-fn at_start(alloc: Global, rows: Seq<ShortRow>) -> Result<Vec<Flow>, Memory>
+fn at_start(alloc: Global, rows: RowSeq<ShortRow>) -> Result<Vec<Flow>, Memory>
     ensures { IfOk result (λ flows. flows.items ≡ starting rows ∷ []) }
 {
     let flow = Flow {
@@ -73,7 +74,7 @@ pub(crate) fn counts_along(
     level: u32,
     depth: u32,
     slots: &[u32],
-    rows: Seq<ShortRow>,
+    rows: RowSeq<ShortRow>,
 ) -> Result<Seq<u64>, Memory>
     requires some_depth { 1 ≤ depth }
     requires most_depth { depth ≤ 4 }

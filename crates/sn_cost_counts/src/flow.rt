@@ -3,7 +3,7 @@ ghost use Rattle.std.specs.Prelude.{◌≡◌, ◌*◌, ◌+◌, ◌≤◌, leng
 ghost use Rattle.sn_cost_counts.specs.Flows.{counted};
 ghost use Rattle.sn_windows.specs.Blocks.{most_records};
 
-use sn_base::seq::Seq;
+use sn_base::row_seq::RowSeq;
 use sn_base::short_row::ShortRow;
 
 /// The rows of a window after some operators, and how many were sent before them.
@@ -12,7 +12,7 @@ pub struct Flow {
     /// How many rows overflowed on the way.
     pub sent: u64,
     /// The rows that came as far.
-    pub rows: Seq<ShortRow>,
+    pub rows: RowSeq<ShortRow>,
     /// Whether a distinct on the way overflowed.
     pub spilled: bool,
     /// Whether no filter drops a row from here on.
@@ -26,6 +26,6 @@ impl Flow {
         requires few { length self.now.rows ≤ most_records }
         ensures { result ≡ counted self.now }
     {
-        self.sent + self.rows.as_slice().len() as u64
+        self.sent + self.rows.len() as u64
     }
 }

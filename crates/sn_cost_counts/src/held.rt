@@ -11,7 +11,7 @@ ghost use Rattle.sn_windows.specs.Blocks.{most_records};
 use crate::offers::{Passed, offer_all};
 use sn_base::any_fold::AnyFold;
 use sn_base::memory::Memory;
-use sn_base::seq::Seq;
+use sn_base::row_seq::RowSeq;
 use sn_base::short_row::ShortRow;
 use sn_chain::chain::Chain;
 use sn_types::typed_op::TReduce;
@@ -30,14 +30,14 @@ fn held_row(held: (ShortRow, u64)) -> ShortRow
 }
 
 /// The rows of all places, upwards.
-fn read_out(alloc: Global, chain: &Chain<AnyFold>) -> Result<Seq<ShortRow>, Memory>
+fn read_out(alloc: Global, chain: &Chain<AnyFold, ShortRow>) -> Result<RowSeq<ShortRow>, Memory>
     requires { AllByRecursion (λ e. length e.0 < 8) (held_in_order chain.now.cells) }
     ensures { IfOk result (λ rows. rows ≡ rows_left chain.now 0) }
 {
-    let mut out = Seq::new(alloc);
+    let mut out = RowSeq::new(alloc);
     for place in 0..chain.places() {
         if let Some(held) = chain.get(place) {
-            out.push(held_row(held))?;
+            out.push(&held_row(held))?;
         }
     }
     Ok(out)

@@ -13,7 +13,7 @@ ghost use Rattle.sn_windows.specs.Blocks.{most_records};
 use sn_base::any_fold::AnyFold;
 use sn_base::fold::Or;
 use sn_base::memory::Memory;
-use sn_base::seq::Seq;
+use sn_base::row_seq::RowSeq;
 use sn_base::short_row::ShortRow;
 use sn_chain::chain::Chain;
 use sn_chain::offer::Offer;
@@ -27,7 +27,7 @@ pub(crate) struct Passed {
     /// How many rows overflow.
     pub over: u64,
     /// The rows after it.
-    pub rows: Seq<ShortRow>,
+    pub rows: RowSeq<ShortRow>,
 }
 
 /// One where an offer overflowed.
@@ -67,12 +67,12 @@ pub(crate) fn distinct(
 {
     let mut chain = Chain::make(alloc, Or { v: 1 }, depth, slots)?;
     let mut sent = 0;
-    let mut out = Seq::new(alloc);
+    let mut out = RowSeq::new(alloc);
     for row in rows {
         let answer = chain.offer(row, 0);
         sent += over(answer);
         if is_new(answer) {
-            out.push(*row)?;
+            out.push(row)?;
         }
     }
     Ok(Passed {
@@ -83,7 +83,7 @@ pub(crate) fn distinct(
 
 /// Adds the values of rows to the folds of their keys in the registers of a reduce. The answer is how many rows
 /// overflow.
-pub(crate) fn offer_all(chain: &mut Chain<AnyFold>, rows: &[ShortRow], r: &TReduce) -> u64
+pub(crate) fn offer_all(chain: &mut Chain<AnyFold, ShortRow>, rows: &[ShortRow], r: &TReduce) -> u64
     requires fold { chain.old.fold ≡ r.now.fold }
     requires fits { ReduceFits r.now rows.now }
     requires few { length rows.now ≤ most_records }

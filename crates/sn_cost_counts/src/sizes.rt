@@ -12,6 +12,7 @@ use crate::flow::Flow;
 use crate::held::reduce;
 use crate::offers::distinct;
 use sn_base::memory::Memory;
+use sn_ops::short::short_rows;
 use sn_types::typed_op::TOp;
 use std::alloc::Global;
 
@@ -29,7 +30,7 @@ fn behind(alloc: Global, op: &TOp, depth: u32, slots: u32, flow: &Flow) -> Resul
 {
     match op {
         TOp::Distinct => {
-            let passed = distinct(alloc, flow.rows.as_slice(), depth, slots)?;
+            let passed = distinct(alloc, short_rows(&flow.rows), depth, slots)?;
             Ok(Flow {
                 sent: flow.sent + passed.over,
                 rows: passed.rows,
@@ -38,7 +39,7 @@ fn behind(alloc: Global, op: &TOp, depth: u32, slots: u32, flow: &Flow) -> Resul
             })
         }
         TOp::Reduce(r) => {
-            let passed = reduce(alloc, flow.rows.as_slice(), r, depth, slots)?;
+            let passed = reduce(alloc, short_rows(&flow.rows), r, depth, slots)?;
             Ok(Flow {
                 sent: flow.sent + passed.over,
                 rows: passed.rows,

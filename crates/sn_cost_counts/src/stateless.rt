@@ -20,10 +20,10 @@ fn pass(alloc: Global, op: &TOp, level: u32, flow: &mut Flow) -> Result<(), Memo
     match op {
         TOp::Filter(conds) => {
             if !flow.whole {
-                flow.rows = filter(alloc, flow.rows.as_slice(), conds.as_slice(), level)?;
+                flow.rows = filter(alloc, &flow.rows, conds.as_slice(), level)?;
             }
         }
-        TOp::Map(cols) => flow.rows = map(alloc, flow.rows.as_slice(), cols.as_slice())?,
+        TOp::Map(cols) => flow.rows = map(alloc, &flow.rows, cols.as_slice())?,
         TOp::Distinct | TOp::Reduce(_) => unreachable!(),
     }
     Ok(())

@@ -63,7 +63,10 @@ fn no_greater(levels: &[u32], finest: u32, c: &TCond) -> bool
 fn is_threshold(levels: &[u32], finest: u32, place: usize, c: &TCond) -> bool
     ensures { result ≡ is_threshold levels.now finest place c.now }
 {
-    c.col as usize == place && c.and == u64::MAX && is_above(c.cmp) && no_greater(levels, finest, c)
+    c.col as usize == place
+        && (c.and == u128::MAX || c.and == u128::from(u64::MAX))
+        && is_above(c.cmp)
+        && no_greater(levels, finest, c)
 }
 
 fn all_thresholds(levels: &[u32], finest: u32, place: usize, conds: &[TCond]) -> bool

@@ -8,9 +8,11 @@ ghost use Rattle.sn_types.specs.Typed.{query_at, branch_at, end_columns, final_c
 
 use crate::value::value;
 use sn_base::memory::Memory;
+use sn_base::row_seq::RowSeq;
 use sn_base::seq::Seq;
 use sn_base::short_row::ShortRow;
 use sn_ops::plain::join_branches;
+use sn_ops::short::into_short_rows;
 use sn_report::frame::Item;
 use sn_types::typed::Typed;
 use std::alloc::Global;
@@ -23,7 +25,7 @@ fn branch_value(
     b: u32,
     level: u32,
     items: &[Item],
-) -> Result<Seq<ShortRow>, Memory>
+) -> Result<RowSeq<ShortRow>, Memory>
     requires query { q < length t.now.queries }
     requires branch { b < length (query_at t.now.queries q).branches }
     requires items { AllByRecursion (IsItemOf (branch_at t.now.queries q b)) items.now }
@@ -42,7 +44,7 @@ pub fn query_value(
     level: u32,
     left: &[Item],
     right: &[Item],
-) -> Result<Seq<ShortRow>, Memory>
+) -> Result<RowSeq<ShortRow>, Memory>
     requires query { q < length t.now.queries }
     requires left { AllByRecursion (IsItemOf (branch_at t.now.queries q 0)) left.now }
     requires right { AllByRecursion (IsItemOf (branch_at t.now.queries q 1)) right.now }
@@ -52,7 +54,7 @@ pub fn query_value(
     if t.branches(q) == 2 {
         let left = branch_value(alloc, t, q, 0, level, left)?;
         let right = branch_value(alloc, t, q, 1, level, right)?;
-        join_branches(alloc, t, q, level, left.as_slice(), right.as_slice())
+        join_branches(alloc, t, q, level, &left, &right)
     } else {
         branch_value(alloc, t, q, 0, level, left)
     }
@@ -73,7 +75,8 @@ pub fn sorted_value(
     ensures rows { IfOk result (λ rows. rows ≡ sorted_rows (query_value (query_at t.now.queries q) level left.now right.now)) }
     ensures columns { IfOk result (λ rows. AllByRecursion (IsOf (final_columns (query_at t.now.queries q))) rows) }
 {
-    let mut rows = query_value(alloc, t, q, level, left, right)?.into_vec();
+    let rows = query_value(alloc, t, q, level, left, right)?;
+    let mut rows = into_short_rows(rows).into_vec();
     rows.sort()?;
     Ok(Seq::from_vec(rows))
 }

@@ -7,8 +7,8 @@ ghost use Rattle.sn_types.specs.Values.{op_at};
 
 use crate::rows::{partial_rows, push_rows_at};
 use sn_base::memory::Memory;
+use sn_base::row_seq::RowSeq;
 use sn_base::seed::Seed;
-use sn_base::seq::Seq;
 use sn_base::short_row::ShortRow;
 use sn_ops::group::{distinct_by, reduce_with};
 use sn_ops::select::{filter, map};
@@ -22,10 +22,10 @@ fn taken(
     seed: Seed,
     op: &TOp,
     level: u32,
-    rows: &[ShortRow],
+    rows: &RowSeq<ShortRow>,
     items: &[Item],
     operator: u32,
-) -> Result<Seq<ShortRow>, Memory>
+) -> Result<RowSeq<ShortRow>, Memory>
     requires rows { Fits op.now rows.now }
     requires parts { PartsFit op.now (rows_with (is_partial operator) items.now) }
     ensures { IfOk result (λ out. out ≡ taken (op_at level op.now) rows.now (rows_with (is_partial operator) items.now)) }
@@ -36,7 +36,7 @@ fn taken(
         TOp::Distinct => distinct_by(alloc, seed, rows),
         TOp::Reduce(r) => {
             let parts = partial_rows(alloc, items, operator)?;
-            reduce_with(alloc, seed, rows, parts.as_slice(), r)
+            reduce_with(alloc, seed, rows, &parts, r)
         }
     }
 }
@@ -49,16 +49,16 @@ pub(crate) fn value(
     ops: &[TOp],
     level: u32,
     items: &[Item],
-) -> Result<Seq<ShortRow>, Memory>
+) -> Result<RowSeq<ShortRow>, Memory>
     requires few { length ops.now ≤ 12 }
     requires items { ItemsFit level 0 ops.now items.now (rows_with (is_at 0) items.now) }
     ensures { IfOk result (λ rows. rows ≡ value (map (op_at level) ops.now) items.now) }
 {
-    let mut rows = Seq::new(alloc);
+    let mut rows = RowSeq::new(alloc);
     push_rows_at(&mut rows, items, 0)?;
     let mut operator = 0;
     for op in ops {
-        rows = taken(alloc, seed, op, level, rows.as_slice(), items, operator)?;
+        rows = taken(alloc, seed, op, level, &rows, items, operator)?;
         operator += 1;
         push_rows_at(&mut rows, items, operator)?;
     }

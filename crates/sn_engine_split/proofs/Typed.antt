@@ -3,14 +3,11 @@ use Rattle.std.proofs.Common.{◌≡◌, ℕ, suc, ◌<◌, ◌≤◌, List, [],
 use Rattle.std.proofs.Math.Bridge.{le_prop}
 use Rattle.std.proofs.Math.Logic.{∥∥₁_elim}
 use Rattle.std.specs.List.{AllByRecursion, AllByRecursion-prop}
-use Rattle.sn_base.specs.AnyFold.{any_has}
 use Rattle.sn_base.specs.Bags.{SameBag}
 use Rattle.sn_base.specs.Columns.{IsOf}
 use Rattle.sn_base.specs.Groups.{Row}
 use Rattle.sn_base.specs.Operators.{Op, Had}
 use Rattle.sn_base.specs.Operators.Op.{Filter, Map, Distinct, Reduce}
-use Rattle.sn_base.specs.declared.any_fold.AnyFold.{AnyFold}
-use Rattle.sn_base.specs.declared.any_fold.AnyFold.TheVariants as folds
 use Rattle.sn_base.specs.declared.column.Column.{Column}
 use Rattle.sn_base.proofs.BagLemmas.{bag_then}
 use Rattle.sn_base.proofs.Lists.{by_test, nat_same, all_weaker}

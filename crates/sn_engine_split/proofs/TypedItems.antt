@@ -1,5 +1,5 @@
 -- Rows of the columns of a typed branch bring each fold after them what it has.
-use Rattle.std.proofs.Common.{◌≡◌, ℕ, suc, ◌+◌, ◌^◌, ◌<◌, List, [], ◌∷◌, ◌++◌, map, take, length, slice_index, refl, sym, ◌∙◌, subst, arith}
+use Rattle.std.proofs.Common.{◌≡◌, ℕ, suc, ◌+◌, ◌^◌, ◌<◌, List, [], ◌∷◌, ◌++◌, map, take, length, slice_index, sym, ◌∙◌, subst, arith}
 use Rattle.std.proofs.lemmas.List.{length-append, length-map}
 use Rattle.std.specs.List.{AllByRecursion}
 use Rattle.sn_base.specs.AnyFold.{any_has}
@@ -8,15 +8,12 @@ use Rattle.sn_base.specs.Groups.{Row}
 use Rattle.sn_base.specs.Operators.{Grouping, Op as Acting, Had, key_of}
 use Rattle.sn_base.specs.declared.column.Column.{Column}
 use Rattle.sn_base.proofs.Lists.{all_weaker, all_front}
-use Rattle.sn_query_grammar.specs.declared.ast.FoldWord.TheVariants as words
-use Rattle.sn_query_grammar.specs.declared.ast.FoldWord.{FoldWord}
 use Rattle.sn_query_grammar.specs.declared.ast.Op.{Op}
 use Rattle.sn_query_grammar.specs.declared.ast.Reduce.{Reduce}
 use Rattle.sn_query_grammar.specs.declared.ast.What.{What}
 use Rattle.sn_query_grammar.specs.declared.ast.What.TheVariants as what
 use Rattle.sn_types_faults.specs.Columns.{column_named, columns_after, folded_column, place_of}
-use Rattle.sn_query_grammar.specs.Limits.{Within}
-use Rattle.sn_types_faults.specs.Widths.{lawful, fold_of}
+use Rattle.sn_types_faults.specs.Widths.{fold_of}
 use Rattle.sn_types.specs.Typed.{schema_at}
 use Rattle.sn_types.specs.Typing.{schemas_along, typed_op, typed_ops}
 use Rattle.sn_types.specs.Values.{op_at}

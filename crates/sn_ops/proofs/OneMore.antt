@@ -16,7 +16,7 @@ use Rattle.sn_types.specs.declared.typed_op.TOp.TheVariants.{Filter, Map, Distin
 use Rattle.sn_types.specs.Values.{ReadsWithin, holds, op_at, value_of}
 use Rattle.sn_ops.proofs.Steps.{insert_is_put}
 use Rattle.sn_ops.specs.Flow.{AllFit, Fits}
-use Rattle.sn_ops.specs.declared.seen.Seen.{Seen}
+use Rattle.sn_ops.specs.SeenStates.{SeenState}
 use Rattle.sn_ops.specs.Passing.{CanMeet, CanTake, flows}
 use Rattle.sn_ops.specs.Standing.{HasSeen, Stands, groups_after, is_reduce, rows_after}
 use Rattle.sn_base.proofs.Lists.{all_front}
@@ -71,14 +71,14 @@ lets_on level Distinct seen row next e = refl
 lets_on level (Reduce r) seen row next e = cc
 
 -- the operator has seen one row more
-has_one_more : (op : TOp) (s s' : Seen) (rows : List Row) (row : Row) → s'.rows.keys ≡ rows_after op s.rows.keys row → s'.groups.entries ≡ groups_after op s.groups.entries row
+has_one_more : (op : TOp) (s s' : SeenState) (rows : List Row) (row : Row) → s'.rows.keys ≡ rows_after op s.rows.keys row → s'.groups.entries ≡ groups_after op s.groups.entries row
     → HasSeen op s.rows.keys s.groups.entries rows → HasSeen op s'.rows.keys s'.groups.entries (rows ++ row ∷ [])
 has_one_more op s s' rows row e g h =
     subst (λ (ks : List Row). HasSeen op ks s'.groups.entries (rows ++ row ∷ [])) (sym e)
     (subst (λ (es : List (Row × ℕ)). HasSeen op (rows_after op s.rows.keys row) es (rows ++ row ∷ [])) (sym g) (seen_push op s.rows.keys s.groups.entries rows row h))
 
 -- a row that the first operator passes on
-pub stands_on : (level : ℕ) (op : TOp) (ops : List TOp) (s s' : Seen) (seen seen' : List Seen) (rows : List Row) (row next : Row) (out out' : List Row)
+pub stands_on : (level : ℕ) (op : TOp) (ops : List TOp) (s s' : SeenState) (seen seen' : List SeenState) (rows : List Row) (row next : Row) (out out' : List Row)
     → s'.rows.keys ≡ rows_after op s.rows.keys row → s'.groups.entries ≡ groups_after op s.groups.entries row → flows level op s.rows.keys row ≡ Some next
     → ((rs : List Row) → Stands level ops seen rs out → Stands level ops seen' (rs ++ next ∷ []) out')
     → Stands level (op ∷ ops) (s ∷ seen) rows out → Stands level (op ∷ ops) (s' ∷ seen') (rows ++ row ∷ []) out'
@@ -90,7 +90,7 @@ stands_on level op ops s s' seen seen' rows row next out out' e g flow behind h 
 )
 
 -- a row that stays at the first operator
-pub stands_still : (level : ℕ) (op : TOp) (ops : List TOp) (s s' : Seen) (seen : List Seen) (rows : List Row) (row : Row) (out : List Row)
+pub stands_still : (level : ℕ) (op : TOp) (ops : List TOp) (s s' : SeenState) (seen : List SeenState) (rows : List Row) (row : Row) (out : List Row)
     → s'.rows.keys ≡ rows_after op s.rows.keys row → s'.groups.entries ≡ groups_after op s.groups.entries row → flows level op s.rows.keys row ≡ None
     → Stands level (op ∷ ops) (s ∷ seen) rows out → Stands level (op ∷ ops) (s' ∷ seen) (rows ++ row ∷ []) out
 stands_still level op ops s s' seen rows row out e g flow h = (
@@ -126,7 +126,7 @@ can_meet (Reduce r) seen groups rows row h f =
     }
 
 -- where all operators can be evaluated at the rows with one more, that one can be taken
-pub can_take : (level : ℕ) (ops : List TOp) (seen : List Seen) (rows : List Row) (row : Row) (out : List Row) → Stands level ops seen rows out → AllFit level ops (rows ++ row ∷ []) → CanTake level ops seen row
+pub can_take : (level : ℕ) (ops : List TOp) (seen : List SeenState) (rows : List Row) (row : Row) (out : List Row) → Stands level ops seen rows out → AllFit level ops (rows ++ row ∷ []) → CanTake level ops seen row
 can_take level [] seen rows row out h f = tt
 can_take level (op ∷ ops) [] rows row out h f = h
 can_take level (op ∷ ops) (s ∷ seen) rows row out h f = (

@@ -14,16 +14,16 @@ use crate::join::join_through;
 use crate::packets::{Kept, is_kept};
 use crate::seen::unseen;
 use crate::start::start;
+use sn_base::any_row::AnyRow;
 use sn_base::memory::Memory;
-use sn_base::seq::Seq;
-use sn_base::short_row::ShortRow;
+use sn_base::row_seq::RowSeq;
 use sn_fields::tuple::Tuple;
 use sn_types::typed::Typed;
 use std::alloc::Global;
 
 /// A branch on these tuples: the packet rows of the tuples that are kept, through the operators in the order of the
 /// text.
-pub fn branch_rows(
+pub fn branch_rows<R: AnyRow>(
     alloc: Global,
     t: &Typed,
     q: u32,
@@ -31,7 +31,7 @@ pub fn branch_rows(
     level: u32,
     kept: Option<Kept>,
     tuples: &[Tuple],
-) -> Result<Seq<ShortRow>, Memory>
+) -> Result<RowSeq<R>, Memory>
     requires query { q < length t.now.queries }
     requires branch { b < length (query_at t.now.queries q).branches }
     requires level { list_any (nat_eq level) (query_at t.now.queries q).levels ≡ true }
@@ -42,8 +42,8 @@ pub fn branch_rows(
     let ops = t.operators(q, b);
     let packets = t.packets(q, b, level);
     let mut seen = unseen(alloc, t.seed, ops)?;
-    let mut row = ShortRow::empty();
-    let mut out = Seq::new(alloc);
+    let mut row = R::empty();
+    let mut out = RowSeq::new(alloc);
     for tuple in tuples {
         if is_kept(t, q, kept, tuple) {
             let packet = packets.row(tuple);
@@ -54,14 +54,14 @@ pub fn branch_rows(
 }
 
 /// Rows of the two branches of a query, joined and taken through the operators after the join.
-pub fn join_branches(
+pub fn join_branches<R: AnyRow>(
     alloc: Global,
     t: &Typed,
     q: u32,
     level: u32,
-    left: &[ShortRow],
-    right: &[ShortRow],
-) -> Result<Seq<ShortRow>, Memory>
+    left: &RowSeq<R>,
+    right: &RowSeq<R>,
+) -> Result<RowSeq<R>, Memory>
     requires query { q < length t.now.queries }
     requires branches { length (query_at t.now.queries q).branches ≡ 2 }
     requires left { AllByRecursion (IsOf (end_columns (branch_at t.now.queries q 0))) left.now }
@@ -84,14 +84,14 @@ pub fn join_branches(
 /// The whole unsplit query on the tuples of a window: its branch, or its two branches joined and taken through the
 /// operators after the join. Without `kept` it sees all tuples; with it, those alone whose refinement field, masked to
 /// `kept.bits`, is a member.
-pub fn plain(
+pub fn plain<R: AnyRow>(
     alloc: Global,
     t: &Typed,
     q: u32,
     level: u32,
     kept: Option<Kept>,
     tuples: &[Tuple],
-) -> Result<Seq<ShortRow>, Memory>
+) -> Result<RowSeq<R>, Memory>
     requires query { q < length t.now.queries }
     requires level { list_any (nat_eq level) (query_at t.now.queries q).levels ≡ true }
     requires kept { OfALevel (query_at t.now.queries q) kept }
@@ -101,7 +101,7 @@ pub fn plain(
     if t.branches(q) == 2 {
         let left = branch_rows(alloc, t, q, 0, level, kept, tuples)?;
         let right = branch_rows(alloc, t, q, 1, level, kept, tuples)?;
-        join_branches(alloc, t, q, level, left.as_slice(), right.as_slice())
+        join_branches(alloc, t, q, level, &left, &right)
     } else {
         branch_rows(alloc, t, q, 0, level, kept, tuples)
     }

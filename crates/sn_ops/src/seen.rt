@@ -7,21 +7,34 @@ ghost use Rattle.sn_base.specs.Groups.{columns_at, same_row};
 ghost use Rattle.sn_ops.specs.Passing.{CanMeet, flows, gone_as};
 ghost use Rattle.sn_ops.specs.Standing.{Stands, groups_after, rows_after};
 
+use sn_base::any_row::AnyRow;
 use sn_base::memory::Memory;
 use sn_base::seed::Seed;
-use sn_base::short_row::ShortRow;
 use sn_table::rows::Rows;
 use sn_table::table::Table;
-use sn_types::evaluate::{map_into, passes};
+use sn_types::evaluate::{folded_at, map_into, passes};
 use sn_types::packet::PacketRow;
 use sn_types::typed_op::{TOp, TReduce};
 use std::alloc::Global;
+use std::marker::Model;
 
 /// What an operator has seen: a distinct its rows, a reduce its groups, and the others nothing.
 #[derive(Drop)]
-pub struct Seen {
-    pub(crate) rows: Rows<ShortRow>,
-    pub(crate) groups: Table<ShortRow>,
+pub struct Seen<R: AnyRow> {
+    rows: Rows<R>,
+    groups: Table<R>,
+}
+
+impl<R: AnyRow> Model for Seen<R> {
+    ghost use Rattle.sn_ops.specs.SeenStates.{SeenState, seen_code};
+
+    ghost Value = { SeenState };
+
+    ghost coded = { seen_code };
+
+    ghost view = { λ a. record { rows = a.rows; groups = a.groups } };
+
+    ghost inverse = { λ s. record { rows = s.rows; groups = s.groups } };
 }
 
 /// What becomes of a packet row at an operator.
@@ -42,16 +55,20 @@ fn same_if(goes: bool) -> Passage
 }
 
 /// Adds a row's value to its key's fold.
-fn add_row(r: &TReduce, groups: &mut Table<ShortRow>, row: &ShortRow) -> Result<(), Memory>
-    requires { CanMeet (TOp.Reduce r.now) groups.old.entries row.now }
-    ensures { OnOk result (groups.new.entries ≡ groups_after (TOp.Reduce r.now) groups.old.entries row.now) }
+fn add_row<R: AnyRow>(r: &TReduce, groups: &mut Table<R>, row: &R) -> Result<(), Memory>
+    requires { CanMeet (TOp.Reduce r.now) groups.old.entries (R.columns row.now) }
+    ensures { OnOk result (groups.new.entries ≡ groups_after (TOp.Reduce r.now) groups.old.entries (R.columns row.now)) }
 {
-    let value = row.as_slice()[r.value as usize];
+    let value = folded_at(r.fold, row, r.value);
     groups.add_at(r.fold, row, r.keys.as_slice(), value)
 }
 
 /// What these operators have seen at first: nothing.
-pub(crate) fn unseen(alloc: Global, seed: Seed, ops: &[TOp]) -> Result<Vec<Seen>, Memory>
+pub(crate) fn unseen<R: AnyRow>(
+    alloc: Global,
+    seed: Seed,
+    ops: &[TOp],
+) -> Result<Vec<Seen<R>>, Memory>
     ensures { IfOk result (λ seen. (level : ℕ) → Stands level ops.now seen.items [] []) }
 {
     let mut seen = Vec::new(alloc);
@@ -63,9 +80,9 @@ pub(crate) fn unseen(alloc: Global, seed: Seed, ops: &[TOp]) -> Result<Vec<Seen>
     Ok(seen)
 }
 
-impl Seen {
+impl<R: AnyRow> Seen<R> {
     /// Nothing. What is seen is found by hashes from this seed.
-    pub fn new(alloc: Global, seed: Seed) -> Seen
+    pub fn new(alloc: Global, seed: Seed) -> Seen<R>
         ensures rows { result.rows.keys ≡ [] }
         ensures groups { result.groups.entries ≡ [] }
     {
@@ -75,12 +92,19 @@ impl Seen {
         }
     }
 
+    /// The groups of a reduce.
+    pub(crate) fn groups(&self) -> &Table<R>
+        ensures { result.now.entries ≡ self.now.groups.entries }
+    {
+        &self.groups
+    }
+
     /// Whether a row goes on at the operator that has seen this, as which `row` then is. It is seen then.
-    pub(crate) fn pass(&mut self, op: &TOp, level: u32, row: &mut ShortRow) -> Result<bool, Memory>
-        requires { CanMeet op.now self.old.groups.entries row.old }
-        ensures passed { IfOk result (λ goes. (if goes then Some row.new else None) ≡ flows level op.now self.old.rows.keys row.old) }
-        ensures rows { OnOk result (self.new.rows.keys ≡ rows_after op.now self.old.rows.keys row.old) }
-        ensures groups { OnOk result (self.new.groups.entries ≡ groups_after op.now self.old.groups.entries row.old) }
+    pub(crate) fn pass(&mut self, op: &TOp, level: u32, row: &mut R) -> Result<bool, Memory>
+        requires { CanMeet op.now self.old.groups.entries (R.columns row.old) }
+        ensures passed { IfOk result (λ goes. (if goes then Some (R.columns row.new) else None) ≡ flows level op.now self.old.rows.keys (R.columns row.old)) }
+        ensures rows { OnOk result (self.new.rows.keys ≡ rows_after op.now self.old.rows.keys (R.columns row.old)) }
+        ensures groups { OnOk result (self.new.groups.entries ≡ groups_after op.now self.old.groups.entries (R.columns row.old)) }
     {
         match op {
             TOp::Filter(conds) => Ok(passes(conds.as_slice(), level, row)),
@@ -103,11 +127,11 @@ impl Seen {
         &mut self,
         op: &TOp,
         level: u32,
-        packet: &PacketRow<'_>,
-        row: &mut ShortRow,
+        packet: &PacketRow<'_, R::Number>,
+        row: &mut R,
     ) -> Result<Passage, Memory>
         requires { CanMeet op.now self.old.groups.entries packet.now }
-        ensures passed { IfOk result (λ passage. gone_as passage packet.now row.new ≡ flows level op.now self.old.rows.keys packet.now) }
+        ensures passed { IfOk result (λ passage. gone_as passage packet.now (R.columns row.new) ≡ flows level op.now self.old.rows.keys packet.now) }
         ensures rows { OnOk result (self.new.rows.keys ≡ rows_after op.now self.old.rows.keys packet.now) }
         ensures groups { OnOk result (self.new.groups.entries ≡ groups_after op.now self.old.groups.entries packet.now) }
     {

@@ -78,7 +78,7 @@ impl Prefix {
     }
 
     /// Takes a packet row, before any read-out. The answer is the item that it gives. Takes no memory.
-    pub fn take(&mut self, packet: &PacketRow<'_>) -> Option<Item>
+    pub fn take(&mut self, packet: &PacketRow<'_, u64>) -> Option<Item>
         requires unread { self.old.place ≡ 0 }
         requires can { CanPass self.old.level self.old.stages packet.now }
         ensures item { result ≡ item_from self.old.level 0 self.old.stages packet.now }

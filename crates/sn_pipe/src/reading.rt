@@ -62,7 +62,7 @@ fn held_row(held: (ShortRow, u64)) -> ShortRow
 }
 
 /// The row of the key that is held at a place, if one is.
-fn row_at(chain: &Chain<AnyFold>, at: u32, columns: usize) -> Option<ShortRow>
+fn row_at(chain: &Chain<AnyFold, ShortRow>, at: u32, columns: usize) -> Option<ShortRow>
     requires few { columns < 8 }
     requires keys { HoldKeys columns chain.now.cells }
     ensures row { result ≡ option_map held_row (cell chain.now.cells at) }
@@ -76,7 +76,7 @@ fn row_at(chain: &Chain<AnyFold>, at: u32, columns: usize) -> Option<ShortRow>
 
 /// The row at a place, if it goes up.
 fn up_at(
-    chain: &Chain<AnyFold>,
+    chain: &Chain<AnyFold, ShortRow>,
     behind: &[Stage],
     level: u32,
     spilled: bool,
@@ -100,7 +100,7 @@ fn up_at(
 
 /// The first row from a place on that goes up, and the place after it.
 fn first_up(
-    chain: &Chain<AnyFold>,
+    chain: &Chain<AnyFold, ShortRow>,
     behind: &[Stage],
     level: u32,
     spilled: bool,
@@ -155,7 +155,7 @@ pub(crate) fn next_item(
 /// The next item that is read out of a reduce of number `first`, from a place on, and the place after it.
 fn next_held(
     r: &TReduce,
-    chain: &Chain<AnyFold>,
+    chain: &Chain<AnyFold, ShortRow>,
     behind: &[Stage],
     level: u32,
     first: u8,

@@ -5,12 +5,12 @@ ghost use Rattle.sn_pipe.specs.Passing.{CanTake, as_other, gone_as, has_overflow
 ghost use Rattle.sn_pipe.specs.Stages.{after_row, cleared, flows, is_new, is_over, overflows};
 
 use sn_base::any_fold::AnyFold;
+use sn_base::columns::Columns;
 use sn_base::fold::Or;
 use sn_base::seq::Seq;
 use sn_base::short_row::ShortRow;
 use sn_chain::chain::Chain;
 use sn_chain::offer::Offer;
-use sn_types::columns::Columns;
 use sn_types::evaluate::{columns_into, map_into, passes};
 use sn_types::packet::PacketRow;
 use sn_types::typed_op::{TCond, TExpr, TReduce};
@@ -23,9 +23,9 @@ pub enum Stage {
     /// Makes each row the row of these values.
     Map(Seq<TExpr>),
     /// Passes on a row that its registers don't hold yet. The flag says whether a row overflowed in this window.
-    Distinct(Chain<Or>, bool),
+    Distinct(Chain<Or, ShortRow>, bool),
     /// Folds the values of each key in its registers.
-    Reduce(TReduce, Chain<AnyFold>),
+    Reduce(TReduce, Chain<AnyFold, ShortRow>),
 }
 
 /// What became of a row at a stage.
@@ -128,7 +128,7 @@ impl Stage {
     pub(crate) fn begin(
         &mut self,
         level: u32,
-        packet: &PacketRow<'_>,
+        packet: &PacketRow<'_, u64>,
         row: &mut ShortRow,
     ) -> Passage
         requires { CanTake self.old packet.now }

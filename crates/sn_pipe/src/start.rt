@@ -15,7 +15,7 @@ pub(crate) fn start(
     stages: &mut [Stage],
     level: u32,
     first: u8,
-    packet: &PacketRow<'_>,
+    packet: &PacketRow<'_, u64>,
     row: &mut ShortRow,
 ) -> Option<u8>
     requires few { first + length stages.old ≤ 12 }

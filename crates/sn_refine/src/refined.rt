@@ -16,6 +16,7 @@ use sn_base::short_row::ShortRow;
 use sn_fields::tuple::Tuple;
 use sn_ops::packets::Kept;
 use sn_ops::plain::plain;
+use sn_ops::short::into_short_rows;
 use sn_types::answers::Part;
 use sn_types::typed::Typed;
 use std::alloc::Global;
@@ -66,7 +67,7 @@ pub fn first_rows(
     ensures { IfOk result (λ rows. rows ≡ level_rows (query_at t.now.queries q) level (Some tuples.now)) }
 {
     let rows = plain(alloc, t, q, level, None, tuples)?;
-    sorted(rows)
+    sorted(into_short_rows(rows))
 }
 
 /// The answers at a level to the tuples with one of these prefixes.
@@ -86,7 +87,7 @@ fn next_rows(
         (λ rows. rows ≡ level_rows query level (Some (filter (is_held query.field kept.entry.bits kept.entry.members.now) tuples.now))) }
 {
     let rows = plain(alloc, t, q, level, Some(kept), tuples)?;
-    sorted(rows)
+    sorted(into_short_rows(rows))
 }
 
 /// The prefixes that each of these answers holds.

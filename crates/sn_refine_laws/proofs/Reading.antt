@@ -20,7 +20,7 @@ use Rattle.sn_types_faults.specs.Names.{Name, is_in, names_in, same_name}
 use Rattle.sn_types_faults.specs.Columns.{carried_after, column_named, columns_after, copy_name, folded_column, has_column, is_copy, mapped_column, place_of}
 use Rattle.sn_types_faults.specs.Faults.{filters, loses, reads_otherwise}
 use Rattle.sn_types.specs.Typing.{typed_cond, typed_expr, typed_op, typed_reduce}
-use Rattle.sn_types.specs.Values.{compared, constant_at, greatest, holds, op_at, ratio, value_of}
+use Rattle.sn_types.specs.Values.{all_bits, compared, constant_at, greatest, holds, op_at, ratio, value_of}
 use Rattle.sn_types.specs.declared.typed_op.TCond.{TCond}
 use Rattle.sn_types.proofs.Known.{IsKnown, all_parts, same_row_self}
 use Rattle.sn_types.proofs.RowLemmas.{place_is}
@@ -73,8 +73,8 @@ module _ (m : ℕ → ℕ) (zeros : m 0 ≡ 0) (cs : List Column) (name : Name) 
       ∙ ap (λ n. min (slice_index row (place_of cs a) + n) greatest) (number_same row b k.1.0 (or_none (same_name b name) false parts.1).0)
   value_same row (Ratio a s b) none k =
       let parts = or_none (same_name a name) (same_name b name || false) none in
-      ap (λ n. ratio n s (slice_index (turned row) (place_of cs b))) (number_same row a k.0 parts.0)
-      ∙ ap (λ n. ratio (slice_index row (place_of cs a)) s n) (number_same row b k.1.0 (or_none (same_name b name) false parts.1).0)
+      ap (λ n. ratio (min n greatest) s (min (slice_index (turned row) (place_of cs b)) greatest)) (number_same row a k.0 parts.0)
+      ∙ ap (λ n. ratio (min (slice_index row (place_of cs a)) greatest) s (min n greatest)) (number_same row b k.1.0 (or_none (same_name b name) false parts.1).0)
 
   -- ---- a map with one copy
 
@@ -170,8 +170,8 @@ module _ (m : ℕ → ℕ) (zeros : m 0 ≡ 0) (cs : List Column) (name : Name) 
       let parts = or_none (same_name c.name name) (list_any (λ (x : Cond). same_name x.name name) conds) none in
       let both = and_parts (length c.relaxed == 0) (list_all (λ (x : TCond). length x.relaxed == 0) (map (typed_cond cs) conds)) fixed in
       let one : holds r (typed_cond cs c) (turned row) ≡ holds F (typed_cond cs c) row =
-      ap (λ n. compared c.cmp (bit_and n (unwrap_or c.and greatest)) (constant_at r c.relaxed c.own)) (number_same row c.name k.0 parts.0)
-      ∙ ap (compared c.cmp (bit_and (slice_index row (place_of cs c.name)) (unwrap_or c.and greatest))) (no_relaxed r c.relaxed c.own both.0 ∙ sym (no_relaxed F c.relaxed c.own both.0)) in
+      ap (λ n. compared c.cmp (bit_and n (unwrap_or c.and all_bits)) (constant_at r c.relaxed c.own)) (number_same row c.name k.0 parts.0)
+      ∙ ap (compared c.cmp (bit_and (slice_index row (place_of cs c.name)) (unwrap_or c.and all_bits))) (no_relaxed r c.relaxed c.own both.0 ∙ sym (no_relaxed F c.relaxed c.own both.0)) in
       ap (λ b. b && list_all (λ x. holds r x (turned row)) (map (typed_cond cs) conds)) one
       ∙ ap (λ b. holds F (typed_cond cs c) row && b) (conds_turned F r row conds parts.1 k.1 both.1)
     where

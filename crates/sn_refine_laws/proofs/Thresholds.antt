@@ -1,5 +1,5 @@
 -- What passes thresholds at a level passes them with a greater value at a coarser level.
-use Rattle.std.proofs.Common.{◌≡◌, ℕ, ◌-◌, ◌^◌, ◌<◌, ◌≤◌, List, [], ◌∷◌, ◌++◌, map, length, slice_index, Bool, true, false, ◌||◌, ◌&&◌, ◌==◌, nat_eq, nat_le, refl, ap, sym, ◌∙◌, arith}
+use Rattle.std.proofs.Common.{◌≡◌, ℕ, ◌^◌, ◌<◌, ◌≤◌, List, [], ◌∷◌, ◌++◌, map, length, slice_index, Bool, true, ◌||◌, ◌&&◌, ◌==◌, nat_eq, nat_le, refl, ap, sym, ◌∙◌, arith}
 use Rattle.std.specs.List.{list_any, list_all}
 use Rattle.std.specs.Int.Bits.{bit_and}
 use Rattle.std.proofs.Math.Nat.{mod-eq_of_lt}
@@ -14,7 +14,7 @@ use Rattle.sn_base.specs.declared.any_fold.AnyFold.{AnyFold}
 use Rattle.sn_base.specs.declared.any_fold.AnyFold.TheVariants.{SatSum, Max, Min, Or}
 use Rattle.sn_query_grammar.specs.declared.ast.Cmp.{Cmp}
 use Rattle.sn_query_grammar.specs.declared.ast.Cmp.TheVariants.{Eq, Ne, Lt, Le, Gt, Ge}
-use Rattle.sn_types.specs.Values.{compared, constant_at, greatest, holds, op_at}
+use Rattle.sn_types.specs.Values.{all_bits, compared, constant_at, greatest, holds, op_at}
 use Rattle.sn_types.specs.declared.typed_op.TCond.{TCond}
 use Rattle.sn_types.specs.declared.typed_op.TOp.{TOp}
 use Rattle.sn_types.specs.declared.typed_op.TOp.TheVariants as ops
@@ -45,21 +45,24 @@ above_more Le v w c d is more less h = absurd (false≢true is)
 above_more Gt v w c d is more less h = let lt = ltb-true c v h in lt-ltb d w (omega (arith, lt, more, less))
 above_more Ge v w c d is more less h = let le = leb-true c v h in le-leb d w (omega (arith, le, more, less))
 
-whole : (v : ℕ) → v < 2 ^ 64 → bit_and v greatest ≡ v
-whole v lt = and_mask v 64 ∙ mod-eq_of_lt lt
+-- a number of 64 bits and-ed with all bits, or with 64, stays
+kept : (a v : ℕ) → ((a == all_bits) || (a == greatest)) ≡ true → v < 2 ^ 64 → bit_and v a ≡ v
+kept a v is lt =
+    by_test (a == all_bits)
+    (λ yes. ap (bit_and v) (nat_same a all_bits yes) ∙ and_mask v 128 ∙ mod-eq_of_lt (omega (arith, lt)))
+    (λ isnt. ap (bit_and v) (nat_same a greatest (sym (ap (λ b. b || (a == greatest)) isnt) ∙ is)) ∙ and_mask v 64 ∙ mod-eq_of_lt lt)
 
 module _ (levels : List ℕ) (F r n : ℕ) (among : list_any (nat_eq r) levels ≡ true) (k l : Row) (v w : ℕ) (long : length k ≡ n) (long' : length l ≡ n) (more : v ≤ w) (small : w < 2 ^ 64) where
   cond_passes : (c : TCond) → is_threshold levels F n c ≡ true → holds F c (k ++ v ∷ []) ≡ true → holds r c (l ++ w ∷ []) ≡ true
   cond_passes c is h =
       let lesser : ℕ → Bool = λ level. nat_le (constant_at level c.relaxed c.own) (constant_at F c.relaxed c.own) in
-      let a = and_parts (c.col == n) ((c.and == greatest) && (is_above c.cmp && list_all lesser levels)) is in
-      let b = and_parts (c.and == greatest) (is_above c.cmp && list_all lesser levels) a.1 in
+      let a = and_parts (c.col == n) (((c.and == all_bits) || (c.and == greatest)) && (is_above c.cmp && list_all lesser levels)) is in
+      let b = and_parts ((c.and == all_bits) || (c.and == greatest)) (is_above c.cmp && list_all lesser levels) a.1 in
       let d = and_parts (is_above c.cmp) (list_all lesser levels) b.1 in
       let less : constant_at r c.relaxed c.own ≤ constant_at F c.relaxed c.own = leb-true (constant_at r c.relaxed c.own) (constant_at F c.relaxed c.own) (all_member lesser r levels d.1 among) in
       let col : c.col ≡ n = nat_same c.col n a.0 in
-      let all : c.and ≡ greatest = nat_same c.and greatest b.0 in
       let reads : (key : Row) (x : ℕ) → length key ≡ n → x < 2 ^ 64 → bit_and (slice_index (key ++ x ∷ []) c.col) c.and ≡ x =
-      λ key x is lt. ap (bit_and (slice_index (key ++ x ∷ []) c.col)) all ∙ ap (λ i. bit_and (slice_index (key ++ x ∷ []) i) greatest) col ∙ ap (λ y. bit_and y greatest) (get_or_at key x [] 0 n is) ∙ whole x lt in
+      λ key x is lt. ap (λ i. bit_and (slice_index (key ++ x ∷ []) i) c.and) col ∙ ap (λ y. bit_and y c.and) (get_or_at key x [] 0 n is) ∙ kept c.and x b.0 lt in
       ap (λ x. compared c.cmp x (constant_at r c.relaxed c.own)) (reads l w long' small)
       ∙ above_more c.cmp v w (constant_at F c.relaxed c.own) (constant_at r c.relaxed c.own) d.0 more less
       (sym (ap (λ x. compared c.cmp x (constant_at F c.relaxed c.own)) (reads k v long (omega (arith, small, more)))) ∙ h)

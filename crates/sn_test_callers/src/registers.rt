@@ -13,14 +13,14 @@ use sn_chain::offer::Offer;
 use std::alloc::Global;
 
 /// Two registers of 256 slots each, for sums. No later call takes memory.
-pub fn counters(alloc: Global, sum: SatSum) -> Result<Chain<SatSum>, Memory>
+pub fn counters(alloc: Global, sum: SatSum) -> Result<Chain<SatSum, ShortRow>, Memory>
     ensures { IfOk result (λ chain. chain ≡ empty_chain sum 2 256) }
 {
     Chain::make(alloc, sum, 2, 256)
 }
 
 /// Counts a packet of this key. `Over` where each of the key's cells holds another key: then the caller counts it elsewhere.
-pub fn count(chain: &mut Chain<SatSum>, key: &ShortRow) -> Offer
+pub fn count(chain: &mut Chain<SatSum, ShortRow>, key: &ShortRow) -> Offer
     requires { HasBits chain.old.fold.v 1 }
     ensures answer { result ≡ answer_at (holder chain.old key.now) (vacancy chain.old key.now) }
     ensures after { chain.new ≡ after_offer (λ f. capped_sum f.v) chain.old key.now 1 }
@@ -29,7 +29,7 @@ pub fn count(chain: &mut Chain<SatSum>, key: &ShortRow) -> Offer
 }
 
 /// What a cell has counted. `None` where it is empty, or past the last one.
-pub fn count_at(chain: &Chain<SatSum>, place: u32) -> Option<u64>
+pub fn count_at(chain: &Chain<SatSum, ShortRow>, place: u32) -> Option<u64>
     ensures { result ≡ option_map (λ e. e.1) (cell chain.now.cells place) }
 {
     match chain.get(place) {

@@ -23,7 +23,7 @@ fn counts(alloc: Global, text: &[u8], chain: u32, tuples: &[Tuple]) -> Result<Se
     }
     let level = t.finest_level(0);
     let rows = packet_rows(alloc, &t, 0, 0, level, None, tuples)?;
-    if rows.as_slice().len() > 1000 {
+    if rows.len() > 1000 {
         return Err(Memory);
     }
     counts_of(alloc, &t, 0, 0, level, chain, &[1], rows)

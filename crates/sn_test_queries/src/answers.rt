@@ -7,6 +7,8 @@ use crate::checked::typed;
 use crate::operators::row;
 use sn_base::link::Link;
 use sn_base::members::Members;
+use sn_base::row_seq::RowSeq;
+use sn_base::short_row::ShortRow;
 use sn_fields::tuple::{Tuple, tuple_of};
 use sn_ops::packets::{Kept, packet_rows};
 use sn_ops::plain::{branch_rows, plain};
@@ -62,10 +64,10 @@ fn counts_by_destination(rt: HostRuntime) -> Result<(), Fail> {
     assert_eq!(rt; t.queries(), 1);
     assert_eq!(rt; t.branches(0), 1);
     assert!(rt; has_level(&t, 0, 0));
-    let packets = packet_rows(alloc, &t, 0, 0, 0, None, &five())?;
+    let packets: RowSeq<ShortRow> = packet_rows(alloc, &t, 0, 0, 0, None, &five())?;
     assert_eq!(rt; packets.as_slice().len(), 5);
     assert_eq!(rt; packets.as_slice()[4], row(&[NET + 3]));
-    let counts = branch_rows(alloc, &t, 0, 0, 0, None, &five())?;
+    let counts: RowSeq<ShortRow> = branch_rows(alloc, &t, 0, 0, 0, None, &five())?;
     assert_eq!(rt;
         counts.as_slice(),
         [row(&[NET + 1, 2]), row(&[NET + 2, 2]), row(&[NET + 3, 1])].as_slice()
@@ -81,7 +83,7 @@ fn answers_a_refined_query(rt: HostRuntime) -> Result<(), Fail> {
     assert!(rt; t.refine_field(0).is_some());
     assert!(rt; has_level(&t, 0, 8));
     assert!(rt; has_level(&t, 0, 32));
-    let first = plain(alloc, &t, 0, 8, None, &five())?;
+    let first: RowSeq<ShortRow> = plain(alloc, &t, 0, 8, None, &five())?;
     assert_eq!(rt; first.as_slice(), [row(&[NET, 5])].as_slice());
     let mut members = Members::new(alloc);
     members.add(u128::from(NET))?;
@@ -89,14 +91,14 @@ fn answers_a_refined_query(rt: HostRuntime) -> Result<(), Fail> {
         members: &members,
         bits: 8,
     };
-    let second = plain(alloc, &t, 0, 32, Some(kept), &five())?;
+    let second: RowSeq<ShortRow> = plain(alloc, &t, 0, 32, Some(kept), &five())?;
     assert_eq!(rt; second.as_slice().len(), 3);
     let none = Members::new(alloc);
     let kept = Kept {
         members: &none,
         bits: 8,
     };
-    let third = plain(alloc, &t, 0, 32, Some(kept), &five())?;
+    let third: RowSeq<ShortRow> = plain(alloc, &t, 0, 32, Some(kept), &five())?;
     assert_eq!(rt; third.as_slice().len(), 0);
     Ok(())
 }
@@ -108,7 +110,7 @@ fn joins_two_branches(rt: HostRuntime) -> Result<(), Fail> {
     assert_eq!(rt; t.queries(), 1);
     assert!(rt; has_level(&t, 0, 0));
     let tuples = [syn(1, 1), syn(2, 1), syn(2, 1), syn(1, 2)];
-    let rows = plain(alloc, &t, 0, 0, None, &tuples)?;
+    let rows: RowSeq<ShortRow> = plain(alloc, &t, 0, 0, None, &tuples)?;
     assert_eq!(rt;
         rows.as_slice(),
         [

@@ -1,8 +1,10 @@
 //! Operators on small lists of rows.
-ghost use Rattle.std.specs.Prelude.{◌≡◌, ◌≤◌, length};
+ghost use Rattle.std.specs.Prelude.{◌≡◌, ◌≤◌, length, IfOk};
 
 use sn_base::any_fold::AnyFold;
 use sn_base::fold::Min;
+use sn_base::memory::Memory;
+use sn_base::row_seq::RowSeq;
 use sn_base::seed::Seed;
 use sn_base::seq::Seq;
 use sn_base::short_row::ShortRow;
@@ -27,28 +29,37 @@ pub(crate) fn row(columns: &[u64]) -> ShortRow
     }
 }
 
+/// A list of these rows.
+fn list(alloc: Global, rows: &[ShortRow]) -> Result<RowSeq<ShortRow>, Memory>
+    ensures { IfOk result (λ list. list ≡ rows.now) }
+{
+    RowSeq::from_slice(alloc, rows)
+}
+
 #[test]
 fn groups_of_no_rows_are_none(rt: HostRuntime) -> Result<(), Fail> {
-    let once = distinct(rt.alloc(), &[])?;
+    let none = RowSeq::<ShortRow>::new(rt.alloc());
+    let once = distinct(rt.alloc(), &none)?;
     assert_eq!(rt; once.as_slice().len(), 0);
     let r = TReduce {
         keys: Seq::new(rt.alloc()),
         value: 0,
         fold: AnyFold::Min(Min { v: 3 }),
     };
-    let reduced = reduce(rt.alloc(), &[], &r)?;
+    let reduced = reduce(rt.alloc(), &none, &r)?;
     assert_eq!(rt; reduced.as_slice().len(), 0);
-    let folded = reduce_with(rt.alloc(), Seed::new(7), &[], &[], &r)?;
+    let folded = reduce_with(rt.alloc(), Seed::new(7), &none, &none, &r)?;
     assert_eq!(rt; folded.as_slice().len(), 0);
     Ok(())
 }
 
 #[test]
 fn joins_on_the_first_column(rt: HostRuntime) -> Result<(), Fail> {
-    let left = [row(&[1, 10]), row(&[1, 11]), row(&[2, 12])];
-    let right = [row(&[1, 20]), row(&[3, 21])];
+    let alloc = rt.alloc();
+    let left = list(alloc, &[row(&[1, 10]), row(&[1, 11]), row(&[2, 12])])?;
+    let right = list(alloc, &[row(&[1, 20]), row(&[3, 21])])?;
     let keys = [JoinKey { left: 0, right: 0 }];
-    let pairs = join(rt.alloc(), &left, &right, &keys)?;
+    let pairs = join(alloc, &left, &right, &keys)?;
     assert_eq!(rt;
         pairs.as_slice(),
         [row(&[1, 10, 20]), row(&[1, 11, 20])].as_slice()
@@ -61,7 +72,7 @@ fn above_one(alloc: Global) -> TCond
 {
     TCond {
         col: 0,
-        and: u64::MAX,
+        and: u128::MAX,
         cmp: Cmp::Gt,
         own: 1,
         relaxed: Seq::new(alloc),
@@ -70,22 +81,20 @@ fn above_one(alloc: Global) -> TCond
 
 #[test]
 fn filters_and_maps(rt: HostRuntime) -> Result<(), Fail> {
-    let rows = [row(&[1]), row(&[2])];
+    let rows = list(rt.alloc(), &[row(&[1]), row(&[2])])?;
     let conds = [above_one(rt.alloc())];
     let kept = filter(rt.alloc(), &rows, &conds, 0)?;
     assert_eq!(rt; kept.as_slice(), [row(&[2])].as_slice());
     let cols = [TExpr::Copy(0), TExpr::Const(7)];
-    let made = map(rt.alloc(), &[row(&[1])], &cols)?;
+    let one = list(rt.alloc(), &[row(&[1])])?;
+    let made = map(rt.alloc(), &one, &cols)?;
     assert_eq!(rt; made.as_slice(), [row(&[1, 7])].as_slice());
     Ok(())
 }
 
 #[test]
 fn runs_operators_one_after_another(rt: HostRuntime) -> Result<(), Fail> {
-    let mut rows = Seq::new(rt.alloc());
-    rows.push(row(&[5]))?;
-    rows.push(row(&[5]))?;
-    rows.push(row(&[4]))?;
+    let rows = list(rt.alloc(), &[row(&[5]), row(&[5]), row(&[4])])?;
     let out = run(rt.alloc(), Seed::new(7), &[TOp::Distinct], 0, rows)?;
     assert_eq!(rt; out.as_slice(), [row(&[5]), row(&[4])].as_slice());
     Ok(())

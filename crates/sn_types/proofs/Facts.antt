@@ -1,7 +1,6 @@
 -- What the invariant of a typed file gives of its parts.
 use Rattle.std.proofs.Common.{◌≡◌, ℕ, suc, ◌<◌, ◌≤◌, List, [], ◌∷◌, ◌++◌, length, Bool, true, false, not, ◌||◌, ◌&&◌, cond, nat_eq, nat_lt, ◌==◌, is_none, Option, None, Some, IfSome, slice_get, unwrap_or, refl, ap, sym, ◌∙◌, subst, arith, append-nil, append_assoc, lit≤}
 use Rattle.std.proofs.lemmas.List.{length-map}
-use Rattle.std.proofs.lemmas.Bool.{ltb-false}
 use Rattle.std.proofs.Math.Bridge.{le_prop}
 use Rattle.std.proofs.Math.Logic.{∥∥₁_elim}
 use Rattle.std.specs.List.{AllByRecursion, flat_map, list_any}

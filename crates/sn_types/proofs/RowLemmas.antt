@@ -85,7 +85,7 @@ expr_fits columns row (Mask a bits) of lawful known =
     omega (arith, here, less)
 expr_fits columns row (Shift a k) of lawful known = shift_fits (slice_index row (place_of columns a)) (column_named columns a).width k (in_width columns row a of known.0)
 expr_fits columns row (Sum a b) of lawful known = capped (slice_index row (place_of columns a) + slice_index row (place_of columns b))
-expr_fits columns row (Ratio a k b) of lawful known = ratio_fits (slice_index row (place_of columns a)) k (slice_index row (place_of columns b))
+expr_fits columns row (Ratio a k b) of lawful known = ratio_fits (min (slice_index row (place_of columns a)) greatest) k (min (slice_index row (place_of columns b)) greatest)
 
 -- a map's rows are of its columns
 pub map_fits : (columns : List Column) (row : List ℕ) (cols : List MapCol) → IsOf columns row → AllByRecursion (λ c. IsPostExpr c.expr × AllByRecursion (IsKnown columns) (names_in c.expr)) cols

@@ -1,5 +1,5 @@
 -- The rows after an operator are of the columns after it.
-use Rattle.std.proofs.Common.{◌≡◌, ℕ, suc, take, get_or, ◌+◌, ◌-◌, ◌^◌, ◌<◌, List, [], ◌∷◌, ◌++◌, map, fold, length, true, false, not, ◌&&◌, ◌==◌, cond, Option, slice_index, refl, ap, sym, ◌∙◌, subst, arith}
+use Rattle.std.proofs.Common.{◌≡◌, ℕ, suc, take, get_or, ◌+◌, ◌-◌, ◌^◌, ◌<◌, min, List, [], ◌∷◌, ◌++◌, map, fold, length, true, false, not, ◌&&◌, ◌==◌, cond, Option, slice_index, refl, ap, sym, ◌∙◌, subst, arith}
 use Rattle.std.proofs.lemmas.List.{take_more, map-append}
 use Rattle.std.proofs.Math.Bridge.{le_prop}
 use Rattle.std.proofs.Math.Pow.{pow_mono}
@@ -15,6 +15,7 @@ use Rattle.sn_base.specs.Groups.{Row, once, same_row, values_at, columns_at, key
 use Rattle.sn_base.specs.Mask.{masked}
 use Rattle.sn_base.specs.Operators.{Grouping, apply, row_for, pair_of}
 use Rattle.sn_base.specs.declared.any_fold.AnyFold.{AnyFold}
+use Rattle.sn_base.specs.declared.any_fold.AnyFold.TheVariants as folds
 use Rattle.sn_base.specs.declared.column.Column.{Column}
 use Rattle.sn_fields.specs.declared.field.Field.{Field}
 use Rattle.sn_fields.specs.Fields.{number_of, width_of}
@@ -104,6 +105,16 @@ of_had words.Sum w a h = h
 of_had words.Max w a h = h
 of_had words.Min w a h = h
 of_had words.Or w a h = h
+
+-- a number of a fold has at most 64 bits
+pub had_below : (f : AnyFold) (x : ℕ) → any_has f x → x < 2 ^ 64
+had_below (folds.SatSum f) x h = let more = pow_mono f.in_range.1 in omega (arith, h, more)
+had_below (folds.Max f) x h = let more = pow_mono f.in_range.1 in omega (arith, h, more)
+had_below (folds.Min f) x h = let more = pow_mono f.in_range.1 in omega (arith, h, more)
+had_below (folds.Or f) x h = let more = pow_mono f.in_range.1 in omega (arith, h, more)
+
+pub stays_whole : (x : ℕ) → x < 2 ^ 64 → min x (2 ^ 64 - 1) ≡ x
+stays_whole x h = omega (arith, h)
 
 -- ---- a reduce
 

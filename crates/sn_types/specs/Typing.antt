@@ -30,13 +30,13 @@ use Rattle.sn_types_faults.specs.Names.{Name, packet_fields}
 use Rattle.sn_types_faults.specs.Widths.{fold_of, folded_width}
 use Rattle.sn_types_faults.specs.Columns.{place_of, column_named, columns_after, packet_columns}
 use Rattle.sn_types.specs.Cuts.{greatest_cut}
-use Rattle.sn_types.specs.Values.{greatest}
+use Rattle.sn_types.specs.Values.{all_bits}
 use Rattle.sn_types_faults.specs.Walk.{scope_end, scope_joined, branch_end, ops_at}
 
 -- ---- operators
 
 abbrev pub typed_cond : List Column → Cond → TCond
-typed_cond columns c = record { col = place_of columns c.name; and = unwrap_or c.and greatest; cmp = c.cmp; own = c.own; relaxed = c.relaxed }
+typed_cond columns c = record { col = place_of columns c.name; and = unwrap_or c.and all_bits; cmp = c.cmp; own = c.own; relaxed = c.relaxed }
 
 abbrev pub typed_expr : List Column → Expr → TExpr
 typed_expr columns (expr.Const n) = texpr.Const n

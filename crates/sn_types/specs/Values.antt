@@ -32,9 +32,13 @@ constant_at level relaxed own = option_map_or (λ r. r.value) (find (λ r. r.lev
 abbrev pub holds : ℕ → TCond → Row → Bool
 holds level c row = compared c.cmp (bit_and (slice_index row c.col) c.and) (constant_at level c.relaxed c.own)
 
--- the greatest number of a column
+-- the greatest number of 64 bits: no sum and no ratio is above it, and no number that they are of
 abbrev pub greatest : ℕ
 greatest = 2 ^ 64 - 1
+
+-- all bits of a column
+abbrev pub all_bits : ℕ
+all_bits = 2 ^ 128 - 1
 
 -- a times k over b, rounded down, capped at the greatest number, and 0 where b is 0
 abbrev pub ratio : ℕ → ℕ → ℕ → ℕ
@@ -47,7 +51,7 @@ value_of (Copy a) row = slice_index row a
 value_of (Mask a bits) row = bit_and (slice_index row a) bits
 value_of (Shift a k) row = slice_index row a / 2 ^ k
 value_of (Sum a b) row = min (slice_index row a + slice_index row b) greatest
-value_of (Ratio a k b) row = ratio (slice_index row a) k (slice_index row b)
+value_of (Ratio a k b) row = ratio (min (slice_index row a) greatest) k (min (slice_index row b) greatest)
 
 -- an expression reads columns of the first n
 abbrev pub ReadsWithin : ℕ → TExpr → Type 0

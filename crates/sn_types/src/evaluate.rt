@@ -1,15 +1,18 @@
 //! What conditions and expressions say of one row, and its columns at places.
-ghost use Rattle.std.specs.Prelude.{◌≡◌, ◌==◌, ◌<◌, ◌≤◌, ◌/◌, ◌^◌, All, length, map};
+ghost use Rattle.std.specs.Prelude.{◌≡◌, ◌==◌, ◌<◌, ◌≤◌, ◌+◌, min, All, length, map, slice_index};
 ghost use Rattle.std.specs.List.{find, list_all};
+ghost use Rattle.sn_base.specs.AnyFold.{any_has};
 ghost use Rattle.sn_base.specs.Groups.{columns_at};
-ghost use Rattle.sn_types.specs.Values.{compared, constant_at, holds, ratio, value_of, ReadsWithin};
+ghost use Rattle.sn_types.specs.Values.{compared, constant_at, greatest, holds, ratio, value_of, ReadsWithin};
 
-use crate::columns::Columns;
 use crate::typed_op::{TCond, TExpr};
-use sn_base::short_row::ShortRow;
+use sn_base::any_fold::AnyFold;
+use sn_base::any_row::AnyRow;
+use sn_base::columns::Columns;
+use sn_base::number::Number;
 use sn_query_grammar::ast::{Cmp, Relax};
 
-fn compares(cmp: Cmp, left: u64, right: u64) -> bool
+fn compares(cmp: Cmp, left: u128, right: u128) -> bool
     ensures { result ≡ compared cmp left right }
 {
     match cmp {
@@ -44,8 +47,8 @@ pub fn cond<C: Columns>(c: &TCond, level: u32, row: &C) -> bool
 {
     compares(
         c.cmp,
-        row.column(c.col) & c.and,
-        constant_at(level, c.relaxed.as_slice(), c.own),
+        row.column(c.col).whole() & c.and,
+        u128::from(constant_at(level, c.relaxed.as_slice(), c.own)),
     )
 }
 
@@ -59,26 +62,37 @@ fn ratio(a: u64, times: u64, b: u64) -> u64
     u64::try_from(whole).unwrap_or(u64::MAX)
 }
 
-/// A column shifted to the right. By its 64 bits and more nothing is left.
-fn shifted(column: u64, places: u32) -> u64
-    ensures { result ≡ column / 2 ^ places }
+/// The sum of two columns, each cut off at 2^64 - 1 as the sum is.
+fn sum<N: Number>(a: N, b: N) -> N
+    ensures { N.value result ≡ min (N.value a + N.value b) greatest }
 {
-    if places < 64 { column >> places } else { 0 }
+    N::of_word(a.word().saturating_add(b.word()))
 }
 
 /// The value of an expression at a row.
-pub fn expr<C: Columns>(e: &TExpr, row: &C) -> u64
+pub fn expr<C: Columns>(e: &TExpr, row: &C) -> C::Number
     requires { ReadsWithin (length (C.columns row.now)) e.now }
-    ensures { result ≡ value_of e.now (C.columns row.now) }
+    ensures { C.Number.value result ≡ value_of e.now (C.columns row.now) }
 {
     match *e {
-        TExpr::Const(number) => number,
+        TExpr::Const(number) => C::Number::of_word(number),
         TExpr::Copy(a) => row.column(a),
-        TExpr::Mask(a, bits) => row.column(a) & bits,
-        TExpr::Shift(a, places) => shifted(row.column(a), places),
-        TExpr::Sum(a, b) => row.column(a).saturating_add(row.column(b)),
-        TExpr::Ratio(a, times, b) => ratio(row.column(a), times, row.column(b)),
+        TExpr::Mask(a, bits) => row.column(a).masked(u128::from(bits)),
+        TExpr::Shift(a, places) => row.column(a).shifted(places),
+        TExpr::Sum(a, b) => sum(row.column(a), row.column(b)),
+        TExpr::Ratio(a, times, b) => {
+            C::Number::of_word(ratio(row.column(a).word(), times, row.column(b).word()))
+        }
     }
+}
+
+/// The column at a place, as a fold that has it takes it.
+pub fn folded_at<R: AnyRow>(fold: AnyFold, row: &R, place: u32) -> u64
+    requires place { place < length (R.columns row.now) }
+    requires had { any_has fold (slice_index (R.columns row.now) place) }
+    ensures { result ≡ slice_index (R.columns row.now) place }
+{
+    row.column(place).word()
 }
 
 /// Whether all conditions hold at a row, with their constants for this level.
@@ -96,36 +110,44 @@ pub fn passes<C: Columns>(conds: &[TCond], level: u32, row: &C) -> bool
 
 /// Makes `out` the row of these values at a row, whatever it was before. It is made in its place: a copy of a row whose columns have
 /// just been written would wait until the memory has them, since it reads several of them at once.
-pub fn map_into<C: Columns>(row: &C, cols: &[TExpr], out: &mut ShortRow)
+pub fn map_into<C: Columns, R: AnyRow + Columns<Number = C::Number>>(
+    row: &C,
+    cols: &[TExpr],
+    out: &mut R,
+)
     requires few { length cols.now ≤ 8 }
     requires reads { All (λ e. ReadsWithin (length (C.columns row.now)) e) cols.now }
-    ensures { out.new ≡ map (λ e. value_of e (C.columns row.now)) cols.now }
+    ensures { R.columns out.new ≡ map (λ e. value_of e (C.columns row.now)) cols.now }
 {
-    *out = ShortRow::empty();
+    *out = R::empty();
     for col in cols {
         out.push(expr(col, row));
     }
 }
 
 /// Makes `key` the columns of a row at these places, whatever it was before. It is made in its place, as by `map_into`.
-pub fn columns_into<C: Columns>(row: &C, places: &[u32], key: &mut ShortRow)
+pub fn columns_into<C: Columns, R: AnyRow + Columns<Number = C::Number>>(
+    row: &C,
+    places: &[u32],
+    key: &mut R,
+)
     requires places { All (λ place. place < length (C.columns row.now)) places.now }
     requires few { length places.now ≤ 8 }
-    ensures { key.new ≡ columns_at places.now (C.columns row.now) }
+    ensures { R.columns key.new ≡ columns_at places.now (C.columns row.now) }
 {
-    *key = ShortRow::empty();
+    *key = R::empty();
     for place in places {
         key.push(row.column(*place));
     }
 }
 
 /// The columns of a row at these places.
-pub fn columns_of(row: &ShortRow, places: &[u32]) -> ShortRow
-    requires places { All (λ place. place < length row.now) places.now }
+pub fn columns_of<R: AnyRow>(row: &R, places: &[u32]) -> R
+    requires places { All (λ place. place < length (R.columns row.now)) places.now }
     requires few { length places.now ≤ 8 }
-    ensures { result ≡ columns_at places.now row.now }
+    ensures { R.columns result ≡ columns_at places.now (R.columns row.now) }
 {
-    let mut key = ShortRow::empty();
+    let mut key = R::empty();
     columns_into(row, places, &mut key);
     key
 }

@@ -3,7 +3,6 @@
 
 pub mod answers;
 pub mod check;
-pub mod columns;
 pub mod copies;
 pub mod cuts;
 pub mod evaluate;

@@ -6,12 +6,13 @@ ghost use Rattle.sn_fields.specs.Fields.{width_of};
 ghost use Rattle.sn_types.specs.Typed.{is_field, read_at, packet_row};
 ghost use Rattle.sn_types_faults.specs.Columns.{field_column};
 
-use crate::columns::Columns;
+use sn_base::any_row::AnyRow;
+use sn_base::columns::Columns;
 use sn_base::mask::mask;
-use sn_base::short_row::ShortRow;
+use sn_base::number::Number;
 use sn_fields::field::Field;
 use sn_fields::tuple::Tuple;
-use std::marker::Model;
+use std::marker::{Model, PhantomData};
 
 fn is_field(refined: Option<Field>, field: Field) -> bool
     ensures { result ≡ is_field refined field }
@@ -23,12 +24,12 @@ fn is_field(refined: Option<Field>, field: Field) -> bool
 }
 
 #[inline(always)]
-fn read_at(refined: Option<Field>, level: u32, tuple: &Tuple, field: Field) -> u64
+fn read_at<N: Number>(refined: Option<Field>, level: u32, tuple: &Tuple, field: Field) -> N
     requires { IfSome refined (λ other. level ≤ width_of other) }
-    ensures value { result ≡ read_at refined level tuple.now field }
-    ensures below { result < 2 ^ width_of field }
+    ensures value { N.value result ≡ read_at refined level tuple.now field }
+    ensures below { N.value result < 2 ^ width_of field }
 {
-    let value = tuple.get(field);
+    let value = N::of_word(tuple.get(field));
     if level != 0 && is_field(refined, field) {
         mask(value, field.width(), level)
     } else {
@@ -37,26 +38,32 @@ fn read_at(refined: Option<Field>, level: u32, tuple: &Tuple, field: Field) -> u
 }
 
 /// Makes `row` the packet row of a tuple at a level, whatever it was before: the numbers of these fields, each of its field's width.
-fn row_into(refined: Option<Field>, level: u32, fields: &[Field], tuple: &Tuple, row: &mut ShortRow)
+fn row_into<R: AnyRow>(
+    refined: Option<Field>,
+    level: u32,
+    fields: &[Field],
+    tuple: &Tuple,
+    row: &mut R,
+)
     requires few { length fields.now ≤ 8 }
     requires level { IfSome refined (λ other. level ≤ width_of other) }
-    ensures row { row.new ≡ packet_row refined level fields.now tuple.now }
-    ensures columns { IsOf (map field_column fields.now) row.new }
+    ensures row { R.columns row.new ≡ packet_row refined level fields.now tuple.now }
+    ensures columns { IsOf (map field_column fields.now) (R.columns row.new) }
 {
-    *row = ShortRow::empty();
+    *row = R::empty();
     for field in fields {
         row.push(read_at(refined, level, tuple, *field));
     }
 }
 
 /// The packet row of a tuple at a level: the numbers of these fields, each of its field's width.
-pub fn row_of(refined: Option<Field>, level: u32, fields: &[Field], tuple: &Tuple) -> ShortRow
+pub fn row_of<R: AnyRow>(refined: Option<Field>, level: u32, fields: &[Field], tuple: &Tuple) -> R
     requires few { length fields.now ≤ 8 }
     requires level { IfSome refined (λ other. level ≤ width_of other) }
-    ensures row { result ≡ packet_row refined level fields.now tuple.now }
-    ensures columns { IsOf (map field_column fields.now) result }
+    ensures row { R.columns result ≡ packet_row refined level fields.now tuple.now }
+    ensures columns { IsOf (map field_column fields.now) (R.columns result) }
 {
-    let mut row = ShortRow::empty();
+    let mut row = R::empty();
     row_into(refined, level, fields, tuple, &mut row);
     row
 }
@@ -76,7 +83,7 @@ pub struct Packets<'a> {
 
 impl<'a> Packets<'a> {
     /// The packet row of a tuple, each number of its field's width. No row is made of it.
-    pub fn row(&self, tuple: &'a Tuple) -> PacketRow<'a>
+    pub fn row<N: Number>(&self, tuple: &'a Tuple) -> PacketRow<'a, N>
         ensures row { result ≡ packet_row self.now.refined self.now.level self.now.fields.now tuple.now }
         ensures columns { IsOf (map field_column self.now.fields.now) result }
     {
@@ -86,20 +93,22 @@ impl<'a> Packets<'a> {
             level: self.level,
             fields: self.fields,
             tuple,
+            number: PhantomData,
         }
     }
 }
 
-/// The packet row of a tuple, of which no row is made.
+/// The packet row of a tuple, of which no row is made. Its columns are read as numbers of this type.
 #[derive(Drop)]
-pub struct PacketRow<'a> {
+pub struct PacketRow<'a, N: Number> {
     refined: Option<Field>,
     level: u32,
     fields: &'a [Field],
     tuple: &'a Tuple,
+    number: PhantomData<N>,
 }
 
-impl<'a> Model for PacketRow<'a> {
+impl<'a, N: Number> Model for PacketRow<'a, N> {
     ghost use Rattle.std.specs.Prelude.{ℕ, ◌≤◌, List, length, IfSome};
     ghost use Rattle.sn_fields.specs.Fields.{width_of};
     ghost use Rattle.sn_types.specs.Typed.{packet_row};
@@ -111,21 +120,23 @@ impl<'a> Model for PacketRow<'a> {
     ghost invariant = { λ a. (length a.fields.now ≤ 8) × IfSome a.refined (λ other. a.level ≤ width_of other) };
 }
 
-impl<'a> PacketRow<'a> {
+impl<'a, N: Number> PacketRow<'a, N> {
     /// Makes `row` the row, whatever it was before.
-    pub fn put_into(&self, row: &mut ShortRow)
-        ensures { row.new ≡ self.now }
+    pub fn put_into<R: AnyRow>(&self, row: &mut R)
+        ensures { R.columns row.new ≡ self.now }
     {
         row_into(self.refined, self.level, self.fields, self.tuple, row)
     }
 }
 
-impl Columns for PacketRow<'_> {
+impl<N: Number> Columns for PacketRow<'_, N> {
+    type Number = N;
+
     ghost use Rattle.std.specs.Prelude.{List, ℕ};
 
     ghost columns = { λ row. row };
 
-    fn column(&self, place: u32) -> u64 {
+    fn column(&self, place: u32) -> N {
         read_at(
             self.refined,
             self.level,

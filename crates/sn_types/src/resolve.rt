@@ -1,7 +1,8 @@
 //! Operators with places for their names.
-ghost use Rattle.std.specs.Prelude.{◌≡◌, IfOk, map};
+ghost use Rattle.std.specs.Prelude.{◌≡◌, IfOk, map, unwrap_or};
 ghost use Rattle.sn_types_faults.specs.Columns.{place_of};
 ghost use Rattle.sn_types.specs.Typing.{typed_cond, typed_expr, typed_reduce, typed_op, join_key};
+ghost use Rattle.sn_types.specs.Values.{all_bits};
 
 use crate::typed_op::{JoinKey, TCond, TExpr, TOp, TReduce};
 use sn_base::memory::Memory;
@@ -13,13 +14,23 @@ use sn_types_faults::columns::{column_named, place_of};
 use sn_types_faults::widths::{fold_of, folded_width};
 use std::alloc::Global;
 
+/// The number with which a column is and-ed.
+fn and_of(and: Option<u64>) -> u128
+    ensures { result ≡ unwrap_or and all_bits }
+{
+    match and {
+        Some(bits) => u128::from(bits),
+        None => u128::MAX,
+    }
+}
+
 fn typed_cond(alloc: Global, columns: &Schema, cond: &Cond) -> Result<TCond, Memory>
     ensures { IfOk result (λ typed. typed ≡ typed_cond columns.now cond.now) }
 {
     let relaxed = Seq::from_slice(alloc, cond.relaxed.as_slice())?;
     Ok(TCond {
         col: place_of(columns, &cond.name),
-        and: cond.and.unwrap_or(u64::MAX),
+        and: and_of(cond.and),
         cmp: cond.cmp,
         own: cond.own,
         relaxed,

@@ -8,12 +8,13 @@ use crate::copies::copy_queries;
 use crate::packet::{PacketRow, Packets, row_of};
 use crate::typed_op::{JoinKey, TOp};
 use crate::typed_query::{TypedBranch, TypedQuery};
+use sn_base::any_row::AnyRow;
 use sn_base::memory::Memory;
 use sn_base::name::Name;
+use sn_base::number::Number;
 use sn_base::schema::Schema;
 use sn_base::seed::Seed;
 use sn_base::seq::Seq;
-use sn_base::short_row::ShortRow;
 use sn_fields::field::Field;
 use sn_fields::tuple::Tuple;
 use std::alloc::Global;
@@ -237,12 +238,12 @@ impl Typed {
     }
 
     /// The packet row of a tuple for a branch, with the refinement field masked to the level.
-    pub fn packet_row(&self, q: u32, b: u32, level: u32, tuple: &Tuple) -> ShortRow
+    pub fn packet_row<R: AnyRow>(&self, q: u32, b: u32, level: u32, tuple: &Tuple) -> R
         requires query { q < length self.now.queries }
         requires branch { b < length (query_at self.now.queries q).branches }
         requires level { list_any (nat_eq level) (query_at self.now.queries q).levels ≡ true }
-        ensures row { result ≡ packet_row (query_at self.now.queries q).field level (branch_at self.now.queries q b).fields tuple.now }
-        ensures columns { IsOf (first_columns (branch_at self.now.queries q b)) result }
+        ensures row { R.columns result ≡ packet_row (query_at self.now.queries q).field level (branch_at self.now.queries q b).fields tuple.now }
+        ensures columns { IsOf (first_columns (branch_at self.now.queries q b)) (R.columns result) }
     {
         row_of(self.refine_field(q), level, self.packet_fields(q, b), tuple)
     }
@@ -264,7 +265,13 @@ impl Typed {
     }
 
     /// `packet_row`, of which no row is made. For one tuple: `packets` serves many.
-    pub fn packet<'a>(&'a self, q: u32, b: u32, level: u32, tuple: &'a Tuple) -> PacketRow<'a>
+    pub fn packet<'a, N: Number>(
+        &'a self,
+        q: u32,
+        b: u32,
+        level: u32,
+        tuple: &'a Tuple,
+    ) -> PacketRow<'a, N>
         requires query { q < length self.now.queries }
         requires branch { b < length (query_at self.now.queries q).branches }
         requires level { list_any (nat_eq level) (query_at self.now.queries q).levels ≡ true }

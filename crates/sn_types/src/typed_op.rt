@@ -22,8 +22,8 @@ pub enum TOp {
 pub struct TCond {
     /// The place of the column.
     pub col: u32,
-    /// The number with which the column is and-ed: all 64 bits where the text has none.
-    pub and: u64,
+    /// The number with which the column is and-ed: all bits where the text has none.
+    pub and: u128,
     pub cmp: Cmp,
     /// The constant, but for levels that have one of their own.
     pub own: u64,

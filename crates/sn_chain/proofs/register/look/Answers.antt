@@ -9,12 +9,12 @@ use Rattle.sn_chain.proofs.Places.{place_found, place_passed, first_so_far, or_w
 use Rattle.sn_chain.proofs.register.look.Goals as goal
 
 pub place-at-requires-clause-known : goal.place-at-requires-clause-known
-place-at-requires-clause-known c = λ at is. let below : c.loop-register.register < c.args.depth = omega arith in c.requires.known at is c.loop-register.register below
+place-at-requires-clause-known g c = λ at is. let below : c.loop-register.register < c.args.depth = omega arith in c.requires.known at is c.loop-register.register below
 
 pub returns-then-holds-clause-found : goal.returns-then-holds-clause-found
-returns-then-holds-clause-found c =
+returns-then-holds-clause-found g c =
     let cells = all_shown_by c.args.round c.args.cells.now in
-    let key = c.args.key.now in
+    let key = g.R.Columns.columns c.args.key.now in
     let slots = c.args.slots in
     let at = c.place-at.result in
     let register = c.loop-register.register in
@@ -29,9 +29,9 @@ returns-then-holds-clause-found c =
     sym (ap (λ (o : Option ℕ). found_at o (empty_place cells (places_of c.args.depth slots key))) found)
 
 pub loop-register-preserved : goal.loop-register-preserved
-loop-register-preserved c =
+loop-register-preserved g c =
     let cells = all_shown_by c.args.round c.args.cells.now in
-    let key = c.args.key.now in
+    let key = g.R.Columns.columns c.args.key.now in
     let slots = c.args.slots in
     let at = c.place-at.result in
     let register = c.loop-register.register in

@@ -7,11 +7,12 @@ use Rattle.sn_chain.specs.Registers.{held_place, empty_place}
 use Rattle.sn_chain.proofs.register.look.Given as goal
 
 abbrev pub invariant-loop-register : goal.invariant-loop-register
-invariant-loop-register l =
+invariant-loop-register g l =
+    let key = g.R.Columns.columns l.key in
     let cells = all_shown_by l.round l.cells in
-    let rest = places_from l.slots l.register (l.depth - l.register) l.key in
+    let rest = places_from l.slots l.register (l.depth - l.register) key in
     record {
-      held : held_place same_row cells rest l.key ≡ held_place same_row cells (places_of l.depth l.slots l.key) l.key;
-      empty : option_or l.empty (empty_place cells rest) ≡ empty_place cells (places_of l.depth l.slots l.key);
+      held : held_place same_row cells rest key ≡ held_place same_row cells (places_of l.depth l.slots key) key;
+      empty : option_or l.empty (empty_place cells rest) ≡ empty_place cells (places_of l.depth l.slots key);
       within : IfSome l.empty (λ p. p < length l.cells);
     }

@@ -11,12 +11,12 @@ use Rattle.sn_engine.proofs.query.sorted_value.Goals as goal
 pub returns-clause-rows : goal.returns-clause-rows
 returns-clause-rows c =
     c.from_vec.ensures ∙ sorted_is c.into_vec-rows.result.items c.sort.new.self.items c.sort.ensures.permutation c.in_ok-sort.ensures.sorted
-    ∙ ap sorted_rows (c.into_vec-rows.ensures ∙ c.in_ok-query_value.ensures.rows)
+    ∙ ap sorted_rows (c.into_vec-rows.ensures ∙ c.into_short_rows.ensures ∙ c.in_ok-rows.ensures.rows)
 
 pub returns-clause-columns : goal.returns-clause-columns
 returns-clause-columns c =
     let P = IsOf (final_columns (query_at c.args.t.now.queries c.args.q)) in
     let before = c.into_vec-rows.result.items in
-    let found = subst (λ (rows : List Row). AllByRecursion P rows) (sym c.into_vec-rows.ensures) c.in_ok-query_value.ensures.columns in
+    let found = subst (λ (rows : List Row). AllByRecursion P rows) (sym (c.into_vec-rows.ensures ∙ c.into_short_rows.ensures)) c.in_ok-rows.ensures.columns in
     subst (λ (rows : List Row). AllByRecursion P rows) (sym c.from_vec.ensures)
     (all_bag P before c.sort.new.self.items (bag_of_permutation before c.sort.new.self.items c.sort.ensures.permutation) found)

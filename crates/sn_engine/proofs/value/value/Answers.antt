@@ -1,7 +1,6 @@
 use Rattle.std.proofs.Common.{◌+◌, ◌<◌, List, ◌++◌, length, ap, ◌∙◌, arith}
 use Rattle.sn_base.specs.Groups.{Row}
-use Rattle.sn_pipe_items.specs.Value.{is_at, is_partial, rows_with, taken}
-use Rattle.sn_types.specs.Values.{op_at}
+use Rattle.sn_pipe_items.specs.Value.{is_at, rows_with}
 use Rattle.sn_engine.proofs.Turns.{turn}
 use Rattle.sn_engine.proofs.value.value.Goals as goal
 
@@ -11,10 +10,7 @@ loop-op-preserved c =
     let n = c.loop-op.operator in
     let op = c.op-item.result in
     let items = c.args.items.now in
-    let rows = c.loop-op.rows in
     let within : c.loop-op.op-index < length c.args.ops.now = omega arith in
     let more : List Row = rows_with (is_at (n + 1)) items in
-    turn level n c.loop-op.op-index c.args.ops.now op items rows c.push_rows_at-in-loop-op.new.rows within c.op-item.is c.loop-op.invariant
-    (c.in_ok-push_rows_at-2.ensures
-    ∙ ap (λ (out : List Row). out ++ more)
-    (c.in_ok-rows.ensures ∙ ap (λ (rs : List Row). taken (op_at level op) rs (rows_with (is_partial n) items)) c.as_slice.ensures))
+    turn level n c.loop-op.op-index c.args.ops.now op items c.loop-op.rows c.push_rows_at-in-loop-op.new.rows within c.op-item.is c.loop-op.invariant
+    (c.in_ok-push_rows_at-2.ensures ∙ ap (λ (out : List Row). out ++ more) c.in_ok-rows.ensures)

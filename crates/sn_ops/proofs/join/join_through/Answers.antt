@@ -4,7 +4,7 @@ use Rattle.sn_ops.specs.Joins.{both, lefts, meets, rights}
 use Rattle.sn_ops.proofs.join.join_through.Goals as goal
 
 pub join_at-requires-clause-fit : goal.join_at-requires-clause-fit
-join_at-requires-clause-fit c front behind e =
+join_at-requires-clause-fit g c front behind e =
     let keys = c.args.keys.now in
     let left = c.args.left.now in
     let right = c.args.right.now in

@@ -7,13 +7,13 @@ use Rattle.sn_ops.proofs.Starting.{from_first}
 use Rattle.sn_ops.proofs.start.+start.Goals as goal
 
 pub returns-in-Same : goal.returns-in-Same
-returns-in-Same t c =
+returns-in-Same g t c =
     let level = c.args.level in
     let row : Row = c.args.packet.now in
     let op = c.in-Some.op.now in
     let s = c.in-Some-split_first_mut.first.now in
     let later = c.in-Some-split_first_mut.later.now in
-    let flow : flows level op s.rows.keys row ≡ Some row = sym c.in_ok-begin.ensures.passed ∙ ap (λ (p : Passage). gone_as p row c.begin.new.row) c.in-Same.is in
+    let flow : flows level op s.rows.keys row ≡ Some row = sym c.in_ok-begin.ensures.passed ∙ ap (λ (p : Passage). gone_as p row (g.R.Columns.columns c.begin.new.row)) c.in-Same.is in
     on_ok_weaker _ _
     (λ behind rows. from_first level c.args.ops.now c.in-Some.behind.now op c.args.seen.now later c.start.new.seen s c.begin.new.self rows row c.args.out.now c.start.new.out
     c.in-Some.ensures.cases.0 c.in-Some-split_first_mut.ensures.cases.0
@@ -22,10 +22,10 @@ returns-in-Same t c =
     c.start.result c.start.ensures
 
 pub returns-in-Other : goal.returns-in-Other
-returns-in-Other t c =
+returns-in-Other g t c =
     let level = c.args.level in
     let row : Row = c.args.packet.now in
-    let next : Row = c.begin.new.row in
+    let next : Row = g.R.Columns.columns c.begin.new.row in
     let op = c.in-Some.op.now in
     let s = c.in-Some-split_first_mut.first.now in
     let later = c.in-Some-split_first_mut.later.now in
@@ -38,13 +38,13 @@ returns-in-Other t c =
     c.take.result c.take.ensures
 
 pub returns-in-Stays : goal.returns-in-Stays
-returns-in-Stays t c rows =
+returns-in-Stays g t c rows =
     let level = c.args.level in
     let row : Row = c.args.packet.now in
     let op = c.in-Some.op.now in
     let s = c.in-Some-split_first_mut.first.now in
     let later = c.in-Some-split_first_mut.later.now in
-    let flow : flows level op s.rows.keys row ≡ None = sym c.in_ok-begin.ensures.passed ∙ ap (λ (p : Passage). gone_as p row c.begin.new.row) c.in-Stays.is in
+    let flow : flows level op s.rows.keys row ≡ None = sym c.in_ok-begin.ensures.passed ∙ ap (λ (p : Passage). gone_as p row (g.R.Columns.columns c.begin.new.row)) c.in-Stays.is in
     from_first level c.args.ops.now c.in-Some.behind.now op c.args.seen.now later later s c.begin.new.self rows row c.args.out.now c.args.out.now
     c.in-Some.ensures.cases.0 c.in-Some-split_first_mut.ensures.cases.0
     (stands_still level op c.in-Some.behind.now s c.begin.new.self later rows row c.args.out.now c.in_ok-begin.ensures.rows c.in_ok-begin.ensures.groups flow)

@@ -3,4 +3,4 @@ use Rattle.sn_base.specs.Groups.{columns_at}
 use Rattle.sn_types.proofs.evaluate.columns_into.Given as goal
 
 abbrev pub invariant-loop-place : goal.invariant-loop-place
-invariant-loop-place g l = l.key ≡ columns_at (take l.place-index l.places) (g.C.Columns.columns l.row)
+invariant-loop-place g l = g.R.Columns.columns l.key ≡ columns_at (take l.place-index l.places) (g.C.Columns.columns l.row)

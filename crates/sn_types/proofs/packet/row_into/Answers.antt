@@ -1,4 +1,4 @@
-use Rattle.std.proofs.Common.{ℕ, ◌≡◌, ◌<◌, length, map, List, [], ◌∷◌, ◌++◌, take, get_or, arith, ap, sym, ◌∙◌}
+use Rattle.std.proofs.Common.{ℕ, ◌≡◌, ◌<◌, length, map, List, [], ◌∷◌, ◌++◌, take, get_or, ap, sym, ◌∙◌}
 use Rattle.std.proofs.lemmas.List.{take_more, map-append}
 use Rattle.sn_fields.specs.declared.field.Field.TheVariants.{PacketLength}
 use Rattle.sn_types.specs.Typed.{read_at}
@@ -6,17 +6,18 @@ use Rattle.sn_types.proofs.RowsAfter.{field_more}
 use Rattle.sn_types.proofs.packet.row_into.Goals as goal
 
 pub loop-field-preserved : goal.loop-field-preserved
-loop-field-preserved c =
+loop-field-preserved g c =
     let i = c.loop-field.field-index in
     let fields = c.args.fields.now in
-    let row = c.loop-field.row in
-    let x = c.read_at.result in
+    let row = g.R.Columns.columns c.loop-field.row in
+    let longer = g.R.Columns.columns c.push.new.self in
+    let x = g.R.Number.Number.value c.read_at.result in
     let read = read_at c.args.refined c.args.level c.args.tuple.now in
     let within : i < length fields = c.loop-field-test.true in
     let before = c.loop-field.invariant in
-    let now : c.push.new.self ≡ row ++ x ∷ [] = c.push.ensures in
+    let now : longer ≡ row ++ x ∷ [] = c.push.ensures in
     record {
       row = now ∙ ap (λ (y : ℕ). row ++ y ∷ []) c.read_at.ensures.value ∙ ap (λ (r : List ℕ). r ++ read (get_or fields i PacketLength) ∷ []) before.row
           ∙ sym (ap (map read) (take_more fields i PacketLength within) ∙ map-append read (take i fields) (get_or fields i PacketLength ∷ []));
-      columns = field_more fields i PacketLength row c.push.new.self x within c.read_at.ensures.below now before.columns;
+      columns = field_more fields i PacketLength row longer x within c.read_at.ensures.below now before.columns;
     }

@@ -5,4 +5,4 @@ use Rattle.sn_types.specs.Typed.{read_at}
 use Rattle.sn_types.proofs.packet.row_into.Given as goal
 
 abbrev pub invariant-loop-field : goal.invariant-loop-field
-invariant-loop-field l = record { row : l.row ≡ map (read_at l.refined l.level l.tuple) (take l.field-index l.fields); columns : IsOf (map field_column (take l.field-index l.fields)) l.row }
+invariant-loop-field g l = record { row : g.R.Columns.columns l.row ≡ map (read_at l.refined l.level l.tuple) (take l.field-index l.fields); columns : IsOf (map field_column (take l.field-index l.fields)) (g.R.Columns.columns l.row) }

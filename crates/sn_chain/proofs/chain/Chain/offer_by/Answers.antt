@@ -9,21 +9,21 @@ returns-in-Held-clause-after g c =
     let join = g.F.Fold.join in
     let a = c.self.inside in
     let within = c.in-Held.ensures.within in
-    offer_held join a.fold a.depth a.slots a.round a.cells c.set_value.new.self c.args.self.now c.self.view_is c.args.key.now c.args.v c.in-Held.at c.value.result c.step-value.result within c.value.ensures c.step-value.ensures.value
+    offer_held join a.fold a.depth a.slots a.round a.cells c.set_value.new.self c.args.self.now c.self.view_is (g.R.Columns.columns c.args.key.now) c.args.v c.in-Held.at c.value.result c.step-value.result within c.value.ensures c.step-value.ensures.value
     c.set_value.ensures c.in-Held.ensures.found
 
 pub returns-in-Empty-clause-after : goal.returns-in-Empty-clause-after
 returns-in-Empty-clause-after g c =
     let join = g.F.Fold.join in
     let a = c.self.inside in
-    offer_new join a.fold a.depth a.slots a.round a.cells c.take.new.self c.args.self.now c.self.view_is c.args.key.now c.args.v c.in-Empty.at c.take.ensures c.in-Empty.ensures.found
+    offer_new join a.fold a.depth a.slots a.round a.cells c.take.new.self c.args.self.now c.self.view_is (g.R.Columns.columns c.args.key.now) c.args.v c.in-Empty.at c.take.ensures c.in-Empty.ensures.found
 
 pub invariant_of-self : goal.invariant_of-self
 invariant_of-self g c =
     let join = g.F.Fold.join in
     let a = c.self.inside in
     let at = c.in-Held.at in
-    let key = c.args.key.now in
+    let key = g.R.Columns.columns c.args.key.now in
     let within = c.in-Held.ensures.within in
     let after =
     offer_held join a.fold a.depth a.slots a.round a.cells c.set_value.new.self (state_of a.fold a.depth a.slots a.round a.cells) refl key c.args.v at c.value.result c.step-value.result within c.value.ensures c.step-value.ensures.value
@@ -36,7 +36,7 @@ invariant_of-self-in-Empty g c =
     let join = g.F.Fold.join in
     let a = c.self.inside in
     let at = c.in-Empty.at in
-    let key = c.args.key.now in
+    let key = g.R.Columns.columns c.args.key.now in
     let after = offer_new join a.fold a.depth a.slots a.round a.cells c.take.new.self (state_of a.fold a.depth a.slots a.round a.cells) refl key c.args.v at c.take.ensures c.in-Empty.ensures.found in
     are_offered c.self.invariant join a.fold key c.args.v at (record { round = a.round; key = key; value = c.args.v }) c.take.new.self c.take.ensures after
     (record { no_later = omega arith; had = subst (λ (s : ChainState g.row.F.Denot). g.F.Fold.takes s.fold c.args.v) (sym c.self.view_is) c.requires.had })

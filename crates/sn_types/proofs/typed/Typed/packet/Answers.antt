@@ -4,7 +4,7 @@ use Rattle.sn_types.proofs.TypedRows.{of_fields, same_packet_row}
 use Rattle.sn_types.proofs.typed.Typed.packet.Goals as goal
 
 pub returns-clause-row : goal.returns-clause-row
-returns-clause-row c =
+returns-clause-row g c =
     let queries = c.args.self.now.queries in
     let made = c.packets.result in
     c.row.ensures.row
@@ -12,6 +12,6 @@ returns-clause-row c =
     c.packets.ensures.refined c.packets.ensures.level c.packets.ensures.fields
 
 pub returns-clause-columns : goal.returns-clause-columns
-returns-clause-columns c =
+returns-clause-columns g c =
     of_fields c.args.self.now.window_us c.args.self.now.queries c.args.q c.args.b c.packets.result.fields.now c.row.result c.args.self.now.typed c.requires.query c.requires.branch
     c.packets.ensures.fields c.row.ensures.columns

@@ -6,8 +6,8 @@ use Rattle.sn_types.proofs.TypedRows.{of_fields}
 use Rattle.sn_types.proofs.typed.Typed.packet_row.Goals as goal
 
 pub row_of-requires-clause-level : goal.row_of-requires-clause-level
-row_of-requires-clause-level c = subst (λ (o : Option Field). IfSome o (λ other. c.args.level ≤ width_of other)) (sym c.refine_field.ensures) (level_of_field c.args.self.now.window_us c.args.self.now.queries c.args.q c.args.level c.args.self.now.typed c.requires.query c.requires.level)
+row_of-requires-clause-level g c = subst (λ (o : Option Field). IfSome o (λ other. c.args.level ≤ width_of other)) (sym c.refine_field.ensures) (level_of_field c.args.self.now.window_us c.args.self.now.queries c.args.q c.args.level c.args.self.now.typed c.requires.query c.requires.level)
 
 pub returns-clause-columns : goal.returns-clause-columns
-returns-clause-columns c =
-    of_fields c.args.self.now.window_us c.args.self.now.queries c.args.q c.args.b c.packet_fields.result.now c.row_of.result c.args.self.now.typed c.requires.query c.requires.branch c.packet_fields.ensures.fields c.row_of.ensures.columns
+returns-clause-columns g c =
+    of_fields c.args.self.now.window_us c.args.self.now.queries c.args.q c.args.b c.packet_fields.result.now (g.R.Columns.columns c.row_of.result) c.args.self.now.typed c.requires.query c.requires.branch c.packet_fields.ensures.fields c.row_of.ensures.columns
