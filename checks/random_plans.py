@@ -134,11 +134,13 @@ def spoilt_frames(draw, reports):
     elif form == 2:
         frames.insert(draw.randrange(len(frames) + 1), frame)
     elif form == 3:
-        frames.insert(place, frame[:8] + draw.choice([0, 1, 3, (1 << 64) - 1]).to_bytes(8, 'big') + frame[16:] if len(frame) > 8 else frame)
+        size = engines.size_of(frame)
+        frames.insert(place, frame[:8] + draw.choice([0, 1, 3, (1 << 64) - 1]).to_bytes(size, 'big') + frame[8 + size:] if len(frame) > 8 else frame)
     elif form == 4:
         frames.insert(place, frame[:5] + bytes([draw.randrange(13)]) + frame[6:] if frame[1] < 2 else frame[:2] + bytes([draw.randrange(8)]) + frame[3:])
     elif form == 5:
-        frames.insert(place, frame[:-8] + draw.choice([(1 << 32), (1 << 64) - 1]).to_bytes(8, 'big') if len(frame) > 8 else frame)
+        size = engines.size_of(frame)
+        frames.insert(place, frame[:-size] + draw.choice([(1 << 32), (1 << 64) - 1, (1 << 8 * size) - 1]).to_bytes(size, 'big') if len(frame) > 8 else frame)
     return b''.join(frames)
 
 
@@ -147,6 +149,16 @@ def spoilt_reports(draw, reports):
     if not reports:
         return bytes(draw.randrange(9))
     return draw.choice([spoilt_bytes, spoilt_frames])(draw, reports)
+
+
+def mixed(draw, reports):
+    """The same frames, all in one version or each in one that is drawn."""
+    found, at, versions = [], 0, draw.choice([[1], [2], [1, 2]])
+    while at < len(reports):
+        lane, content, end = engines.decode(reports, at)
+        found.append((engines.ended if isinstance(content, int) else engines.encoded)(lane, content, draw.choice(versions)))
+        at = end
+    return b''.join(found)
 
 
 def shuffled(draw, reports):
@@ -220,6 +232,7 @@ def case(executable, seed, folder):
     four = names['switch'], names['queries'], names['plan'], names['capture']
     asked = [('run', *four), ('run', *four, '--csv'), ('emit', *four)]
     _, reports, _ = planned.answer('emit', *four)
+    reports = mixed(draw, reports)
     write(folder, {'reports': spoilt_reports(draw, reports) if draw.random() < 0.5 else shuffled(draw, reports)})
     asked.append(('finish', names['queries'], names['plan'], names['reports']))
     return [differs(executable, *words) for words in asked if (words[0] + ' --csv' if '--csv' in words else words[0]) in built(executable)]
@@ -234,7 +247,7 @@ def alone(seed, folder):
     if status not in (0, 5) or not text:
         return [status]
     _, reports, _ = planned.answer('emit', *four)
-    write(folder, {'reports': shuffled(draw, reports)})
+    write(folder, {'reports': shuffled(draw, mixed(draw, reports))})
     done = planned.answer('finish', names['queries'], names['plan'], names['reports'])
     lines = [line for line in text.splitlines(True) if not line.startswith(b'capture ')]
     return [status if done == (0, b''.join(lines), '') else None]

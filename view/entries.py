@@ -9,6 +9,7 @@ import subprocess
 import sys
 import tempfile
 
+import frames
 import programs
 import texts
 from texts import costs, plans
@@ -60,10 +61,11 @@ def counted(words):
             rest += block
             at = 0
             while at + 8 <= len(rest):
-                end = at + 8 + 8 * rest[at + 6]
+                is_end = rest[at + 1] == 2
+                end = at + 8 + (8 if is_end else frames.SIZES[rest[at]]) * rest[at + 6]
                 if end > len(rest):
                     break
-                if rest[at + 1] != 2:
+                if not is_end:
                     counts[rest[at + 2:at + 5]] += 1
                 at = end
             rest = rest[at:]

@@ -1,5 +1,5 @@
 #!/usr/bin/env python3
-"""Reads report frames, as `sonata emit` writes them, and writes them as CSV, a line for each frame.
+"""Reads report frames of either version, as `sonata emit` writes them, and writes them as CSV, a line for each frame.
 
     sonata emit SWITCH QUERIES PLAN CAPTURE | frames.py --plan PLAN > frames.csv
     frames.py reports > frames.csv
@@ -17,6 +17,8 @@ import struct
 import sys
 
 HEAD = struct.Struct('>8B')
+# the bytes of a column, by version
+SIZES = {1: 8, 2: 16}
 KINDS = ['at', 'partial', 'end']
 COLUMNS = ['window', 'query', 'level', 'branch', 'kind', 'operator'] + ['c%d' % number for number in range(1, 9)]
 
@@ -27,7 +29,7 @@ class Spoilt(Exception):
 
 def is_head(version, kind, query, level, branch, operator, count, zero):
     """Whether a frame begins with these bytes."""
-    in_range = version == 1 and kind <= 2 and query <= 7 and level <= 3 and branch <= 1 and operator <= 12 and count <= 8 and zero == 0
+    in_range = version in SIZES and kind <= 2 and query <= 7 and level <= 3 and branch <= 1 and operator <= 12 and count <= 8 and zero == 0
     return in_range and (kind < 2 or (operator, count) == (0, 1))
 
 
@@ -39,12 +41,14 @@ def frames(file):
             raise Spoilt('cut', at)
         if not is_head(*head):
             raise Spoilt('not a frame', at)
-        _, kind, query, level, branch, operator, count, _ = HEAD.unpack(head)
-        body = file.read(8 * count)
-        if len(body) < 8 * count:
+        version, kind, query, level, branch, operator, count, _ = HEAD.unpack(head)
+        # the number of a window has eight bytes in both versions
+        size = 8 if kind == 2 else SIZES[version]
+        body = file.read(size * count)
+        if len(body) < size * count:
             raise Spoilt('cut', at)
-        yield (query, level, branch), KINDS[kind], operator, struct.unpack('>%dQ' % count, body)
-        at += 8 + 8 * count
+        yield (query, level, branch), KINDS[kind], operator, tuple(int.from_bytes(body[k:k + size], 'big') for k in range(0, len(body), size))
+        at += 8 + size * count
 
 
 def rows(found):

@@ -7,20 +7,29 @@ class BadReports(Exception):
     """Refused reports: the kind and the byte."""
 
 
-def encoded(lane, item):
+# the bytes of a column, by version
+SIZES = {1: 8, 2: 16}
+
+
+def encoded(lane, item, version=2):
     tag, operator, row = item
-    head = [1, {'at': 0, 'partial': 1}[tag], *lane, operator, len(row), 0]
-    return bytes(head) + b''.join(column.to_bytes(8, 'big') for column in row)
+    head = [version, {'at': 0, 'partial': 1}[tag], *lane, operator, len(row), 0]
+    return bytes(head) + b''.join(column.to_bytes(SIZES[version], 'big') for column in row)
 
 
-def ended(lane, window):
-    return bytes([1, 2, *lane, 0, 1, 0]) + window.to_bytes(8, 'big')
+def ended(lane, window, version=2):
+    return bytes([version, 2, *lane, 0, 1, 0]) + window.to_bytes(8, 'big')
+
+
+def size_of(head):
+    """The bytes of each number of a frame that begins so: a window's has eight in both versions."""
+    return 8 if head[1] == 2 else SIZES[head[0]]
 
 
 def head_bound(place, head):
     """The values that a frame may have at one of its first eight bytes, the bytes before it being these."""
     is_end = len(head) > 1 and head[1] == 2
-    return [{1}, {0, 1, 2}, set(range(8)), set(range(4)), {0, 1}, {0} if is_end else set(range(13)), {1} if is_end else set(range(9)), {0}][place]
+    return [{1, 2}, {0, 1, 2}, set(range(8)), set(range(4)), {0, 1}, {0} if is_end else set(range(13)), {1} if is_end else set(range(9)), {0}][place]
 
 
 def decode(bytes_, at):
@@ -31,10 +40,11 @@ def decode(bytes_, at):
         if bytes_[at + place] not in head_bound(place, bytes_[at:at + place]):
             raise BadReports('Bad', at + place)
     kind, lane, operator, columns = bytes_[at + 1], tuple(bytes_[at + 2:at + 5]), bytes_[at + 5], bytes_[at + 6]
-    end = at + 8 + 8 * columns
+    size = size_of(bytes_[at:])
+    end = at + 8 + size * columns
     if end > len(bytes_):
         raise BadReports('Cut', at)
-    row = tuple(int.from_bytes(bytes_[k:k + 8], 'big') for k in range(at + 8, end, 8))
+    row = tuple(int.from_bytes(bytes_[k:k + size], 'big') for k in range(at + 8, end, size))
     return lane, (row[0] if kind == 2 else ('at' if kind == 0 else 'partial', operator, row)), end
 
 

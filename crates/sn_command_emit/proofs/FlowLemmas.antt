@@ -10,7 +10,7 @@ use Rattle.sn_pipe.specs.Pipes.{PipeState, after_packets, item_of, lets_in, row_
 use Rattle.sn_pipe.specs.Stages.{item_from, stages_after, stages_behind}
 use Rattle.std.specs.Option.{option_to_list}
 use Rattle.sn_pipe.proofs.Flows.{Above, Flow, Rising, at_first, give, run}
-use Rattle.sn_report.specs.declared.frame.Item.{Item}
+use Rattle.sn_report.specs.Items.{Item}
 use Rattle.sn_types.specs.Typed.{HasWidths}
 use Rattle.sn_pipe.proofs.WindowLaw.{give_other, give_here}
 

@@ -12,7 +12,7 @@ use Rattle.sn_emit.specs.Plans.{Placed}
 use Rattle.sn_emit.specs.Senders.{frames_left}
 use Rattle.sn_engine.specs.declared.intake.Intake.{Intake}
 use Rattle.sn_refine.specs.Steps.{Set}
-use Rattle.sn_report.specs.declared.frame.Frame.{Frame}
+use Rattle.sn_report.specs.Items.{Frame}
 use Rattle.sn_types.specs.declared.typed_query.TypedQuery.{TypedQuery}
 use Rattle.sn_types.specs.Typed.{HasWidths, IsTyped}
 use Rattle.sn_command_emit.specs.Sent.{frames_at, frames_behind}

@@ -27,7 +27,7 @@ use Rattle.sn_pipe.proofs.Starts.{starts_again}
 use Rattle.sn_pipe.proofs.WindowLaw.{read_is, sent_is}
 use Rattle.sn_refine.specs.Steps.{Set}
 use Rattle.sn_report.specs.declared.frame.Frame.TheVariants.{End}
-use Rattle.sn_report.specs.declared.frame.Item.{Item}
+use Rattle.sn_report.specs.Items.{Item}
 use Rattle.sn_engine_split.proofs.Cuts.{cut_within}
 use Rattle.sn_engine_split.proofs.Typed.{cut_of, row_had}
 use Rattle.sn_types.specs.declared.typed_op.TOp.{TOp}

@@ -21,7 +21,7 @@ use Rattle.sn_engine.specs.declared.intake.Intake.{Intake}
 use Rattle.sn_engine.specs.Intakes.{intakes_of}
 use Rattle.sn_plan_fit.specs.Fits.{Fits}
 use Rattle.sn_refine.specs.Steps.{Set}
-use Rattle.sn_report.specs.declared.frame.Frame.{Frame}
+use Rattle.sn_report.specs.Items.{Frame}
 use Rattle.sn_report.specs.Frames.{spelling}
 use Rattle.sn_command_run.specs.Planned.{Planned}
 use Rattle.sn_command_run.proofs.AlongLemmas.{last_more, rising_again}
@@ -59,7 +59,7 @@ module _ (a : Reporter) (closed : List Window) (number : ℕ) (tuples : List (Li
   kept = kept_now p.queries a.last number
 
   -- those of one tuple more
-  more_sent : (tuple : List ℕ) (bytes : List ℕ) → HasWidths tuple → bytes ≡ a.sent.items ++ flat_map spelling (flat_map (frames_given tuple) a.driver.emitter) → AreBytesOf p kept (tuples ++ tuple ∷ []) bytes
+  more_sent : (tuple : List ℕ) (bytes : List ℕ) → HasWidths tuple → bytes ≡ a.sent.items ++ flat_map (spelling 2) (flat_map (frames_given tuple) a.driver.emitter) → AreBytesOf p kept (tuples ++ tuple ∷ []) bytes
   more_sent tuple bytes width sent more widths =
       let all : List (List ℕ) = tuples ++ tuple ∷ more in
       let frames : ℕ → List Frame = packet_frames p kept all in
@@ -68,12 +68,12 @@ module _ (a : Reporter) (closed : List Window) (number : ℕ) (tuples : List (Li
       all_send h.driver.typed_for p.depth p.queries (pieces_from 0 p.entries) (kept_in p.queries a.last number) tuples a.driver.emitter a.driver.engine.lanes.items h.driver.typed h.driver.can h.work
       tuple more (all_append HasWidths tuples (tuple ∷ more) h.widths (width, widths)) in
       sent
-      ∙ ap (λ bs. bs ++ flat_map spelling (flat_map (frames_given tuple) a.driver.emitter)) (h.sent (tuple ∷ more) (width, widths))
-      ∙ ap (λ fs. flat_map spelling (flat_map frames (range_with_len 0 (length tuples))) ++ flat_map spelling fs) given
-      ∙ sym (one_behind spelling frames (range_with_len 0 (length tuples)) (length tuples))
-      ∙ ap (λ ns. flat_map spelling (flat_map frames ns)) (ap (λ m. range_with_len 0 (length tuples) ++ m ∷ []) (from (length tuples)) ∙ sym (range_more 0 (length tuples)))
-      ∙ ap (λ n. flat_map spelling (flat_map frames (range_with_len 0 n))) count
-      ∙ ap (λ ts. flat_map spelling (flat_map (packet_frames p kept ts) (range_with_len 0 (length (tuples ++ tuple ∷ []))))) (sym (append_assoc tuples (tuple ∷ []) more))
+      ∙ ap (λ bs. bs ++ flat_map (spelling 2) (flat_map (frames_given tuple) a.driver.emitter)) (h.sent (tuple ∷ more) (width, widths))
+      ∙ ap (λ fs. flat_map (spelling 2) (flat_map frames (range_with_len 0 (length tuples))) ++ flat_map (spelling 2) fs) given
+      ∙ sym (one_behind (spelling 2) frames (range_with_len 0 (length tuples)) (length tuples))
+      ∙ ap (λ ns. flat_map (spelling 2) (flat_map frames ns)) (ap (λ m. range_with_len 0 (length tuples) ++ m ∷ []) (from (length tuples)) ∙ sym (range_more 0 (length tuples)))
+      ∙ ap (λ n. flat_map (spelling 2) (flat_map frames (range_with_len 0 n))) count
+      ∙ ap (λ ts. flat_map (spelling 2) (flat_map (packet_frames p kept ts) (range_with_len 0 (length (tuples ++ tuple ∷ []))))) (sym (append_assoc tuples (tuple ∷ []) more))
     where
       from : (n : ℕ) → n ≡ 0 + n
       from n = omega arith
@@ -82,18 +82,18 @@ module _ (a : Reporter) (closed : List Window) (number : ℕ) (tuples : List (Li
   rising = rising_again None closed number [] tuples h.rising
 
   -- those of the whole window
-  pub block_is : (bytes : List ℕ) → bytes ≡ a.sent.items ++ flat_map spelling (flat_map (λ s. frames_left s number) a.driver.emitter) → bytes ≡ frames_block p (closed ++ (number, tuples) ∷ []) number tuples
+  pub block_is : (bytes : List ℕ) → bytes ≡ a.sent.items ++ flat_map (spelling 2) (flat_map (λ s. frames_left s number) a.driver.emitter) → bytes ≡ frames_block p (closed ++ (number, tuples) ∷ []) number tuples
   block_is bytes sent =
       let windows : List Window = closed ++ (number, tuples) ∷ [] in
       let numbers : List ℕ = range_with_len 0 (length tuples) in
       let behind : List Frame = flat_map (frames_behind p.queries p.depth kept tuples number) (pieces_from 0 p.entries) in
       sent
-      ∙ ap (λ bs. bs ++ flat_map spelling (flat_map (λ s. frames_left s number) a.driver.emitter))
-      (h.sent [] tt ∙ ap (λ ts. flat_map spelling (flat_map (packet_frames p kept ts) numbers)) (append-nil tuples))
-      ∙ ap (λ fs. flat_map spelling (flat_map (packet_frames p kept tuples) numbers) ++ flat_map spelling fs)
+      ∙ ap (λ bs. bs ++ flat_map (spelling 2) (flat_map (λ s. frames_left s number) a.driver.emitter))
+      (h.sent [] tt ∙ ap (λ ts. flat_map (spelling 2) (flat_map (packet_frames p kept ts) numbers)) (append-nil tuples))
+      ∙ ap (λ fs. flat_map (spelling 2) (flat_map (packet_frames p kept tuples) numbers) ++ flat_map (spelling 2) fs)
       (all_read h.driver.typed_for p.depth p.queries (pieces_from 0 p.entries) (kept_in p.queries a.last number) tuples a.driver.emitter a.driver.engine.lanes.items h.driver.typed h.driver.can h.work number h.widths)
-      ∙ sym (flat_map-append spelling (flat_map (packet_frames p kept tuples) numbers) behind)
-      ∙ ap (flat_map spelling) (same_frames p number tuples kept (kept_of p.queries windows number) same)
+      ∙ sym (flat_map-append (spelling 2) (flat_map (packet_frames p kept tuples) numbers) behind)
+      ∙ ap (flat_map (spelling 2)) (same_frames p number tuples kept (kept_of p.queries windows number) same)
     where
       same : AllByRecursion (λ (x : Placed). kept x ≡ kept_of p.queries (closed ++ (number, tuples) ∷ []) number x) (pieces_from 0 p.entries)
       same =
@@ -115,7 +115,7 @@ module _ (a : Reporter) (closed : List Window) (number : ℕ) (tuples : List (Li
 -- a tuple is given
 pub given_hand : (a : Reporter) (d : Driver) (sent : Vec ℕ Global) (tuple : List ℕ) (closed : List Window) (number : ℕ) (tuples : List (List ℕ)) → IsAtHand a closed number tuples → HasWidths tuple
     → ((qs : List TypedQuery) (depth : ℕ) (xs : List Placed) (kept : Source → Set) (before : List (List ℕ)) → AreAtWork qs depth xs kept before a.driver.emitter a.driver.engine.lanes.items → AreAtWork qs depth xs kept (before ++ tuple ∷ []) d.emitter d.engine.lanes.items)
-    → sent.items ≡ a.sent.items ++ flat_map spelling (flat_map (frames_given tuple) a.driver.emitter)
+    → sent.items ≡ a.sent.items ++ flat_map (spelling 2) (flat_map (frames_given tuple) a.driver.emitter)
     → AreUnread d.emitter → ((qs : List TypedQuery) (depth : ℕ) (xs : List Placed) → AreLanesOf qs depth xs a.driver.emitter → AreLanesOf qs depth xs d.emitter) → length d.emitter ≡ length a.driver.emitter
     → d.engine.t.queries ≡ a.driver.engine.t.queries → d.sources ≡ a.driver.sources → IsAtHand (with_sent a d sent) closed number (tuples ++ tuple ∷ [])
 given_hand a d sent tuple closed number tuples h width work bytes unread lanes count queries sources = record {

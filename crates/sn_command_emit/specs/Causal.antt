@@ -14,7 +14,7 @@ use Rattle.sn_emit.specs.Senders.{row_frame}
 use Rattle.sn_plan_fit.specs.Paths.{place_in}
 use Rattle.sn_refine.specs.Refined.{Windows, answered, before, level_rows, refined_rows}
 use Rattle.sn_refine.specs.Steps.{Set, prefixes_of, windows_of}
-use Rattle.sn_report.specs.declared.frame.Frame.{Frame}
+use Rattle.sn_report.specs.Items.{Frame}
 use Rattle.sn_report.specs.declared.frame.Frame.TheVariants.{End}
 use Rattle.sn_report.specs.Frames.{spelling}
 use Rattle.sn_command_run.specs.Planned.{Planned}
@@ -123,7 +123,7 @@ pub frames_are_causal : (p : Planned) → IsCausal (frames_wording p)
 frames_are_causal p closed number tuples more rising =
     let all : List Window = closed ++ (number, tuples) ∷ more in
     let known : List Window = closed ++ (number, tuples) ∷ [] in
-    ap (flat_map spelling)
+    ap (flat_map (spelling 2))
     (same_frames p number tuples (kept_of p.queries all number) (kept_of p.queries known number)
     (all_each (λ (x : Placed). kept_of p.queries all number x ≡ kept_of p.queries known number x) (kept_is_causal p.queries closed number tuples more rising)
     (pieces_from 0 p.entries)))

@@ -33,7 +33,7 @@ kept_now queries last number x = kept_in queries last number (source_of x)
 -- These bytes are those of the frames of the tuples so far, packet by packet, whatever tuples of the window come after them.
 abbrev pub AreBytesOf : Planned → (Placed → Set) → List (List ℕ) → List ℕ → Type 0
 AreBytesOf p kept tuples bytes = (more : List (List ℕ)) → AllByRecursion HasWidths more
-    → bytes ≡ flat_map spelling (flat_map (packet_frames p kept (tuples ++ more)) (range_with_len 0 (length tuples)))
+    → bytes ≡ flat_map (spelling 2) (flat_map (packet_frames p kept (tuples ++ more)) (range_with_len 0 (length tuples)))
 
 -- these windows were closed, and none is open
 pub record IsIdle (a : Reporter) (closed : List Window) : Type 0 where

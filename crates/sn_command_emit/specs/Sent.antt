@@ -15,9 +15,9 @@ use Rattle.sn_pcap.specs.declared.packet.Ending.{Ending}
 use Rattle.sn_pipe.specs.Pipes.{is_let_in}
 use Rattle.sn_refine.specs.Refined.{before, refined_rows}
 use Rattle.sn_refine.specs.Steps.{Set, prefixes_of, windows_of}
-use Rattle.sn_report.specs.declared.frame.Frame.{Frame}
+use Rattle.sn_report.specs.Items.{Frame}
 use Rattle.sn_report.specs.declared.frame.Frame.TheVariants.{End}
-use Rattle.sn_report.specs.declared.frame.Item.{Item}
+use Rattle.sn_report.specs.Items.{Item}
 use Rattle.sn_report.specs.Frames.{spelling}
 use Rattle.sn_command_run.specs.Planned.{Planned}
 use Rattle.sn_types.specs.declared.typed_query.TypedQuery.{TypedQuery}
@@ -89,7 +89,7 @@ window_frames p windows w tuples =
 
 -- the block of a window: the bytes of its frames
 abbrev pub frames_block : Planned → List Window → ℕ → List (List ℕ) → List ℕ
-frames_block p windows w tuples = flat_map spelling (window_frames p windows w tuples)
+frames_block p windows w tuples = flat_map (spelling 2) (window_frames p windows w tuples)
 
 -- nothing stands before the blocks, and nothing after them, whether the capture is damaged or not
 abbrev pub no_lines : List Window → Ending → List ℕ

@@ -7,7 +7,7 @@ use Rattle.sn_engine.specs.Intakes.{after_frame, first_open, is_lane, total, wit
 use Rattle.sn_engine.specs.Taking.{Refuses, take_fault}
 use Rattle.sn_engine.proofs.Firsts.{sum_same}
 use Rattle.sn_engine.proofs.Lanes.{item_counted}
-use Rattle.sn_report.specs.declared.frame.Frame.{Frame}
+use Rattle.sn_report.specs.Items.{Frame}
 use Rattle.sn_report.specs.declared.frame.Frame.TheVariants.{Row, End}
 use Rattle.sn_command.specs.declared.fault.Fault.{Fault}
 use Rattle.sn_command.specs.declared.refusal.Refusal.{Refusal}

@@ -15,9 +15,9 @@ use Rattle.sn_engine.specs.Intakes.{after_frame, agrees, emptied, first_open, ha
 use Rattle.sn_base.specs.Changed.{with_first}
 use Rattle.sn_engine.specs.Taking.{end_fault, is_above, row_fault, take_fault}
 use Rattle.sn_engine.proofs.Firsts.{found_none}
-use Rattle.sn_report.specs.declared.frame.Frame.{Frame}
+use Rattle.sn_report.specs.Items.{Frame}
 use Rattle.sn_report.specs.declared.frame.Frame.TheVariants.{Row, End}
-use Rattle.sn_report.specs.declared.frame.Item.{Item}
+use Rattle.sn_report.specs.Items.{Item}
 use Rattle.sn_report.specs.Frames.{lane_of}
 use Rattle.sn_types.specs.declared.typed_query.TypedQuery.{TypedQuery}
 use Rattle.sn_command_finish.specs.Whole.{HaveNames, IsIdle, IsWindow, Sent, filled, frames_of, name_of}

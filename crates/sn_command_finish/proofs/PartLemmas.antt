@@ -17,7 +17,7 @@ use Rattle.sn_ops.specs.Joins.{joined}
 use Rattle.sn_ops.proofs.PacketSteps.{some_branch}
 use Rattle.sn_ops.proofs.Queries.{CanBeJoined, query_joined, query_one, query_posts_final}
 use Rattle.sn_out.specs.Text.{IsPartOf}
-use Rattle.sn_report.specs.declared.frame.Item.{Item}
+use Rattle.sn_report.specs.Items.{Item}
 use Rattle.sn_engine_split.specs.Branches.{IsItemOf, branch_value, query_value}
 use Rattle.sn_types.specs.declared.typed_query.TypedQuery.{TypedQuery}
 use Rattle.sn_types.specs.Typed.{IsTyped, branch_at, end_columns, final_columns, query_at, schema_at}

@@ -3,13 +3,12 @@ use Rattle.std.proofs.Common.{◌≡◌, ℕ, ◌+◌, ◌-◌, ◌<◌, ◌≤�
 use Rattle.std.proofs.lemmas.Bool.{eq-eqb, ne_eqb}
 use Rattle.std.proofs.lemmas.List.{drop-drop, length-append, length-drop, length-take, take_all}
 use Rattle.sn_io.specs.Counts.{ByName}
-use Rattle.sn_report.specs.Framed.{AreReports, Framed, IsNoFrame, bytes_of}
+use Rattle.sn_report.specs.Framed.{AreReports, Framed, IsNoFrame, Written, bytes_in, bytes_of}
 use Rattle.sn_report.proofs.Cutting.{first_frame, frame_long, no_frames, nothing_left}
 use Rattle.sn_report.specs.declared.decode.Decoded.{Decoded}
 use Rattle.sn_report.specs.declared.decode.Decoded.TheVariants.{Whole, More, Bad}
-use Rattle.sn_report.specs.declared.frame.Frame.{Frame}
+use Rattle.sn_report.specs.Items.{Frame}
 use Rattle.sn_report.specs.Decoding.{Stands}
-use Rattle.sn_report.specs.Frames.{spelling}
 use Rattle.sn_command.specs.declared.fault.Fault.{Fault}
 use Rattle.sn_command.specs.declared.fault.ReportKind.TheVariants as kinds
 use Rattle.sn_command.specs.declared.refusal.Refusal.{Refusal}
@@ -74,17 +73,18 @@ left_is queries at size rest s framed is files = record {
 
 -- ---- a whole frame
 
-frame_first : (queries : List TypedQuery) (at size len : ℕ) (frame : Frame) (more : List Frame) (left : Decoded) (s : Standing) → len ≡ length (spelling frame)
-    → reported_from queries at size (record { frames = frame ∷ more; left = left }) s ≡ followed (take_frame queries at frame s) (λ next. reported_from queries (at + len) size (record { frames = more; left = left }) next)
-frame_first queries at size len frame more left s long =
-    let n : at + length (spelling frame) ≡ at + len = omega (arith, long) in
-    let m : at + length (spelling frame ++ bytes_of more) ≡ (at + len) + length (bytes_of more) = omega (arith, long, length-append (spelling frame) (bytes_of more)) in
-    followed_twice (take_frame queries at frame s) (λ next. take_frames queries (at + length (spelling frame)) more next) (λ last. end_at (at + length (spelling frame ++ bytes_of more)) size left last)
-    ∙ ap (λ (k : ℕ). followed (take_frame queries at frame s) (λ next. followed (take_frames queries k more next) (λ last. end_at (at + length (spelling frame ++ bytes_of more)) size left last))) n
+frame_first : (queries : List TypedQuery) (at size len : ℕ) (w : Written) (more : List Written) (left : Decoded) (s : Standing) → len ≡ length (bytes_in w)
+    → reported_from queries at size (record { frames = w ∷ more; left = left }) s ≡ followed (take_frame queries at w.frame s) (λ next. reported_from queries (at + len) size (record { frames = more; left = left }) next)
+frame_first queries at size len w more left s long =
+    let frame : Frame = w.frame in
+    let n : at + length (bytes_in w) ≡ at + len = omega (arith, long) in
+    let m : at + length (bytes_in w ++ bytes_of more) ≡ (at + len) + length (bytes_of more) = omega (arith, long, length-append (bytes_in w) (bytes_of more)) in
+    followed_twice (take_frame queries at frame s) (λ next. take_frames queries (at + length (bytes_in w)) more next) (λ last. end_at (at + length (bytes_in w ++ bytes_of more)) size left last)
+    ∙ ap (λ (k : ℕ). followed (take_frame queries at frame s) (λ next. followed (take_frames queries k more next) (λ last. end_at (at + length (bytes_in w ++ bytes_of more)) size left last))) n
     ∙ ap (λ (k : ℕ). followed (take_frame queries at frame s) (λ next. followed (take_frames queries (at + len) more next) (λ last. end_at k size left last))) m
 
-framed_same : (framed : Framed) (frames : List Frame) → framed.frames ≡ frames → framed ≡ record { frames = frames; left = framed.left }
-framed_same framed frames e = ap (λ (fs : List Frame). record { frames = fs; left = framed.left }) e
+framed_same : (framed : Framed) (frames : List Written) → framed.frames ≡ frames → framed ≡ record { frames = frames; left = framed.left }
+framed_same framed frames e = ap (λ (fs : List Written). record { frames = fs; left = framed.left }) e
 
 module _ (queries : List TypedQuery) (at size : ℕ) (rest : List ℕ) (s : Standing) where
   splits : (frame : Frame) (len : ℕ) → Stands rest (Whole frame len) → (files : ByName (List ℕ)) (outcome : Outcome (Unit {0})) → LeftOver queries at size rest s files outcome
@@ -92,9 +92,10 @@ module _ (queries : List TypedQuery) (at size : ℕ) (rest : List ℕ) (s : Stan
   splits frame len stands files outcome t =
       let c = cut_here rest (λ framed. reported_from queries at size framed s) files outcome t in
       let b = first_frame rest frame len c.framed.frames c.framed.left stands c.is in
+      let w : Written = record { version = b.version; frame = frame } in
       let more : Framed = record { frames = b.more; left = c.framed.left } in
       let same : outcome ≡ followed (take_frame queries at frame s) (λ next. reported_from queries (at + len) size more next) =
-      c.same ∙ ap (λ (f : Framed). reported_from queries at size f s) (framed_same c.framed (frame ∷ b.more) b.first) ∙ frame_first queries at size len frame b.more c.framed.left s b.long in
+      c.same ∙ ap (λ (f : Framed). reported_from queries at size f s) (framed_same c.framed (w ∷ b.more) b.first) ∙ frame_first queries at size len w b.more c.framed.left s b.long in
       subst (λ (o : Outcome (Unit {0})). Then (Does (take_frame queries at frame s)) (λ next. LeftOver queries (at + len) size (drop len rest) next) files o) (sym same)
       (followed_is (take_frame queries at frame s) (λ next. reported_from queries (at + len) size more next) (λ next. LeftOver queries (at + len) size (drop len rest) next) files
       (λ next. left_is queries (at + len) size (drop len rest) next more b.rest files))
@@ -142,8 +143,8 @@ leads_first w = λ answer later r. r
 -- a whole frame has some bytes
 pub whole_long : (rest : List ℕ) (frame : Frame) (len : ℕ) → Stands rest (Whole frame len) → 1 ≤ len
 whole_long rest frame len h =
-    let long = frame_long frame in
-    let spelled = ap length h.1.spelled in
+    let long = frame_long h.1 frame in
+    let spelled = ap length h.2.spelled in
     omega (arith, long, spelled, length-take len rest)
 
 -- the bytes after it

@@ -1,5 +1,5 @@
 -- The reports of whole windows are answered.
-use Rattle.std.proofs.Common.{◌≡◌, ℕ, ◌+◌, ◌<◌, ◌==◌, List, [], ◌∷◌, ◌++◌, map, length, sum_by, true, false, cond, Option, None, Some, is_none, Result, Ok, Err, refl, ap, sym, ◌∙◌, arith, append_assoc, append-nil}
+use Rattle.std.proofs.Common.{◌≡◌, ℕ, ◌+◌, ◌<◌, ◌==◌, List, [], ◌∷◌, ◌++◌, map, length, get_or, drop, sum_by, true, false, cond, Option, None, Some, is_none, Result, Ok, Err, refl, ap, sym, ◌∙◌, arith, append_assoc, append-nil}
 use Rattle.std.specs.List.{AllByRecursion, flat_map, list_any}
 use Rattle.std.proofs.lemmas.Bool.{eq-eqb}
 use Rattle.std.proofs.lemmas.List.{length-append}
@@ -9,16 +9,15 @@ use Rattle.sn_engine.specs.Answers.{answers_of, parts_of, window_of}
 use Rattle.sn_engine.specs.Intakes.{after_frame, first_open, has_started, intake_for, intakes_of, total}
 use Rattle.sn_engine.specs.Taking.{is_above}
 use Rattle.sn_engine.proofs.Firsts.{sum_cons}
-use Rattle.sn_report.specs.Framed.{Framed, bytes_of}
+use Rattle.sn_report.specs.Framed.{Framed, IsWritten, Written, bytes_in, bytes_of}
 use Rattle.sn_io.specs.Counts.{ByName}
 use Rattle.sn_report.proofs.Cutting.{cut_once, frames_again}
 use Rattle.sn_out.specs.Text.{block_text, total_line}
 use Rattle.sn_plan_grammar.specs.declared.plan.Entry.{Entry}
 use Rattle.sn_plan_grammar.specs.declared.plan.Piece.{Piece}
 use Rattle.sn_report.specs.declared.decode.Decoded.TheVariants.{More}
-use Rattle.sn_report.specs.declared.frame.Frame.{Frame}
+use Rattle.sn_report.specs.Items.{Frame}
 use Rattle.sn_report.specs.declared.frame.Frame.TheVariants.{Row, End}
-use Rattle.sn_report.specs.Frames.{IsFrame, spelling}
 use Rattle.sn_command.specs.declared.fault.ReportKind.TheVariants as kinds
 use Rattle.sn_command.specs.declared.refusal.Refusal.{Refusal}
 use Rattle.sn_command.specs.Outcomes.{Outcome, silent}
@@ -38,14 +37,40 @@ followed_same {A} {B} first f g same = of first.text first.end
     of text (Err refusal) = refl
     of text (Ok value) = ap (λ (o : Outcome B). record { text = text ++ o.text; end = o.end }) (same value)
 
-frames_then : (queries : List TypedQuery) (at : ℕ) (xs ys : List Frame) (s : Standing) → take_frames queries at (xs ++ ys) s ≡ followed (take_frames queries at xs s) (λ next. take_frames queries (at + length (bytes_of xs)) ys next)
+frames_then : (queries : List TypedQuery) (at : ℕ) (xs ys : List Written) (s : Standing) → take_frames queries at (xs ++ ys) s ≡ followed (take_frames queries at xs s) (λ next. take_frames queries (at + length (bytes_of xs)) ys next)
 frames_then queries at [] ys s = let here : at ≡ at + 0 = omega arith in ap (λ (n : ℕ). take_frames queries n ys s) here
 frames_then queries at (x ∷ xs) ys s =
-    let n : (at + length (spelling x)) + length (bytes_of xs) ≡ at + length (bytes_of (x ∷ xs)) = omega (arith, length-append (spelling x) (bytes_of xs)) in
-    followed_same (take_frame queries at x s) (λ next. take_frames queries (at + length (spelling x)) (xs ++ ys) next) (λ next. followed (take_frames queries (at + length (spelling x)) xs next) (λ last. take_frames queries ((at + length (spelling x)) + length (bytes_of xs)) ys last))
-    (λ next. frames_then queries (at + length (spelling x)) xs ys next)
-    ∙ sym (followed_twice (take_frame queries at x s) (λ next. take_frames queries (at + length (spelling x)) xs next) (λ last. take_frames queries ((at + length (spelling x)) + length (bytes_of xs)) ys last))
+    let n : (at + length (bytes_in x)) + length (bytes_of xs) ≡ at + length (bytes_of (x ∷ xs)) = omega (arith, length-append (bytes_in x) (bytes_of xs)) in
+    followed_same (take_frame queries at x.frame s) (λ next. take_frames queries (at + length (bytes_in x)) (xs ++ ys) next) (λ next. followed (take_frames queries (at + length (bytes_in x)) xs next) (λ last. take_frames queries ((at + length (bytes_in x)) + length (bytes_of xs)) ys last))
+    (λ next. frames_then queries (at + length (bytes_in x)) xs ys next)
+    ∙ sym (followed_twice (take_frame queries at x.frame s) (λ next. take_frames queries (at + length (bytes_in x)) xs next) (λ last. take_frames queries ((at + length (bytes_in x)) + length (bytes_of xs)) ys last))
     ∙ ap (λ (k : ℕ). followed (take_frames queries at (x ∷ xs) s) (λ last. take_frames queries k ys last)) n
+
+-- ---- frames in versions
+
+abbrev frame_of : Written → Frame
+frame_of w = w.frame
+
+-- what is written of two lists of frames
+record IsSplit (all : List Written) (xs ys : List Frame) : Type 0 where
+  first : List Written
+  second : List Written
+  whole : all ≡ first ++ second
+  of_first : map frame_of first ≡ xs
+  of_second : map frame_of second ≡ ys
+
+split_written : (all : List Written) (xs ys : List Frame) → map frame_of all ≡ xs ++ ys → IsSplit all xs ys
+split_written all [] ys e = record { first = []; second = all; whole = refl; of_first = refl; of_second = e }
+split_written [] (x ∷ xs) ys e = absurd (let none = ap length e in omega (arith, none))
+split_written (w ∷ all) (x ∷ xs) ys e =
+    let rest = split_written all xs ys (ap (drop 1) e) in
+    record {
+      first = w ∷ rest.first;
+      second = rest.second;
+      whole = ap (λ (ws : List Written). w ∷ ws) rest.whole;
+      of_first = ap (λ (fs : List Frame). w.frame ∷ fs) rest.of_first ∙ ap (λ (f : Frame). f ∷ xs) (ap (λ (fs : List Frame). get_or fs 0 x) e);
+      of_second = rest.of_second;
+    }
 
 -- ---- one window
 
@@ -85,34 +110,32 @@ module _ (queries : List TypedQuery) (lanes : List Intake) (names : HaveNames la
         ∙ ap (λ (ls : List Intake). record { text = block_text queries (answers_of queries all) true; end = Ok (record { lanes = ls; closed = Some (window_of all); windows = s.windows + 1; emitted = s.emitted + total all }) }) (lanes_emptied sent lanes idle)
         ∙ ap (λ (n : ℕ). record { text = block_text queries (record { window = n; emitted = total all; parts = parts_of queries all }) true; end = Ok (record { lanes = lanes; closed = Some n; windows = s.windows + 1; emitted = s.emitted + total all }) }) number
 
-    window_goes : (at : ℕ) (us : List Frame) (f : Frame) (vs : List Frame) → us ++ f ∷ vs ≡ sent.frames → take_frames queries at (f ∷ vs) (with_lanes (map (after us) lanes) s) ≡ closed_window s sent
-    window_goes at us f [] whole =
+    window_goes : (at : ℕ) (us : List Frame) (w : Written) (vs : List Written) → us ++ w.frame ∷ map frame_of vs ≡ sent.frames → take_frames queries at (w ∷ vs) (with_lanes (map (after us) lanes) s) ≡ closed_window s sent
+    window_goes at us w [] whole =
+        let f : Frame = w.frame in
         ap (λ (o : Outcome Standing). followed o (λ next. silent (Ok next)))
         (one_frame at us f [] whole ∙ ap (λ (fs : List Frame). close_ended queries (with_lanes (map (after fs) lanes) s)) whole ∙ ap (λ (ls : List Intake). close_ended queries (with_lanes ls s)) (lanes_filled queries lanes sent names idle window) ∙ last_frame)
         ∙ ap (λ (t : List ℕ). record { text = t; end = Ok (behind s sent) }) (append-nil (block_of queries lanes sent))
-    window_goes at us f (g ∷ vs) whole =
-        let next : (us ++ f ∷ []) ++ g ∷ vs ≡ sent.frames = append_assoc us (f ∷ []) (g ∷ vs) ∙ whole in
+    window_goes at us w (v ∷ vs) whole =
+        let f : Frame = w.frame in
+        let next : (us ++ f ∷ []) ++ v.frame ∷ map frame_of vs ≡ sent.frames = append_assoc us (f ∷ []) (v.frame ∷ map frame_of vs) ∙ whole in
         let now : Standing = with_lanes (map (after (us ++ f ∷ [])) lanes) s in
-        let unended : is_none (first_open now.lanes) ≡ false = some_none (first_open now.lanes) (still_open queries lanes sent names idle window s.closed above (us ++ f ∷ []) g vs next) in
-        ap (λ (o : Outcome Standing). followed o (λ then. take_frames queries (at + length (spelling f)) (g ∷ vs) then))
-        (one_frame at us f (g ∷ vs) whole ∙ ap (λ b. cond b (close queries now) (silent (Ok now))) unended)
-        ∙ window_goes (at + length (spelling f)) (us ++ f ∷ []) g vs next
+        let unended : is_none (first_open now.lanes) ≡ false = some_none (first_open now.lanes) (still_open queries lanes sent names idle window s.closed above (us ++ f ∷ []) v.frame (map frame_of vs) next) in
+        ap (λ (o : Outcome Standing). followed o (λ then. take_frames queries (at + length (bytes_in w)) (v ∷ vs) then))
+        (one_frame at us f (v.frame ∷ map frame_of vs) whole ∙ ap (λ b. cond b (close queries now) (silent (Ok now))) unended)
+        ∙ window_goes (at + length (bytes_in w)) (us ++ f ∷ []) v vs next
 
-    whole_window : (at : ℕ) → s.lanes ≡ lanes → take_frames queries at sent.frames s ≡ closed_window s sent
-    whole_window at same = of sent.frames refl
-      where
-        empty : [] ≡ sent.frames → (xs : List Intake) → 0 < length xs → AllByRecursion (λ x. frames_of x sent.frames ≡ map (Row (name_of x)) (sent.items x) ++ End (name_of x) sent.window ∷ []) xs → ⊥
-        empty none [] few each = omega arith
-        empty none (x ∷ xs) few each =
-            let e = ap length (ap (frames_of x) none ∙ each.0) in
-            omega (arith, e, length-append (map (Row (name_of x)) (sent.items x)) (End (name_of x) sent.window ∷ []))
+    empty : [] ≡ sent.frames → (xs : List Intake) → 0 < length xs → AllByRecursion (λ x. frames_of x sent.frames ≡ map (Row (name_of x)) (sent.items x) ++ End (name_of x) sent.window ∷ []) xs → ⊥
+    empty none [] few each = omega arith
+    empty none (x ∷ xs) few each =
+        let e = ap length (ap (frames_of x) none ∙ each.0) in
+        omega (arith, e, length-append (map (Row (name_of x)) (sent.items x)) (End (name_of x) sent.window ∷ []))
 
-        of : (fs : List Frame) → fs ≡ sent.frames → take_frames queries at sent.frames s ≡ closed_window s sent
-        of [] none = absurd (empty none lanes some window.each)
-        of (f ∷ fs) is =
-            ap (λ (gs : List Frame). take_frames queries at gs s) (sym is)
-            ∙ ap (λ (ls : List Intake). take_frames queries at (f ∷ fs) (with_lanes ls s)) (same ∙ sym (lanes_before lanes))
-            ∙ window_goes at [] f fs is
+    whole_window : (at : ℕ) (ws : List Written) → map frame_of ws ≡ sent.frames → s.lanes ≡ lanes → take_frames queries at ws s ≡ closed_window s sent
+    whole_window at [] none same = absurd (empty none lanes some window.each)
+    whole_window at (w ∷ ws) is same =
+        ap (λ (ls : List Intake). take_frames queries at (w ∷ ws) (with_lanes ls s)) (same ∙ sym (lanes_before lanes))
+        ∙ window_goes at [] w ws is
 
   -- ---- all windows
 
@@ -120,14 +143,17 @@ module _ (queries : List TypedQuery) (lanes : List Intake) (names : HaveNames la
   behind_all s [] = s
   behind_all s (sent ∷ later) = behind_all (behind s sent) later
 
-  all_windows : (at : ℕ) (windows : List Sent) (s : Standing) → s.lanes ≡ lanes → Rise s.closed windows → AllByRecursion (IsWindow queries lanes) windows
-      → take_frames queries at (frames_in windows) s ≡ record { text = flat_map (block_of queries lanes) windows; end = Ok (behind_all s windows) }
-  all_windows at [] s same rise each = refl
-  all_windows at (sent ∷ later) s same rise each =
-      let next : ℕ = at + length (bytes_of sent.frames) in
-      frames_then queries at sent.frames (frames_in later) s
-      ∙ ap (λ (o : Outcome Standing). followed o (λ last. take_frames queries next (frames_in later) last)) (whole_window sent each.0 s rise.0 at same)
-      ∙ ap (λ (o : Outcome Standing). record { text = block_of queries lanes sent ++ o.text; end = o.end }) (all_windows next later (behind s sent) refl rise.1 each.1)
+  all_windows : (at : ℕ) (windows : List Sent) (written : List Written) (s : Standing) → map frame_of written ≡ frames_in windows → s.lanes ≡ lanes → Rise s.closed windows → AllByRecursion (IsWindow queries lanes) windows
+      → take_frames queries at written s ≡ record { text = flat_map (block_of queries lanes) windows; end = Ok (behind_all s windows) }
+  all_windows at [] [] s is same rise each = refl
+  all_windows at [] (w ∷ ws) s is same rise each = absurd (let none = ap length is in omega (arith, none))
+  all_windows at (sent ∷ later) written s is same rise each =
+      let p = split_written written sent.frames (frames_in later) is in
+      let next : ℕ = at + length (bytes_of p.first) in
+      ap (λ (ws : List Written). take_frames queries at ws s) p.whole
+      ∙ frames_then queries at p.first p.second s
+      ∙ ap (λ (o : Outcome Standing). followed o (λ last. take_frames queries next p.second last)) (whole_window sent each.0 s rise.0 at p.first p.of_first same)
+      ∙ ap (λ (o : Outcome Standing). record { text = block_of queries lanes sent ++ o.text; end = o.end }) (all_windows next later p.second (behind s sent) p.of_second refl rise.1 each.1)
 
   record IsBehind (s : Standing) (windows : List Sent) : Type 0 where
     lanes_are : (behind_all s windows).lanes ≡ lanes
@@ -146,10 +172,10 @@ module _ (queries : List TypedQuery) (lanes : List Intake) (names : HaveNames la
         emitted = omega (arith, emitted, sum_cons (λ (x : Sent). (answers_to queries lanes x).emitted) sent later);
       }
 
-  whole_reports : (windows : List Sent) (s : Standing) → s.lanes ≡ lanes → s.windows ≡ 0 → s.emitted ≡ 0 → Rise s.closed windows → AllByRecursion (IsWindow queries lanes) windows
-      → reported_from queries 0 (length (bytes_of (frames_in windows))) (record { frames = frames_in windows; left = More }) s ≡ record { text = answered_text queries lanes windows; end = Ok tt }
-  whole_reports windows s same none zero rise each =
-      let size : ℕ = length (bytes_of (frames_in windows)) in
+  whole_reports : (windows : List Sent) (written : List Written) (s : Standing) → map frame_of written ≡ frames_in windows → s.lanes ≡ lanes → s.windows ≡ 0 → s.emitted ≡ 0 → Rise s.closed windows → AllByRecursion (IsWindow queries lanes) windows
+      → reported_from queries 0 (length (bytes_of written)) (record { frames = written; left = More }) s ≡ record { text = answered_text queries lanes windows; end = Ok tt }
+  whole_reports windows written s frames same none zero rise each =
+      let size : ℕ = length (bytes_of written) in
       let last : Standing = behind_all s windows in
       let blocks : List ℕ = flat_map (block_of queries lanes) windows in
       let is = is_behind windows s same in
@@ -161,7 +187,7 @@ module _ (queries : List TypedQuery) (lanes : List Intake) (names : HaveNames la
       ap (λ b. cond b (refused_at kinds.Unfinished size) (record { text = total_line last.windows (Some last.emitted); end = Ok tt })) closed
       ∙ ap (λ (n : ℕ). record { text = total_line n (Some last.emitted); end = Ok tt }) counted
       ∙ ap (λ (n : ℕ). record { text = total_line (length windows) (Some n); end = Ok tt }) sent_is in
-      ap (λ (o : Outcome Standing). followed o (λ l. end_at (0 + size) size More l)) (all_windows 0 windows s same rise each)
+      ap (λ (o : Outcome Standing). followed o (λ l. end_at (0 + size) size More l)) (all_windows 0 windows written s frames same rise each)
       ∙ ap (λ (o : Outcome (Unit {0})). record { text = blocks ++ o.text; end = o.end }) (ap (λ b. cond b (ended size last) (refused_at kinds.Cut (0 + size))) at_end ∙ total_is)
 
 -- ---- the reports of a plan
@@ -175,10 +201,11 @@ entries_idle q [] = tt
 entries_idle q (e ∷ es) = all_append IsIdle (map (intake_for q e.levels) e.pieces) (intakes_of (q + 1) es) (pieces_idle q e.levels e.pieces) (entries_idle (q + 1) es)
 
 pub windows_answered : (queries : List TypedQuery) (entries : List Entry) (windows : List Sent) → 0 < length (intakes_of 0 entries) → HaveNames (intakes_of 0 entries) → Rise None windows → AllByRecursion (IsWindow queries (intakes_of 0 entries)) windows
-    → AllByRecursion IsFrame (frames_in windows) → (files : ByName (List ℕ)) (outcome : Outcome (Unit {0})) → Reported queries entries (bytes_of (frames_in windows)) files outcome → outcome ≡ record { text = answered_text queries (intakes_of 0 entries) windows; end = Ok tt }
-windows_answered queries entries windows some names rise each frames files outcome t =
-    let bytes : List ℕ = bytes_of (frames_in windows) in
+    → (written : List Written) → map frame_of written ≡ frames_in windows → AllByRecursion IsWritten written
+    → (files : ByName (List ℕ)) (outcome : Outcome (Unit {0})) → Reported queries entries (bytes_of written) files outcome → outcome ≡ record { text = answered_text queries (intakes_of 0 entries) windows; end = Ok tt }
+windows_answered queries entries windows some names rise each written are frames files outcome t =
+    let bytes : List ℕ = bytes_of written in
     let c = cut_here bytes (λ framed. reported_from queries 0 (length bytes) framed (begun entries)) files outcome t in
-    let same : c.framed ≡ record { frames = frames_in windows; left = More } = cut_once bytes c.framed (record { frames = frames_in windows; left = More }) c.is (frames_again (frames_in windows) frames) in
+    let same : c.framed ≡ record { frames = written; left = More } = cut_once bytes c.framed (record { frames = written; left = More }) c.is (frames_again written frames) in
     c.same ∙ ap (λ (f : Framed). reported_from queries 0 (length bytes) f (begun entries)) same
-    ∙ whole_reports queries (intakes_of 0 entries) names (entries_idle 0 entries) some windows (begun entries) refl refl refl rise each
+    ∙ whole_reports queries (intakes_of 0 entries) names (entries_idle 0 entries) some windows written (begun entries) are refl refl refl rise each

@@ -12,8 +12,8 @@ use Rattle.sn_out.specs.Text.{block_text, total_line}
 use Rattle.sn_plan_grammar.specs.declared.plan.Entry.{Entry}
 use Rattle.sn_report.specs.declared.decode.Decoded.{Decoded}
 use Rattle.sn_report.specs.declared.decode.Decoded.TheVariants as decoded
-use Rattle.sn_report.specs.declared.frame.Frame.{Frame}
-use Rattle.sn_report.specs.Frames.{spelling}
+use Rattle.sn_report.specs.Items.{Frame}
+use Rattle.sn_report.specs.Framed.{Written, bytes_in}
 use Rattle.sn_command.specs.declared.fault.Fault.{Fault}
 use Rattle.sn_command.specs.declared.fault.Fault.TheVariants as faults
 use Rattle.sn_command.specs.declared.fault.ReportKind.{ReportKind}
@@ -90,10 +90,10 @@ abbrev pub take_frame : List TypedQuery → ℕ → Frame → Standing → Outco
 take_frame queries at frame s = taken_unless at (take_fault queries s.lanes s.closed frame)
     (close_ended queries (record s { lanes = after_frame s.lanes frame }))
 
--- frames one after another, the first of which begins at this byte
-abbrev pub take_frames : List TypedQuery → ℕ → List Frame → Standing → Outcome Standing
+-- frames one after another, each in its version, the first of which begins at this byte
+abbrev pub take_frames : List TypedQuery → ℕ → List Written → Standing → Outcome Standing
 take_frames queries at [] s = silent (Ok s)
-take_frames queries at (frame ∷ frames) s = followed (take_frame queries at frame s) (λ next. take_frames queries (at + length (spelling frame)) frames next)
+take_frames queries at (w ∷ later) s = followed (take_frame queries at w.frame s) (λ next. take_frames queries (at + length (bytes_in w)) later next)
 
 -- ---- after the frames
 

@@ -8,9 +8,9 @@ use Rattle.sn_engine.specs.Answers.{parts_of}
 use Rattle.sn_engine.specs.Intakes.{is_lane, lane_at, total}
 use Rattle.sn_engine.specs.Taking.{is_above, row_fault}
 use Rattle.sn_out.specs.Text.{block_text, total_line}
-use Rattle.sn_report.specs.declared.frame.Frame.{Frame}
+use Rattle.sn_report.specs.Items.{Frame}
 use Rattle.sn_report.specs.declared.frame.Frame.TheVariants.{Row, End}
-use Rattle.sn_report.specs.declared.frame.Item.{Item}
+use Rattle.sn_report.specs.Items.{Item}
 use Rattle.sn_report.specs.Frames.{lane_of}
 use Rattle.sn_types.specs.declared.answers.Answers.{Answers}
 use Rattle.sn_types.specs.declared.typed_query.TypedQuery.{TypedQuery}

@@ -6,6 +6,7 @@ ghost use Rattle.sn_command_finish.specs.Taken.{fault_at, take_verdict};
 ghost use Rattle.sn_command.specs.declared.refusal.Refusal.TheVariants.{Refused};
 ghost use Rattle.sn_command.specs.Runs.{Answers};
 
+use sn_base::row::Row;
 use sn_command::fault::{Fault, ReportFault, ReportKind};
 use sn_command::refusal::Refusal;
 use sn_engine::engine::Engine;
@@ -23,14 +24,14 @@ pub(crate) fn refusal_at(kind: ReportKind, at: usize) -> Refusal
 }
 
 /// The engine takes a frame that begins at this byte.
-pub(crate) fn take(engine: &mut Engine, frame: &Frame, at: usize) -> Result<(), Refusal>
+pub(crate) fn take(engine: &mut Engine, frame: &Frame<Row>, at: usize) -> Result<(), Refusal>
     ensures verdict { Answers (λ verdict. verdict ≡
         take_verdict at (take_fault engine.old.t.queries engine.old.lanes.items engine.old.closed frame.now)) result }
     ensures taken { OnOk result (engine.new.lanes.items ≡ after_frame engine.old.lanes.items frame.now) }
     ensures closed { engine.new.closed ≡ engine.old.closed }
     ensures queries { engine.new.t.queries ≡ engine.old.t.queries }
 {
-    match engine.take(frame) {
+    match engine.take_wide(frame) {
         Ok(()) => Ok(()),
         Err(TakeFault::Stranger) => Err(refusal_at(ReportKind::Stranger, at)),
         Err(TakeFault::Width) => Err(refusal_at(ReportKind::Width, at)),

@@ -12,6 +12,7 @@ ghost use Rattle.sn_command.specs.Stages.{Adds, Does};
 
 use crate::taking::take;
 use crate::tally::Tally;
+use sn_base::row::Row;
 use sn_command::desk::Desk;
 use sn_command::refusal::Refusal;
 use sn_command::texts::write_text;
@@ -79,7 +80,7 @@ fn close_ended<I: Inputs, O: Sink>(
 pub(crate) fn take_frame<I: Inputs, O: Sink>(
     alloc: Global,
     tally: Tally,
-    frame: &Frame,
+    frame: &Frame<Row>,
     at: usize,
     desk: &mut Desk<'_, I, O>,
 ) -> Result<Tally, Refusal>

@@ -7,7 +7,7 @@ use Rattle.sn_emit.specs.Plans.{Placed, pieces_from, placed}
 use Rattle.sn_core_net.specs.PlanWorkings.{AreLanesFor}
 use Rattle.sn_pipe.specs.Pipes.{PipeState}
 use Rattle.sn_plan_grammar.specs.declared.plan.Entry.{Entry}
-use Rattle.sn_report.specs.declared.frame.Item.{Item}
+use Rattle.sn_report.specs.Items.{Item}
 use Rattle.sn_types.specs.declared.typed_query.TypedQuery.{TypedQuery}
 
 -- one entry more

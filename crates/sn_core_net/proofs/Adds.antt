@@ -9,7 +9,7 @@ use Rattle.sn_chain.specs.Homes.{held_in_order}
 use Rattle.sn_chain.specs.Registers.{cell, put, stepped}
 use Rattle.sn_chain.specs.declared.offer.Offer.{Offer}
 use Rattle.sn_chain.specs.declared.offer.Offer.TheVariants.{New, Held, Over}
-use Rattle.sn_report.specs.declared.frame.Item.{Item}
+use Rattle.sn_report.specs.Items.{Item}
 use Rattle.sn_types.specs.Values.{holds, value_of}
 use Rattle.sn_pipe.specs.declared.stage.Stage.{Stage}
 use Rattle.sn_pipe.specs.declared.stage.Stage.TheVariants.{Filter, Map, Distinct, Reduce}

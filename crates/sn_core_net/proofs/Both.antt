@@ -20,8 +20,8 @@ use Rattle.sn_engine.specs.declared.intake.Intake.{Intake}
 use Rattle.sn_core_net.proofs.Settling.{unread_settled}
 use Rattle.sn_core_net.specs.PlanWorkings.{all_ended, workings_of}
 use Rattle.sn_pipe.specs.Pipes.{PipeState, after_packet, at_start, item_of}
-use Rattle.sn_report.specs.declared.frame.Frame.{Frame as Report}
-use Rattle.sn_report.specs.declared.frame.Item.{Item}
+use Rattle.sn_report.specs.Items.{Frame as Report}
+use Rattle.sn_report.specs.Items.{Item}
 use Rattle.sn_types.specs.declared.typed_query.TypedQuery.{TypedQuery}
 use Rattle.sn_core_net.specs.declared.holder.Holder.{Holder}
 use Rattle.sn_core_net.specs.Facts.{are_own, are_roomy, are_unread, names_of}

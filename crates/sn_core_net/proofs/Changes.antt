@@ -22,8 +22,8 @@ use Rattle.sn_engine.specs.declared.intake.Intake.{Intake}
 use Rattle.sn_core_net.specs.PlanWorkings.{all_ended}
 use Rattle.sn_core_net.specs.Settled.{settled}
 use Rattle.sn_pipe.specs.Pipes.{PipeState}
-use Rattle.sn_report.specs.declared.frame.Frame.{Frame as Report}
-use Rattle.sn_report.specs.declared.frame.Item.{Item}
+use Rattle.sn_report.specs.Items.{Frame as Report}
+use Rattle.sn_report.specs.Items.{Item}
 use Rattle.sn_types.specs.declared.answers.Answers.{Answers}
 use Rattle.sn_types.specs.declared.typed_query.TypedQuery.{TypedQuery}
 use Rattle.sn_core_net.specs.declared.holder.Holder.{Holder}

@@ -31,7 +31,7 @@ use Rattle.sn_plan_grammar.specs.declared.plan.Entry.{Entry}
 use Rattle.sn_query_grammar.specs.Limits.{AreJoined}
 use Rattle.sn_query_grammar.specs.declared.ast.Branch.{Branch}
 use Rattle.sn_query_grammar.specs.declared.ast.Join.{Join}
-use Rattle.sn_report.specs.declared.frame.Item.{Item}
+use Rattle.sn_report.specs.Items.{Item}
 use Rattle.sn_types.proofs.Sources.{source_of as query_source}
 use Rattle.sn_types.specs.Typed.{IsTyped, query_at}
 use Rattle.sn_types.specs.Typing.{typed_branch, typed_query}

@@ -15,9 +15,9 @@ use Rattle.sn_engine_lockstep.specs.Work.{taken}
 use Rattle.sn_engine.specs.Intakes.{after_frame, agrees, emptied, is_lane, lane_at}
 use Rattle.sn_base.specs.Changed.{with_first}
 use Rattle.sn_engine.specs.declared.intake.Intake.{Intake}
-use Rattle.sn_report.specs.declared.frame.Frame.{Frame as Report}
+use Rattle.sn_report.specs.Items.{Frame as Report}
 use Rattle.sn_report.specs.declared.frame.Frame.TheVariants.{Row as Sent, End}
-use Rattle.sn_report.specs.declared.frame.Item.{Item}
+use Rattle.sn_report.specs.Items.{Item}
 use Rattle.sn_core_net.specs.declared.holder.Holder.{Holder}
 use Rattle.sn_core_net.specs.Facts.{are_named, ends_agree, names_of}
 use Rattle.sn_core_net.specs.Reports.{are_same, frame_of, is_own, report_of, window_number}

@@ -14,7 +14,7 @@ use Rattle.sn_plan_fit.specs.Fits.{Fits}
 use Rattle.sn_pipe.specs.Pipes.{PipeState}
 use Rattle.sn_plan_grammar.specs.declared.plan.Entry.{Entry}
 use Rattle.sn_refine.specs.Steps.{windows_of as given_windows}
-use Rattle.sn_report.specs.declared.frame.Item.{Item}
+use Rattle.sn_report.specs.Items.{Item}
 use Rattle.sn_switch.specs.declared.switch.Switch.{Switch}
 use Rattle.sn_switch.specs.Texts.{IsSwitch}
 use Rattle.sn_types.specs.declared.typed_query.TypedQuery.{TypedQuery}

@@ -3,7 +3,7 @@ use Rattle.std.proofs.Common.{◌≡◌, ℕ, suc, ◌+◌, ◌<◌, ◌≤◌, 
 use Rattle.std.proofs.lemmas.List.{drop-drop}
 use Rattle.sn_base.specs.Groups.{Row}
 use Rattle.sn_chain.specs.Homes.{held_in_order}
-use Rattle.sn_report.specs.declared.frame.Item.{Item}
+use Rattle.sn_report.specs.Items.{Item}
 use Rattle.sn_report.specs.declared.frame.Tag.{Tag}
 use Rattle.sn_pipe_items.specs.Items.{tagged}
 use Rattle.sn_pipe.specs.declared.stage.Stage.{Stage}

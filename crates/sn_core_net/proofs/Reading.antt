@@ -14,9 +14,9 @@ use Rattle.sn_core_net.specs.PlanWorkings.{workings_of}
 use Rattle.sn_core_net.specs.Settled.{settled}
 use Rattle.sn_pipe.specs.Pipes.{PipeState}
 use Rattle.sn_pipe.specs.Prefixes.{left_in}
-use Rattle.sn_report.specs.declared.frame.Frame.{Frame as Report}
+use Rattle.sn_report.specs.Items.{Frame as Report}
 use Rattle.sn_report.specs.declared.frame.Frame.TheVariants.{End}
-use Rattle.sn_report.specs.declared.frame.Item.{Item}
+use Rattle.sn_report.specs.Items.{Item}
 use Rattle.sn_types.specs.declared.typed_query.TypedQuery.{TypedQuery}
 use Rattle.sn_core_net.specs.Reports.{are_same, frame_of, is_own}
 use Rattle.sn_core_net.specs.States.{lane_of}

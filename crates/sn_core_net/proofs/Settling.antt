@@ -5,7 +5,7 @@ use Rattle.sn_base.specs.declared.any_fold.AnyFold.{AnyFold}
 use Rattle.sn_base.specs.Groups.{Row}
 use Rattle.sn_base.proofs.Lists.{by_test}
 use Rattle.sn_chain.specs.Chain.{ChainState}
-use Rattle.sn_report.specs.declared.frame.Item.{Item}
+use Rattle.sn_report.specs.Items.{Item}
 use Rattle.sn_report.specs.declared.frame.Tag.{Tag}
 use Rattle.sn_pipe_items.specs.Items.{tagged}
 use Rattle.sn_pipe.specs.declared.stage.Stage.{Stage}

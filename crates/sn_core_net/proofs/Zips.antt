@@ -15,9 +15,9 @@ use Rattle.sn_engine_lockstep.specs.Work.{taken}
 use Rattle.sn_engine.specs.declared.intake.Intake.{Intake}
 use Rattle.sn_core_net.specs.Settled.{settled}
 use Rattle.sn_pipe.specs.Pipes.{PipeState}
-use Rattle.sn_report.specs.declared.frame.Frame.{Frame as Report}
+use Rattle.sn_report.specs.Items.{Frame as Report}
 use Rattle.sn_report.specs.declared.frame.Frame.TheVariants.{Row as Sent, End}
-use Rattle.sn_report.specs.declared.frame.Item.{Item}
+use Rattle.sn_report.specs.Items.{Item}
 use Rattle.sn_core_net.specs.declared.holder.Holder.{Holder}
 use Rattle.sn_core_net.specs.States.{lane_of, lanes_of}
 use Rattle.sn_core_net.specs.Reports.{frame_of, report_of}

@@ -8,7 +8,7 @@ use Rattle.circular_buffer.specs.Buffer.{Buffer, buffer, keep_last}
 use Rattle.sn_emit.specs.declared.sender.Sender.{Sender}
 use Rattle.sn_emit.specs.Senders.{row_frame, sender_next, sender_start}
 use Rattle.sn_pipe.specs.Pipes.{item_of}
-use Rattle.sn_report.specs.declared.frame.Frame.{Frame}
+use Rattle.sn_report.specs.Items.{Frame}
 use Rattle.sn_core_net.specs.declared.holder.Holder.{Holder}
 
 -- a lane with an empty ring of this capacity

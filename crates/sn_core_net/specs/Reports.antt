@@ -6,9 +6,9 @@ use Rattle.sn_core.specs.declared.supply.Frame.{Frame}
 use Rattle.sn_core.specs.declared.supply.Frame.TheVariants.{Row, Last}
 use Rattle.sn_core.specs.declared.supply.Window.{Window}
 use Rattle.sn_core.specs.declared.supply.Window.TheVariants.{Idle, Begun, Closed}
-use Rattle.sn_report.specs.declared.frame.Frame.{Frame as Report}
+use Rattle.sn_report.specs.Items.{Frame as Report}
 use Rattle.sn_report.specs.declared.frame.Frame.TheVariants.{Row as Sent, End}
-use Rattle.sn_report.specs.declared.frame.Item.{Item}
+use Rattle.sn_report.specs.Items.{Item}
 
 -- what the engine learns from a frame of the lane of this name, in this window
 abbrev pub report_of : Lane → ℕ → Frame Item → Report

@@ -4,6 +4,7 @@ ghost use Rattle.circular_buffer.specs.Buffer.{buffer};
 
 use circular_buffer::HeapCircularBuffer;
 use sn_base::members::Members;
+use sn_base::short_row::ShortRow;
 use sn_emit::sender::Sender;
 use sn_fields::tuple::Tuple;
 use sn_report::frame::Frame;
@@ -14,11 +15,11 @@ pub struct Holder {
     /// What gives its frames.
     pub sender: Sender,
     /// The frames on their way to the engine, in the order in which they came.
-    pub ring: HeapCircularBuffer<Frame>,
+    pub ring: HeapCircularBuffer<Frame<ShortRow>>,
 }
 
 /// Appends a frame to a ring that isn't full.
-fn append(ring: &mut HeapCircularBuffer<Frame>, frame: Frame)
+fn append(ring: &mut HeapCircularBuffer<Frame<ShortRow>>, frame: Frame<ShortRow>)
     requires { length ring.old.items < ring.old.capacity }
     ensures { ring.new ≡ buffer (ring.old.items ++ frame ∷ []) ring.old.capacity }
 {

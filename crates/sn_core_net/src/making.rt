@@ -20,6 +20,7 @@ use crate::net::Net;
 use circular_buffer::HeapCircularBuffer;
 use sn_base::memory::Memory;
 use sn_base::seq::Seq;
+use sn_base::short_row::ShortRow;
 use sn_core::supply::Window;
 use sn_emit::making::senders;
 use sn_emit::sender::Sender;
@@ -32,7 +33,7 @@ use sn_types::typed::Typed;
 use std::alloc::Global;
 
 /// A ring of this capacity.
-fn ring(alloc: Global, room: u32) -> Result<HeapCircularBuffer<Frame>, Memory>
+fn ring(alloc: Global, room: u32) -> Result<HeapCircularBuffer<Frame<ShortRow>>, Memory>
     ensures { IfOk result (λ ring. ring ≡ buffer [] room) }
 {
     match HeapCircularBuffer::with_capacity(alloc, room as usize) {

@@ -15,7 +15,7 @@ ghost use Rattle.sn_core_net.specs.PlanWorkings.{AreLanesFor, HaveWidths, given_
 ghost use Rattle.sn_pipe.specs.Pipes.{PipeState};
 ghost use Rattle.sn_plan_grammar.specs.declared.plan.Entry.{Entry};
 ghost use Rattle.sn_refine.specs.Steps.{windows_of as given_windows};
-ghost use Rattle.sn_report.specs.declared.frame.Item.{Item};
+ghost use Rattle.sn_report.specs.Items.{Item};
 ghost use Rattle.sn_switch.specs.Texts.{IsSwitch};
 ghost use Rattle.sn_switch.specs.declared.switch.Switch.{Switch};
 ghost use Rattle.sn_types.specs.Typed.{IsTyped};

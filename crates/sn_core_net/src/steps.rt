@@ -21,6 +21,7 @@ use crate::prefixes::prefix_sets;
 use sn_base::members::Members;
 use sn_base::memory::Memory;
 use sn_base::seq::Seq;
+use sn_base::short_row::ShortRow;
 use sn_core::event::Event;
 use sn_core::supply::{Supply, Window};
 use sn_engine::engine::Engine;
@@ -83,7 +84,7 @@ fn window_number(window: &Window) -> u64
 }
 
 /// The engine takes a frame.
-fn take(engine: &mut Engine, frame: &Frame) -> Result<(), Memory>
+fn take(engine: &mut Engine, frame: &Frame<ShortRow>) -> Result<(), Memory>
     ensures ok { OnOk result (engine.new.lanes.items ≡ after_frame engine.old.lanes.items frame.now) }
     ensures err { OnErr result (engine.new.lanes.items ≡ engine.old.lanes.items) }
     ensures queries { engine.new.t.queries ≡ engine.old.t.queries }

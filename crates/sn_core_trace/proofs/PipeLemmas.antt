@@ -14,7 +14,7 @@ use Rattle.sn_pipe.specs.Stages.{after_row, cleared, flows, item_at, item_from, 
 use Rattle.sn_pipe.specs.Windows.{goes_up, held_row, left_from, passes, rows_left}
 use Rattle.sn_pipe.specs.declared.stage.Stage.{Stage}
 use Rattle.sn_pipe.specs.declared.stage.Stage.TheVariants.{Filter, Map, Distinct, Reduce}
-use Rattle.sn_report.specs.declared.frame.Item.{Item}
+use Rattle.sn_report.specs.Items.{Item}
 use Rattle.sn_report.specs.declared.frame.Tag.TheVariants.{At, Partial}
 use Rattle.sn_types.specs.Values.{holds}
 use Rattle.sn_core_trace.specs.Plain.{plain_pipe, plain_stage, plain_stages}

@@ -28,7 +28,7 @@ use Rattle.sn_gen.specs.Generated.{drawn, next_number}
 use Rattle.sn_core_net.specs.States.{State, Works}
 use Rattle.sn_core_net.specs.PlanWorkings.{workings_of}
 use Rattle.sn_pipe.specs.Pipes.{PipeState}
-use Rattle.sn_report.specs.declared.frame.Item.{Item}
+use Rattle.sn_report.specs.Items.{Item}
 use Rattle.sn_types.specs.declared.typed_query.TypedQuery.{TypedQuery}
 use Rattle.sn_core_trace.specs.Plain.{plain_lane, plain_state, plain_turns}
 use Rattle.sn_core_trace.specs.Turns.{Turns, behind, no_turn, turns, turns_on}

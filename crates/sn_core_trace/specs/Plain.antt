@@ -6,7 +6,7 @@ use Rattle.sn_core_net.specs.States.{State}
 use Rattle.sn_pipe.specs.Pipes.{PipeState}
 use Rattle.sn_pipe.specs.declared.stage.Stage.{Stage}
 use Rattle.sn_pipe.specs.declared.stage.Stage.TheVariants.{Filter, Map, Distinct, Reduce}
-use Rattle.sn_report.specs.declared.frame.Item.{Item}
+use Rattle.sn_report.specs.Items.{Item}
 use Rattle.sn_core_trace.specs.Lanes.{any_or}
 use Rattle.sn_core_trace.specs.Turns.{Turns}
 

@@ -3,9 +3,9 @@ use Rattle.std.proofs.Common.{◌≡◌, ℕ, ◌<◌, ◌≤◌, List, [], ◌�
 use Rattle.std.specs.FinSet as set
 use Rattle.std.specs.List.{AllByRecursion}
 use Rattle.std.specs.Ordering.{nat_cmp}
-use Rattle.sn_report.specs.declared.frame.Frame.{Frame}
+use Rattle.sn_report.specs.Items.{Frame}
 use Rattle.sn_report.specs.declared.frame.Frame.TheVariants.{End}
-use Rattle.sn_report.specs.declared.frame.Item.{Item}
+use Rattle.sn_report.specs.Items.{Item}
 use Rattle.sn_pipe.specs.Pipes.{PipeState, after_packets, at_start, packets_give}
 use Rattle.sn_pipe.specs.Prefixes.{left_in}
 use Rattle.sn_pipe.proofs.Starts.{starts_again}

@@ -3,9 +3,9 @@ use Rattle.std.proofs.Common.{◌≡◌, ℕ, ◌+◌, List, [], ◌∷◌, ◌+
 use Rattle.std.specs.Option.{option_map, option_to_list}
 use Rattle.std.proofs.lemmas.List.{length-append, map-append}
 use Rattle.sn_base.specs.declared.lane.Lane.{Lane}
-use Rattle.sn_report.specs.declared.frame.Frame.{Frame}
+use Rattle.sn_report.specs.Items.{Frame}
 use Rattle.sn_report.specs.declared.frame.Frame.TheVariants.{End}
-use Rattle.sn_report.specs.declared.frame.Item.{Item}
+use Rattle.sn_report.specs.Items.{Item}
 use Rattle.sn_pipe.specs.Pipes.{PipeState, after_packet, after_packets, item_of, packets_give}
 use Rattle.sn_pipe.specs.Prefixes.{left_in}
 use Rattle.sn_plan_fit.specs.Capped.{capped}

@@ -10,7 +10,7 @@ use Rattle.sn_types.specs.declared.typed_query.TypedQuery.{TypedQuery}
 use Rattle.sn_types.specs.Cuts.{stateful}
 use Rattle.sn_types.specs.Typed.{branch_at, query_at}
 use Rattle.sn_report.specs.Frames.{lane_of as lane_in, operator_in}
-use Rattle.sn_report.specs.declared.frame.Frame.{Frame}
+use Rattle.sn_report.specs.Items.{Frame}
 use Rattle.sn_emit.specs.Plans.{Placed, level_before}
 
 -- the numbers of a lane have one byte each in a frame: there are at most eight queries, four levels and two branches

@@ -10,7 +10,7 @@ use Rattle.sn_pipe.specs.Pipes.{IsNewPipe, PipeState, at_start, rows_let_in}
 use Rattle.sn_plan_grammar.specs.declared.plan.Entry.{Entry}
 use Rattle.sn_plan_grammar.specs.declared.plan.Piece.{Piece}
 use Rattle.sn_types.specs.declared.typed_query.TypedQuery.{TypedQuery}
-use Rattle.sn_report.specs.declared.frame.Item.{Item}
+use Rattle.sn_report.specs.Items.{Item}
 use Rattle.sn_types.specs.Cuts.{size_at}
 use Rattle.sn_types.specs.Typed.{branch_at, query_at}
 use Rattle.sn_types.specs.Values.{op_at}

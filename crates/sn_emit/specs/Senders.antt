@@ -5,8 +5,8 @@ use Rattle.std.specs.FinSet as set
 use Rattle.std.specs.Option.{option_map, option_to_list}
 use Rattle.std.specs.Ordering.{nat_cmp}
 use Rattle.sn_base.specs.declared.lane.Lane.{Lane}
-use Rattle.sn_report.specs.declared.frame.Item.{Item}
-use Rattle.sn_report.specs.declared.frame.Frame.{Frame}
+use Rattle.sn_report.specs.Items.{Item}
+use Rattle.sn_report.specs.Items.{Frame}
 use Rattle.sn_report.specs.declared.frame.Frame.TheVariants.{Row, End}
 use Rattle.sn_pipe.specs.Pipes.{after_packet, at_start, item_of}
 use Rattle.sn_pipe.specs.Prefixes.{left_in}

@@ -16,6 +16,7 @@ use crate::making::senders_of;
 use crate::sender::Sender;
 use sn_base::members::Members;
 use sn_base::memory::Memory;
+use sn_base::short_row::ShortRow;
 use sn_fields::tuple::Tuple;
 use sn_plan_grammar::plan::Plan;
 use sn_report::frame::Frame;
@@ -90,7 +91,7 @@ impl Emitter {
     }
 
     /// Gives a tuple to a lane, before its read-out. Takes no memory.
-    pub fn packet(&mut self, lane: u32, tuple: &Tuple) -> Option<Frame>
+    pub fn packet(&mut self, lane: u32, tuple: &Tuple) -> Option<Frame<ShortRow>>
         requires lane { lane < length self.old }
         requires unread { IfSome (slice_get self.old lane) (λ s. s.pipe.prefix.place ≡ 0) }
         ensures frame { IfSome (slice_get self.old lane) (λ s. result ≡ option_map (row_frame s.lane) (item_of s.pipe tuple.now)) }
@@ -103,7 +104,7 @@ impl Emitter {
     }
 
     /// The next frame of a lane's read-out: the rows, then one End, then `None`. Takes no memory.
-    pub fn read_out(&mut self, lane: u32, window: u64) -> Option<Frame>
+    pub fn read_out(&mut self, lane: u32, window: u64) -> Option<Frame<ShortRow>>
         requires lane { lane < length self.old }
         ensures frame { IfSome (slice_get self.old lane) (λ s. IfSome (slice_get self.new lane) (λ t. IsReadOut window s result t)) }
         ensures count { length self.new ≡ length self.old }

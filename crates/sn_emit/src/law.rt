@@ -11,7 +11,7 @@ ghost use Rattle.sn_emit.specs.Runs.{ReadsOut};
 ghost use Rattle.sn_emit.specs.Senders.{frames_left, packet_frames, row_frame, sender_after, sender_start};
 ghost use Rattle.sn_pipe.specs.Pipes.{after_packets, packets_give};
 ghost use Rattle.sn_pipe.specs.Prefixes.{left_in};
-ghost use Rattle.sn_report.specs.declared.frame.Frame.{Frame};
+ghost use Rattle.sn_report.specs.Items.{Frame};
 ghost use Rattle.sn_report.specs.declared.frame.Frame.TheVariants.{End};
 ghost use Rattle.sn_types.specs.declared.typed_query.TypedQuery.{TypedQuery};
 ghost use Rattle.sn_types.specs.Typed.{HasWidths, IsTyped, branch_at, query_at};

@@ -11,6 +11,7 @@ ghost use Rattle.sn_pipe.specs.Prefixes.{left_in};
 
 use sn_base::lane::Lane;
 use sn_base::members::Members;
+use sn_base::short_row::ShortRow;
 use sn_fields::tuple::Tuple;
 use sn_pipe::pipe::Pipe;
 use sn_report::frame::Frame;
@@ -31,7 +32,7 @@ pub struct Sender {
 impl Sender {
     /// Takes a tuple, before any read-out. `Some` exactly where the pipe gives an item. Takes no memory.
     #[inline(always)]
-    pub fn packet(&mut self, tuple: &Tuple) -> Option<Frame>
+    pub fn packet(&mut self, tuple: &Tuple) -> Option<Frame<ShortRow>>
         requires { self.old.pipe.prefix.place ≡ 0 }
         ensures frame { result ≡ option_map (row_frame self.old.lane) (item_of self.old.pipe tuple.now) }
         ensures after { self.new ≡ sender_next self.old tuple.now }
@@ -47,7 +48,7 @@ impl Sender {
     }
 
     /// The next frame of the read-out: the rows, then one End, then `None`. Takes no memory.
-    pub fn read_out(&mut self, window: u64) -> Option<Frame>
+    pub fn read_out(&mut self, window: u64) -> Option<Frame<ShortRow>>
         ensures frame { IsReadOut window self.old result self.new }
         ensures lane { self.new.lane ≡ self.old.lane }
         ensures pipe { (kept : set.FinSet nat_cmp) → at_start self.new.pipe kept ≡ at_start self.old.pipe kept }

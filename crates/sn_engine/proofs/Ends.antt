@@ -8,7 +8,7 @@ use Rattle.sn_base.specs.declared.lane.Lane.{Lane}
 use Rattle.sn_plan_grammar.specs.declared.plan.Entry.{Entry}
 use Rattle.sn_plan_grammar.specs.declared.plan.Piece.{Piece}
 use Rattle.sn_report.specs.declared.frame.Frame.TheVariants as frames
-use Rattle.sn_report.specs.declared.frame.Item.{Item}
+use Rattle.sn_report.specs.Items.{Item}
 use Rattle.sn_types.specs.declared.typed_query.TypedQuery.{TypedQuery}
 use Rattle.sn_engine.specs.declared.fault.TakeFault.{TakeFault}
 use Rattle.sn_engine.specs.declared.fault.TakeFault.TheVariants.{Stranger, AfterEnd, Window}

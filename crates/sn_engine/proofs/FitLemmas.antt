@@ -33,7 +33,7 @@ use Rattle.sn_types.proofs.TypedRows.{end_along, first_along as first_schema}
 use Rattle.sn_ops.specs.Flow.{Fits}
 use Rattle.sn_ops.proofs.Branches.{are_of_prop}
 use Rattle.sn_ops.proofs.Fitting.{fit_along, all_fit_prop, fits_prop, has_prop}
-use Rattle.sn_report.specs.declared.frame.Item.{Item}
+use Rattle.sn_report.specs.Items.{Item}
 use Rattle.sn_pipe_items.specs.Value.{is_at, is_partial, rows_with, taken, finish}
 use Rattle.sn_pipe_items.proofs.ValueBag.{IsHeld, PartialHad}
 use Rattle.sn_engine_split.specs.Branches.{branch_value, tag_columns, IsItemOf}

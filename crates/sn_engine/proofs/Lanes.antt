@@ -8,7 +8,7 @@ use Rattle.sn_base.proofs.Lists.{all_append, all_map, all_weaker, nat_same, all_
 use Rattle.sn_base.specs.declared.lane.Lane.{Lane}
 use Rattle.sn_plan_grammar.specs.declared.plan.Entry.{Entry}
 use Rattle.sn_plan_grammar.specs.declared.plan.Piece.{Piece}
-use Rattle.sn_report.specs.declared.frame.Item.{Item}
+use Rattle.sn_report.specs.Items.{Item}
 use Rattle.sn_engine_split.specs.Branches.{IsItemOf, tag_columns}
 use Rattle.sn_types.specs.declared.typed_query.TypedBranch.{TypedBranch}
 use Rattle.sn_types.specs.declared.typed_query.TypedQuery.{TypedQuery}
@@ -168,18 +168,18 @@ width_of true false rest e = absurd (none_some e)
 width_of false b rest e = absurd (none_some e)
 
 -- a lane that takes an item has its columns
-takes_item : (queries : List TypedQuery) (x : Intake) (item : Item) → row_fault queries x item ≡ None → IsItemOf (branch_at queries x.query x.branch) item
+pub takes_item : (queries : List TypedQuery) (x : Intake) (item : Item) → row_fault queries x item ≡ None → IsItemOf (branch_at queries x.query x.branch) item
 takes_item queries x item none =
     let b = branch_at queries x.query x.branch in
     columns_of (tag_columns b.schemas item.tag) item.row
     (width_of (is_tag_on x.shared b.ops x.cut item.tag) (has_columns (tag_columns b.schemas item.tag) item.row) (cond (is_some x.end) (Some AfterEnd) None) none)
 
-record Taker (queries : List TypedQuery) (lanes : List Intake) (lane : Lane) (item : Item) : Type 0 where
-  x : Intake
-  found : find (is_lane lane) lanes ≡ Some x
-  takes : row_fault queries x item ≡ None
+pub record Taker (queries : List TypedQuery) (lanes : List Intake) (lane : Lane) (item : Item) : Type 0 where
+  pub x : Intake
+  pub found : find (is_lane lane) lanes ≡ Some x
+  pub takes : row_fault queries x item ≡ None
 
-taker : (queries : List TypedQuery) (lanes : List Intake) (closed : Option ℕ) (lane : Lane) (item : Item) → take_fault queries lanes closed (frames.Row lane item) ≡ None → Taker queries lanes lane item
+pub taker : (queries : List TypedQuery) (lanes : List Intake) (closed : Option ℕ) (lane : Lane) (item : Item) → take_fault queries lanes closed (frames.Row lane item) ≡ None → Taker queries lanes lane item
 taker queries lanes closed lane item none = by_found (find (is_lane lane) lanes) refl none
   where
     by_found : (o : Option Intake) → find (is_lane lane) lanes ≡ o → option_map_or (λ (x : Intake). row_fault queries x item) o (Some Stranger) ≡ None → Taker queries lanes lane item

@@ -4,6 +4,7 @@ pub mod Ends
 pub mod Firsts
 pub mod Frames
 pub mod Lanes
+pub mod Shorts
 pub mod Orders
 pub mod FitLemmas
 pub mod Steps

@@ -9,9 +9,9 @@ use Rattle.sn_base.proofs.BagLemmas.{bag_after, bag_before, bag_same, bag_then}
 use Rattle.sn_base.specs.Groups.{Row as Numbers}
 use Rattle.sn_base.proofs.Lists.{by_test, nat_same}
 use Rattle.sn_base.specs.Sorted.{sorted_rows}
-use Rattle.sn_report.specs.declared.frame.Frame.{Frame}
+use Rattle.sn_report.specs.Items.{Frame}
 use Rattle.sn_report.specs.declared.frame.Frame.TheVariants.{Row, End}
-use Rattle.sn_report.specs.declared.frame.Item.{Item}
+use Rattle.sn_report.specs.Items.{Item}
 use Rattle.sn_engine_split.specs.Branches.{IsItemOf, query_value}
 use Rattle.sn_engine_split.proofs.Queries.{value_bags}
 use Rattle.sn_types.specs.declared.answers.Part.{Part}

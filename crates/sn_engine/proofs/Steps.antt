@@ -3,7 +3,7 @@ use Rattle.std.proofs.Common.{◌≡◌, ℕ, ◌+◌, ◌<◌, List, [], ◌∷
 use Rattle.std.proofs.lemmas.List.{map-append}
 use Rattle.sn_pipe_items.specs.Value.{rows_with}
 use Rattle.sn_ops.proofs.Steps.{filter_passed, filter_refused}
-use Rattle.sn_report.specs.declared.frame.Item.{Item}
+use Rattle.sn_report.specs.Items.{Item}
 use Rattle.sn_report.specs.declared.frame.Tag.{Tag}
 
 pub rows_passed : (t : Tag → Bool) (items : List Item) (i : ℕ) (item : Item) → i < length items → item ≡ get_or items i item → t item.tag ≡ true → rows_with t (take i items) ++ item.row ∷ [] ≡ rows_with t (take (i + 1) items)

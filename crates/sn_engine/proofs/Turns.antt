@@ -2,7 +2,7 @@
 use Rattle.std.proofs.Common.{◌≡◌, ℕ, suc, ◌+◌, ◌<◌, List, ◌∷◌, ◌++◌, map, length, drop, get_or, ap, sym, ◌∙◌, subst, arith, drop-cons}
 use Rattle.sn_base.specs.Groups.{Row}
 use Rattle.sn_pipe_items.specs.Value.{is_at, is_partial, rows_with, taken, finish, value}
-use Rattle.sn_report.specs.declared.frame.Item.{Item}
+use Rattle.sn_report.specs.Items.{Item}
 use Rattle.sn_types.specs.declared.typed_op.TOp.{TOp}
 use Rattle.sn_types.specs.Values.{op_at}
 use Rattle.sn_engine.specs.Fitting.{ItemsFit}

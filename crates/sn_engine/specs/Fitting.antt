@@ -4,7 +4,7 @@ use Rattle.std.specs.Prelude.{ℕ, suc, List, [], ◌∷◌, ◌++◌}
 use Rattle.sn_base.specs.Groups.{Row}
 use Rattle.sn_pipe_items.specs.Value.{is_at, is_partial, rows_with, taken}
 use Rattle.sn_ops.specs.Flow.{ArePartsOf, Fits}
-use Rattle.sn_report.specs.declared.frame.Item.{Item}
+use Rattle.sn_report.specs.Items.{Item}
 use Rattle.sn_types.specs.declared.typed_op.TOp.{TOp}
 use Rattle.sn_types.specs.declared.typed_op.TOp.TheVariants as ops
 use Rattle.sn_types.specs.Values.{op_at}

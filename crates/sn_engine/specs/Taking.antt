@@ -6,9 +6,9 @@ use Rattle.std.specs.List.{find, list_all, list_any}
 use Rattle.std.specs.Option.{option_map_or}
 use Rattle.sn_base.specs.Groups.{Row as Numbers}
 use Rattle.sn_base.specs.declared.column.Column.{Column}
-use Rattle.sn_report.specs.declared.frame.Frame.{Frame}
+use Rattle.sn_report.specs.Items.{Frame}
 use Rattle.sn_report.specs.declared.frame.Frame.TheVariants.{Row, End}
-use Rattle.sn_report.specs.declared.frame.Item.{Item}
+use Rattle.sn_report.specs.Items.{Item}
 use Rattle.sn_report.specs.declared.frame.Tag.{Tag}
 use Rattle.sn_report.specs.declared.frame.Tag.TheVariants.{At, Partial}
 use Rattle.sn_engine_split.specs.Branches.{is_at_place, is_reduce, is_tag_of, tag_columns}

@@ -11,6 +11,7 @@ use crate::intake::Intake;
 use crate::query::sorted_value;
 use sn_base::memory::Memory;
 use sn_base::seq::Seq;
+use sn_base::short_row::ShortRow;
 use sn_report::frame::Item;
 use sn_types::answers::Part;
 use sn_types::typed::Typed;
@@ -25,7 +26,7 @@ pub(crate) fn first_open(lanes: &[Intake]) -> Option<usize>
 }
 
 /// The items of a query at a place of its path and of a branch.
-fn items_at(lanes: &[Intake], query: u32, place: u32, branch: u32) -> &[Item]
+fn items_at(lanes: &[Intake], query: u32, place: u32, branch: u32) -> &[Item<ShortRow>]
     ensures { result.now ≡ items_at lanes.now (lane_at query place branch) }
 {
     for x in lanes {

@@ -16,8 +16,11 @@ use crate::fault::{CloseFault, TakeFault};
 use crate::intake::Intake;
 use crate::make::intakes;
 use crate::refuse::{place_for_end, place_for_item};
+use crate::short::short_item;
 use sn_base::lane::Lane;
 use sn_base::memory::Memory;
+use sn_base::row::Row;
+use sn_base::short_row::ShortRow;
 use sn_plan_grammar::plan::Plan;
 use sn_report::frame::{Frame, Item};
 use sn_types::answers::Answers;
@@ -43,7 +46,12 @@ pub struct Engine {
 }
 
 /// Adds an item to a lane.
-fn push_item(lanes: &mut Vec<Intake>, at: usize, lane: Lane, item: &Item) -> Result<(), TakeFault>
+fn push_item(
+    lanes: &mut Vec<Intake>,
+    at: usize,
+    lane: Lane,
+    item: &Item<ShortRow>,
+) -> Result<(), TakeFault>
     requires { position (is_lane lane) lanes.old.items ≡ Some at }
     ensures ok { OnOk result (lanes.new.items ≡ with_first (is_lane lane) (with_item item.now) lanes.old.items) }
     ensures err { OnErr result (lanes.new.items ≡ lanes.old.items) }
@@ -121,7 +129,7 @@ impl Engine {
         share_all(&mut self.lanes);
     }
 
-    fn take_row(&mut self, lane: Lane, item: &Item) -> Result<(), TakeFault>
+    fn take_row(&mut self, lane: Lane, item: &Item<ShortRow>) -> Result<(), TakeFault>
         ensures fault { Refuses result (take_fault self.old.t.queries self.old.lanes.items self.old.closed (Frame.Row lane item.now)) }
         ensures taken { OnOk result (self.new.lanes.items ≡ after_frame self.old.lanes.items (Frame.Row lane item.now)) }
         ensures kept { OnErr result (self.new.lanes.items ≡ self.old.lanes.items) }
@@ -150,7 +158,7 @@ impl Engine {
     }
 
     /// Takes a frame. A refusal changes nothing. Refusals are looked for in the order of the variants, out of memory last.
-    pub fn take(&mut self, frame: &Frame) -> Result<(), TakeFault>
+    pub fn take(&mut self, frame: &Frame<ShortRow>) -> Result<(), TakeFault>
         ensures fault { Refuses result (take_fault self.old.t.queries self.old.lanes.items self.old.closed frame.now) }
         ensures taken { OnOk result (self.new.lanes.items ≡ after_frame self.old.lanes.items frame.now) }
         ensures kept { OnErr result (self.new.lanes.items ≡ self.old.lanes.items) }
@@ -159,6 +167,34 @@ impl Engine {
     {
         match frame {
             Frame::Row(lane, item) => self.take_row(*lane, item),
+            Frame::End(lane, window) => self.take_end(*lane, *window),
+        }
+    }
+
+    /// Takes an item with columns of 128 bits. Since a lane takes no column past the width that the queries give it, which is 64 at
+    /// most, an item that one takes is short.
+    fn take_wide_row(&mut self, lane: Lane, item: &Item<Row>) -> Result<(), TakeFault>
+        ensures fault { Refuses result (take_fault self.old.t.queries self.old.lanes.items self.old.closed (Frame.Row lane item.now)) }
+        ensures taken { OnOk result (self.new.lanes.items ≡ after_frame self.old.lanes.items (Frame.Row lane item.now)) }
+        ensures kept { OnErr result (self.new.lanes.items ≡ self.old.lanes.items) }
+        ensures closed { self.new.closed ≡ self.old.closed }
+        ensures queries { self.new.t.queries ≡ self.old.t.queries }
+    {
+        place_for_item(&self.t, &self.lanes, lane, item)?;
+        let short = short_item(item);
+        self.take_row(lane, &short)
+    }
+
+    /// Takes a frame with columns of 128 bits, as `take` does one with columns of 64.
+    pub fn take_wide(&mut self, frame: &Frame<Row>) -> Result<(), TakeFault>
+        ensures fault { Refuses result (take_fault self.old.t.queries self.old.lanes.items self.old.closed frame.now) }
+        ensures taken { OnOk result (self.new.lanes.items ≡ after_frame self.old.lanes.items frame.now) }
+        ensures kept { OnErr result (self.new.lanes.items ≡ self.old.lanes.items) }
+        ensures closed { self.new.closed ≡ self.old.closed }
+        ensures queries { self.new.t.queries ≡ self.old.t.queries }
+    {
+        match frame {
+            Frame::Row(lane, item) => self.take_wide_row(*lane, item),
             Frame::End(lane, window) => self.take_end(*lane, *window),
         }
     }

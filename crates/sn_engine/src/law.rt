@@ -2,7 +2,7 @@
 ghost use Rattle.std.specs.Prelude.{◌≡◌, ◌<◌, ◌+◌, ◌++◌, ℕ, List, Option, Some, filter, fold, length};
 ghost use Rattle.std.specs.List.{find, AllByRecursion};
 ghost use Rattle.sn_base.specs.declared.lane.Lane.{Lane};
-ghost use Rattle.sn_report.specs.declared.frame.Frame.{Frame};
+ghost use Rattle.sn_report.specs.Items.{Frame};
 ghost use Rattle.sn_engine.specs.declared.intake.Intake.{Intake};
 ghost use Rattle.sn_engine.specs.Intakes.{is_lane, is_row, lane_at, after_frame, items_at, items_for, total, AreIntakes};
 ghost use Rattle.sn_engine.specs.Taking.{AreTaken};

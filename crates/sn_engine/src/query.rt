@@ -24,7 +24,7 @@ fn branch_value(
     q: u32,
     b: u32,
     level: u32,
-    items: &[Item],
+    items: &[Item<ShortRow>],
 ) -> Result<RowSeq<ShortRow>, Memory>
     requires query { q < length t.now.queries }
     requires branch { b < length (query_at t.now.queries q).branches }
@@ -42,8 +42,8 @@ pub fn query_value(
     t: &Typed,
     q: u32,
     level: u32,
-    left: &[Item],
-    right: &[Item],
+    left: &[Item<ShortRow>],
+    right: &[Item<ShortRow>],
 ) -> Result<RowSeq<ShortRow>, Memory>
     requires query { q < length t.now.queries }
     requires left { AllByRecursion (IsItemOf (branch_at t.now.queries q 0)) left.now }
@@ -66,8 +66,8 @@ pub fn sorted_value(
     t: &Typed,
     q: u32,
     level: u32,
-    left: &[Item],
-    right: &[Item],
+    left: &[Item<ShortRow>],
+    right: &[Item<ShortRow>],
 ) -> Result<Seq<ShortRow>, Memory>
     requires query { q < length t.now.queries }
     requires left { AllByRecursion (IsItemOf (branch_at t.now.queries q 0)) left.now }

@@ -3,6 +3,7 @@ ghost use Rattle.std.specs.Prelude.{◌≡◌, ◌^◌, ◌<◌, ◌&&◌, ℕ, 
 ghost use Rattle.std.specs.List.{list_any, list_all};
 ghost use Rattle.sn_engine.specs.Intakes.{is_lane, agrees, AreIntakes};
 ghost use Rattle.sn_engine.specs.Taking.{has_columns, is_above, is_first_stateful, is_shared_tag, is_tag_on, row_fault, end_fault, take_fault, Places};
+ghost use Rattle.sn_report.specs.Items.{item_by};
 ghost use Rattle.sn_report.specs.declared.frame.Frame.TheVariants as Frame;
 ghost use Rattle.sn_types.specs.declared.typed_query.TypedQuery.{TypedQuery};
 ghost use Rattle.sn_engine_split.specs.Branches.{is_distinct, is_reduce, is_at_place, is_tag_of, tag_columns};
@@ -11,9 +12,11 @@ ghost use Rattle.sn_types.specs.Typed.{query_at, branch_at, schema_at};
 
 use crate::fault::TakeFault;
 use crate::intake::Intake;
+use sn_base::any_row::AnyRow;
+use sn_base::columns::Columns;
 use sn_base::lane::Lane;
+use sn_base::number::Number;
 use sn_base::schema::Schema;
-use sn_base::short_row::ShortRow;
 use sn_report::frame::{Item, Tag};
 use sn_types::cuts::is_stateful;
 use sn_types::typed::Typed;
@@ -123,24 +126,24 @@ fn is_tag_on(shared: bool, ops: &[TOp], cut: u32, tag: Tag) -> bool
     }
 }
 
-fn has_bits(number: u64, width: u32) -> bool
-    ensures { result ≡ nat_lt number (2 ^ width) }
+fn has_bits<N: Number>(number: N, width: u32) -> bool
+    ensures { result ≡ nat_lt (N.value number) (2 ^ width) }
 {
-    width >= 64 || number >> width == 0
+    number.shifted(width).whole() == 0
 }
 
-fn has_columns(schema: &Schema, row: &ShortRow) -> bool
-    ensures { result ≡ has_columns schema.now row.now }
+fn has_columns<R: AnyRow>(schema: &Schema, row: &R) -> bool
+    ensures { result ≡ has_columns schema.now (R.columns row.now) }
 {
-    let numbers = row.as_slice();
-    if numbers.len() != schema.len() {
+    let count = row.len();
+    if count != schema.len() {
         return false;
     }
-    for (place, number) in numbers.iter().enumerate() {
+    for place in 0..count {
         let Some(column) = schema.get(place) else {
             unreachable!();
         };
-        if !has_bits(*number, column.width) {
+        if !has_bits(row.column(place as u32), column.width) {
             return false;
         }
     }
@@ -167,10 +170,10 @@ fn tag_columns(branch: &TypedBranch, tag: Tag) -> Schema
 }
 
 /// The first reason for which a lane doesn't take an item.
-fn row_fault(t: &Typed, x: &Intake, item: &Item) -> Option<TakeFault>
+fn row_fault<R: AnyRow>(t: &Typed, x: &Intake, item: &Item<R>) -> Option<TakeFault>
     requires query { x.now.query < length t.now.queries }
     requires branch { x.now.branch < length (query_at t.now.queries x.now.query).branches }
-    ensures { result ≡ row_fault t.now.queries x.now item.now }
+    ensures { result ≡ row_fault t.now.queries x.now (item_by R.columns item.now) }
 {
     let branch = t.branch(x.query, x.branch);
     if !is_tag_on(x.shared, branch.ops.as_slice(), x.cut, item.tag) {
@@ -220,14 +223,15 @@ fn end_fault(lanes: &[Intake], closed: Option<u64>, x: &Intake, window: u64) -> 
 }
 
 /// The place of the lane that takes an item, or the first reason for which none does.
-pub(crate) fn place_for_item(
+pub(crate) fn place_for_item<R: AnyRow>(
     t: &Typed,
     lanes: &[Intake],
     lane: Lane,
-    item: &Item,
+    item: &Item<R>,
 ) -> Result<usize, TakeFault>
     requires { AreIntakes t.now.queries lanes.now }
-    ensures { (closed : Option ℕ) → Places result (position (is_lane lane) lanes.now) (take_fault t.now.queries lanes.now closed (Frame.Row lane item.now)) }
+    ensures { (closed : Option ℕ) → Places result (position (is_lane lane) lanes.now)
+        (take_fault t.now.queries lanes.now closed (Frame.Row lane (item_by R.columns item.now))) }
 {
     match lane_at(lanes, lane) {
         Some(at) => match row_fault(t, &lanes[at], item) {

@@ -5,7 +5,7 @@ ghost use Rattle.sn_ops.specs.Flow.{Fits};
 ghost use Rattle.sn_engine.specs.Fitting.{PartsFit, ItemsFit};
 ghost use Rattle.sn_types.specs.Values.{op_at};
 
-use crate::rows::{partial_rows, push_rows_at};
+use crate::rows::{partial_rows, push_rows_at, span_of};
 use sn_base::memory::Memory;
 use sn_base::row_seq::RowSeq;
 use sn_base::seed::Seed;
@@ -23,7 +23,7 @@ fn taken(
     op: &TOp,
     level: u32,
     rows: &RowSeq<ShortRow>,
-    items: &[Item],
+    items: &[Item<ShortRow>],
     operator: u32,
 ) -> Result<RowSeq<ShortRow>, Memory>
     requires rows { Fits op.now rows.now }
@@ -48,19 +48,20 @@ pub(crate) fn value(
     seed: Seed,
     ops: &[TOp],
     level: u32,
-    items: &[Item],
+    items: &[Item<ShortRow>],
 ) -> Result<RowSeq<ShortRow>, Memory>
     requires few { length ops.now ≤ 12 }
     requires items { ItemsFit level 0 ops.now items.now (rows_with (is_at 0) items.now) }
     ensures { IfOk result (λ rows. rows ≡ value (map (op_at level) ops.now) items.now) }
 {
+    let span = span_of(items);
     let mut rows = RowSeq::new(alloc);
-    push_rows_at(&mut rows, items, 0)?;
+    push_rows_at(&mut rows, items, span, 0)?;
     let mut operator = 0;
     for op in ops {
         rows = taken(alloc, seed, op, level, &rows, items, operator)?;
         operator += 1;
-        push_rows_at(&mut rows, items, operator)?;
+        push_rows_at(&mut rows, items, span, operator)?;
     }
     Ok(rows)
 }

@@ -8,7 +8,7 @@ use Rattle.sn_engine.specs.declared.intake.Intake.{Intake}
 use Rattle.sn_engine.specs.Intakes.{after_frame, is_lane}
 use Rattle.sn_base.specs.Changed.{with_first}
 use Rattle.sn_report.specs.Frames.{lane_of as lane_in}
-use Rattle.sn_report.specs.declared.frame.Frame.{Frame}
+use Rattle.sn_report.specs.Items.{Frame}
 use Rattle.sn_report.specs.declared.frame.Frame.TheVariants.{Row, End}
 use Rattle.sn_engine_lockstep.specs.Work.{AreApart, intake_of, name_of, taken}
 use Rattle.sn_engine.proofs.Frames.{here, later}

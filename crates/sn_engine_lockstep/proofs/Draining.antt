@@ -6,7 +6,7 @@ use Rattle.sn_emit.specs.Runs.{IsReadOut, ReadsOut}
 use Rattle.sn_emit.specs.Senders.{frames_left}
 use Rattle.sn_engine.specs.declared.intake.Intake.{Intake}
 use Rattle.sn_engine.specs.Intakes.{after_frame}
-use Rattle.sn_report.specs.declared.frame.Frame.{Frame}
+use Rattle.sn_report.specs.Items.{Frame}
 use Rattle.sn_engine_lockstep.specs.Work.{IsReadInto}
 use Rattle.sn_base.proofs.Lists.{none_some}
 

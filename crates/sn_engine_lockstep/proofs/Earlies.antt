@@ -9,7 +9,7 @@ use Rattle.sn_plan_grammar.specs.declared.plan.Entry.{Entry}
 use Rattle.sn_refine.proofs.Windows.{above_last, earlier, here, later}
 use Rattle.sn_refine.specs.Refined.{Windows}
 use Rattle.sn_refine.specs.Steps.{Set, windows_of}
-use Rattle.sn_report.specs.declared.frame.Item.{Item}
+use Rattle.sn_report.specs.Items.{Item}
 use Rattle.sn_types.specs.declared.answers.Answers.{Answers}
 use Rattle.sn_types.specs.declared.typed_query.TypedQuery.{TypedQuery}
 use Rattle.sn_engine_lockstep.specs.declared.source.Source.{Source}

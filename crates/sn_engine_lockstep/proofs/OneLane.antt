@@ -13,9 +13,9 @@ use Rattle.sn_engine.specs.declared.intake.Intake.{Intake}
 use Rattle.sn_pipe.specs.Pipes.{item_of}
 use Rattle.sn_refine.specs.Steps.{Set}
 use Rattle.sn_report.specs.Frames.{lane_of as lane_in}
-use Rattle.sn_report.specs.declared.frame.Frame.{Frame}
+use Rattle.sn_report.specs.Items.{Frame}
 use Rattle.sn_report.specs.declared.frame.Frame.TheVariants.{End}
-use Rattle.sn_report.specs.declared.frame.Item.{Item}
+use Rattle.sn_report.specs.Items.{Item}
 use Rattle.sn_types.specs.declared.typed_query.TypedQuery.{TypedQuery}
 use Rattle.sn_types.specs.Typed.{HasWidths, IsTyped}
 use Rattle.sn_engine_lockstep.specs.declared.source.Source.{Source}

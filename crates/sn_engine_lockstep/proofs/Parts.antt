@@ -20,7 +20,7 @@ use Rattle.sn_plan_grammar.specs.declared.plan.Entry.{Entry}
 use Rattle.sn_plan_grammar.specs.declared.plan.Piece.{Piece}
 use Rattle.sn_refine.specs.Refined.{level_rows, part_at}
 use Rattle.sn_refine.specs.Steps.{Set, is_held, parts_in, rows_at}
-use Rattle.sn_report.specs.declared.frame.Item.{Item}
+use Rattle.sn_report.specs.Items.{Item}
 use Rattle.sn_engine_split.specs.Branches.{AreSplit, query_value}
 use Rattle.sn_base.specs.Sorted.{sorted_rows}
 use Rattle.sn_engine_split.proofs.Queries.{query_split}

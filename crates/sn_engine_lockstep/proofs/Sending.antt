@@ -10,7 +10,7 @@ use Rattle.sn_engine_lockstep.proofs.Giving.{of_some}
 use Rattle.sn_emit.specs.declared.sender.Sender.{Sender}
 use Rattle.sn_emit.specs.Runs.{IsReadOut}
 use Rattle.sn_emit.specs.Senders.{frames_left}
-use Rattle.sn_report.specs.declared.frame.Frame.{Frame}
+use Rattle.sn_report.specs.Items.{Frame}
 
 -- ---- one more
 

@@ -8,7 +8,7 @@ use Rattle.sn_engine.specs.declared.intake.Intake.{Intake}
 use Rattle.sn_plan_grammar.specs.declared.plan.Entry.{Entry}
 use Rattle.sn_refine.specs.Refined.{Windows}
 use Rattle.sn_refine.specs.Steps.{Set}
-use Rattle.sn_report.specs.declared.frame.Item.{Item}
+use Rattle.sn_report.specs.Items.{Item}
 use Rattle.sn_report.specs.declared.frame.Tag.{Tag}
 use Rattle.sn_report.specs.declared.frame.Tag.TheVariants.{At, Partial}
 use Rattle.sn_types.specs.declared.answers.Answers.{Answers}

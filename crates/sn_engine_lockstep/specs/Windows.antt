@@ -6,7 +6,7 @@ use Rattle.sn_plan_fit.specs.Paths.{place_in}
 use Rattle.sn_plan_grammar.specs.declared.plan.Entry.{Entry}
 use Rattle.sn_refine.specs.Refined.{Windows, refined_parts, seen_at}
 use Rattle.sn_refine.specs.Steps.{Set, parts_in}
-use Rattle.sn_report.specs.declared.frame.Item.{Item}
+use Rattle.sn_report.specs.Items.{Item}
 use Rattle.sn_engine_split.specs.Branches.{branch_items}
 use Rattle.sn_types.specs.declared.answers.Answers.{Answers}
 use Rattle.sn_types.specs.declared.answers.Part.{Part}

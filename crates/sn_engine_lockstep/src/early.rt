@@ -3,6 +3,7 @@ ghost use Rattle.std.specs.Prelude.{◌≡◌, ◌<◌, ◌^◌};
 ghost use Rattle.sn_engine.specs.Intakes.{total};
 ghost use Rattle.sn_engine_lockstep.specs.Early.{early_in, early_total, is_early};
 
+use sn_base::short_row::ShortRow;
 use sn_engine::intake::Intake;
 use sn_report::frame::{Item, Tag};
 
@@ -17,7 +18,7 @@ fn is_early(cut: u32, tag: Tag) -> bool
 }
 
 /// How many of the items of a piece with this cut are early.
-fn early_in(cut: u32, items: &[Item]) -> usize
+fn early_in(cut: u32, items: &[Item<ShortRow>]) -> usize
     ensures { result ≡ early_in cut items.now }
 {
     items.iter().filter(|item| is_early(cut, item.tag)).count()

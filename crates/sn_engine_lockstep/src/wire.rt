@@ -1,10 +1,11 @@
 //! Who is told of the frames that lanes send.
 ghost use Rattle.std.specs.Prelude.{◌≡◌, ◌++◌, ℕ, List, OnOk};
 ghost use Rattle.sn_emit.specs.Making.{CanEncode};
-ghost use Rattle.sn_report.specs.declared.frame.Frame.{Frame as Framed};
+ghost use Rattle.sn_report.specs.Items.{Frame as Framed};
 
 use sn_base::bytes::push_bytes;
 use sn_base::memory::Memory;
+use sn_base::short_row::ShortRow;
 use sn_report::encode::{MOST_BYTES, encode};
 use sn_report::frame::Frame;
 
@@ -17,7 +18,7 @@ pub trait Wire {
     ghost word: { Framed → List ℕ };
 
     /// Tells of a frame, after those before.
-    fn sent(&mut self, frame: &Frame) -> Result<(), Memory>
+    fn sent(&mut self, frame: &Frame<ShortRow>) -> Result<(), Memory>
         requires { CanEncode frame.now }
         ensures { OnOk result (told self.new ≡ told self.old ++ word frame.now) };
 }
@@ -28,9 +29,9 @@ impl Wire for Vec<u8> {
 
     ghost told = { λ text. text.items };
 
-    ghost word = { spelling };
+    ghost word = { spelling 2 };
 
-    fn sent(&mut self, frame: &Frame) -> Result<(), Memory> {
+    fn sent(&mut self, frame: &Frame<ShortRow>) -> Result<(), Memory> {
         let mut spelled = [0; MOST_BYTES];
         let length = encode(frame, &mut spelled);
         push_bytes(self, &spelled[..length])
@@ -48,7 +49,7 @@ impl Wire for Nobody {
 
     ghost word = { λ frame. [] };
 
-    fn sent(&mut self, _frame: &Frame) -> Result<(), Memory> {
+    fn sent(&mut self, _frame: &Frame<ShortRow>) -> Result<(), Memory> {
         Ok(())
     }
 }

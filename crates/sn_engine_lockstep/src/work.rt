@@ -10,13 +10,14 @@ ghost use Rattle.sn_types.specs.declared.typed_query.TypedQuery.{TypedQuery};
 
 use crate::wire::Wire;
 use sn_base::memory::Memory;
+use sn_base::short_row::ShortRow;
 use sn_emit::lanes::Emitter;
 use sn_engine::engine::Engine;
 use sn_fields::tuple::Tuple;
 use sn_report::frame::Frame;
 
 /// The engine takes a frame of a lane, and the wire is told of it.
-fn send<W: Wire>(engine: &mut Engine, wire: &mut W, frame: &Frame) -> Result<(), Memory>
+fn send<W: Wire>(engine: &mut Engine, wire: &mut W, frame: &Frame<ShortRow>) -> Result<(), Memory>
     requires { CanEncode frame.now }
     ensures taken { OnOk result (engine.new.lanes.items ≡ after_frame engine.old.lanes.items frame.now) }
     ensures sent { OnOk result (W.told wire.new ≡ W.told wire.old ++ W.word frame.now) }

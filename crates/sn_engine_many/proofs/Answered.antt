@@ -21,8 +21,8 @@ use Rattle.sn_multi.specs.Branches.{together}
 use Rattle.sn_plan_fit.specs.Fits.{AreEntriesOf}
 use Rattle.sn_plan_grammar.specs.declared.plan.Entry.{Entry}
 use Rattle.sn_refine.specs.Steps.{Set}
-use Rattle.sn_report.specs.declared.frame.Frame.{Frame}
-use Rattle.sn_report.specs.declared.frame.Item.{Item}
+use Rattle.sn_report.specs.Items.{Frame}
+use Rattle.sn_report.specs.Items.{Item}
 use Rattle.sn_types.specs.Typed.{HasWidths, IsTyped}
 use Rattle.sn_types.specs.declared.typed_query.TypedQuery.{TypedQuery}
 

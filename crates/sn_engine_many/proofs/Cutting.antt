@@ -8,7 +8,7 @@ use Rattle.sn_engine_many.specs.Shorts.{up_to_stateful}
 use Rattle.sn_engine_many.specs.Turns.{held_tag, turn}
 use Rattle.sn_multi.specs.Switches.{switch_items}
 use Rattle.sn_multi.specs.Turned.{short, turned}
-use Rattle.sn_report.specs.declared.frame.Item.{Item}
+use Rattle.sn_report.specs.Items.{Item}
 use Rattle.sn_types.specs.Cuts.{stateful}
 use Rattle.sn_types.specs.Values.{op_at}
 use Rattle.sn_types.specs.declared.typed_op.TOp.{TOp}

@@ -30,7 +30,7 @@ use Rattle.sn_plan_fit.specs.Paths.{place_in}
 use Rattle.sn_plan_grammar.specs.declared.plan.Piece.{Piece}
 use Rattle.sn_refine.specs.Refined.{level_rows}
 use Rattle.sn_refine.specs.Steps.{Set, is_held}
-use Rattle.sn_report.specs.declared.frame.Item.{Item}
+use Rattle.sn_report.specs.Items.{Item}
 use Rattle.sn_types.specs.Cuts.{size_at}
 use Rattle.sn_types.specs.Typed.{HasWidths, IsTyped, branch_at, query_at}
 use Rattle.sn_types.specs.Values.{op_at}

@@ -11,7 +11,7 @@ use Rattle.sn_engine_lockstep.specs.declared.source.Source.{Source}
 use Rattle.sn_engine_many.proofs.Taking.{fold_append}
 use Rattle.sn_engine_many.specs.Switches.{AreWorking, CanBegin, IsResting, IsWorking, given_to}
 use Rattle.sn_refine.specs.Steps.{Set}
-use Rattle.sn_report.specs.declared.frame.Frame.{Frame}
+use Rattle.sn_report.specs.Items.{Frame}
 use Rattle.sn_types.specs.Typed.{HasWidths}
 use Rattle.sn_types.specs.declared.typed_query.TypedQuery.{TypedQuery}
 

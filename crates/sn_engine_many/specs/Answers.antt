@@ -12,7 +12,7 @@ use Rattle.sn_plan_fit.specs.Paths.{place_in}
 use Rattle.sn_plan_grammar.specs.declared.plan.Entry.{Entry}
 use Rattle.sn_refine.specs.Refined.{Windows, answered, before, refined_rows}
 use Rattle.sn_refine.specs.Steps.{Set}
-use Rattle.sn_report.specs.declared.frame.Item.{Item}
+use Rattle.sn_report.specs.Items.{Item}
 use Rattle.sn_types.specs.Cuts.{size_at}
 use Rattle.sn_types.specs.Typed.{branch_at, query_at}
 use Rattle.sn_types.specs.Values.{op_at}

@@ -5,9 +5,9 @@ use Rattle.sn_engine.specs.Intakes.{lane_at}
 use Rattle.sn_engine.specs.declared.intake.Intake.{Intake}
 use Rattle.sn_multi.specs.Turned.{retagged}
 use Rattle.sn_report.specs.Frames.{operator_of}
-use Rattle.sn_report.specs.declared.frame.Frame.{Frame}
+use Rattle.sn_report.specs.Items.{Frame}
 use Rattle.sn_report.specs.declared.frame.Frame.TheVariants.{Row, End}
-use Rattle.sn_report.specs.declared.frame.Item.{Item}
+use Rattle.sn_report.specs.Items.{Item}
 use Rattle.sn_report.specs.declared.frame.Tag.{Tag}
 use Rattle.sn_report.specs.declared.frame.Tag.TheVariants.{At, Partial}
 use Rattle.sn_types.specs.Typed.{branch_at}

@@ -10,6 +10,7 @@ ghost use Rattle.sn_types.specs.Typed.{query_at};
 use crate::fronts::{front, held_tag};
 use sn_base::lane::Lane;
 use sn_base::memory::Memory;
+use sn_base::short_row::ShortRow;
 use sn_engine::engine::Engine;
 use sn_engine::intake::Intake;
 use sn_report::frame::{Frame, Item, Tag};
@@ -26,7 +27,7 @@ fn lane_tag(t: &Typed, x: &Intake) -> Option<Tag>
 }
 
 /// An item that stands after the operator of this tag has this tag.
-fn turn(tag: Option<Tag>, item: &Item) -> Item
+fn turn(tag: Option<Tag>, item: &Item<ShortRow>) -> Item<ShortRow>
     ensures { result ≡ turn tag item.now }
 {
     let after = match (tag, item.tag) {
@@ -60,7 +61,7 @@ fn name_of(x: &Intake) -> Option<Lane>
 }
 
 /// The engine takes a frame.
-fn take(engine: &mut Engine, frame: &Frame) -> Result<(), Memory>
+fn take(engine: &mut Engine, frame: &Frame<ShortRow>) -> Result<(), Memory>
     ensures no_fault { OnOk result (take_fault engine.old.t.queries engine.old.lanes.items engine.old.closed frame.now ≡ None) }
     ensures taken { OnOk result (engine.new.lanes.items ≡ after_frame engine.old.lanes.items frame.now) }
     ensures queries { engine.new.t.queries ≡ engine.old.t.queries }

@@ -41,7 +41,7 @@ use Rattle.sn_types.proofs.Sound.{AreSound, sound_branch}
 use Rattle.sn_ops.specs.Packets.{is_kept, packet_rows}
 use Rattle.sn_ops.specs.Plain.{branch_rows}
 use Rattle.sn_ops.proofs.Branches.{packets_of}
-use Rattle.sn_report.specs.declared.frame.Item.{Item}
+use Rattle.sn_report.specs.Items.{Item}
 use Rattle.sn_pipe_items.specs.Value.{value}
 use Rattle.sn_pipe_items.proofs.OrderLemmas.{items_bag}
 use Rattle.sn_engine_split.specs.Branches.{branch_items}

@@ -30,7 +30,7 @@ use Rattle.sn_ops.specs.Joins.{lefts, rights, meets, both, joined}
 use Rattle.sn_ops.specs.Plain.{branch_rows, joined_rows, query_rows}
 use Rattle.sn_ops.specs.declared.packets.Kept.{Kept}
 use Rattle.sn_ops.proofs.PacketSteps.{some_branch}
-use Rattle.sn_report.specs.declared.frame.Item.{Item}
+use Rattle.sn_report.specs.Items.{Item}
 use Rattle.sn_engine_split.specs.Branches.{branch_value, query_value, AreSplit, IsItemOf}
 use Rattle.sn_engine_split.proofs.Typed.{bags, had_prop, split}
 

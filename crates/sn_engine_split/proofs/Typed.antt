@@ -28,7 +28,7 @@ use Rattle.sn_ops.specs.Packets.{packet_rows}
 use Rattle.sn_ops.specs.Plain.{branch_rows}
 use Rattle.sn_ops.specs.declared.packets.Kept.{Kept}
 use Rattle.sn_ops.proofs.Branches.{packets_of}
-use Rattle.sn_report.specs.declared.frame.Item.{Item}
+use Rattle.sn_report.specs.Items.{Item}
 use Rattle.sn_report.specs.declared.frame.Tag.{Tag}
 use Rattle.sn_report.specs.declared.frame.Tag.TheVariants.{At, Partial}
 use Rattle.sn_types.specs.Cuts.{size_at}

@@ -21,7 +21,7 @@ use Rattle.sn_types.proofs.Known.{IsKnown}
 use Rattle.sn_types.proofs.RowsAfter.{as_long, named_of, of_both, rows_after, value_had, lawful_same, had_of, of_had}
 use Rattle.sn_types.proofs.Schemas.{IsSchema, reduced_whole, schema_after, value_width}
 use Rattle.sn_types.proofs.Sound.{IsSound, AreSound}
-use Rattle.sn_report.specs.declared.frame.Item.{Item}
+use Rattle.sn_report.specs.Items.{Item}
 use Rattle.sn_pipe_items.specs.Value.{is_at, is_partial, rows_with}
 use Rattle.sn_pipe_items.proofs.ValueBag.{IsHeld, PartialHad, ItemsHad}
 use Rattle.sn_types.proofs.TypedRows.{first_along}

@@ -10,7 +10,7 @@ use Rattle.sn_types.specs.declared.typed_query.TypedQuery.{TypedQuery}
 use Rattle.sn_types.specs.Typed.{IsTyped, HasWidths, branch_at, branch_of, query_at}
 use Rattle.sn_ops.specs.Plain.{branch_rows, query_rows}
 use Rattle.sn_ops.proofs.PacketSteps.{some_branch}
-use Rattle.sn_report.specs.declared.frame.Item.{Item}
+use Rattle.sn_report.specs.Items.{Item}
 use Rattle.sn_engine_split.specs.Branches.{IsItemOf, branch_value, query_value}
 use Rattle.sn_engine_split.proofs.Queries.{query_bag}
 use Rattle.sn_pipe_items.specs.Left.{keeps_at}

@@ -13,7 +13,7 @@ use Rattle.sn_pipe_items.specs.Value.{value}
 use Rattle.sn_ops.specs.Joins.{joined}
 use Rattle.sn_ops.specs.Packets.{packet_rows}
 use Rattle.sn_ops.specs.declared.packets.Kept.{Kept}
-use Rattle.sn_report.specs.declared.frame.Item.{Item}
+use Rattle.sn_report.specs.Items.{Item}
 use Rattle.sn_report.specs.declared.frame.Tag.{Tag}
 use Rattle.sn_report.specs.declared.frame.Tag.TheVariants.{At, Partial}
 use Rattle.sn_types.specs.declared.typed_op.TOp.{TOp}

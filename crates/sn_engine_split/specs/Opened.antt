@@ -7,7 +7,7 @@ use Rattle.sn_base.specs.Groups.{Row}
 use Rattle.sn_base.specs.Mask.{masked}
 use Rattle.sn_fields.specs.declared.field.Field.{Field}
 use Rattle.sn_fields.specs.Fields.{number_of, width_of}
-use Rattle.sn_report.specs.declared.frame.Item.{Item}
+use Rattle.sn_report.specs.Items.{Item}
 use Rattle.sn_types.specs.declared.typed_query.TypedBranch.{TypedBranch}
 use Rattle.sn_types.specs.declared.typed_query.TypedQuery.{TypedQuery}
 use Rattle.sn_types.specs.Typed.{branch_of}
@@ -45,7 +45,7 @@ lets_in (Some field) (Some ps) tuple = has_prefix field ps (slice_index tuple (n
 abbrev pub let_in : TypedQuery → Option Prefixes → List (List ℕ) → List (List ℕ)
 let_in query ps tuples = filter (lets_in query.field ps) tuples
 
--- a table of so many entries stays open where the set has more members; without a limit it never does
+-- a table with this many entries stays open where the set has more members; without a limit it never does
 abbrev pub is_open : Option ℕ → set.FinSet nat_cmp → Bool
 is_open None members = false
 is_open (Some entries) members = nat_lt entries (set.len members)

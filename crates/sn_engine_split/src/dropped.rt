@@ -8,7 +8,7 @@ ghost use Rattle.sn_engine_split.specs.Opened.{IsWithinLevel, Prefixes, left_in,
 ghost use Rattle.sn_engine_split.specs.Wholes.{AreLeft};
 ghost use Rattle.sn_ops.specs.Plain.{branch_rows, query_rows};
 ghost use Rattle.sn_pipe_items.specs.Value.{value};
-ghost use Rattle.sn_report.specs.declared.frame.Item.{Item};
+ghost use Rattle.sn_report.specs.Items.{Item};
 ghost use Rattle.sn_types.specs.Typed.{IsTyped, HasWidths, query_at, branch_at};
 ghost use Rattle.sn_types.specs.Values.{op_at};
 ghost use Rattle.sn_types.specs.declared.typed_query.TypedQuery.{TypedQuery};

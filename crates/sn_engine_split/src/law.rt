@@ -5,7 +5,7 @@ ghost use Rattle.sn_base.specs.Bags.{SameBag};
 ghost use Rattle.sn_base.specs.Sorted.{sorted_rows};
 ghost use Rattle.sn_ops.specs.Plain.{branch_rows, query_rows};
 ghost use Rattle.sn_ops.specs.declared.packets.Kept.{Kept};
-ghost use Rattle.sn_report.specs.declared.frame.Item.{Item};
+ghost use Rattle.sn_report.specs.Items.{Item};
 ghost use Rattle.sn_pipe_items.specs.Value.{value};
 ghost use Rattle.sn_engine_split.specs.Branches.{branch_items, query_value, AreSplit, IsItemOf};
 ghost use Rattle.sn_types.specs.Typed.{IsTyped, HasWidths, query_at, branch_at};

@@ -22,7 +22,7 @@ use Rattle.sn_pipe_items.proofs.Homes.{all_members, member}
 use Rattle.sn_pipe_items.proofs.ItemLemmas.{rows_all, rows_behind, rows_none}
 use Rattle.sn_pipe_items.proofs.ItemsHadLemmas.{had_none}
 use Rattle.sn_pipe_items.proofs.ValueBag.{IsHeld, ItemsHad, PartialHad, value_bag}
-use Rattle.sn_report.specs.declared.frame.Item.{Item}
+use Rattle.sn_report.specs.Items.{Item}
 use Rattle.sn_report.specs.declared.frame.Tag.{Tag}
 use Rattle.sn_report.specs.declared.frame.Tag.TheVariants.{At, Partial}
 use Rattle.sn_multi.specs.Switches.{all_items, beyond, beyond_keys, firsts, switch_items}

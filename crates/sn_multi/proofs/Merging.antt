@@ -25,7 +25,7 @@ use Rattle.sn_pipe_items.specs.Items.{held, tagged}
 use Rattle.sn_pipe_items.specs.Value.{finish, is_at, is_partial, rows_with, taken, value}
 use Rattle.sn_pipe_items.proofs.Homes.{homes_apart_any}
 use Rattle.sn_pipe_items.proofs.ItemLemmas.{finish_alone, finish_none, finish_past, finish_past_partial, rows_all, rows_behind, rows_none, taken_none}
-use Rattle.sn_report.specs.declared.frame.Item.{Item}
+use Rattle.sn_report.specs.Items.{Item}
 use Rattle.sn_report.specs.declared.frame.Tag.{Tag}
 use Rattle.sn_report.specs.declared.frame.Tag.TheVariants.{At, Partial}
 use Rattle.sn_multi.specs.Switches.{all_items, beyond, beyond_keys, firsts, switch_items}

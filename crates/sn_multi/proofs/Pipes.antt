@@ -13,7 +13,7 @@ use Rattle.sn_pipe_items.proofs.Cuts.{IsCut}
 use Rattle.sn_base.proofs.Lists.{nat_self}
 use Rattle.sn_base.proofs.Tests.{nat_apart}
 use Rattle.sn_pipe_items.proofs.OrderLemmas.{items_bag}
-use Rattle.sn_report.specs.declared.frame.Item.{Item}
+use Rattle.sn_report.specs.Items.{Item}
 use Rattle.sn_report.specs.declared.frame.Tag.{Tag}
 use Rattle.sn_report.specs.declared.frame.Tag.TheVariants.{At, Partial}
 use Rattle.sn_multi.specs.Switches.{beyond, firsts, switch_items}

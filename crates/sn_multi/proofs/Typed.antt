@@ -16,7 +16,7 @@ use Rattle.sn_ops.specs.Plain.{branch_rows, query_rows}
 use Rattle.sn_ops.specs.declared.packets.Kept.{Kept}
 use Rattle.sn_ops.proofs.Branches.{packets_of}
 use Rattle.sn_ops.proofs.PacketSteps.{some_branch}
-use Rattle.sn_report.specs.declared.frame.Item.{Item}
+use Rattle.sn_report.specs.Items.{Item}
 use Rattle.sn_engine_split.specs.Branches.{branch_value, query_value}
 use Rattle.sn_engine_split.proofs.Queries.{query_bag}
 use Rattle.sn_engine_split.proofs.Typed.{rows_had}

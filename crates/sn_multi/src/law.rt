@@ -13,7 +13,7 @@ ghost use Rattle.sn_types.specs.Typed.{HasWidths, IsTyped, query_at};
 ghost use Rattle.sn_types.specs.declared.typed_query.TypedQuery.{TypedQuery};
 ghost use Rattle.sn_multi.specs.Branches.{AreOfSwitches, together};
 ghost use Rattle.sn_pipe_items.specs.Value.{value};
-ghost use Rattle.sn_report.specs.declared.frame.Item.{Item};
+ghost use Rattle.sn_report.specs.Items.{Item};
 ghost use Rattle.sn_multi.specs.Switches.{all_items};
 
 /// Switches that run the same prefix, each on its own rows, up to the first operator with registers: what the engine makes

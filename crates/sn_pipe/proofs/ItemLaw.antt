@@ -21,7 +21,7 @@ use Rattle.sn_query_grammar.specs.declared.ast.Op.{Op}
 use Rattle.sn_query_grammar.specs.declared.ast.What.{What}
 use Rattle.sn_query_grammar.specs.declared.ast.What.TheVariants as what
 use Rattle.sn_types_faults.specs.Columns.{columns_after, packet_columns}
-use Rattle.sn_report.specs.declared.frame.Item.{Item}
+use Rattle.sn_report.specs.Items.{Item}
 use Rattle.sn_report.specs.declared.frame.Tag.{Tag}
 use Rattle.sn_report.specs.declared.frame.Tag.TheVariants.{At, Partial}
 use Rattle.sn_pipe_items.specs.Items.{held, items, tagged}

@@ -8,7 +8,7 @@ use Rattle.std.specs.FinSet as set
 use Rattle.sn_base.specs.Groups.{Row}
 use Rattle.sn_fields.specs.declared.field.Field.{Field}
 use Rattle.sn_ops.specs.Packets.{is_member}
-use Rattle.sn_report.specs.declared.frame.Item.{Item}
+use Rattle.sn_report.specs.Items.{Item}
 use Rattle.sn_types.specs.declared.typed_op.TOp.{TOp}
 use Rattle.sn_types.specs.declared.typed_query.TypedQuery.{TypedQuery}
 use Rattle.sn_types.specs.Typed.{branch_of, packet_row}

@@ -13,6 +13,7 @@ ghost use Rattle.sn_chain.specs.Limits.{largest_register};
 use crate::prefix::Prefix;
 use sn_base::members::Members;
 use sn_base::memory::Memory;
+use sn_base::short_row::ShortRow;
 use sn_fields::tuple::Tuple;
 use sn_ops::packets::{Kept, is_kept};
 use sn_report::frame::Item;
@@ -114,7 +115,7 @@ impl Pipe {
     /// Takes a tuple, before any read-out. `Some` exactly where the tuple gives an item: its row at the operator where
     /// its key overflows, or after a prefix without a reduce. Takes no memory.
     #[inline(always)]
-    pub fn packet(&mut self, tuple: &Tuple) -> Option<Item>
+    pub fn packet(&mut self, tuple: &Tuple) -> Option<Item<ShortRow>>
         requires { self.old.prefix.place ≡ 0 }
         ensures item { result ≡ item_of self.old tuple.now }
         ensures after { self.new ≡ record self.old { prefix = record self.old.prefix { stages = after_tuple self.old tuple.now } } }
@@ -128,7 +129,7 @@ impl Pipe {
     }
 
     /// The next item that is read out. `None` exactly where none is left. Takes no memory.
-    pub fn read_out_next(&mut self) -> Option<Item>
+    pub fn read_out_next(&mut self) -> Option<Item<ShortRow>>
         ensures item { result ≡ slice_get (left_in self.old.prefix) 0 }
         ensures left { left_in self.new.prefix ≡ drop 1 (left_in self.old.prefix) }
         ensures rest { self.new ≡ record self.old { prefix = record self.old.prefix { place = self.new.prefix.place } } }

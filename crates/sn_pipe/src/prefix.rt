@@ -78,7 +78,7 @@ impl Prefix {
     }
 
     /// Takes a packet row, before any read-out. The answer is the item that it gives. Takes no memory.
-    pub fn take(&mut self, packet: &PacketRow<'_, u64>) -> Option<Item>
+    pub fn take(&mut self, packet: &PacketRow<'_, u64>) -> Option<Item<ShortRow>>
         requires unread { self.old.place ≡ 0 }
         requires can { CanPass self.old.level self.old.stages packet.now }
         ensures item { result ≡ item_from self.old.level 0 self.old.stages packet.now }
@@ -96,7 +96,7 @@ impl Prefix {
     }
 
     /// The next item that is read out. `None` exactly where none is left. Takes no memory.
-    pub fn read_out_next(&mut self) -> Option<Item>
+    pub fn read_out_next(&mut self) -> Option<Item<ShortRow>>
         ensures item { result ≡ slice_get (left_in self.old) 0 }
         ensures left { left_in self.new ≡ drop 1 (left_in self.old) }
         ensures level { self.new.level ≡ self.old.level }

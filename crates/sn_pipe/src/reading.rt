@@ -131,7 +131,7 @@ pub(crate) fn next_item(
     first: u8,
     spilled: bool,
     place: u32,
-) -> (Option<Item>, u32)
+) -> (Option<Item<ShortRow>>, u32)
     requires few { first + length stages.now ≤ 12 }
     requires can { CanRead stages.now }
     ensures item { result.0 ≡ slice_get (left_from level first spilled place stages.now) 0 }
@@ -161,7 +161,7 @@ fn next_held(
     first: u8,
     spilled: bool,
     place: u32,
-) -> (Option<Item>, u32)
+) -> (Option<Item<ShortRow>>, u32)
     requires few { first + length behind.now < 12 }
     requires columns { length r.now.keys < 8 }
     requires keys { HoldKeys (length r.now.keys) chain.now.cells }
@@ -176,7 +176,7 @@ fn next_held(
     (with_tag(tag_up(first, spilled, behind), row), after)
 }
 
-fn with_tag(tag: Tag, row: Option<ShortRow>) -> Option<Item>
+fn with_tag(tag: Tag, row: Option<ShortRow>) -> Option<Item<ShortRow>>
     ensures item { result ≡ option_map (item_up tag) row }
     ensures operator { operator_of tag ≤ 12 → IfSome result (λ item. operator_of item.tag ≤ 12) }
 {

@@ -4,7 +4,7 @@ use Rattle.sn_base.specs.Groups.{Row, once, same_row}
 use Rattle.sn_base.specs.Operators.{Grouping, Op, key_of}
 use Rattle.sn_base.specs.Operators.Op.{Filter, Map, Distinct, Reduce}
 use Rattle.sn_chain.specs.Chain.{has_home}
-use Rattle.sn_report.specs.declared.frame.Item.{Item}
+use Rattle.sn_report.specs.Items.{Item}
 use Rattle.sn_report.specs.declared.frame.Tag.TheVariants.{At, Partial}
 use Rattle.sn_pipe_items.specs.Items.{tagged, held}
 

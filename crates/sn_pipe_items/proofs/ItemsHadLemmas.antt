@@ -7,7 +7,7 @@ use Rattle.sn_base.specs.Bags.{SameBag}
 use Rattle.sn_base.specs.Groups.{Row, once, same_row}
 use Rattle.sn_base.specs.Operators.{Grouping, Op, Had, row_for, key_of, pair_of, parted, through}
 use Rattle.sn_base.specs.Operators.Op.{Filter, Map, Distinct, Reduce}
-use Rattle.sn_report.specs.declared.frame.Item.{Item}
+use Rattle.sn_report.specs.Items.{Item}
 use Rattle.sn_report.specs.declared.frame.Tag.TheVariants.{At, Partial}
 use Rattle.sn_base.proofs.Lists.{all_filter, all_map, nat_self as at_self}
 use Rattle.sn_base.proofs.BagLemmas.{bag_then, bag_back}

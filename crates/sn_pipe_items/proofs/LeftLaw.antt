@@ -16,7 +16,7 @@ use Rattle.sn_base.proofs.GroupLemmas.{keys, total, values_kept}
 use Rattle.sn_base.proofs.Lists.{all_append, all_weaker, by_test, filter_map, filter_turned, map_where}
 use Rattle.sn_base.proofs.OnceLemmas.{all_once, once_filter}
 use Rattle.sn_base.proofs.OperatorLemmas.{AllOf}
-use Rattle.sn_report.specs.declared.frame.Item.{Item}
+use Rattle.sn_report.specs.Items.{Item}
 use Rattle.sn_report.specs.declared.frame.Tag.{Tag}
 use Rattle.sn_report.specs.declared.frame.Tag.TheVariants.{At, Partial}
 use Rattle.sn_pipe_items.specs.Value.{is_at, is_partial, rows_with, taken, finish, value}
@@ -68,7 +68,7 @@ partial_only keeps i (Partial j) row is = ap (λ (n : ℕ). keeps (suc n) row) (
 -- ---- operators that carry what is tested
 
 module _ (keeps : ℕ → Row → Bool) where
-  -- A reduce has what is tested among its keys: it is told by the key alone, before the reduce, in the reduce's rows, and in Partial rows.
+  -- A reduce has what is tested among its keys: it is tested by the key alone, before the reduce, in the reduce's rows, and in Partial rows.
   pub record IsKeyed (i : ℕ) (g : Grouping) : Type 0 where
     pub key : Row → Bool
     pub before : (row : Row) → key (key_of g row) ≡ keeps i row

@@ -8,7 +8,7 @@ use Rattle.sn_base.specs.Bags.SameBag.{behind}
 use Rattle.sn_base.specs.Groups.{Row, once, same_row}
 use Rattle.sn_base.specs.Operators.{Op, key_of, through}
 use Rattle.sn_base.specs.Operators.Op.{Filter, Map, Distinct, Reduce}
-use Rattle.sn_report.specs.declared.frame.Item.{Item}
+use Rattle.sn_report.specs.Items.{Item}
 use Rattle.sn_report.specs.declared.frame.Tag.{Tag}
 use Rattle.sn_report.specs.declared.frame.Tag.TheVariants.{At, Partial}
 use Rattle.sn_base.proofs.Lists.{by_test, nat_same, nat_self, filter_map, all_filter, all_append}

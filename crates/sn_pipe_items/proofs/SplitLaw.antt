@@ -8,7 +8,7 @@ use Rattle.sn_base.specs.Bags.{SameBag}
 use Rattle.sn_base.specs.Groups.{Row, once, same_row}
 use Rattle.sn_base.specs.Operators.{Grouping, Op, Had, grouped, key_of, pair_of, parted, apply, through}
 use Rattle.sn_base.specs.Operators.Op.{Filter, Map, Distinct, Reduce}
-use Rattle.sn_report.specs.declared.frame.Item.{Item}
+use Rattle.sn_report.specs.Items.{Item}
 use Rattle.sn_report.specs.declared.frame.Tag.TheVariants.{At, Partial}
 use Rattle.sn_base.proofs.Lists.{by_test, filter_map, filter_all, all_filter, all_append, filter_same as filter_agree, nat_self as at_self}
 use Rattle.sn_base.proofs.BagLemmas.{bag_same, bag_then, bag_back}

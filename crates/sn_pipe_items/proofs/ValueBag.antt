@@ -8,7 +8,7 @@ use Rattle.sn_base.specs.Bags.{SameBag}
 use Rattle.sn_base.specs.Groups.{Row, once, same_row}
 use Rattle.sn_base.specs.Operators.{Grouping, Op, Had, pair_of, parted}
 use Rattle.sn_base.specs.Operators.Op.{Filter, Map, Distinct, Reduce}
-use Rattle.sn_report.specs.declared.frame.Item.{Item}
+use Rattle.sn_report.specs.Items.{Item}
 use Rattle.sn_report.specs.declared.frame.Tag.{Tag}
 use Rattle.sn_base.proofs.Lists.{all_map, all_append, all_weaker}
 use Rattle.sn_base.proofs.BagLemmas.{bag_then, bag_before, bag_after, bag_filter, bag_map}

@@ -2,7 +2,7 @@
 -- The items that are left where those of other prefixes are dropped.
 use Rattle.std.specs.Prelude.{ℕ, suc, List, filter, Bool}
 use Rattle.sn_base.specs.Groups.{Row}
-use Rattle.sn_report.specs.declared.frame.Item.{Item}
+use Rattle.sn_report.specs.Items.{Item}
 use Rattle.sn_report.specs.declared.frame.Tag.{Tag}
 use Rattle.sn_report.specs.declared.frame.Tag.TheVariants.{At, Partial}
 

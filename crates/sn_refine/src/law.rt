@@ -5,7 +5,7 @@ ghost use Rattle.sn_base.specs.Sorted.{sorted_rows};
 ghost use Rattle.sn_ops.specs.declared.packets.Kept.{Kept};
 ghost use Rattle.sn_refine.specs.Refined.{Windows, refined_parts, refined_rows};
 ghost use Rattle.sn_refine.specs.Steps.{Sees, windows_of, answers_from};
-ghost use Rattle.sn_report.specs.declared.frame.Item.{Item};
+ghost use Rattle.sn_report.specs.Items.{Item};
 ghost use Rattle.sn_engine_split.specs.Branches.{query_value, AreSplit};
 ghost use Rattle.sn_types.specs.Typed.{IsTyped, HasWidths, query_at};
 ghost use Rattle.sn_types.specs.declared.typed_query.TypedQuery.{TypedQuery};

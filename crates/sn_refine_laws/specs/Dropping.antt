@@ -6,7 +6,7 @@ use Rattle.sn_base.specs.Groups.{Row}
 use Rattle.sn_base.specs.Operators.{Op}
 use Rattle.sn_base.specs.Operators.Op.{Filter, Map, Distinct, Reduce}
 use Rattle.sn_pipe_items.specs.Value.{is_partial, rows_with}
-use Rattle.sn_report.specs.declared.frame.Item.{Item}
+use Rattle.sn_report.specs.Items.{Item}
 use Rattle.sn_report.specs.declared.frame.Tag.{Tag}
 use Rattle.sn_report.specs.declared.frame.Tag.TheVariants.{At, Partial}
 use Rattle.sn_refine_laws.specs.Carrying.{CarriesTo}

@@ -7,7 +7,7 @@ ghost use Rattle.sn_base.specs.Operators.{Op, through};
 ghost use Rattle.sn_refine_laws.specs.Carrying.{CarryTo, passes};
 ghost use Rattle.sn_refine_laws.specs.Dropping.{AllPartsLong, CarryAlong, passing};
 ghost use Rattle.sn_pipe_items.specs.Value.{value};
-ghost use Rattle.sn_report.specs.declared.frame.Item.{Item};
+ghost use Rattle.sn_report.specs.Items.{Item};
 ghost use Rattle.sn_refine_laws.specs.Monotone.{is_monotone};
 ghost use Rattle.sn_refine_laws.specs.Told.{EndsFinest, IsToldInTime, has_prefix};
 ghost use Rattle.sn_fields.specs.Fields.{number_of, width_of};

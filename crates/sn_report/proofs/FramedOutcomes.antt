@@ -1,21 +1,21 @@
 -- Something stands at the front of all numbers, bytes or not.
-use Rattle.std.proofs.Common.{◌≡◌, ℕ, zero, suc, ◌+◌, ◌<◌, ◌≤◌, true, false, List, [], ◌∷◌, ◌++◌, length, get_or, take, ap, sym, ◌∙◌, subst, arith, inl, inr}
+use Rattle.std.proofs.Common.{◌≡◌, ℕ, zero, suc, ◌+◌, ◌/◌, ◌%◌, ◌^◌, ◌<◌, ◌≤◌, true, false, List, [], ◌∷◌, ◌++◌, length, get_or, take, ap, sym, ◌∙◌, subst, arith, inl, inr}
 use Rattle.std.specs.Prelude.{◌⊎◌}
-use Rattle.std.specs.Int.{w64, to_be_bytes}
+use Rattle.std.specs.Int.{w64, w128, to_be_bytes}
 use Rattle.std.proofs.lemmas.Bool.{cases_lt}
 use Rattle.std.proofs.lemmas.List.{length-take, take-take, take_all, get_or-take, get_or_append_left}
 use Rattle.sn_base.proofs.Lists.{by_test}
 use Rattle.sn_base.specs.declared.lane.Lane.{Lane}
 use Rattle.sn_report.specs.declared.decode.Decoded.{Decoded}
 use Rattle.sn_report.specs.declared.decode.Decoded.TheVariants.{Whole, More, Bad}
-use Rattle.sn_report.specs.declared.frame.Frame.{Frame}
+use Rattle.sn_report.specs.Items.{Frame}
 use Rattle.sn_report.specs.declared.frame.Frame.TheVariants.{Row, End}
 use Rattle.sn_report.specs.declared.frame.Tag.{Tag}
 use Rattle.sn_report.specs.declared.frame.Tag.TheVariants.{At, Partial}
 use Rattle.sn_report.specs.Decoding.{IsFront, IsProperFront, Stands}
 use Rattle.sn_report.specs.Frames.{IsFrame, Spells, column_bytes, spelling}
 use Rattle.sn_report.specs.Reading.{AllMayStand, frame_in, frame_length, may_stand}
-use Rattle.sn_report.proofs.Columns.{AreBytes, bytes_before, bytes_joined}
+use Rattle.sn_report.proofs.Columns.{AreBytes, bytes_before, bytes_joined, upper_first, wide_bytes, word_bytes}
 use Rattle.sn_report.proofs.Frames.{whole_again}
 use Rattle.sn_report.proofs.Headers.{bad_front, front_good, goes_on}
 
@@ -73,7 +73,7 @@ good_outcome bytes fits good =
       | inl few ↦ record { outcome = More; stands = goes_on bytes fits good (inl few) }
       | inr front ↦ elim (cases_lt (length bytes) (frame_length bytes)) [
         | inl fewer ↦ record { outcome = More; stands = goes_on bytes fits good (inr fewer) }
-        | inr whole ↦ record { outcome = Whole (frame_in bytes) (frame_length bytes); stands = (whole, whole_again bytes fits (λ place lt. good place lt (omega arith)) whole) }
+        | inr whole ↦ record { outcome = Whole (frame_in bytes) (frame_length bytes); stands = (whole, get_or bytes 0 0, whole_again bytes fits (λ place lt. good place lt (omega arith)) whole) }
       ]
     ]
 
@@ -119,50 +119,67 @@ column_fits n (suc (suc (suc (suc (suc (suc zero)))))) = omega arith
 column_fits n (suc (suc (suc (suc (suc (suc (suc zero))))))) = omega arith
 column_fits n (suc (suc (suc (suc (suc (suc (suc (suc i)))))))) = omega arith
 
-columns_fit : (columns : List ℕ) → AreBytes (column_bytes columns)
-columns_fit [] = no_bytes
-columns_fit (c ∷ columns) = bytes_joined (to_be_bytes w64 c) (column_bytes columns) (column_fits c) (columns_fit columns)
+words_fit : (columns : List ℕ) → AreBytes (word_bytes columns)
+words_fit [] = no_bytes
+words_fit (c ∷ columns) = bytes_joined (to_be_bytes w64 c) (word_bytes columns) (column_fits c) (words_fit columns)
 
-eight_fit : (b c d e f g : ℕ) (rest : List ℕ) → b < 256 → c < 256 → d < 256 → e < 256 → f < 256 → g < 256 → AreBytes rest → AreBytes (1 ∷ b ∷ c ∷ d ∷ e ∷ f ∷ g ∷ 0 ∷ rest)
-eight_fit b c d e f g rest kb kc kd ke kf kg h zero = omega arith
-eight_fit b c d e f g rest kb kc kd ke kf kg h (suc zero) = kb
-eight_fit b c d e f g rest kb kc kd ke kf kg h (suc (suc zero)) = kc
-eight_fit b c d e f g rest kb kc kd ke kf kg h (suc (suc (suc zero))) = kd
-eight_fit b c d e f g rest kb kc kd ke kf kg h (suc (suc (suc (suc zero)))) = ke
-eight_fit b c d e f g rest kb kc kd ke kf kg h (suc (suc (suc (suc (suc zero))))) = kf
-eight_fit b c d e f g rest kb kc kd ke kf kg h (suc (suc (suc (suc (suc (suc zero)))))) = kg
-eight_fit b c d e f g rest kb kc kd ke kf kg h (suc (suc (suc (suc (suc (suc (suc zero))))))) = omega arith
-eight_fit b c d e f g rest kb kc kd ke kf kg h (suc (suc (suc (suc (suc (suc (suc (suc i)))))))) = h i
+wide_fits : (n : ℕ) → AreBytes (to_be_bytes w128 n)
+wide_fits n =
+    subst AreBytes (sym (upper_first n)) (bytes_joined (to_be_bytes w64 (n / 2 ^ 64)) (to_be_bytes w64 (n % 2 ^ 64)) (column_fits (n / 2 ^ 64)) (column_fits (n % 2 ^ 64)))
 
-row_fits : (lane : Lane) (tag : Tag) (row : List ℕ) → IsFrame (Row lane (record { tag = tag; row = row })) → AreBytes (spelling (Row lane (record { tag = tag; row = row })))
-row_fits lane (At i) row h =
-    let q = h.query in let l = h.level in let b = h.branch in let o = h.operator in let few = h.content.0 in
-    eight_fit 0 lane.query lane.level lane.branch i (length row) (column_bytes row) (omega arith) (omega arith) (omega arith) (omega arith) (omega arith) (omega arith) (columns_fit row)
-row_fits lane (Partial i) row h =
-    let q = h.query in let l = h.level in let b = h.branch in let o = h.operator in let few = h.content.0 in
-    eight_fit 1 lane.query lane.level lane.branch i (length row) (column_bytes row) (omega arith) (omega arith) (omega arith) (omega arith) (omega arith) (omega arith) (columns_fit row)
+wides_fit : (columns : List ℕ) → AreBytes (wide_bytes columns)
+wides_fit [] = no_bytes
+wides_fit (c ∷ columns) = bytes_joined (to_be_bytes w128 c) (wide_bytes columns) (wide_fits c) (wides_fit columns)
+
+columns_fit : (version : ℕ) (columns : List ℕ) → 1 ≤ version → version ≤ 2 → AreBytes (column_bytes version columns)
+columns_fit zero columns some most = absurd (omega (arith, some))
+columns_fit (suc zero) columns some most = words_fit columns
+columns_fit (suc (suc zero)) columns some most = wides_fit columns
+columns_fit (suc (suc (suc n))) columns some most = absurd (omega (arith, most))
+
+eight_fit : (a b c d e f g : ℕ) (rest : List ℕ) → a < 256 → b < 256 → c < 256 → d < 256 → e < 256 → f < 256 → g < 256 → AreBytes rest → AreBytes (a ∷ b ∷ c ∷ d ∷ e ∷ f ∷ g ∷ 0 ∷ rest)
+eight_fit a b c d e f g rest ka kb kc kd ke kf kg h zero = ka
+eight_fit a b c d e f g rest ka kb kc kd ke kf kg h (suc zero) = kb
+eight_fit a b c d e f g rest ka kb kc kd ke kf kg h (suc (suc zero)) = kc
+eight_fit a b c d e f g rest ka kb kc kd ke kf kg h (suc (suc (suc zero))) = kd
+eight_fit a b c d e f g rest ka kb kc kd ke kf kg h (suc (suc (suc (suc zero)))) = ke
+eight_fit a b c d e f g rest ka kb kc kd ke kf kg h (suc (suc (suc (suc (suc zero))))) = kf
+eight_fit a b c d e f g rest ka kb kc kd ke kf kg h (suc (suc (suc (suc (suc (suc zero)))))) = kg
+eight_fit a b c d e f g rest ka kb kc kd ke kf kg h (suc (suc (suc (suc (suc (suc (suc zero))))))) = omega arith
+eight_fit a b c d e f g rest ka kb kc kd ke kf kg h (suc (suc (suc (suc (suc (suc (suc (suc i)))))))) = h i
+
+row_fits : (version : ℕ) (lane : Lane) (tag : Tag) (row : List ℕ) → IsFrame version (Row lane (record { tag = tag; row = row })) → AreBytes (spelling version (Row lane (record { tag = tag; row = row })))
+row_fits version lane (At i) row h =
+    let q = h.query in let l = h.level in let b = h.branch in let o = h.operator in let few = h.content.0 in let most = h.most_version in
+    eight_fit version 0 lane.query lane.level lane.branch i (length row) (column_bytes version row)
+    (omega (arith, most)) (omega arith) (omega (arith, q)) (omega (arith, l)) (omega (arith, b)) (omega (arith, o)) (omega (arith, few)) (columns_fit version row h.some_version most)
+row_fits version lane (Partial i) row h =
+    let q = h.query in let l = h.level in let b = h.branch in let o = h.operator in let few = h.content.0 in let most = h.most_version in
+    eight_fit version 1 lane.query lane.level lane.branch i (length row) (column_bytes version row)
+    (omega (arith, most)) (omega arith) (omega (arith, q)) (omega (arith, l)) (omega (arith, b)) (omega (arith, o)) (omega (arith, few)) (columns_fit version row h.some_version most)
 
 -- a frame's numbers are bytes
-frame_fits : (frame : Frame) → IsFrame frame → AreBytes (spelling frame)
-frame_fits (Row lane item) h = row_fits lane item.tag item.row h
-frame_fits (End lane window) h =
-    let q = h.query in let l = h.level in let b = h.branch in
-    eight_fit 2 lane.query lane.level lane.branch 0 1 (column_bytes (window ∷ [])) (omega arith) (omega arith) (omega arith) (omega arith) (omega arith) (omega arith) (columns_fit (window ∷ []))
+frame_fits : (version : ℕ) (frame : Frame) → IsFrame version frame → AreBytes (spelling version frame)
+frame_fits version (Row lane item) h = row_fits version lane item.tag item.row h
+frame_fits version (End lane window) h =
+    let q = h.query in let l = h.level in let b = h.branch in let most = h.most_version in
+    eight_fit version 2 lane.query lane.level lane.branch 0 1 (to_be_bytes w64 window)
+    (omega (arith, most)) (omega arith) (omega (arith, q)) (omega (arith, l)) (omega (arith, b)) (omega arith) (omega arith) (column_fits window)
 
 -- no frame has a number that is no byte
 none_past : (numbers : List ℕ) (n : ℕ) → n < length numbers → 256 ≤ get_or numbers n 0 → IsFront (take (n + 1) numbers) → ⊥
-none_past numbers n within large (frame, rest, spells) =
+none_past numbers n within large (version, frame, rest, spells) =
     let there : get_or (take (n + 1) numbers ++ rest) n 0 ≡ get_or numbers n 0 =
     get_or_append_left (take (n + 1) numbers) rest 0 n (omega (arith, length-take (n + 1) numbers)) ∙ get_or-take (n + 1) numbers n 0 (omega arith) in
-    let same : get_or (spelling frame) n 0 ≡ get_or numbers n 0 = sym (ap (λ xs. get_or xs n 0) spells.spelled) ∙ there in
-    let fits = frame_fits frame spells.in_range n in
+    let same : get_or (spelling version frame) n 0 ≡ get_or numbers n 0 = sym (ap (λ xs. get_or xs n 0) spells.spelled) ∙ there in
+    let fits = frame_fits version frame spells.in_range n in
     omega (arith, same, fits, large)
 
 -- what stands at the front of the first bytes stands at that of all numbers
 front_outcome : (numbers : List ℕ) (n : ℕ) → n < length numbers → 256 ≤ get_or numbers n 0 → (d : Decoded) → Stands (take n numbers) d → HasOutcome numbers
 front_outcome numbers n within large (Whole frame len) h =
     let long : len ≤ n = (let le = h.0 in omega (arith, le, length-take n numbers)) in
-    record { outcome = Whole frame len; stands = (omega arith, subst (λ xs. Spells xs frame) (take-take len n numbers long) h.1) }
+    record { outcome = Whole frame len; stands = (omega arith, h.1, subst (λ xs. Spells xs h.1 frame) (take-take len n numbers long) h.2) }
 front_outcome numbers n within large More h = record { outcome = Bad n; stands = (within, h, none_past numbers n within large) }
 front_outcome numbers n within large (Bad k) h =
     let lt : k < n = (let le = h.0 in omega (arith, le, length-take n numbers)) in

@@ -4,13 +4,26 @@ use Rattle.std.specs.Prelude.{◌≡◌, ℕ, List, ◌++◌}
 use Rattle.std.specs.List.{flat_map, AllByRecursion}
 use Rattle.sn_report.specs.declared.decode.Decoded.{Decoded}
 use Rattle.sn_report.specs.declared.decode.Decoded.TheVariants.{Whole, More, Bad}
-use Rattle.sn_report.specs.declared.frame.Frame.{Frame}
 use Rattle.sn_report.specs.Decoding.{Stands}
 use Rattle.sn_report.specs.Frames.{IsFrame, spelling}
+use Rattle.sn_report.specs.Items.{Frame}
 
--- the bytes of frames, one after another
-abbrev pub bytes_of : List Frame → List ℕ
-bytes_of frames = flat_map spelling frames
+-- a frame, and the version in which it is written
+pub record Written : Type 0 where
+  pub version : ℕ
+  pub frame : Frame
+
+-- its bytes
+abbrev pub bytes_in : Written → List ℕ
+bytes_in w = spelling w.version w.frame
+
+-- its numbers are in the range of the version
+abbrev pub IsWritten : Written → Type 0
+IsWritten w = IsFrame w.version w.frame
+
+-- the bytes of frames, one after another; versions may be mixed
+abbrev pub bytes_of : List Written → List ℕ
+bytes_of frames = flat_map bytes_in frames
 
 abbrev pub IsNoFrame : Decoded → Type 0
 IsNoFrame (Whole frame len) = ⊥
@@ -19,8 +32,8 @@ IsNoFrame (Bad n) = Unit {0}
 
 -- The bytes are those of whole frames, one after another, and of no further frame: after them stand the first bytes of a
 -- frame that goes on, or none; or bytes as no frame has them, of which one is the first that shows it.
-pub record AreReports (bytes : List ℕ) (frames : List Frame) (left : Decoded) : Type 0 where
-  pub each : AllByRecursion IsFrame frames
+pub record AreReports (bytes : List ℕ) (frames : List Written) (left : Decoded) : Type 0 where
+  pub each : AllByRecursion IsWritten frames
   pub rest : List ℕ
   pub cut : bytes ≡ bytes_of frames ++ rest
   pub behind : Stands rest left
@@ -28,7 +41,7 @@ pub record AreReports (bytes : List ℕ) (frames : List Frame) (left : Decoded) 
 
 -- frames, and what stands after them
 pub record Framed : Type 0 where
-  pub frames : List Frame
+  pub frames : List Written
   pub left : Decoded
 
 -- there are such frames, and there is one list of them

@@ -1,7 +1,6 @@
 //! Items and the frames that carry them.
 
 use sn_base::lane::Lane;
-use sn_base::short_row::ShortRow;
 
 /// Where a row left the operators of its branch, and so where the engine goes on with it.
 #[derive(Clone, Copy, Debug, PartialEq, Eq)]
@@ -12,18 +11,18 @@ pub enum Tag {
     Partial(u8),
 }
 
-/// A row that leaves the switch.
+/// A row that leaves the switch, of some kind of rows.
 #[derive(Clone, Copy, Debug, PartialEq, Eq)]
-pub struct Item {
+pub struct Item<R> {
     pub tag: Tag,
-    pub row: ShortRow,
+    pub row: R,
 }
 
 /// What is sent for a lane: an item, or the end of a window.
 #[derive(Clone, Copy, Debug, PartialEq, Eq)]
-pub enum Frame {
+pub enum Frame<R> {
     /// An item of a lane.
-    Row(Lane, Item),
+    Row(Lane, Item<R>),
     /// The last frame of a lane in the window of this number.
     End(Lane, u64),
 }

@@ -120,6 +120,24 @@ reports: 0100000000010200 000000000a000009 000000000a0000020101000000030200 0000
 
 packets | map ip.dst as d, ip.src as s | distinct | map d as d, 1 as n | reduce d: sum(n) width 16 | filter n > 1;
 plan: plan query q path 0; piece 0 0 cut 5 slots 1, 1 stages 1, 3;
+reports: 0200000000010200 0000000000000000 000000000a000009 0000000000000000 000000000a000002 0201000000030200 0000000000000000 000000000a000009 0000000000000000 0000000000000001 0202000000000100 0000000000000000
+= window 0 emitted 2
+= query q level 0 rows 1
+= 10.0.0.9 2
+= total windows 1 emitted 2
+
+packets | map ip.dst as d, ip.src as s | distinct | map d as d, 1 as n | reduce d: sum(n) width 16 | filter n > 1;
+plan: plan query q path 0; piece 0 0 cut 5 slots 1, 1 stages 1, 3;
+reports: 0100000000010200 000000000a000009 000000000a000002 0201000000030200 0000000000000000 000000000a000009 0000000000000000 0000000000000001 0102000000000100 0000000000000000 0202000000000100 0000000000000001
+= window 0 emitted 2
+= query q level 0 rows 1
+= 10.0.0.9 2
+= window 1 emitted 0
+= query q level 0 rows 0
+= total windows 2 emitted 2
+
+packets | map ip.dst as d, ip.src as s | distinct | map d as d, 1 as n | reduce d: sum(n) width 16 | filter n > 1;
+plan: plan query q path 0; piece 0 0 cut 5 slots 1, 1 stages 1, 3;
 reports: 0101000000030200 000000000a000009 00000000000000010100000000010200 000000000a000009 000000000a0000020102000000000100 0000000000000000
 = window 0 emitted 2
 = query q level 0 rows 1
@@ -169,6 +187,11 @@ reports: 0000000000010200000000000a000009000000000a0000020101000000030200 000000
 packets | map ip.dst as d, ip.src as s | distinct | map d as d, 1 as n | reduce d: sum(n) width 16 | filter n > 1;
 plan: plan query q path 0; piece 0 0 cut 5 slots 1, 1 stages 1, 3;
 reports: 0200000000010200000000000a000009000000000a0000020101000000030200 000000000a000009 00000000000000010102000000000100 0000000000000000
+= sonata: reports Width byte 0
+
+packets | map ip.dst as d, ip.src as s | distinct | map d as d, 1 as n | reduce d: sum(n) width 16 | filter n > 1;
+plan: plan query q path 0; piece 0 0 cut 5 slots 1, 1 stages 1, 3;
+reports: 0300000000010200000000000a000009000000000a0000020101000000030200 000000000a000009 00000000000000010102000000000100 0000000000000000
 = sonata: reports Bad byte 0
 
 packets | map ip.dst as d, ip.src as s | distinct | map d as d, 1 as n | reduce d: sum(n) width 16 | filter n > 1;
@@ -223,8 +246,13 @@ reports: 0100000000010200 000000000a000009 000000000a0000020101000000030200 0000
 
 packets | map ip.dst as d, ip.src as s | distinct | map d as d, 1 as n | reduce d: sum(n) width 16 | filter n > 1;
 plan: plan query q path 0; piece 0 0 cut 5 slots 1, 1 stages 1, 3;
-reports: 0100000000010200 000000000a000009 000000000a00000202
+reports: 0100000000010200 000000000a000009 000000000a00000203
 = sonata: reports Bad byte 24
+
+packets | map ip.dst as d, ip.src as s | distinct | map d as d, 1 as n | reduce d: sum(n) width 16 | filter n > 1;
+plan: plan query q path 0; piece 0 0 cut 5 slots 1, 1 stages 1, 3;
+reports: 0100000000010200 000000000a000009 000000000a00000202
+= sonata: reports Cut byte 24
 
 packets | map ip.dst as d, ip.src as s | distinct | map d as d, 1 as n | reduce d: sum(n) width 16 | filter n > 1;
 plan: plan query q path 0; piece 0 0 cut 5 slots 1, 1 stages 1, 3;

@@ -7,8 +7,13 @@ use std::test::Fail;
 const FINISHED: &str =
     "packets | map ip.dst as d, ip.src as s | distinct | map d as d, 1 as n | reduce d: sum(n) width 16 | filter n > 1;
 plan: plan query q path 0; piece 0 0 cut 5 slots 1, 1 stages 1, 3;
-reports: 0100000000010200000000000a000009000000000a000002 0201000000030200000000000a0000090000000000000001 01020000000001000000000000000000
+reports: 0100000000010200000000000a000009000000000a000002 0301000000030200000000000a0000090000000000000001 01020000000001000000000000000000
 = sonata: reports Bad byte 24
+
+packets | map ip.dst as d, ip.src as s | distinct | map d as d, 1 as n | reduce d: sum(n) width 16 | filter n > 1;
+plan: plan query q path 0; piece 0 0 cut 5 slots 1, 1 stages 1, 3;
+reports: 0100000000010200000000000a000009000000000a000002 0201000000030200000000000a0000090000000000000001 01020000000001000000000000000000
+= sonata: reports Width byte 24
 
 packets | map ip.dst as d, ip.src as s | distinct | map d as d, 1 as n | reduce d: sum(n) width 16 | filter n > 1;
 plan: plan query q path 0; piece 0 0 cut 5 slots 1, 1 stages 1, 3;

@@ -21,7 +21,15 @@ const SWITCH: &str = "stages 5; actions 2; bits 1000; meta 1000; chain 1; slots 
 const PLAN: &str = "plan query q path 0; piece 0 0 cut 5 slots 1, 1 stages 1, 3;";
 
 /// Reports of one window by that plan: an item, a partial row, and the End.
-const REPORTS: [u8; 64] = [
+const REPORTS: [u8; 96] = [
+    2, 0, 0, 0, 0, 1, 2, 0, 0, 0, 0, 0, 0, 0, 0, 0, 0, 0, 0, 0, 10, 0, 0, 9, 0, 0, 0, 0, 0, 0, 0,
+    0, 0, 0, 0, 0, 10, 0, 0, 2, 2, 1, 0, 0, 0, 3, 2, 0, 0, 0, 0, 0, 0, 0, 0, 0, 0, 0, 0, 0, 10, 0,
+    0, 9, 0, 0, 0, 0, 0, 0, 0, 0, 0, 0, 0, 0, 0, 0, 0, 1, 2, 2, 0, 0, 0, 0, 1, 0, 0, 0, 0, 0, 0, 0,
+    0, 0,
+];
+
+/// The same in version 1.
+const FIRST_REPORTS: [u8; 64] = [
     1, 0, 0, 0, 0, 1, 2, 0, 0, 0, 0, 0, 10, 0, 0, 9, 0, 0, 0, 0, 10, 0, 0, 2, 1, 1, 0, 0, 0, 3, 2,
     0, 0, 0, 0, 0, 10, 0, 0, 9, 0, 0, 0, 0, 0, 0, 0, 1, 1, 2, 0, 0, 0, 0, 1, 0, 0, 0, 0, 0, 0, 0,
     0, 0,
@@ -114,6 +122,21 @@ fn finishes_what_it_emits(rt: HostRuntime) -> Result<(), Fail> {
     assert_eq!(rt; emitted.status, 0);
     assert_eq!(rt; emitted.out.bytes(), &REPORTS[..]);
     files.put("r", file_of(alloc, emitted.out.bytes())?)?;
+    let out = MemSink::new(alloc, 1000)?;
+    let finished = call(alloc, "finish q p r", &mut files, out)?;
+    assert_eq!(rt; finished.status, 0);
+    assert_eq!(rt;
+        finished.out.bytes(),
+        b"window 0 emitted 2\nquery q level 0 rows 1\n10.0.0.9 2\ntotal windows 1 emitted 2\n".as_slice()
+    );
+    Ok(())
+}
+
+#[test]
+fn finishes_reports_of_version_one(rt: HostRuntime) -> Result<(), Fail> {
+    let alloc = rt.alloc();
+    let mut files = spread_files(alloc)?;
+    files.put("r", file_of(alloc, &FIRST_REPORTS)?)?;
     let out = MemSink::new(alloc, 1000)?;
     let finished = call(alloc, "finish q p r", &mut files, out)?;
     assert_eq!(rt; finished.status, 0);

@@ -2,6 +2,7 @@
 use crate::texts::{
     COUNTS, NET, ONE_SLOT, SPREAD, TWO_SLOTS, lane, plan, queries, row, rows, sent,
 };
+use sn_base::short_row::ShortRow;
 use sn_engine::engine::Engine;
 use sn_engine::fault::{CloseFault, TakeFault};
 use sn_plan_fit::shape;
@@ -17,7 +18,7 @@ fn engine(rt: &HostRuntime) -> Option<Engine> {
     }
 }
 
-fn end(window: u64) -> Frame {
+fn end(window: u64) -> Frame<ShortRow> {
     Frame::End(lane(0, 0), window)
 }
 
@@ -101,7 +102,7 @@ fn answers_what_a_pipe_sends(rt: HostRuntime) -> Result<(), Fail> {
 }
 
 /// One of many frames that a pipe of this plan may send.
-fn frame(number: u64) -> Frame {
+fn frame(number: u64) -> Frame<ShortRow> {
     let n = number
         .wrapping_mul(2862933555777941757)
         .wrapping_add(3037000493)

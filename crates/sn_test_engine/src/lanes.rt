@@ -4,7 +4,7 @@ ghost use Rattle.sn_emit.specs.Making.{CanEncode};
 ghost use Rattle.sn_plan_fit.specs.Fits.{Fits};
 ghost use Rattle.sn_switch.specs.Texts.{IsSwitch};
 
-use crate::frames::REPORT;
+use crate::frames::WIDE;
 use crate::texts::{
     COUNTS, FIVE, Fitting, NET, ONE_SLOT, REFINED, SPREAD, TWO_LEVELS, TWO_SLOTS, fitting_of, lane,
     row, sent, syn,
@@ -12,9 +12,10 @@ use crate::texts::{
 use sn_base::members::Members;
 use sn_base::memory::Memory;
 use sn_base::seq::Seq;
+use sn_base::short_row::ShortRow;
 use sn_emit::lanes::Emitter;
 use sn_fields::tuple::Tuple;
-use sn_report::encode::encode;
+use sn_report::encode::{MOST_BYTES, encode};
 use sn_report::frame::{Frame, Item, Tag};
 use std::alloc::Global;
 use std::test::Fail;
@@ -57,15 +58,15 @@ fn emitter(
 /// Frames, and their bytes one after another.
 #[derive(Drop)]
 struct Told {
-    frames: Seq<Frame>,
+    frames: Seq<Frame<ShortRow>>,
     bytes: Seq<u8>,
 }
 
 impl Told {
-    fn push(&mut self, frame: Frame) -> Result<(), Memory>
+    fn push(&mut self, frame: Frame<ShortRow>) -> Result<(), Memory>
         requires { CanEncode frame }
     {
-        let mut bytes = [0; 72];
+        let mut bytes = [0; MOST_BYTES];
         let len = encode(&frame, &mut bytes);
         self.frames.push(frame)?;
         for byte in bytes.iter().take(len) {
@@ -114,7 +115,7 @@ fn begin(emitter: &mut Emitter, lane: u32, kept: Members)
 }
 
 /// What destinations 1 2 1 2 3 give in one register of one slot: three rows overflow, and one is read out.
-fn counted(number: u64) -> [Frame; 5] {
+fn counted(number: u64) -> [Frame<ShortRow>; 5] {
     [
         sent(Tag::At(1), row(&[NET + 2, 1])),
         sent(Tag::At(1), row(&[NET + 2, 1])),
@@ -177,7 +178,7 @@ fn writes_a_partial_row(rt: HostRuntime) -> Result<(), Fail> {
     let lanes = emitter.lanes();
     assert!(rt; lanes == 1);
     let told = window(rt.alloc(), &mut emitter, 0, &[syn(1, 9), syn(2, 9)], 0)?;
-    assert_eq!(rt; told.bytes.as_slice(), &REPORT[..]);
+    assert_eq!(rt; told.bytes.as_slice(), &WIDE[..]);
     assert_eq!(rt; emitter.emitted(), 2);
     Ok(())
 }

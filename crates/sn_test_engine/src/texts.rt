@@ -85,7 +85,7 @@ pub(crate) fn lane(query: u8, level: u8) -> Lane {
 }
 
 /// A frame of the first lane.
-pub(crate) fn sent(tag: Tag, row: ShortRow) -> Frame {
+pub(crate) fn sent(tag: Tag, row: ShortRow) -> Frame<ShortRow> {
     Frame::Row(lane(0, 0), Item { tag, row })
 }
 

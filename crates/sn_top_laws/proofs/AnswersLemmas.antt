@@ -22,11 +22,11 @@ use Rattle.sn_command_finish.specs.Reported.{Reported}
 use Rattle.sn_command_finish.specs.Whole.{HaveNames, IsWindow, Rise, Sent, answered_text, answers_to, block_of, frames_in}
 use Rattle.sn_command_finish.proofs.WholeLemmas.{windows_answered}
 use Rattle.sn_plan_fit.specs.Fits.{AreEntriesOf, Fits}
-use Rattle.sn_report.specs.Framed.{bytes_of}
+use Rattle.sn_report.specs.Framed.{IsWritten, Written, bytes_in, bytes_of}
 use Rattle.sn_io.specs.Counts.{ByName}
 use Rattle.sn_out.specs.Text.{block_text, total_line}
 use Rattle.sn_pcap.specs.declared.packet.Ending.TheVariants.{Clean}
-use Rattle.sn_report.specs.declared.frame.Frame.{Frame}
+use Rattle.sn_report.specs.Items.{Frame}
 use Rattle.sn_report.specs.Frames.{IsFrame, spelling}
 use Rattle.sn_command_run.specs.Along.{last_of}
 use Rattle.sn_command_run.specs.Planned.{Planned, answers_at, emitted_in, plan_block, plan_lines}
@@ -47,9 +47,18 @@ use Rattle.sn_command_live.proofs.ReachLemmas.{sums_are as sum_is}
 
 -- ---- sums
 
-flat_flat : {X : Type 0} (f : X → List Frame) (xs : List X) → flat_map spelling (flat_map f xs) ≡ flat_map (λ x. flat_map spelling (f x)) xs
+flat_flat : {X : Type 0} (f : X → List Frame) (xs : List X) → flat_map (spelling 2) (flat_map f xs) ≡ flat_map (λ x. flat_map (spelling 2) (f x)) xs
 flat_flat f [] = refl
-flat_flat f (x ∷ xs) = flat_map-append spelling (f x) (flat_map f xs) ∙ ap (λ ys. flat_map spelling (f x) ++ ys) (flat_flat f xs)
+flat_flat f (x ∷ xs) = flat_map-append (spelling 2) (f x) (flat_map f xs) ∙ ap (λ ys. flat_map (spelling 2) (f x) ++ ys) (flat_flat f xs)
+
+-- ---- frames as they are sent
+
+abbrev as_sent : Frame → Written
+as_sent frame = record { version = 2; frame = frame }
+
+frames_sent : (frames : List Frame) → map (λ (w : Written). w.frame) (map as_sent frames) ≡ frames
+frames_sent [] = refl
+frames_sent (frame ∷ frames) = ap (λ (fs : List Frame). frame ∷ fs) (frames_sent frames)
 
 -- ---- numbers rise
 
@@ -89,9 +98,9 @@ module _ (typed_for : ℕ) (p : Planned) (t : ∥ IsTyped typed_for p.queries �
       each_among (λ (w : Window). IsWindow p.queries lanes (sent_of p windows w)) windows
       (λ b w a e. is_window typed_for p t entries can windows w.0 w.1 (real_at b w a e).1 (kept_in p.queries (last_of p b) w.0) (kept_at b w a e))
 
-  all_are_frames : AllByRecursion (λ (w : Window). AllByRecursion IsFrame (window_frames p windows w.0 w.1)) windows
+  all_are_frames : AllByRecursion (λ (w : Window). AllByRecursion (IsFrame 2) (window_frames p windows w.0 w.1)) windows
   all_are_frames =
-      each_among (λ (w : Window). AllByRecursion IsFrame (window_frames p windows w.0 w.1)) windows
+      each_among (λ (w : Window). AllByRecursion (IsFrame 2) (window_frames p windows w.0 w.1)) windows
       (λ b w a e. are_frames typed_for p t entries can windows w.0 w.1 (real_at b w a e).1 (kept_in p.queries (last_of p b) w.0) (kept_at b w a e) (real_at b w a e).0)
 
   abbrev answers_in : Window → Answers
@@ -134,9 +143,10 @@ module _ (typed_for : ℕ) (p : Planned) (t : ∥ IsTyped typed_for p.queries �
       ∙ ap (λ n. flat_map (λ w. plan_block p windows w.0 w.1) windows ++ total_line n (Some (sum_by (λ sent. (answers_to p.queries lanes sent).emitted) sents))) (length-map windows (sent_of p windows))
       ∙ ap (λ n. flat_map (λ w. plan_block p windows w.0 w.1) windows ++ total_line (length windows) (Some n)) sums_are
 
-  bytes_are : bytes_of (frames_in sents) ≡ flat_map (λ w. frames_block p windows w.0 w.1) windows
+  bytes_are : bytes_of (map as_sent (frames_in sents)) ≡ flat_map (λ w. frames_block p windows w.0 w.1) windows
   bytes_are =
-      ap (flat_map spelling) (flat_map-map (λ sent. sent.frames) (sent_of p windows) windows)
+      flat_map-map bytes_in as_sent (frames_in sents)
+      ∙ ap (flat_map (spelling 2)) (flat_map-map (λ sent. sent.frames) (sent_of p windows) windows)
       ∙ flat_flat (λ w. window_frames p windows w.0 w.1) windows
 
   -- the frames of the windows are answered as the windows are along the plan
@@ -147,7 +157,8 @@ module _ (typed_for : ℕ) (p : Planned) (t : ∥ IsTyped typed_for p.queries �
       (subst HaveNames (sym (intakes_are 0 p.entries)) (have_names pieces (pieces_apart p.queries 0 p.entries entries)))
       (rise_of p windows None windows rising)
       (all_map (IsWindow p.queries lanes) (sent_of p windows) windows all_are_windows)
-      (all_flat IsFrame (λ sent. sent.frames) sents (all_map (λ sent. AllByRecursion IsFrame sent.frames) (sent_of p windows) windows all_are_frames))
+      (map as_sent (frames_in sents)) (frames_sent (frames_in sents))
+      (all_map IsWritten as_sent (frames_in sents) (all_flat (IsFrame 2) (λ sent. sent.frames) sents (all_map (λ sent. AllByRecursion (IsFrame 2) sent.frames) (sent_of p windows) windows all_are_frames)))
       files outcome (subst (λ bytes. Reported p.queries p.entries bytes files outcome) (sym bytes_are) is)
       ∙ ap (λ (ts : List ℕ). record { text = ts; end = Ok tt }) text_is
 

@@ -23,7 +23,7 @@ use Rattle.sn_pipe.proofs.Fronts as fronts
 use Rattle.sn_pipe.proofs.ItemLaw.{items_sent}
 use Rattle.sn_query_grammar.specs.declared.ast.Op.{Op}
 use Rattle.sn_refine.specs.Steps.{Set, is_held}
-use Rattle.sn_report.specs.declared.frame.Item.{Item}
+use Rattle.sn_report.specs.Items.{Item}
 use Rattle.sn_report.specs.declared.frame.Tag.{Tag}
 use Rattle.sn_report.specs.declared.frame.Tag.TheVariants.{At, Partial}
 use Rattle.sn_report.specs.Frames.{HasColumns, IsFrame}
@@ -48,21 +48,23 @@ has_of [] (x ∷ row) of = absurd of
 has_of (c ∷ cs) [] of = absurd of
 has_of (c ∷ cs) (x ∷ row) of = and_from (nat_lt x (2 ^ c.width)) (has_columns cs row) (lt-ltb x (2 ^ c.width) of.0) (has_of cs row of.1)
 
-of_below : (cs : List Column) (row : Row) → AllByRecursion HasWidth cs → IsOf cs row → AllByRecursion (λ (n : ℕ). n < 2 ^ 64) row
+of_below : (cs : List Column) (row : Row) → AllByRecursion HasWidth cs → IsOf cs row → AllByRecursion (λ (n : ℕ). n < 2 ^ 128) row
 of_below [] [] widths of = tt
 of_below [] (x ∷ row) widths of = absurd of
 of_below (c ∷ cs) [] widths of = absurd of
 of_below (c ∷ cs) (x ∷ row) widths of =
     let two : 0 < 2 = omega arith in
-    let most : 2 ^ c.width ≤ 2 ^ 64 = pow-le-pow_right two widths.0.to_most in
+    let width = widths.0.to_most in
+    let within : c.width ≤ 128 = omega (arith, width) in
+    let most : 2 ^ c.width ≤ 2 ^ 128 = pow-le-pow_right two within in
     let here = of.0 in
     (omega (arith, here, most), of_below cs row widths.1 of.1)
 
-of_columns : (cs : List Column) (row : Row) → IsSchema cs → IsOf cs row → HasColumns row
+of_columns : (cs : List Column) (row : Row) → IsSchema cs → IsOf cs row → HasColumns 2 row
 of_columns cs row schema of = (let long = as_long cs row of in let few = schema.few in omega (arith, long, few), of_below cs row schema.widths of)
 
-columns_prop : (row : Row) → IsProp (HasColumns row)
-columns_prop row = hlevel (le_prop, AllByRecursion-prop (λ (n : ℕ). n < 2 ^ 64) (λ n. le_prop) row)
+columns_prop : (row : Row) → IsProp (HasColumns 2 row)
+columns_prop row = hlevel (le_prop, AllByRecursion-prop (λ (n : ℕ). n < 2 ^ 128) (λ n. le_prop) row)
 
 along_schema : (columns : List Column) (ops : List Op) (j : ℕ) → j ≤ length ops → IsSchema columns → AreSound columns ops → IsSchema (schema_at (schemas_along columns ops) j)
 along_schema columns [] zero le schema sound = schema
@@ -71,12 +73,12 @@ along_schema columns (op ∷ ops) zero le schema sound = schema
 along_schema columns (op ∷ ops) (suc j) le schema sound = along_schema (columns_after columns op.what) ops j (omega (arith, le)) (schema_after columns op.what schema sound.0) sound.1
 
 module _ (window : ℕ) (queries : List TypedQuery) (q b : ℕ) (t : ∥ IsTyped window queries ∥₁) (lt : q < length queries) (within : b < length (query_at queries q).branches) where
-  row_columns : (j : ℕ) (row : Row) → j ≤ length (branch_at queries q b).ops → IsOf (schema_at (branch_at queries q b).schemas j) row → HasColumns row
+  row_columns : (j : ℕ) (row : Row) → j ≤ length (branch_at queries q b).ops → IsOf (schema_at (branch_at queries q b).schemas j) row → HasColumns 2 row
   row_columns j row le of =
       ∥∥₁_elim t (columns_prop row) (λ t.
       let s = branch_source_of window queries q b t lt within in
       let columns : List Column = packet_columns s.ops in
-      let P : TypedBranch → Type 0 = λ x. j ≤ length x.ops → IsOf (schema_at x.schemas j) row → HasColumns row in
+      let P : TypedBranch → Type 0 = λ x. j ≤ length x.ops → IsOf (schema_at x.schemas j) row → HasColumns 2 row in
       subst P (sym s.is)
       (λ few is. of_columns (schema_at (schemas_along columns s.ops) j) row
       (along_schema columns s.ops j (let many = length-typed_ops columns s.ops in omega (arith, many, few)) (packet_schema s.ops (few_packet_fields s.refine s.ops s.no_fault)) (sound_branch s.refine s.ops s.each s.no_fault)) is) le of)
@@ -135,17 +137,17 @@ module _ (window : ℕ) (queries : List TypedQuery) (x : Placed) (t : ∥ IsType
   short_cut = let within = fronts.cut_within window queries x.query x.piece.branch t can.query can.branch in let cut = can.cut in omega (arith, within, cut)
 
   -- its frame has bytes
-  pub row_is_frame : (item : Item) → IsGood queries x item → IsFrame (row_frame (name_of x) item)
+  pub row_is_frame : (item : Item) → IsGood queries x item → IsFrame 2 (row_frame (name_of x) item)
   row_is_frame item good = by_tag item.tag item.row good
     where
-      by_tag : (tag : Tag) (row : Row) → IsGood queries x (record { tag = tag; row = row }) → IsFrame (row_frame (name_of x) (record { tag = tag; row = row }))
+      by_tag : (tag : Tag) (row : Row) → IsGood queries x (record { tag = tag; row = row }) → IsFrame 2 (row_frame (name_of x) (record { tag = tag; row = row }))
       by_tag (At i) row is =
           let low = low_at branch.ops x.piece.cut i is.1 in
           let cut = short_cut in
           let few = few_ops window queries x.query x.piece.branch t can.query can.branch in
-          record { query = can.few; level = can.short; branch = can.sides; operator = omega (arith, low, cut, few); content = row_columns window queries x.query x.piece.branch t can.query can.branch i row (omega (arith, low, cut)) is.0 }
+          record { some_version = omega arith; most_version = omega arith; query = can.few; level = can.short; branch = can.sides; operator = omega (arith, low, cut, few); content = row_columns window queries x.query x.piece.branch t can.query can.branch i row (omega (arith, low, cut)) is.0 }
       by_tag (Partial i) row is =
           let low = low_partial branch.ops x.piece.cut i is.1 in
           let cut = short_cut in
           let few = few_ops window queries x.query x.piece.branch t can.query can.branch in
-          record { query = can.few; level = can.short; branch = can.sides; operator = omega (arith, low, cut, few); content = row_columns window queries x.query x.piece.branch t can.query can.branch (suc i) row (omega (arith, low, cut)) is.0 }
+          record { some_version = omega arith; most_version = omega arith; query = can.few; level = can.short; branch = can.sides; operator = omega (arith, low, cut, few); content = row_columns window queries x.query x.piece.branch t can.query can.branch (suc i) row (omega (arith, low, cut)) is.0 }

@@ -10,7 +10,7 @@ use Rattle.sn_chain.specs.Chain.{has_home, homes_of, places_of}
 use Rattle.sn_chain.specs.Homes.{by_place, homes_by_place, put_by_place}
 use Rattle.sn_chain.specs.Residence.{free_place, seated, seated_at}
 use Rattle.sn_pipe_items.specs.Items.{at_packet, by_packet, firsts, held, items, numbered, overflow, read_from, read_out, rows_of, sent, sent_from, some_in, standing, tagged}
-use Rattle.sn_report.specs.declared.frame.Item.{Item}
+use Rattle.sn_report.specs.Items.{Item}
 use Rattle.sn_report.specs.declared.frame.Tag.{Tag}
 use Rattle.sn_report.specs.declared.frame.Tag.TheVariants.{At, Partial}
 use Rattle.sn_base.proofs.Lists.{filter_short}

@@ -13,7 +13,7 @@ use Rattle.sn_engine.specs.declared.intake.Intake.{Intake}
 use Rattle.sn_engine.specs.Intakes.{intakes_of, is_lane}
 use Rattle.sn_command_finish.specs.Whole.{HaveNames, frames_of, name_of as lane_name}
 use Rattle.sn_plan_grammar.specs.declared.plan.Entry.{Entry}
-use Rattle.sn_report.specs.declared.frame.Frame.{Frame}
+use Rattle.sn_report.specs.Items.{Frame}
 use Rattle.sn_report.specs.Frames.{lane_of as lane_in}
 
 -- ---- names

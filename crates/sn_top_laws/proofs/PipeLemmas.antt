@@ -18,7 +18,7 @@ use Rattle.sn_pipe.specs.Windows.{HaveSizes}
 use Rattle.sn_pipe.proofs.Makings.{count_front, count_more}
 use Rattle.sn_pipe.proofs.TypedLaw.{typed_items}
 use Rattle.sn_refine.specs.Steps.{Set}
-use Rattle.sn_report.specs.declared.frame.Item.{Item}
+use Rattle.sn_report.specs.Items.{Item}
 use Rattle.sn_types.specs.declared.typed_op.TOp.{TOp}
 use Rattle.sn_types.specs.declared.typed_op.TOp.TheVariants as ops
 use Rattle.sn_types.specs.declared.typed_query.TypedQuery.{TypedQuery}

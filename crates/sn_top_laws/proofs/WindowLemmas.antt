@@ -22,9 +22,9 @@ use Rattle.sn_command_finish.specs.Whole.{IsWindow, Sent, answers_to, filled, fr
 use Rattle.sn_command_finish.proofs.LaneLemmas.{maps_same}
 use Rattle.sn_plan_fit.specs.Fits.{AreEntriesOf}
 use Rattle.sn_refine.specs.Steps.{Set}
-use Rattle.sn_report.specs.declared.frame.Frame.{Frame}
+use Rattle.sn_report.specs.Items.{Frame}
 use Rattle.sn_report.specs.declared.frame.Frame.TheVariants.{Row, End}
-use Rattle.sn_report.specs.declared.frame.Item.{Item}
+use Rattle.sn_report.specs.Items.{Item}
 use Rattle.sn_report.specs.Frames.{IsFrame, lane_of as lane_in}
 use Rattle.sn_command_run.specs.Planned.{Planned}
 use Rattle.sn_types.specs.declared.answers.Answers.{Answers}
@@ -187,34 +187,34 @@ module _ (typed_for : ℕ) (p : Planned) (t : ∥ IsTyped typed_for p.queries �
         each_number P h (n ∷ ns) = (h n, each_number P h ns)
 
     -- they have bytes
-    pub are_frames : w < 2 ^ 64 → AllByRecursion IsFrame frames
+    pub are_frames : w < 2 ^ 64 → AllByRecursion (IsFrame 2) frames
     are_frames few =
-        all_append IsFrame (flat_map (packet_frames p known tuples) numbers) (flat_map (frames_behind p.queries p.depth known tuples w) pieces)
-        (all_flat IsFrame (packet_frames p known tuples) numbers
-        (all_weaker (λ n. AllByRecursion (λ (x : Placed). AllByRecursion IsFrame (frames_at p.queries p.depth known tuples n x)) pieces) (λ n. AllByRecursion IsFrame (packet_frames p known tuples n))
-        (λ n h. all_flat IsFrame (frames_at p.queries p.depth known tuples n) pieces h) numbers
-        (all_turned (λ n (x : Placed). AllByRecursion IsFrame (frames_at p.queries p.depth known tuples n x)) numbers pieces (all_weaker IsSentBy (λ (x : Placed). AllByRecursion (λ n. AllByRecursion IsFrame (frames_at p.queries p.depth known tuples n x)) numbers) at_packets pieces all_sent))))
-        (all_flat IsFrame (frames_behind p.queries p.depth known tuples w) pieces (all_weaker IsSentBy (λ (x : Placed). AllByRecursion IsFrame (frames_behind p.queries p.depth known tuples w x)) behind_packets pieces all_sent))
+        all_append (IsFrame 2) (flat_map (packet_frames p known tuples) numbers) (flat_map (frames_behind p.queries p.depth known tuples w) pieces)
+        (all_flat (IsFrame 2) (packet_frames p known tuples) numbers
+        (all_weaker (λ n. AllByRecursion (λ (x : Placed). AllByRecursion (IsFrame 2) (frames_at p.queries p.depth known tuples n x)) pieces) (λ n. AllByRecursion (IsFrame 2) (packet_frames p known tuples n))
+        (λ n h. all_flat (IsFrame 2) (frames_at p.queries p.depth known tuples n) pieces h) numbers
+        (all_turned (λ n (x : Placed). AllByRecursion (IsFrame 2) (frames_at p.queries p.depth known tuples n x)) numbers pieces (all_weaker IsSentBy (λ (x : Placed). AllByRecursion (λ n. AllByRecursion (IsFrame 2) (frames_at p.queries p.depth known tuples n x)) numbers) at_packets pieces all_sent))))
+        (all_flat (IsFrame 2) (frames_behind p.queries p.depth known tuples w) pieces (all_weaker IsSentBy (λ (x : Placed). AllByRecursion (IsFrame 2) (frames_behind p.queries p.depth known tuples w x)) behind_packets pieces all_sent))
       where
         good_parts : (x : Placed) (s : IsSentBy x) → AllByRecursion (IsGood p.queries x) (flat_map (sends_at p.queries p.depth x (known x) tuples) numbers ++ reads_out p.queries p.depth x (known x) tuples)
         good_parts x s = subst (AllByRecursion (IsGood p.queries x)) (sym (sent_items x s.mine s.lets)) s.good
 
-        frames_are : (x : Placed) (s : IsSentBy x) (items : List Item) → AllByRecursion (IsGood p.queries x) items → AllByRecursion IsFrame (map (row_frame (name_of x)) items)
-        frames_are x s items h = all_map IsFrame (row_frame (name_of x)) items (all_weaker (IsGood p.queries x) (λ item. IsFrame (row_frame (name_of x) item)) (row_is_frame typed_for p.queries x t s.mine) items h)
+        frames_are : (x : Placed) (s : IsSentBy x) (items : List Item) → AllByRecursion (IsGood p.queries x) items → AllByRecursion (IsFrame 2) (map (row_frame (name_of x)) items)
+        frames_are x s items h = all_map (IsFrame 2) (row_frame (name_of x)) items (all_weaker (IsGood p.queries x) (λ item. IsFrame 2 (row_frame (name_of x) item)) (row_is_frame typed_for p.queries x t s.mine) items h)
 
-        at_packets : (x : Placed) → IsSentBy x → AllByRecursion (λ n. AllByRecursion IsFrame (frames_at p.queries p.depth known tuples n x)) numbers
+        at_packets : (x : Placed) → IsSentBy x → AllByRecursion (λ n. AllByRecursion (IsFrame 2) (frames_at p.queries p.depth known tuples n x)) numbers
         at_packets x s =
             let sends : ℕ → List Item = sends_at p.queries p.depth x (known x) tuples in
-            all_weaker (λ n. AllByRecursion (IsGood p.queries x) (sends n)) (λ n. AllByRecursion IsFrame (frames_at p.queries p.depth known tuples n x)) (λ n h. frames_are x s (sends n) h) numbers
+            all_weaker (λ n. AllByRecursion (IsGood p.queries x) (sends n)) (λ n. AllByRecursion (IsFrame 2) (frames_at p.queries p.depth known tuples n x)) (λ n h. frames_are x s (sends n) h) numbers
             (all_parts (IsGood p.queries x) sends numbers (all_front (IsGood p.queries x) (flat_map sends numbers) (reads_out p.queries p.depth x (known x) tuples) (good_parts x s)))
 
-        behind_packets : (x : Placed) → IsSentBy x → AllByRecursion IsFrame (frames_behind p.queries p.depth known tuples w x)
+        behind_packets : (x : Placed) → IsSentBy x → AllByRecursion (IsFrame 2) (frames_behind p.queries p.depth known tuples w x)
         behind_packets x s =
             let reads : List Item = reads_out p.queries p.depth x (known x) tuples in
             let none : 0 ≤ 12 = omega arith in
-            all_append IsFrame (map (row_frame (name_of x)) reads) (End (name_of x) w ∷ [])
+            all_append (IsFrame 2) (map (row_frame (name_of x)) reads) (End (name_of x) w ∷ [])
             (frames_are x s reads (all_rest (IsGood p.queries x) (flat_map (sends_at p.queries p.depth x (known x) tuples) numbers) reads (good_parts x s)))
-            (record { query = s.mine.few; level = s.mine.short; branch = s.mine.sides; operator = none; content = few }, tt)
+            (record { some_version = omega arith; most_version = omega arith; query = s.mine.few; level = s.mine.short; branch = s.mine.sides; operator = none; content = few }, tt)
 
     -- the engine answers them as the driver does
     pub answers_are : answers_to p.queries lanes sent ≡ window_answers p.queries p.depth p.entries kept w tuples

@@ -4,8 +4,8 @@ use Rattle.circular_buffer.specs.Buffer.{Buffer}
 use Rattle.sn_core.specs.declared.supply.Frame.{Frame}
 use Rattle.sn_core_net.specs.Settled.{settled}
 use Rattle.sn_emit.specs.declared.sender.Sender.{Sender}
-use Rattle.sn_report.specs.declared.frame.Frame.{Frame as Report}
-use Rattle.sn_report.specs.declared.frame.Item.{Item}
+use Rattle.sn_report.specs.Items.{Frame as Report}
+use Rattle.sn_report.specs.Items.{Item}
 use Rattle.sn_core_net.specs.Reports.{frame_of}
 use Rattle.sn_core_net.specs.declared.holder.Holder.{Holder}
 use Rattle.sn_core_net.specs.States.{lane_of}
