@@ -2,8 +2,11 @@
 """Counts the instructions that `sonata plain` and the C program take for each packet, by callgrind of valgrind.
 
 Other programs on the machine don't disturb this count. With --queries the given query files are counted on sonata alone, and with --parts it is told where
-the instructions go, by the names of functions; what the compiler took into another function counts there. With --following `live` and `replan` are counted on
-sonata alone, as bench/plans.py measures them, but trained on 2000 packets. Needs valgrind, a C compiler and libpcap-dev."""
+the instructions go, by the names of functions; what the compiler took into another function counts there. Needs valgrind, a C compiler and libpcap-dev.
+
+With --following `live` and `replan` are counted on sonata alone, as bench/plans.py measures them, but trained on 2000 packets. With --several those of `many` are
+counted, over what two switches saw that took turns at the packets, against those of `run` over all packets, along the plan of full.plan. These need valgrind
+alone."""
 
 import argparse
 import os
@@ -59,6 +62,19 @@ def following(given, folder):
               % (kind, (live - plan) / given.packets, (replan - plan) / given.packets, (replan - plan) / (live - plan), replan / live), flush=True)
 
 
+def switches(given, capture, folder):
+    """The instructions of one switch that sees all packets, and of two that answer as one."""
+    words = [os.path.join(run.HERE, name) for name in ('full.switch', 'three.query', 'full.plan')]
+    whole = counted([os.path.abspath(given.sonata), 'run', *words, capture], folder) / given.packets
+    return whole, counted([os.path.abspath(given.sonata), 'many', *words, *run.halves(capture)], folder) / given.packets
+
+
+def several(given, folder):
+    for kind in ('few', 'many'):
+        one, two = switches(given, run.generate(kind, given.packets, given.number, folder), folder)
+        print('%s: run %.0f instructions a packet, many %.0f, ratio %.2f (goal 1.3)' % (kind, one, two, two / one))
+
+
 def words_given():
     words = argparse.ArgumentParser(description=__doc__, formatter_class=argparse.RawDescriptionHelpFormatter)
     words.add_argument('--sonata', default=run.USUAL, help='the program to measure (default: the one that this clone built)')
@@ -67,6 +83,7 @@ def words_given():
     words.add_argument('--parts', action='store_true', help='tell where the instructions go')
     words.add_argument('--queries', nargs='+', help='query files to count on sonata alone')
     words.add_argument('--following', action='store_true', help='count `live` and `replan` where no plan changes')
+    words.add_argument('--several', action='store_true', help='count `many` against `run`, and nothing else')
     return words.parse_args()
 
 
@@ -78,6 +95,9 @@ def main():
     with tempfile.TemporaryDirectory(prefix='sonata-bench-') as folder:
         if given.following:
             following(given, folder)
+            return 0
+        if given.several:
+            several(given, folder)
             return 0
         baseline = None if given.queries else run.build('baseline', folder, '-lpcap')
         for kind in ('few', 'many'):

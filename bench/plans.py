@@ -9,6 +9,8 @@ late      `detect` with the same queries, along the plan of full.plan, whose pat
           reading.
 following `replan` where no plan changes, whatever comes too early, against `live`, with the same queries, the switch of full.switch, and a training capture of
           20000 packets. Both make the same plan first; what they take beyond `plan` is the answering alone. The texts are compared.
+several   `many` with the same queries and plan over what two switches saw that took turns at the packets of each capture, against `run` over the whole. The answers
+          are compared.
 training  `plan` and `check` with the queries and the switch of the generated job, at several sizes of the capture. `plan --nodes 1` ends behind the cost
           table, so it is the training alone, and what `plan` takes beyond it is the search and the printing of the tree.
 job       `job 7` against `plain` with its queries on the capture of 8.
@@ -34,7 +36,7 @@ EIGHT = 'window 1000000\n' + ''.join('query q%d { refine ip.dst: 8, 16, 24, 32; 
 # The three queries of three.query at a coarse level and the finest one.
 TWO_LEVELS = 'plan\n' + ''.join('query %s path 8, 32;\n' % name + ''.join('piece %d %d cut 0;\n' % (level, branch) for level in (8, 32) for branch in range(branches))
                                 for name, branches in (('newconn', 1), ('spread', 1), ('slow', 2)))
-GOALS = {('detect', 'plain'): 2.2, ('run', 'plain'): 2, ('emit', 'plain'): 2, ('run', 'emit'): 1.2, ('run fitting', 'plain'): 2, ('emit fitting', 'plain'): 2, ('run fitting', 'emit fitting'): 1.2, ('training', 'plain'): 15, ('job', 'plain'): 40, ('replan', 'live'): 1.1}
+GOALS = {('detect', 'plain'): 2.2, ('many', 'run'): 1.3, ('run', 'plain'): 2, ('emit', 'plain'): 2, ('run', 'emit'): 1.2, ('run fitting', 'plain'): 2, ('emit fitting', 'plain'): 2, ('run fitting', 'emit fitting'): 1.2, ('training', 'plain'): 15, ('job', 'plain'): 40, ('replan', 'live'): 1.1}
 
 sys.path.insert(0, CHECKS)
 import program  # noqa: E402
@@ -164,6 +166,27 @@ def following(given, measurer, folder):
     return good
 
 
+def several(given, measurer, folder):
+    """Whether `many` over two halves of a capture answers what `run` does over the whole."""
+    good = True
+    for kind in given.kinds:
+        capture = run.generate(kind, given.packets, given.number, folder)
+        parted = run.halves(capture)
+        part = Part(given, measurer, folder, 'several switches, %s: %d packets' % (kind, given.packets))
+        part.add('run', 'run', SWITCH, run.QUERIES, PLAN, capture)
+        part.add('many', 'many', SWITCH, run.QUERIES, PLAN, *parted)
+        for name in (capture, *parted):
+            run.read_once(name)
+        part.measure()
+        part.tell(given.packets, over='run')
+        equal = rows_of(part.outs['run']) == rows_of(part.outs['many'])
+        print('  answers %s, statuses %s' % ('equal' if equal else 'DIFFER', sorted({one.status for one in part.found.values()})))
+        good = good and equal
+        for name in (capture, *parted):
+            os.remove(name)
+    return good
+
+
 def written(folder, name, text):
     path = os.path.join(folder, name)
     with open(path, 'w') as file:
@@ -232,18 +255,18 @@ def reading(given, measurer, folder):
     return run.bytes_of(part.outs['plan']) == run.bytes_of(part.outs['reading'])
 
 
-PARTS = {'along': (along, {'run'}), 'late': (late, {'detect'}), 'following': (following, {'live', 'replan'}), 'training': (training, {'plan'}), 'job': (job, {'job', 'gen'}), 'search': (search, {'plan'}), 'reading': (reading, {'plan'})}
+PARTS = {'along': (along, {'run'}), 'late': (late, {'detect'}), 'following': (following, {'live', 'replan'}), 'several': (several, {'run', 'many'}), 'training': (training, {'plan'}), 'job': (job, {'job', 'gen'}), 'search': (search, {'plan'}), 'reading': (reading, {'plan'})}
 
 
 def words_given():
     words = argparse.ArgumentParser(description=__doc__, formatter_class=argparse.RawDescriptionHelpFormatter)
     words.add_argument('parts', nargs='*', metavar='PART', default=['along', 'training', 'job'], help='of %s (default: along training job)' % ', '.join(PARTS))
     words.add_argument('--sonata', default=run.USUAL, help='the program to measure (default: the one that this clone built)')
-    words.add_argument('--packets', type=int, default=1000000, help='packets of each answered capture of `along`, `late` and `following`')
+    words.add_argument('--packets', type=int, default=1000000, help='packets of each answered capture of `along`, `late`, `following` and `several`')
     words.add_argument('--training', type=int, nargs='+', default=[20000, 2000000], metavar='PACKETS', help='packets of training captures (default 20000 2000000)')
     words.add_argument('--number', type=int, default=7, help='the number from which the captures are drawn')
     words.add_argument('--runs', type=int, default=5, help='runs of each command; the least processor time counts (above 500000 packets of training it is one)')
-    words.add_argument('--kinds', nargs='+', default=['few', 'many'], choices=['few', 'many'], help='captures of `along`, `late` and `following`')
+    words.add_argument('--kinds', nargs='+', default=['few', 'many'], choices=['few', 'many'], help='captures of `along`, `late`, `following` and `several`')
     words.add_argument('--keep', metavar='FOLDER', help='put outputs there, and leave them')
     given = words.parse_args()
     if set(given.parts) - set(PARTS):

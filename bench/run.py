@@ -11,6 +11,8 @@ import subprocess
 import sys
 import tempfile
 
+import generate as generator
+
 HERE = os.path.dirname(os.path.abspath(__file__))
 QUERIES = os.path.join(HERE, 'three.query')
 USUAL = os.path.join(HERE, '..', 'crates', 'sonata', 'out', 'sonata')
@@ -58,6 +60,17 @@ def generate(kind, packets, number, folder):
     name = os.path.join(folder, kind + '.pcap')
     subprocess.run([sys.executable, os.path.join(HERE, 'generate.py'), kind, name, '--packets', str(packets), '--number', str(number)], check=True)
     return name
+
+
+def halves(capture):
+    """The names of two captures beside a generated one: what two switches saw that took turns at its packets."""
+    size, names = generator.RECORD.size, [capture + '.first', capture + '.second']
+    content = bytes_of(capture)
+    head, records = content[:len(generator.FILE_HEADER)], content[len(generator.FILE_HEADER):]
+    for turn, name in enumerate(names):
+        with open(name, 'wb') as file:
+            file.write(head + b''.join(records[at:at + size] for at in range(turn * size, len(records), 2 * size)))
+    return names
 
 
 def bytes_of(name):

@@ -1,5 +1,5 @@
 //! Captures are counted: their records get the numbers of their windows.
-ghost use Rattle.std.specs.Prelude.{◌≡◌, ◌≤◌, IfOk};
+ghost use Rattle.std.specs.Prelude.{◌≡◌, ◌≤◌, [], IfOk};
 ghost use Rattle.std.specs.List.{AllByRecursion};
 ghost use Rattle.sn_command.specs.Runs.{Answers};
 ghost use Rattle.sn_command_captures.specs.Captures.{IsWhole};
@@ -9,6 +9,7 @@ ghost use Rattle.sn_command_captures.specs.Windows.{start_of};
 
 use crate::capture::Capture;
 use crate::share::Share;
+use sn_base::memory::Memory;
 use sn_base::seq::Seq;
 use sn_command::fault::Fault;
 use sn_command::refusal::Refusal;
@@ -39,6 +40,13 @@ fn earlier(least: Option<u64>, time: u64) -> u64
     }
 }
 
+/// An empty list with room for this many records, so that none is copied when it grows.
+fn room(alloc: Global, count: usize) -> Result<Seq<(u64, Packet)>, Memory>
+    ensures { IfOk result (λ records. records ≡ []) }
+{
+    Ok(Seq::from_vec(Vec::with_capacity(alloc, count)?))
+}
+
 /// The packets of a capture, each beside the number of its window.
 fn numbered(
     alloc: Global,
@@ -50,7 +58,7 @@ fn numbered(
     ensures { Answers (λ verdict. verdict ≡ numbered_verdict window_ns start packets.now) result }
 {
     let mut windows = Windows::starting(start, window_ns);
-    let mut records = Seq::new(alloc);
+    let mut records = room(alloc, packets.len())?;
     for packet in packets {
         match windows.next_number(packet.time) {
             Ok(number) => records.push((number, *packet))?,

@@ -9,3 +9,4 @@ pub mod Orders
 pub mod FitLemmas
 pub mod Steps
 pub mod Turns
+pub mod SpanLemmas

@@ -150,22 +150,23 @@ fn has_columns<R: AnyRow>(schema: &Schema, row: &R) -> bool
     true
 }
 
-fn schema_at(branch: &TypedBranch, number: usize) -> Schema
-    ensures { result ≡ schema_at branch.now.schemas number }
+/// Whether a row has the columns of the rows that come to an operator of a branch.
+fn has_columns_at<R: AnyRow>(branch: &TypedBranch, number: usize, row: &R) -> bool
+    ensures { result ≡ has_columns (schema_at branch.now.schemas number) (R.columns row.now) }
 {
     match branch.schemas.as_slice().get(number) {
-        Some(schema) => *schema,
-        None => Schema::new(),
+        Some(schema) => has_columns(schema, row),
+        None => has_columns(&Schema::new(), row),
     }
 }
 
-/// The columns of the rows with a tag.
-fn tag_columns(branch: &TypedBranch, tag: Tag) -> Schema
-    ensures { result ≡ tag_columns branch.now.schemas tag }
+/// Whether an item has the columns of the rows with its tag.
+fn has_tag_columns<R: AnyRow>(branch: &TypedBranch, item: &Item<R>) -> bool
+    ensures { result ≡ has_columns (tag_columns branch.now.schemas item.now.tag) (R.columns item.now.row) }
 {
-    match tag {
-        Tag::At(i) => schema_at(branch, i as usize),
-        Tag::Partial(i) => schema_at(branch, i as usize + 1),
+    match item.tag {
+        Tag::At(i) => has_columns_at(branch, i as usize, &item.row),
+        Tag::Partial(i) => has_columns_at(branch, i as usize + 1, &item.row),
     }
 }
 
@@ -178,7 +179,7 @@ fn row_fault<R: AnyRow>(t: &Typed, x: &Intake, item: &Item<R>) -> Option<TakeFau
     let branch = t.branch(x.query, x.branch);
     if !is_tag_on(x.shared, branch.ops.as_slice(), x.cut, item.tag) {
         Some(TakeFault::Stranger)
-    } else if !has_columns(&tag_columns(branch, item.tag), &item.row) {
+    } else if !has_tag_columns(branch, item) {
         Some(TakeFault::Width)
     } else if !x.is_open() {
         Some(TakeFault::AfterEnd)

@@ -1,5 +1,5 @@
-//! Makes the calls of a file by the top call, one after another, and tells of each kind how many answered as the file wants, and of
-//! each other call its name and the first line that differs.
+//! Makes the calls of some files by the top call, one after another, and tells of each kind how many answered as the file wants, and
+//! of each other call its name and the first line that differs.
 #![tactic(auto)]
 
 mod call;
@@ -14,14 +14,13 @@ use crate::trouble::Trouble;
 use std::fs;
 use std::process::ExitCode;
 
-/// The file of the calls.
-const CALLS: &str = "calls";
+/// The files of the calls.
+const FILES: [&str; 2] = ["calls", "many.calls"];
 
-/// Makes each call, and tells those that answer otherwise as they come.
-fn make_calls(rt: &HostRuntime, bytes: &[u8]) -> Result<Tally, Trouble> {
+/// Makes each call of a list, and tells those that answer otherwise as they come.
+fn make_calls(rt: &HostRuntime, bytes: &[u8], tally: &mut Tally) -> Result<(), Trouble> {
     let alloc = rt.alloc();
     let mut cursor = Cursor::new(bytes);
-    let mut tally = Tally::new(alloc);
     for _ in 0..bytes.len() {
         if cursor.is_at_end() {
             break;
@@ -33,13 +32,22 @@ fn make_calls(rt: &HostRuntime, bytes: &[u8]) -> Result<Tally, Trouble> {
         }
         tally.count(alloc, call.kind(), difference.is_some())?;
     }
+    Ok(())
+}
+
+/// Makes the calls of all files.
+fn make_all(rt: &HostRuntime) -> Result<Tally, Trouble> {
+    let mut tally = Tally::new(rt.alloc());
+    for name in FILES {
+        let bytes = fs::read(rt, name)?;
+        make_calls(rt, &bytes, &mut tally)?;
+    }
     Ok(tally)
 }
 
-/// Makes the calls of the file, and tells how many were alike of each kind. Whether all were.
+/// Makes the calls of all files, and tells how many were alike of each kind. Whether all were.
 fn run(rt: &HostRuntime) -> Result<bool, Trouble> {
-    let bytes = fs::read(rt, CALLS)?;
-    let tally = make_calls(rt, &bytes)?;
+    let tally = make_all(rt)?;
     for kind in tally.kinds() {
         println!(rt;
             "{}: {} alike, {} differ",
