@@ -24,7 +24,7 @@ from texts import grammar
 
 
 def condition_text(condition):
-    mask = ' & %d' % condition.mask if condition.mask != grammar.GREATEST else ''
+    mask = ' & %d' % condition.mask if condition.mask != grammar.ALL_BITS else ''
     relaxed = ' at (%s)' % ', '.join('%d: %d' % pair for pair in condition.relaxed) if condition.relaxed else ''
     return '%s%s %s %d%s' % (condition.name, mask, condition.comparison, condition.constant, relaxed)
 

@@ -5,6 +5,8 @@ from dataclasses import dataclass, field
 from .tokens import Fault, GREATEST, tokens
 
 KEYWORDS = {'window', 'query', 'refine', 'packets', 'filter', 'at', 'map', 'as', 'distinct', 'reduce', 'sum', 'width', 'max', 'min', 'or', 'join'}
+# What a condition without `&` keeps: more bits than a number of a text has.
+ALL_BITS = (1 << 128) - 1
 COMPARISONS = ['==', '!=', '<', '<=', '>', '>=']
 
 
@@ -119,7 +121,7 @@ class Reader:
         return level, self.number()
 
     def condition(self, _):
-        name, mask, relaxed = self.name(), GREATEST, []
+        name, mask, relaxed = self.name(), ALL_BITS, []
         if self.is_symbol('&'):
             self.step()
             mask = self.number()

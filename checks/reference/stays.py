@@ -1,13 +1,13 @@
 """`detect`: how long an address is in the unrefined answers of a query, and when a plan prints it."""
 
 from . import answers, split
-from .tokens import GREATEST
+from .grammar import ALL_BITS
 
 
 def is_threshold(query, value, condition):
     """Whether a condition asks if the value of the reduce is above a constant that no level has greater than the finest."""
     finest = answers.constant_at(condition, query.levels[-1])
-    return (condition.name == value and condition.mask == GREATEST and condition.comparison in ('>', '>=')
+    return (condition.name == value and condition.mask == ALL_BITS and condition.comparison in ('>', '>=')
             and all(answers.constant_at(condition, level) <= finest for level in query.levels))
 
 

@@ -64,7 +64,7 @@ fn is_threshold(levels: &[u32], finest: u32, place: usize, c: &TCond) -> bool
     ensures { result ≡ is_threshold levels.now finest place c.now }
 {
     c.col as usize == place
-        && (c.and == u128::MAX || c.and == u128::from(u64::MAX))
+        && c.and == u128::MAX
         && is_above(c.cmp)
         && no_greater(levels, finest, c)
 }

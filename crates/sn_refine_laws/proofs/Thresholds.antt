@@ -45,19 +45,16 @@ above_more Le v w c d is more less h = absurd (false≢true is)
 above_more Gt v w c d is more less h = let lt = ltb-true c v h in lt-ltb d w (omega (arith, lt, more, less))
 above_more Ge v w c d is more less h = let le = leb-true c v h in le-leb d w (omega (arith, le, more, less))
 
--- a number of 64 bits and-ed with all bits, or with 64, stays
-kept : (a v : ℕ) → ((a == all_bits) || (a == greatest)) ≡ true → v < 2 ^ 64 → bit_and v a ≡ v
-kept a v is lt =
-    by_test (a == all_bits)
-    (λ yes. ap (bit_and v) (nat_same a all_bits yes) ∙ and_mask v 128 ∙ mod-eq_of_lt (omega (arith, lt)))
-    (λ isnt. ap (bit_and v) (nat_same a greatest (sym (ap (λ b. b || (a == greatest)) isnt) ∙ is)) ∙ and_mask v 64 ∙ mod-eq_of_lt lt)
+-- a number of 64 bits and-ed with all bits stays
+kept : (a v : ℕ) → (a == all_bits) ≡ true → v < 2 ^ 64 → bit_and v a ≡ v
+kept a v is lt = ap (bit_and v) (nat_same a all_bits is) ∙ and_mask v 128 ∙ mod-eq_of_lt (omega (arith, lt))
 
 module _ (levels : List ℕ) (F r n : ℕ) (among : list_any (nat_eq r) levels ≡ true) (k l : Row) (v w : ℕ) (long : length k ≡ n) (long' : length l ≡ n) (more : v ≤ w) (small : w < 2 ^ 64) where
   cond_passes : (c : TCond) → is_threshold levels F n c ≡ true → holds F c (k ++ v ∷ []) ≡ true → holds r c (l ++ w ∷ []) ≡ true
   cond_passes c is h =
       let lesser : ℕ → Bool = λ level. nat_le (constant_at level c.relaxed c.own) (constant_at F c.relaxed c.own) in
-      let a = and_parts (c.col == n) (((c.and == all_bits) || (c.and == greatest)) && (is_above c.cmp && list_all lesser levels)) is in
-      let b = and_parts ((c.and == all_bits) || (c.and == greatest)) (is_above c.cmp && list_all lesser levels) a.1 in
+      let a = and_parts (c.col == n) ((c.and == all_bits) && (is_above c.cmp && list_all lesser levels)) is in
+      let b = and_parts (c.and == all_bits) (is_above c.cmp && list_all lesser levels) a.1 in
       let d = and_parts (is_above c.cmp) (list_all lesser levels) b.1 in
       let less : constant_at r c.relaxed c.own ≤ constant_at F c.relaxed c.own = leb-true (constant_at r c.relaxed c.own) (constant_at F c.relaxed c.own) (all_member lesser r levels d.1 among) in
       let col : c.col ≡ n = nat_same c.col n a.0 in

@@ -1,13 +1,13 @@
 -- to be believed
 -- Queries of which a coarser level answers every prefix of what a finer level answers.
-use Rattle.std.specs.Prelude.{ℕ, List, [], ◌∷◌, length, Bool, true, false, ◌&&◌, ◌||◌, ◌==◌, nat_le}
+use Rattle.std.specs.Prelude.{ℕ, List, [], ◌∷◌, length, Bool, true, false, ◌&&◌, ◌==◌, nat_le}
 use Rattle.std.specs.List.{list_all}
 use Rattle.sn_base.specs.declared.any_fold.AnyFold.{AnyFold}
 use Rattle.sn_base.specs.declared.any_fold.AnyFold.TheVariants.{SatSum, Max, Min, Or}
 use Rattle.sn_query_grammar.specs.declared.ast.Cmp.{Cmp}
 use Rattle.sn_query_grammar.specs.declared.ast.Cmp.TheVariants.{Eq, Ne, Lt, Le, Gt, Ge}
 use Rattle.sn_types.specs.Typed.{branch_of, finest_level}
-use Rattle.sn_types.specs.Values.{all_bits, constant_at, greatest}
+use Rattle.sn_types.specs.Values.{all_bits, constant_at}
 use Rattle.sn_types.specs.declared.typed_op.TCond.{TCond}
 use Rattle.sn_types.specs.declared.typed_op.TOp.{TOp}
 use Rattle.sn_types.specs.declared.typed_op.TOp.TheVariants as ops
@@ -28,10 +28,10 @@ is_above Le = false
 is_above Gt = true
 is_above Ge = true
 
--- a condition asks whether the column at this place, with no `&` or all 64 bits kept, is above a constant that no level has greater than the finest
+-- a condition asks whether the column at this place, with no `&`, is above a constant that no level has greater than the finest
 abbrev pub is_threshold : List ℕ → ℕ → ℕ → TCond → Bool
 is_threshold levels finest place c =
-    (c.col == place) && (((c.and == all_bits) || (c.and == greatest)) && (is_above c.cmp
+    (c.col == place) && ((c.and == all_bits) && (is_above c.cmp
     && list_all (λ level. nat_le (constant_at level c.relaxed c.own) (constant_at finest c.relaxed c.own)) levels))
 
 -- filters of such conditions alone

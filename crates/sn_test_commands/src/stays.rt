@@ -81,6 +81,14 @@ syn: 0 1 9, 1 1 9
 = total windows 1
 
 words: detect q p c
+refine ip.dst: 8, 32; packets | map ip.dst as d, 1 as n | reduce d: sum(n) width 16 | filter n & 18446744073709551615 > 1;
+plan: plan query q path 32; piece 32 0 cut 0;
+syn: 0 1 9, 1 1 9
+= query q levels 1 bound no
+= 10.0.0.9 from 0 to 0 printed 0
+= total windows 1
+
+words: detect q p c
 refine ip.dst: 8, 32; packets | map ip.dst as d, 1 as n | reduce d: sum(n) width 16;
 plan: plan query q path 8, 32; piece 8 0 cut 0; piece 32 0 cut 0;
 syn: 0 1 9, 1000000 1 9
