@@ -11,6 +11,8 @@ following `replan` where no plan changes, whatever comes too early, against `liv
           20000 packets. Both make the same plan first; what they take beyond `plan` is the answering alone. The texts are compared.
 several   `many` with the same queries and plan over what two switches saw that took turns at the packets of each capture, against `run` over the whole. The answers
           are compared.
+open      `run` with the same queries along paths of two levels, with nothing cut, on the switch of full.switch and on the same with `entries 1`: in each window whose
+          tables are open all packets come to level 32, and the engine drops those of other prefixes. The answers are compared.
 training  `plan` and `check` with the queries and the switch of the generated job, at several sizes of the capture. `plan --nodes 1` ends behind the cost
           table, so it is the training alone, and what `plan` takes beyond it is the search and the printing of the tree.
 job       `job 7` against `plain` with its queries on the capture of 8.
@@ -33,13 +35,19 @@ TIGHT_SWITCH = 'stages 4; actions 2; bits 65536; meta 512; chain 2; slots 64, 25
 # Eight queries that want more registers than the tight switch has.
 EIGHT = 'window 1000000\n' + ''.join('query q%d { refine ip.dst: 8, 16, 24, 32; packets | filter ip.len > %d | map ip.dst as d, 1 as n | reduce d: sum(n) width 32 | filter n > %d; }\n'
                                      % (number, 40 + 100 * number, 50 + number) for number in range(8))
-# The three queries of three.query at a coarse level and the finest one.
-TWO_LEVELS = 'plan\n' + ''.join('query %s path 8, 32;\n' % name + ''.join('piece %d %d cut 0;\n' % (level, branch) for level in (8, 32) for branch in range(branches))
-                                for name, branches in (('newconn', 1), ('spread', 1), ('slow', 2)))
 GOALS = {('detect', 'plain'): 2.2, ('many', 'run'): 1.3, ('run', 'plain'): 2, ('emit', 'plain'): 2, ('run', 'emit'): 1.2, ('run fitting', 'plain'): 2, ('emit fitting', 'plain'): 2, ('run fitting', 'emit fitting'): 1.2, ('training', 'plain'): 15, ('job', 'plain'): 40, ('replan', 'live'): 1.1}
 
 sys.path.insert(0, CHECKS)
 import program  # noqa: E402
+
+
+def two_levels(coarse):
+    """The plan of the three queries of three.query at a coarse level and the finest one, with nothing cut."""
+    lines = ['plan']
+    for name, branches in (('newconn', 1), ('spread', 1), ('slow', 2)):
+        lines.append('query %s path %d, 32;' % (name, coarse))
+        lines += ['piece %d %d cut 0;' % (level, branch) for level in (coarse, 32) for branch in range(branches)]
+    return '\n'.join(lines) + '\n'
 
 
 class Part:
@@ -125,7 +133,7 @@ def along(given, measurer, folder):
 
 def late(given, measurer, folder):
     """Whether `detect` ends along both plans."""
-    good, two = True, written(folder, 'two.plan', TWO_LEVELS)
+    good, two = True, written(folder, 'two.plan', two_levels(8))
     for kind in given.kinds:
         capture = run.generate(kind, given.packets, given.number, folder)
         part = Part(given, measurer, folder, 'how late, %s: %d packets' % (kind, given.packets))
@@ -184,6 +192,34 @@ def several(given, measurer, folder):
         good = good and equal
         for name in (capture, *parted):
             os.remove(name)
+    return good
+
+
+def opened_words(capture, folder):
+    """The words of `run` along two levels, on a switch whose tables hold all prefixes and on one whose tables hold one."""
+    two, one = written(folder, 'two.plan', two_levels(16)), written(folder, 'one.switch', run.bytes_of(SWITCH).decode() + 'entries 1;\n')
+    return {'run two levels': ['run', SWITCH, run.QUERIES, two, capture], 'run open': ['run', one, run.QUERIES, two, capture]}
+
+
+def opened(given, measurer, folder):
+    """Whether `run` with open tables answers what it does with room."""
+    good = True
+    for kind in given.kinds:
+        capture = run.generate(kind, given.packets, given.number, folder)
+        part = Part(given, measurer, folder, 'open tables, %s: %d packets' % (kind, given.packets))
+        part.add('plain', 'plain', run.QUERIES, capture)
+        for label, words in opened_words(capture, folder).items():
+            part.add(label, *words)
+        run.read_once(capture)
+        part.measure()
+        part.tell(given.packets)
+        part.over('run open', 'run two levels')
+        room, one = (part.outs[label] for label in ('run two levels', 'run open'))
+        equal = rows_of(room) == rows_of(one)
+        sent = [run.bytes_of(name).split()[-1].decode() for name in (room, one)]
+        print('  items %s with room, %s with open tables; answers %s' % (*sent, 'equal' if equal else 'DIFFER'))
+        good = good and equal and all(one.status == 0 for one in part.found.values())
+        os.remove(capture)
     return good
 
 
@@ -255,18 +291,18 @@ def reading(given, measurer, folder):
     return run.bytes_of(part.outs['plan']) == run.bytes_of(part.outs['reading'])
 
 
-PARTS = {'along': (along, {'run'}), 'late': (late, {'detect'}), 'following': (following, {'live', 'replan'}), 'several': (several, {'run', 'many'}), 'training': (training, {'plan'}), 'job': (job, {'job', 'gen'}), 'search': (search, {'plan'}), 'reading': (reading, {'plan'})}
+PARTS = {'along': (along, {'run'}), 'late': (late, {'detect'}), 'following': (following, {'live', 'replan'}), 'several': (several, {'run', 'many'}), 'open': (opened, {'run'}), 'training': (training, {'plan'}), 'job': (job, {'job', 'gen'}), 'search': (search, {'plan'}), 'reading': (reading, {'plan'})}
 
 
 def words_given():
     words = argparse.ArgumentParser(description=__doc__, formatter_class=argparse.RawDescriptionHelpFormatter)
     words.add_argument('parts', nargs='*', metavar='PART', default=['along', 'training', 'job'], help='of %s (default: along training job)' % ', '.join(PARTS))
     words.add_argument('--sonata', default=run.USUAL, help='the program to measure (default: the one that this clone built)')
-    words.add_argument('--packets', type=int, default=1000000, help='packets of each answered capture of `along`, `late`, `following` and `several`')
+    words.add_argument('--packets', type=int, default=1000000, help='packets of each answered capture of `along`, `late`, `following`, `several` and `open`')
     words.add_argument('--training', type=int, nargs='+', default=[20000, 2000000], metavar='PACKETS', help='packets of training captures (default 20000 2000000)')
     words.add_argument('--number', type=int, default=7, help='the number from which the captures are drawn')
     words.add_argument('--runs', type=int, default=5, help='runs of each command; the least processor time counts (above 500000 packets of training it is one)')
-    words.add_argument('--kinds', nargs='+', default=['few', 'many'], choices=['few', 'many'], help='captures of `along`, `late`, `following` and `several`')
+    words.add_argument('--kinds', nargs='+', default=['few', 'many'], choices=['few', 'many'], help='captures of `along`, `late`, `following`, `several` and `open`')
     words.add_argument('--keep', metavar='FOLDER', help='put outputs there, and leave them')
     given = words.parse_args()
     if set(given.parts) - set(PARTS):

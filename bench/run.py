@@ -120,13 +120,19 @@ def ratios(found, size):
     print('  peak memory over the capture\'s bytes: %.2f; over the C program\'s peak: %.2f' % (ours.peak_bytes / size, ours.peak_bytes / found['C'].peak_bytes))
 
 
-def words_given():
-    words = argparse.ArgumentParser(description=__doc__, formatter_class=argparse.RawDescriptionHelpFormatter)
+def usual_words(description, packets):
+    """The words of a script that measures a program over captures of the given number of packets."""
+    words = argparse.ArgumentParser(description=description, formatter_class=argparse.RawDescriptionHelpFormatter)
     words.add_argument('--sonata', default=USUAL, help='the program to measure (default: the one that this clone built)')
-    words.add_argument('--packets', type=int, default=2000000, help='packets of each capture')
+    words.add_argument('--packets', type=int, default=packets, help='packets of each capture')
     words.add_argument('--number', type=int, default=7, help='the number from which the captures are drawn')
-    words.add_argument('--runs', type=int, default=5, help='runs of each program; the least processor time counts')
+    words.add_argument('--runs', type=int, default=5, help='runs of each; the least processor time counts')
     words.add_argument('--kinds', nargs='+', default=['few', 'many'], choices=['few', 'many'], help='captures')
+    return words
+
+
+def words_given():
+    words = usual_words(__doc__, 2000000)
     words.add_argument('--keep', metavar='FOLDER', help='put captures and outputs there, and leave them')
     return words.parse_args()
 

@@ -11,30 +11,51 @@ import program
 
 IP = 'ip and ip[0] & 0xf0 = 0x40 and ip[0] & 0xf >= 5 and ip[(ip[0] & 0xf) * 4 - 1] >= 0'
 FIRST = IP + ' and ip[6:2] & 0x1fff = 0'
-TCP = FIRST + ' and ip[9] = 6 and tcp[19] >= 0'
-UDP = FIRST + ' and ip[9] = 17 and udp[7] >= 0'
+IP6 = 'ip6 and ip6[0] & 0xf0 = 0x60 and ip6[39] >= 0'
 ICMP = FIRST + ' and ip[9] = 1 and icmp[3] >= 0'
 ETHERNET = 1
 TAG = '(ether[%d:2] = 0x8100 or ether[%d:2] = 0x88a8) and ether[%d] >= 0'
+# Protocol number and bytes of the header.
+TRANSPORTS = {'tcp': (6, 20), 'udp': (17, 8)}
+
+
+def carried(name, place='', test=''):
+    """A header of TCP or UDP right after IPv4 or IPv6, and a test of bytes of it, given their place and how many they are. Expressions of tcpdump have no bytes of
+    a header after IPv6, so there they are bytes of IPv6."""
+    protocol, length = TRANSPORTS[name]
+    four = FIRST + ' and ip[9] = %d and %s[%d] >= 0' % (protocol, name, length - 1)
+    six = IP6 + ' and ip6[6] = %d and ip6[%d] >= 0' % (protocol, 40 + length - 1)
+    if test:
+        begin, colon, size = place.partition(':')
+        four += ' and %s[%s] %s' % (name, place, test)
+        six += ' and ip6[%d%s] %s' % (40 + int(begin), colon + size, test)
+    return '(%s) or (%s)' % (four, six)
+
 
 # The condition of a query, the expression of tcpdump, and whether it is meant behind tags too.
 QUESTIONS = [
     ('pkt.len >= 0', '', False),
     ('pkt.len > 1000', 'len > 1000', False),
     ('ip.valid == 1', IP, True),
-    ('tcp.valid == 1', TCP, True),
-    ('udp.valid == 1', UDP, True),
+    ('tcp.valid == 1', carried('tcp'), True),
+    ('udp.valid == 1', carried('udp'), True),
     ('icmp.valid == 1', ICMP, True),
-    ('tcp.flags == 2', TCP + ' and tcp[13] = 2', True),
-    ('tcp.flags & 18 == 18', TCP + ' and tcp[13] & 18 = 18', True),
-    ('tcp.dport == 80', TCP + ' and tcp[2:2] = 80', True),
-    ('tcp.sport == 80', TCP + ' and tcp[0:2] = 80', True),
-    ('udp.dport == 53', UDP + ' and udp[2:2] = 53', True),
-    ('udp.len > 100', UDP + ' and udp[4:2] > 100', True),
+    ('tcp.flags == 2', carried('tcp', '13', '= 2'), True),
+    ('tcp.flags & 18 == 18', carried('tcp', '13', '& 18 = 18'), True),
+    ('tcp.dport == 80', carried('tcp', '2:2', '= 80'), True),
+    ('tcp.sport == 80', carried('tcp', '0:2', '= 80'), True),
+    ('udp.dport == 53', carried('udp', '2:2', '= 53'), True),
+    ('udp.len > 100', carried('udp', '4:2', '> 100'), True),
     ('icmp.type == 8', ICMP + ' and icmp[0] = 8', True),
     ('ip.proto == 17', IP + ' and ip[9] = 17', True),
     ('ip.ttl > 60', IP + ' and ip[8] > 60', True),
     ('ip.src == 10.77.0.1', IP + ' and ip[12:4] = 0x0a4d0001', True),
+    ('ip6.valid == 1', IP6, True),
+    ('ip6.plen > 20', IP6 + ' and ip6[4:2] > 20', True),
+    ('ip6.next == 58', IP6 + ' and ip6[6] = 58', True),
+    ('ip6.hops > 63', IP6 + ' and ip6[7] > 63', True),
+    ('ip6.src & 0xffffffffffffffff == 1', IP6 + ' and ip6[16:4] = 0 and ip6[20:4] = 1', True),
+    ('ip6.dst > 0xffffffffffffffff', IP6 + ' and (ip6[24:4] > 0 or ip6[28:4] > 0)', True),
 ]
 ETHERNET_QUESTIONS = [
     ('eth.type == 0x0806', 'arp', True),

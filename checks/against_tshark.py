@@ -1,10 +1,11 @@
 #!/usr/bin/env python3
-"""Compares each packet's 24 fields with the values that tshark prints.
+"""Compares each packet's 30 fields with the values that tshark prints.
 
-The packets of a capture are put a second apart, so that a window of a second holds one packet, and three queries that each read eight fields print them all.
-tshark reads more than sonata does: tags behind the second, headers inside tunnels and inside ICMP messages, IPv6, headers of which a part was captured. Where
-it does, the value that sonata should give is worked out from tshark's, and the reason is counted and printed. Any other difference is a fault. Needs tshark."""
+The packets of a capture are put a second apart, so that a window of a second holds one packet, and four queries that read at most eight fields each print
+them all. tshark reads more than sonata does: tags after the second, headers inside tunnels and inside ICMP messages, extension headers of IPv6 and what
+stands after them, headers of which a part was captured. Where it does, the value that sonata should give is worked out from tshark's, and the reason is counted and printed. Any other difference is a fault. Needs tshark."""
 
+import ipaddress
 import os
 import subprocess
 import sys
@@ -16,7 +17,10 @@ import rewrite
 
 COLUMNS = ['frame.len', 'frame.cap_len', 'frame.protocols', 'eth.dst', 'eth.src', 'eth.type', 'eth.len', 'vlan.etype', 'vlan.id', 'ieee8021ad.id', 'sll.etype',
            'sll.ltype', 'ip.version', 'ip.hdr_len', 'ip.frag_offset', 'ip.len', 'ip.ttl', 'ip.proto', 'ip.src', 'ip.dst', 'tcp.srcport', 'tcp.dstport', 'tcp.seq_raw',
-           'tcp.ack_raw', 'tcp.flags', 'udp.srcport', 'udp.dstport', 'udp.length', 'icmp.type', 'icmp.code']
+           'tcp.ack_raw', 'tcp.flags', 'udp.srcport', 'udp.dstport', 'udp.length', 'icmp.type', 'icmp.code', 'ipv6.version',
+           'ipv6.plen', 'ipv6.nxt', 'ipv6.hlim', 'ipv6.src', 'ipv6.dst']
+# sonata's fields of IPv6 and tshark's columns.
+SIX = {'ip6.plen': 'ipv6.plen', 'ip6.next': 'ipv6.nxt', 'ip6.hops': 'ipv6.hlim', 'ip6.src': 'ipv6.src', 'ip6.dst': 'ipv6.dst'}
 # Protocol number, name, bytes of the header, and tshark's column for each field.
 TRANSPORTS = {
     6: ('tcp', 20, {'tcp.sport': 'tcp.srcport', 'tcp.dport': 'tcp.dstport', 'tcp.seq': 'tcp.seq_raw', 'tcp.ack': 'tcp.ack_raw', 'tcp.flags': 'tcp.flags'}),
@@ -28,7 +32,9 @@ UNTOLD = None
 
 
 def number(text):
-    """The number of a value that tshark prints: decimal, hexadecimal, an address, or a time-to-live."""
+    """The number of a value that tshark or sonata prints: decimal, hexadecimal, or an address of Ethernet, IPv4 or IPv6."""
+    if '::' in text or text.count(':') > 5:
+        return int(ipaddress.IPv6Address(text))
     if ':' in text:
         return int(text.replace(':', ''), 16)
     if text.count('.') == 3:
@@ -65,11 +71,13 @@ class Reading:
         if start is None:
             self.left_out('a cut link header')
         elif self.values['eth.type'] == 0x0800 and self.internet(start):
-            self.transport(start + self.first('ip.hdr_len'))
+            self.transport(start + self.first('ip.hdr_len'), self.values['ip.proto'])
+        elif self.values['eth.type'] == 0x86DD and self.internet_6(start):
+            self.transport(start + 40, self.values['ip6.next'])
         self.name_what_is_inside()
 
     def left_out(self, reason):
-        if self.row['ip.version'] or self.row['eth.type']:
+        if self.row['ip.version'] or self.row['ipv6.version'] or self.row['eth.type']:
             self.reasons.add(reason)
 
     def ethernet(self):
@@ -124,35 +132,48 @@ class Reading:
         """tshark stops at a header that is longer than the declared packet. sonata doesn't look at what is declared."""
         if self.first('ip.version') == 4 and self.first('ip.hdr_len') >= 20:
             self.reasons.clear()
-            for field in program.FIELDS[5:]:
+            for field in program.FIELDS[5:24]:
                 self.values[field] = UNTOLD
             self.reasons.add('untold: an IPv4 header that is longer than the declared packet')
         return False
 
-    def transport(self, start):
-        name, length, columns = TRANSPORTS.get(self.values['ip.proto'], (None, 0, {}))
-        if name is None or self.first('ip.frag_offset') != 0:
+    def internet_6(self, start):
+        if self.captured < start + 40 or self.first('ipv6.version') != 6 or not self.row['ipv6.src']:
+            self.left_out('a cut IPv6 header, or one of another version')
+            return False
+        self.values['ip6.valid'] = 1
+        for field, column in SIX.items():
+            self.values[field] = self.first(column)
+        return True
+
+    def transport(self, start, protocol):
+        """What stands right after the header of the network layer. A fragment of IPv6 has a header between, so it's none of these."""
+        name, length, columns = TRANSPORTS.get(protocol, (None, 0, {}))
+        is_six = self.values['ip6.valid']
+        if name is None or is_six and name == 'icmp' or not is_six and self.first('ip.frag_offset') != 0:
             return
         if self.captured < start + length:
             self.reasons.add('a cut header of TCP, UDP or ICMP')
             return
         self.values[name + '.valid'] = 1
-        declared = self.values['ip.len'] or 65535
+        before = 40 if is_six else self.first('ip.hdr_len')
+        declared = 40 + self.values['ip6.plen'] if is_six else self.values['ip.len'] or 65535
         for field, column in columns.items():
-            told = self.row[column] and declared >= self.first('ip.hdr_len') + 4
+            told = self.row[column] and declared >= before + 4
             self.values[field] = self.first(column) & (1 << 32) - 1 if told else UNTOLD
             if not told:
-                self.reasons.add('untold: a header that reaches behind the declared packet' if declared < self.first('ip.hdr_len') + length
+                self.reasons.add('untold: a header that reaches beyond the declared packet' if declared < before + length
                                  else 'untold: a header that tshark holds to be short or wrong')
         if name == 'tcp' and self.values['tcp.flags'] is not UNTOLD:
             self.values['tcp.flags'] &= 0xFF
 
     def name_what_is_inside(self):
         """Reasons for the headers that tshark reads and sonata doesn't."""
-        inner = len(self.row['ip.version']) > self.values['ip.valid'] if self.values['ip.valid'] is not UNTOLD else 0
+        known = self.values['ip.valid'] is not UNTOLD
+        inner = known and len(self.row['ip.version']) + len(self.row['ipv6.version']) > self.values['ip.valid'] + self.values['ip6.valid']
         tags = sum(layer in ('vlan', 'ieee8021ad') for layer in self.layers)
-        if 'ipv6' in self.layers:
-            self.reasons.add('IPv6, which is not read yet')
+        if self.values['ip6.valid'] and self.values['ip6.next'] not in (6, 17):
+            self.reasons.add('what stands after IPv6 and is neither TCP nor UDP')
         if tags > 2 or self.values['eth.type'] in (0x9100,) or tags and self.link != 1:
             self.reasons.add('a third tag, a tag of another type, or a tag under a cooked link')
         elif inner and 'icmp' in self.layers:
@@ -162,13 +183,13 @@ class Reading:
 
 
 def fields_of(executable, capture):
-    """The 24 fields of each packet, by sonata."""
-    groups = [program.FIELDS[i:i + 8] for i in (0, 8, 16)]
+    """The 30 fields of each packet, by sonata."""
+    groups = [program.FIELDS[i:i + 8] for i in (0, 8, 16, 24)]
     text = 'window 1000000\n' + ''.join('query f%d { packets | filter %s; }\n' % (i, ', '.join(name + ' >= 0' for name in group)) for i, group in enumerate(groups))
     with tempfile.NamedTemporaryFile(suffix='.pcap') as file:
         rewrite.rewrite('apart', capture, file.name)
         found = program.rows(program.answer(executable, text, file.name))
-    packets = [{} for _ in range(len(found) // 3)]
+    packets = [{} for _ in range(len(found) // len(groups))]
     for window, query, row in found:
         for name, value in zip(groups[int(query[1])], row):
             packets[window][name] = number(value)

@@ -1,8 +1,8 @@
 #!/usr/bin/env python3
 """Compares `sonata plan` and `check` with all plans of small spaces. Every list of paths, cuts, sizes and stages is written down as a plan; those that fit
-are run over the training capture, and their tuples counted. So the least cost and the first plan of that cost are known without a search, a cost table or
-a bound. Then the tree must be accepted and be the one of that plan, and the budget must be exact: with as many nodes as the tree has expanded ones the plan
-is found, and with fewer the bound is told that so many of them lie below.
+are run over the training capture, and their tuples counted, with the prefixes in their tables where the switch gives them a weight. So the least cost and
+the first plan of that cost are known without a search, a cost table or a bound. Then the tree must be accepted and be the one of that plan, and the budget
+must be exact: with as many nodes as the tree has expanded ones the plan is found, and with fewer the bound is told that so many of them lie below.
 
 Prints each case on which the program differs, with the seed that makes it again. The status is 0 where none does. Needs nothing but Python.
 
@@ -71,10 +71,20 @@ def fits(queries, switch, entries):
     return True
 
 
-def sent(window, queries, switch, entries, train):
-    """The tuples that a plan sends over a capture."""
-    blocks, _ = split.windows_along(window, queries, switch, entries, train)
-    return sum(emitted for _, emitted, _ in blocks)
+def installed(levels, queries, switch, number):
+    """How many prefixes stand in the tables of all pieces in a window."""
+    tables = [levels.prefixes(q, j, number) for q, entry in enumerate(levels.entries) for j in range(1, len(entry.path)) for _ in queries[q].branches]
+    return sum(len(prefixes) for prefixes in tables if not split.is_open(switch.entries, prefixes))
+
+
+def spent(window, queries, switch, entries, train):
+    """The tuples that a plan sends over a capture, and the switch's weight for each prefix that is installed."""
+    levels, total = split.Levels(queries, entries, switch.entries), 0
+    for number, tuples in split.windows_of(window, train)[0]:
+        total += switch.weight * installed(levels, queries, switch, number)
+        passing, _ = levels.window(number, tuples)
+        total += sum(len(sent) + len(read) for _, (sent, read) in split.lane_items(switch, queries, entries, passing))
+    return total
 
 
 def first_least(window, queries, switch, train):
@@ -85,7 +95,7 @@ def first_least(window, queries, switch, train):
             continue
         key = str([(entry.path, [(piece.cut, piece.sizes) for piece in entry.pieces]) for entry in chosen])
         if key not in known:
-            known[key] = sent(window, queries, switch, list(chosen), train)
+            known[key] = spent(window, queries, switch, list(chosen), train)
         if best is None or known[key] < best[1]:
             best = plans.lines(chosen), known[key]
     return best

@@ -1,11 +1,12 @@
 #!/usr/bin/env python3
 """Runs what stands in the documents. Of docs/QUERIES.md the examples: each query with the answer that stands after it, and each refused text with its
-error line. Of README.md and the documents around plans each `sh` block, one after another in a folder of its own as one shell would, with the `shows`
+error line. Of it, README.md and the documents around plans each `sh` block, one after another in a folder of its own as one shell would, with the `shows`
 block that stands after it, where one does; a line `...` there stands for any lines. Blocks of other kinds, as `bash`, aren't run. Of answers that are
 drawn each key must stand in the picture, and of stays each line, in the new one and in the one that the document shows. A document is left out
 where the program hasn't all its commands; checks/planned.py has them (`documents.py --sonata checks/planned.py`). Without matplotlib and graphviz pictures
 are left out, and without editcap, mergecap, psql, xxd, tcpdump, jq or Dask the blocks that use them."""
 
+import functools
 import os
 import re
 import shutil
@@ -21,8 +22,8 @@ TOP = os.path.dirname(HERE)
 GENERATE = os.path.join(TOP, 'bench', 'generate.py')
 PAIR = re.compile(r'```(query|refused)\n(.*?)```\n+```(answer|line)\n(.*?)```', re.S)
 BLOCK = re.compile(r'```sh\n(.*?)```(?:\n+```shows\n(.*?)```)?', re.S)
-# (the README and those around plans: blocks of other kinds than sh, as bash, aren't run)
-SESSIONS = ['README.md', 'FORMATS.md', 'PLANS.md', 'TOUR.md', 'SCALE.md']
+# (the README, the queries and those around plans: blocks of other kinds than sh, as bash, aren't run)
+SESSIONS = ['README.md', 'QUERIES.md', 'FORMATS.md', 'PLANS.md', 'TOUR.md', 'SCALE.md']
 COMMAND = re.compile(r'\bsonata (plain|plan|run|emit|finish|detect|many|check|live|replan|gen|job) [^-|;&>\n]+( --csv)?')
 TOOLS = re.compile(r'^(?:.*\| *)?(editcap|mergecap|reordercap|psql|xxd|jq|tcpdump) ', re.M)
 DASK = re.compile(r'examples/scale/(?:parts|rest)\.py')
@@ -123,18 +124,19 @@ def unbuilt(executable, name):
 
 def main():
     words = program.command_line(__doc__)
-    words.add_argument('documents', nargs='*', default=['QUERIES.md'] + SESSIONS, help='of QUERIES.md, %s (default: all)' % ', '.join(SESSIONS))
+    words.add_argument('documents', nargs='*', default=SESSIONS, help='of %s (default: all)' % ', '.join(SESSIONS))
     given = words.parse_args()
     found = []
     for path in given.documents:
         name = os.path.basename(path)
-        if name != 'QUERIES.md' and name not in SESSIONS:
-            words.error('%s is none of QUERIES.md, %s' % (path, ', '.join(SESSIONS)))
-        missing = unbuilt(given.sonata, name) if name in SESSIONS else []
+        if name not in SESSIONS:
+            words.error('%s is none of %s' % (path, ', '.join(SESSIONS)))
+        missing = unbuilt(given.sonata, name)
         if missing:
             print('%s: left out, the program has no %s' % (name, ', '.join(missing)))
-        else:
-            found.append(try_session(given.sonata, name) if name in SESSIONS else try_queries(given.sonata))
+            continue
+        for tried in [try_queries] * (name == 'QUERIES.md') + [functools.partial(try_session, name=name)]:
+            found.append(tried(given.sonata))
             print('%s: %d of %d examples as they stand' % (name, found[-1][0] - found[-1][1], found[-1][0]), flush=True)
     return 1 if any(bad for _, bad in found) else 0
 

@@ -5,8 +5,8 @@
 
 Each crate of crates.txt must stand once in docs/ARCHITECTURE.md, under the heading that it has in crates.txt, and in docs/PROVED.md where it isn't one of tests
 or the program; and each path of a crate that a document names must be there, and the code of each CALLING.md must be that of a file of sn_test_callers, which the gate
-proves. Prints how many crates there are and the longest chain. The status is 0
-only where all is so. Python 3 alone."""
+proves; and crates.txt may name below a crate only those that its text names. Prints how many crates there are, the longest chain, and how many files the gate reads to sum up its libraries
+(docs/ARCHITECTURE.md, "The ways down"). The status is 0 only where all is so. Python 3 alone."""
 
 import functools
 import glob
@@ -17,6 +17,7 @@ import sys
 TOP = os.path.dirname(os.path.dirname(os.path.abspath(__file__)))
 ROOM = re.compile(r'^\*\*([^*\n]+)\*\*:[^\n]*\n+```\n(.*?)```', re.M | re.S)
 CRATE = re.compile(r'^(sn_\w+|sonata)  +\S', re.M)
+NAMED = re.compile(r'\bRattle\.(sn_\w+)|\b(sn_\w+)::')
 PATH = re.compile(r'`(sn_\w+)/([\w/+]+)(\.\w+)?`')
 
 
@@ -43,6 +44,26 @@ def longest(below):
     def chain(name):
         return max((chain(it) for it in below[name]), key=len, default=()) + (name,)
     return max((chain(name) for name in below), key=len)
+
+
+def files_of(crate):
+    """The files of a crate that the prover reads."""
+    return [os.path.join(at, name) for part in ('src', 'specs', 'proofs') for at, _, names in os.walk(os.path.join(TOP, 'crates', crate, part)) for name in names]
+
+
+def unnamed(below):
+    """The crates that crates.txt has below another, and whose names don't stand in its text."""
+    for crate, found in below.items():
+        named = {it for file in files_of(crate) for pair in NAMED.findall(text(file)) for it in pair}
+        yield from (f'{crate}: crates.txt has {it} below it, and its text doesn\'t name it' for it in found if it not in named)
+
+
+def summed(below):
+    """How many files the gate reads to sum up its libraries: those of each one and of all crates below it, once for each way down to them, and twice."""
+    @functools.lru_cache(None)
+    def read(name):
+        return len(files_of(name)) + sum(read(it) for it in below[name])
+    return 2 * sum(read(name) for name in below if not os.path.exists(os.path.join(TOP, 'crates', name, 'src', 'main.rt')))
 
 
 def off_the_map(rooms):
@@ -83,7 +104,8 @@ def main():
     rooms, below = listed()
     chain = longest(below)
     print(f'{len(rooms)} crates, the longest chain has {len(chain)}: {" ".join(chain)}')
-    wrong = [*off_the_map(rooms), *lost_paths(), *unproved_callers()]
+    print(f'the gate reads {summed(below) / 1e6:.0f} million files to sum up its libraries')
+    wrong = [*off_the_map(rooms), *unnamed(below), *lost_paths(), *unproved_callers()]
     print('\n'.join(wrong) or 'the documents name the house as it is')
     return 1 if wrong else 0
 

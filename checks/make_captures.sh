@@ -4,7 +4,7 @@
 #     make_captures.sh FOLDER
 #
 # One run of traffic in two network namespaces is captured by several tcpdump at once; the rest is made from these captures by editcap, mergecap and
-# rewrite.py. It needs root, iproute2, tcpdump, ping, ncat, nmap, hping3, editcap, mergecap and python3.
+# rewrite.py. It needs root, iproute2, tcpdump, ping, curl, ncat, nmap, hping3, editcap, mergecap and python3.
 
 here=$(cd "$(dirname "$0")" && pwd)
 . "$here/../examples/recipes/lab.sh"
@@ -21,6 +21,7 @@ devices() {
     sleep 1
     ip -n "$victim" link set t0 up
     ip -n "$victim" route add 10.99.0.0/24 dev t0
+    ip -n "$victim" address add fd98::1/64 dev t0 nodad
     ip -n "$attacker" link add x0 type vxlan id 7 local 10.77.0.1 remote 10.77.0.2 dstport 4789
     ip -n "$victim" link add x0 type vxlan id 7 local 10.77.0.2 remote 10.77.0.1 dstport 4789
     for side in "$attacker 1" "$victim 2"; do
@@ -46,6 +47,7 @@ captures_begin() {
     dump raw_nano -i t0 --time-stamp-precision=nano
     dump raw_30 -i t0 -s 30
     dump vxlan_inside -i x0
+    dump loopback -i lo
 }
 
 pings() {
@@ -55,6 +57,8 @@ pings() {
     on_attacker ping -q -c 2 -i 0.2 -t 3 10.88.4.5
     on_attacker ping -q -c 3 -i 0.2 10.78.0.2
     on_attacker ping -q -c 3 -i 0.2 fd00::2
+    on_attacker ping -q -c 2 -i 0.2 -s 4000 fd00::2
+    ip netns exec "$victim" timeout 5 ping -q -c 3 -i 0.2 ::1
 }
 
 connections() {
@@ -67,12 +71,22 @@ connections() {
     on_attacker sh -c 'head -c 3000000 /dev/zero | ncat --send-only 10.77.0.2 80'
 }
 
+# A page that is asked for over ::1.
+pages() {
+    beside_victim python3 -m http.server --directory "$here" --bind ::1 8000
+    await_port 8000
+    for page in README.md make_captures.sh none; do
+        ip netns exec "$victim" timeout 5 curl -g -s -o /dev/null "http://[::1]:8000/$page"
+    done
+}
+
 scans() {
     on_attacker nmap -sS -Pn -n --min-rate 1000 -p 1-300 10.77.0.2
     on_attacker nmap -sU -Pn -n --min-rate 500 --max-retries 0 --host-timeout 5s -p 53,67,123,161 10.77.0.2
     on_attacker nmap -sO -Pn -n --min-rate 500 --max-retries 0 --host-timeout 5s 10.77.0.2
     on_attacker nmap -sX -Pn -n --min-rate 500 --max-retries 0 -p 1-40 10.77.0.2
     on_attacker nmap -6 -sS -Pn -n --min-rate 500 --max-retries 0 -p 75-85 fd00::2
+    on_attacker nmap -6 -sU -Pn -n --min-rate 500 --max-retries 0 --host-timeout 5s -p 53,123 fd00::2
     on_attacker hping3 -q -S -p 80 --rand-source -i u2000 -c 100 10.77.0.2
     on_attacker hping3 -q --udp -s 53 -p 4000 -d 300 -i u2000 -c 60 10.77.0.2
     on_attacker hping3 -q -S -p 80 -f -d 100 -c 3 10.77.0.2
@@ -80,6 +94,7 @@ scans() {
 
 into_the_tunnel() {
     ip netns exec "$victim" timeout 5 ping -q -c 5 -i 0.2 -W 1 10.99.0.7
+    ip netns exec "$victim" timeout 5 ping -q -c 3 -i 0.2 -W 1 fd98::7
     ip netns exec "$victim" timeout 5 hping3 -q -I t0 -S -p 80 -i u5000 -c 60 10.99.0.8
     ip netns exec "$victim" timeout 5 hping3 -q -I t0 --udp -p 53 -i u5000 -c 60 10.99.0.9
     ip netns exec "$victim" timeout 5 ping -q -c 2 -i 0.2 -s 4000 -W 1 10.99.0.7
@@ -88,6 +103,7 @@ into_the_tunnel() {
 traffic() {
     pings
     connections
+    pages
     scans
     into_the_tunnel
     on_attacker python3 "$here/odd_frames.py" a0

@@ -111,7 +111,13 @@ def links():
     yield frame(0x86DD, ip6(6, TCP))
     yield frame(0x86DD, ip6(17, UDP))
     yield frame(0x86DD, ip6(58, b'\x80' + bytes(11)))
-    yield frame(0x86DD, ip6(0, b'\x06' + bytes(7) + TCP))
+    yield frame(0x86DD, ip6(1, ECHO))
+    yield frame(0x86DD, ip6(6, TCP[:19]))
+    yield frame(0x86DD, ip6(17, UDP[:7]))
+    yield frame(0x86DD, ip6(6, TCP)[:39])
+    yield frame(0x86DD, b'\x70' + ip6(6, TCP)[1:])
+    yield frame(0x86DD, ip6(6, TCP), [(0x88A8, 7), (0x8100, 5)])
+    yield frame(0x0800, ip6(6, TCP))
     yield frame(0x86DD, ip(6, TCP))
     yield frame(38, b'\x42\x42\x03' + bytes(35))
     yield frame(0x88B5, ip(6, TCP))
@@ -120,13 +126,44 @@ def links():
     yield frame(0x0800, b'\x45')
 
 
+def extensions():
+    """Headers between IPv6 and what it carries: hop by hop, destination, routing, fragments, authentication, and two of them."""
+    pad = b'\x01\x04' + bytes(4)
+    routing = struct.pack('>BBBBI', 6, 2, 4, 0, 0) + bytes(15) + b'\x03'
+    yield frame(0x86DD, ip6(0, b'\x06\0' + pad + TCP))
+    yield frame(0x86DD, ip6(60, b'\x11\0' + pad + UDP))
+    yield frame(0x86DD, ip6(43, routing + TCP))
+    yield frame(0x86DD, ip6(44, struct.pack('>BBHI', 6, 0, 0, 9) + TCP))
+    yield frame(0x86DD, ip6(44, struct.pack('>BBHI', 17, 0, 1, 10) + UDP[:8]))
+    yield frame(0x86DD, ip6(44, struct.pack('>BBHI', 17, 0, 1 << 3, 10) + UDP[8:]))
+    yield frame(0x86DD, ip6(51, struct.pack('>BBHIII', 6, 4, 0, 5, 1, 0) + bytes(12) + TCP))
+    yield frame(0x86DD, ip6(0, b'\x2b\0' + pad + routing + TCP))
+    yield frame(0x86DD, ip6(0, b'\x3a\0\x05\x02\0\0\x01\0' + b'\x8f\0' + bytes(6)))
+    yield frame(0x86DD, ip6(59, TCP))
+
+
+def six():
+    """IPv6 whose numbers are at their ends, inside IPv4 and IPv6, and beside what it declares."""
+    greatest = b'\x6f' + b'\xff' * 5 + b'\x06\xff' + b'\xff' * 32
+    yield frame(0x86DD, greatest + TCP)
+    yield frame(0x86DD, ip6(6, b'')[:8] + bytes(32) + TCP)
+    yield frame(0x86DD, ip6(41, ip6(6, TCP)))
+    yield frame(0x0800, ip(41, ip6(17, UDP)))
+    yield frame(0x86DD, ip6(6, TCP)[:4] + b'\0\0' + ip6(6, TCP)[6:])
+    yield frame(0x86DD, ip6(17, UDP) + bytes(10))
+    yield frame(0x86DD, ip6(6, b''))
+    yield frame(0x86DD, ip6(6, tcp_with(0x12, 0x5F)))
+    yield frame(0x86DD, ip6(6, tcp_with(2, 0x40)))
+    yield frame(0x86DD, ip6(17, UDP[:4] + b'\0\4' + UDP[6:]))
+
+
 def main():
     words = argparse.ArgumentParser(description=__doc__)
     words.add_argument('interface')
     given = words.parse_args()
     with socket.socket(socket.AF_PACKET, socket.SOCK_RAW) as wire:
         wire.bind((given.interface, 0))
-        for group in (tags, tunnels, fragments, padding, headers, links):
+        for group in (tags, tunnels, fragments, padding, headers, links, extensions, six):
             for one in group():
                 wire.send(one)
                 time.sleep(0.002)

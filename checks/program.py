@@ -11,7 +11,7 @@ import tempfile
 USUAL = os.path.join(os.path.dirname(os.path.abspath(__file__)), '..', 'crates', 'sonata', 'out', 'sonata')
 FIELDS = ['pkt.len', 'eth.dst', 'eth.src', 'eth.type', 'vlan.id', 'ip.valid', 'ip.len', 'ip.ttl', 'ip.proto', 'ip.src', 'ip.dst', 'tcp.valid',
           'tcp.sport', 'tcp.dport', 'tcp.seq', 'tcp.ack', 'tcp.flags', 'udp.valid', 'udp.sport', 'udp.dport', 'udp.len', 'icmp.valid', 'icmp.type',
-          'icmp.code']
+          'icmp.code', 'ip6.valid', 'ip6.plen', 'ip6.next', 'ip6.hops', 'ip6.src', 'ip6.dst']
 
 
 class Unanswered(Exception):

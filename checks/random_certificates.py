@@ -26,9 +26,10 @@ def small(draw):
 
 
 def switch_text(draw):
-    return 'stages %d; actions %d; bits %d; meta %d; chain %d; slots %s;\n' % (
+    text = 'stages %d; actions %d; bits %d; meta %d; chain %d; slots %s;' % (
         draw.choice([2, 3, 4]), draw.choice([1, 2, 8]), draw.choice([41, 200, 4294967296]), draw.choice([40, 100, 65535]), draw.choice([1, 1, 2]),
         ', '.join(map(str, sorted(draw.sample([1, 2, 8], draw.choice([1, 1, 2]))))))
+    return ' '.join([text, *random_plans.membership(draw)]) + '\n'
 
 
 def files(draw):

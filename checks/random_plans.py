@@ -17,6 +17,8 @@ import random_queries
 from reference import engines, grammar, pipes, plans, switches, tokens, typing_rules
 
 FILES = ('switch', 'queries', 'plan', 'capture', 'reports')
+# An address and that of the other side.
+ADDRESSES = [('ip.src', 'ip.dst'), ('ip.dst', 'ip.src'), ('ip6.src', 'ip6.dst'), ('ip6.dst', 'ip6.src')]
 
 
 def typed_text(text):
@@ -28,18 +30,19 @@ def typed_text(text):
 
 def counting(draw, number):
     """A query that counts something for each key: a distinct, a reduce, or both, refined or not, and sometimes joined with a count of packets."""
-    levels = sorted(draw.sample([8, 16, 24, 30, 31, 32], draw.choice([1, 2, 2, 3, 4]))) if draw.random() < 0.7 else []
-    field, other = draw.choice([('ip.src', 'ip.dst'), ('ip.dst', 'ip.src')])
+    field, other = draw.choice(ADDRESSES)
+    valid, length, written = ('ip6.valid', 'ip6.plen', [32, 48, 64, 120, 127, 128]) if field[:3] == 'ip6' else ('ip.valid', 'ip.len', [8, 16, 24, 30, 31, 32])
+    levels = sorted(draw.sample(written, draw.choice([1, 2, 2, 3, 4]))) if draw.random() < 0.7 else []
     columns = [field + ' as k', other + ' as s'] + ['tcp.dport as p'] * draw.randrange(2)
     least = draw.choice(['0', '1', '2', '3'])
     relaxed = ' at (%d: 0)' % levels[0] if len(levels) > 1 and draw.random() < 0.4 else ''
-    ops = draw.choice([[], ['filter ip.valid == 1'], ['filter tcp.flags & 2 == 2', 'filter tcp.valid == 1']]) + ['map ' + ', '.join(columns)]
+    ops = draw.choice([[], ['filter %s == 1' % valid], ['filter tcp.flags & 2 == 2', 'filter tcp.valid == 1']]) + ['map ' + ', '.join(columns)]
     ops += draw.choice([['distinct'], ['distinct'], [], ['distinct', 'filter s & 3 > 0']])
     ops += ['map k as k, 1 as n', 'reduce k: %s width %d' % ('sum(n)', draw.choice([1, 2, 8, 64]))]
     ops += draw.choice([[], ['filter n > ' + least + relaxed], ['filter n > %s%s' % (least, relaxed), 'filter n < 9']])
     text = 'query c%d {\n' % number + ('  refine %s: %s;\n' % (field, ', '.join(map(str, levels))) if levels else '') + '  packets | ' + ' | '.join(ops) + ';\n'
     if draw.random() < 0.3:
-        text += '  packets | map %s as k, ip.len as m | reduce k: %s;\n  join k | map k as k, n * 100 / m as r;\n' % (field, draw.choice(['sum(m) width 32', 'max(m)']))
+        text += '  packets | map %s as k, %s as m | reduce k: %s;\n  join k | map k as k, n * 100 / m as r;\n' % (field, length, draw.choice(['sum(m) width 32', 'max(m)']))
     return text + '}\n'
 
 
@@ -54,10 +57,21 @@ def typed(draw):
             continue
 
 
+def membership(draw):
+    """The items of a switch text that may be left out: how many prefixes a table holds, and what one of them costs."""
+    items = []
+    if draw.random() < 0.6:
+        items.append('entries %d;' % draw.choice([1, 1, 1, 1, 2, 4194304]))
+    if draw.random() < 0.5:
+        items.append('weight %d;' % draw.choice([0, 1, 3, 65536]))
+    return items
+
+
 def switch_text(draw):
     sizes = sorted(draw.sample([1, 2, 3, 8, 64], draw.randrange(1, 5)))
     items = ['stages %d;' % draw.choice([4, 8, 16, 16, 32]), 'actions %d;' % draw.choice([1, 4, 8, 64]), 'bits %d;' % draw.choice([400, 20000, 4294967296]),
              'meta %d;' % draw.choice([100, 1000, 65535]), 'chain %d;' % draw.choice([1, 1, 2, 3, 4]), 'slots %s;' % ', '.join(map(str, sizes))]
+    items += membership(draw)
     draw.shuffle(items)
     return ' '.join(items) + '\n'
 
@@ -152,11 +166,13 @@ def spoilt_reports(draw, reports):
 
 
 def mixed(draw, reports):
-    """The same frames, all in one version or each in one that is drawn."""
+    """The same frames, all in one version or each in one that is drawn. A column past 64 bits stands in version 2 alone."""
     found, at, versions = [], 0, draw.choice([[1], [2], [1, 2]])
     while at < len(reports):
         lane, content, end = engines.decode(reports, at)
-        found.append((engines.ended if isinstance(content, int) else engines.encoded)(lane, content, draw.choice(versions)))
+        is_end = isinstance(content, int)
+        is_wide = not is_end and any(column >> 64 for column in content[2])
+        found.append((engines.ended if is_end else engines.encoded)(lane, content, 2 if is_wide else draw.choice(versions)))
         at = end
     return b''.join(found)
 

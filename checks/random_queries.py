@@ -13,17 +13,24 @@ import program
 
 NAMES = ['a', 'b', 'c', 'd']
 COMPARISONS = ['==', '!=', '<', '<=', '>', '>=']
-CONSTANTS = ['0', '1', '2', '6', '16', '17', '64', '80', '255', '0x800', '10.0.0.1', '10.0.1.0', '4294967295', '18446744073709551615']
+CONSTANTS = ['0', '1', '2', '6', '16', '17', '64', '80', '255', '0x800', '10.0.0.1', '10.0.1.0', '4294967295', '18446744073709551615', '0x20010db800000001']
+
+
+def packet_6(draw, transport):
+    """A header of IPv6 between few addresses, of which some differ in their lower halves alone."""
+    source, target = (bytes.fromhex('20010db8') + bytes([0, draw.randrange(2)]) + bytes(9) + bytes([draw.randrange(4)]) for _ in range(2))
+    return struct.pack('!IHBB', draw.choice([6, 6, 6, 7]) << 28, draw.choice([20, 1460]), transport, draw.choice([1, 64])) + source + target
 
 
 def frame(draw):
-    """An Ethernet frame of IPv4 with TCP or UDP between few addresses, sometimes cut or tagged."""
+    """An Ethernet frame of IPv4 or IPv6 with TCP or UDP between few addresses, sometimes cut or tagged."""
     transport = draw.choice([6, 6, 6, 17, 1])
     body = struct.pack('!HHIIBBHHH', draw.choice([80, 443, 1024]), draw.choice([22, 80]), draw.randrange(4), 0, 80, draw.choice([2, 16, 18, 17]), 0, 0, 0)
     packet = struct.pack('!BBHHHBBH4B4B', 0x45, 0, draw.choice([40, 1500]), 0, draw.choice([0, 0, 0, 1]), draw.choice([1, 64]), transport, 0,
                          10, 0, draw.randrange(2), draw.randrange(4), 10, draw.randrange(2), 0, draw.randrange(4))
     tag = b'\x81\x00\x00\x05' if draw.random() < 0.1 else b''
-    whole = bytes(12) + tag + b'\x08\x00' + packet + body
+    is_six = draw.random() < 0.3
+    whole = bytes(12) + tag + (b'\x86\xdd' + packet_6(draw, transport) if is_six else b'\x08\x00' + packet) + body
     return whole[:draw.randrange(len(whole))] if draw.random() < 0.05 else whole
 
 
@@ -102,12 +109,12 @@ def branch(draw, carried, levels, pool):
 
 
 def query(draw, number):
-    refined = draw.choice([None, None, 'ip.src', 'ip.dst'])
-    levels = sorted(draw.sample([8, 16, 24, 32], draw.randrange(1, 4))) if refined else []
+    refined = draw.choice([None, None, 'ip.src', 'ip.dst', 'ip6.src', 'ip6.dst'])
+    levels = sorted(draw.sample([32, 48, 120, 128] if refined.startswith('ip6') else [8, 16, 24, 32], draw.randrange(1, 4))) if refined else []
     text = 'query q%d {\n' % number + ('  refine %s: %s;\n' % (refined, ', '.join(map(str, levels))) if refined else '')
     if draw.random() < 0.6:
         return text + branch(draw, refined, levels, NAMES)[0] + '}\n'
-    carried = refined or 'ip.dst'
+    carried = refined or draw.choice(['ip.dst', 'ip6.dst'])
     one, left = branch(draw, carried, levels, NAMES[:2])
     two, right = branch(draw, carried, levels, NAMES[2:])
     text += one + two + '  join k'

@@ -16,9 +16,9 @@ import tempfile
 
 HERE = os.path.dirname(os.path.abspath(__file__))
 REFINED = os.path.join(HERE, 'refined')
-SWITCH = os.path.join(REFINED, 'small.switch')
 USUAL = os.path.join(HERE, '..', 'crates', 'sonata', 'out', 'sonata')
 
+ATTACKER_6, VICTIM_6 = 'fd77:0000:0000:0000:0000:0000:0000:0001', 'fd77:0000:0000:0000:0000:0000:0000:0002'
 # Query file, query, the columns with which the row of the attack begins, and the place, least and greatest value of a further column.
 # The least is what the threshold asks for, and the greatest is what the recipe sends in all.
 ATTACKS = [
@@ -32,6 +32,9 @@ ATTACKS = [
     ('dns_reflection', 'dns_reflection', ['10.77.0.2'], 1, 100001, 1500 * 1208),
     ('icmp_sweep', 'icmp_sweep', ['10.77.0.1'], 1, 31, 256),
     ('top_talkers', 'top_talkers', ['10.77.0.1'], 1, 1000001, 22000000),
+    ('ip6_opened', 'ip6_opened', [VICTIM_6], 1, 401, 5000),
+    ('ip6_spreader', 'ip6_spreader', [ATTACKER_6], 1, 301, 5000),
+    ('ip6_scan', 'ip6_scan', [ATTACKER_6, 'fd88:0000:0000:0007:0000:0000:0000:00ff'], 2, 1, 2),
     ('ttl_anomalies', 'mixed_ttl', ['10.77.0.50', '64', '113'], 3, 176, 176),
     ('ttl_anomalies', 'low_ttl', ['10.77.0.1'], 1, 3, 15),
 ]
@@ -108,16 +111,17 @@ def has_plans(program):
 
 
 def refined(name, kind):
-    """The refined query file of a name, and its plan on a capture of its attack or of peace."""
-    return os.path.join(REFINED, name + '.query'), os.path.join(REFINED, '%s.%s.plan' % (name, kind))
+    """The switch and the refined query file of a name, and its plan on a capture of its attack or of peace."""
+    switch = 'wide.switch' if name.startswith('ip6_') else 'small.switch'
+    return os.path.join(REFINED, switch), os.path.join(REFINED, name + '.query'), os.path.join(REFINED, '%s.%s.plan' % (name, kind))
 
 
 def try_plan(program, name, kind, capture):
     """Whether the program finds the plan that stands there, and says yes to it."""
-    queries, plan = refined(name, kind)
+    switch, queries, plan = refined(name, kind)
     with open(plan) as file:
-        same = file.read() == output(program, 'plan', SWITCH, queries, capture)
-    said = output(program, 'check', SWITCH, queries, capture, plan).strip()
+        same = file.read() == output(program, 'plan', switch, queries, capture)
+    said = output(program, 'check', switch, queries, capture, plan).strip()
     good = same and said.startswith('yes')
     print('%-17s %-17s %s' % (name, kind + ' plan', said if good else 'NOT AS IT STANDS'))
     return good
@@ -133,9 +137,9 @@ def delay(plan, query):
 def try_planned_attack(program, attack, kind, capture):
     """Whether an attack is found by a plan, no later than its levels cost."""
     name, query = attack[:2]
-    queries, plan = refined(name, kind)
+    switch, queries, plan = refined(name, kind)
     first = lawful(rows(output(program, 'plain', queries, capture)), *attack[1:])[0][0]
-    windows = [window for window, _ in lawful(rows(output(program, 'run', SWITCH, queries, plan, capture)), *attack[1:])]
+    windows = [window for window, _ in lawful(rows(output(program, 'run', switch, queries, plan, capture)), *attack[1:])]
     good = bool(windows) and windows[0] <= first + delay(plan, query)
     print('%-17s %-17s %s' % (name, query, 'by the %s plan from window %s' % (kind, windows[0]) if good else 'NOT FOUND by the %s plan' % kind))
     return good

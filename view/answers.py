@@ -34,7 +34,7 @@ def read(name, places):
 
 def address_order(key):
     """Addresses by their numbers, and other keys as they read."""
-    return [part.rjust(20, '0') for word in key.split(' ') for part in word.split('.')]
+    return [part.rjust(40, '0') for word in key.split(' ') for part in word.split('.')]
 
 
 def chosen(rows, most):

@@ -1,6 +1,6 @@
-"""Counts what each piece would send of a training capture, for each cut and all sizes of its registers. `sonata emit` counts it, on a switch with room for
-everything: an entry depends on the levels of the path up to the piece, its branch, its cut and its sizes, and on no other piece. So each run gives an
-entry for every piece of a plan."""
+"""Counts what each piece would cost on a training capture, for each cut and all sizes of its registers. `sonata emit` counts what it sends, on a switch with
+room for everything but prefixes: an entry depends on the levels of the path up to the piece, its branch, its cut and its sizes, and on no other piece. So each
+run gives an entry for every piece of a plan. What its prefixes cost, where they have a weight, stands in the answers of `sonata run`."""
 
 import collections
 import dataclasses
@@ -10,11 +10,12 @@ import sys
 import tempfile
 
 import frames
+import printed
 import programs
 import texts
 from texts import costs, plans
 
-ROOM = 'stages 32; actions 64; bits 4294967296; meta 65535; chain %d; slots %s;\n'
+ROOM = 'stages 32; actions 64; bits 4294967296; meta 65535; chain %d; slots %s;%s\n'
 
 
 @dataclasses.dataclass(frozen=True)
@@ -98,21 +99,65 @@ def next_plan(switch, queries, pending):
     return entries, asked
 
 
-def table(program, switch, queries, queries_name, capture, options, told=lambda done: None, known=None):
-    """The entries of all options: by lane and option, the tuples sent. Those that are known already, by the same sizes and chains, aren't counted again."""
+def room(switch):
+    """The text of a switch with room for everything, whose tables hold as many prefixes as those of the other."""
+    return ROOM % (switch.chain, ', '.join(map(str, switch.slots)), '' if switch.entries is None else ' entries %d;' % switch.entries)
+
+
+def put(folder, name, text):
+    """A file in a folder."""
+    whole = os.path.join(folder, name)
+    with open(whole, 'w') as file:
+        file.write(text)
+    return whole
+
+
+def uncut(query, path):
+    """A plan of a query along a path, with nothing in the switch."""
+    return plans.Entry(query.name, list(path), [plans.Piece(level, branch, 0) for level in path for branch in range(len(query.branches))])
+
+
+def installed(sizes, limit):
+    """How many prefixes are installed in tables of these sizes, of which those above a limit stay open."""
+    return sum(size for size in sizes if limit is None or size <= limit)
+
+
+def fees(program, switch, queries, queries_name, capture):
+    """What the prefixes cost that each piece has installed, by its query and the levels of the path up to it. Without a weight nothing is asked."""
+    found, all_paths = collections.Counter(), [costs.paths(query) for query in queries]
+    if not switch.weight:
+        return found
+    with tempfile.TemporaryDirectory(prefix='sonata-fees-') as folder:
+        for number in range(max(map(len, all_paths))):
+            entries = [uncut(query, paths[min(number, len(paths) - 1)]) for query, paths in zip(queries, all_paths)]
+            names = put(folder, 'room.switch', room(switch)), queries_name, put(folder, 'uncut.plan', '\n'.join(plans.lines(entries)) + '\n'), capture
+            _, text, _ = programs.answered([program, 'run', *names], (0, 5))
+            answered = printed.prefixes(put(folder, 'answers', text), queries)
+            for q, entry in enumerate(entries):
+                for j in range(1, len(entry.path)):
+                    sizes = printed.table_sizes(answered, queries[q], entry.path[j - 1]).values()
+                    found[q, tuple(entry.path[:j + 1])] = switch.weight * installed(sizes, switch.entries)
+    return found
+
+
+def fee_of(paid, queries, entries):
+    """What all prefixes cost that a plan has installed."""
+    return sum(paid[q, tuple(entry.path[:j + 1])] * len(queries[q].branches) for q, entry in enumerate(entries) for j in range(len(entry.path)))
+
+
+def table(program, switch, queries, names, options, told=lambda done: None, known=None, paid=collections.Counter()):
+    """The entries of all options, for the files of queries and of the capture: by lane and option, the tuples sent, and what is paid for prefixes. Those that
+    are known already, of the same sizes, chains and tables, aren't counted again."""
     found = {} if known is None else known
     pending = {lane: [option for option in reversed(some) if (lane, option) not in found] for lane, some in options.items()}
     whole = sum(map(len, pending.values()))
     with tempfile.TemporaryDirectory(prefix='sonata-entries-') as folder:
-        names = [os.path.join(folder, name) for name in ('room.switch', 'one.plan')]
-        with open(names[0], 'w') as file:
-            file.write(ROOM % (switch.chain, ', '.join(map(str, switch.slots))))
+        room_name = put(folder, 'room.switch', room(switch))
         while any(pending.values()):
             entries, asked = next_plan(switch, queries, pending)
-            with open(names[1], 'w') as file:
-                file.write('\n'.join(plans.lines(entries)) + '\n')
-            counts = counted([program, 'emit', names[0], queries_name, names[1], capture])
-            found.update({(lane, option): counts[key] for key, (lane, option) in asked.items()})
+            plan_name = put(folder, 'one.plan', '\n'.join(plans.lines(entries)) + '\n')
+            counts = counted([program, 'emit', room_name, names[0], plan_name, names[1]])
+            found.update({(lane, option): counts[key] + paid[lane.query, lane.front] for key, (lane, option) in asked.items()})
             told(1 - sum(map(len, pending.values())) / whole)
     return found
 

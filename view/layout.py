@@ -3,6 +3,10 @@
 actions and bits are. The metadata of the pieces stands at the right.
 
     layout.py SWITCH QUERIES PLAN -o plan.svg
+    layout.py SWITCH QUERIES PLAN --answers today.txt -o plan.svg
+
+With answers (what `sonata run` printed along the plan, or its CSV) there is one more row: how many prefixes are installed in each window in the table of each
+piece that has one, beside how many a table holds. Where that is too few the table is open, and the prefixes that don't find room are drawn light.
 
 The registers of a reduce are dark, those of a distinct light, and a table without state is open. A plan says in which stages registers stand. A table without state stands in the first stage that is free for it; the switch may move it as far
 as the next register allows."""
@@ -11,6 +15,7 @@ import dataclasses
 import sys
 
 import pictures
+import printed
 import texts
 from texts import plans
 
@@ -52,18 +57,32 @@ def tables_of(switch, query, entry, piece):
     return found
 
 
-class Picture:
-    """The lanes of a plan in a switch."""
+class Installed:
+    """How many prefixes the table of each query and level has in each window."""
 
-    def __init__(self, switch, queries, entries):
-        self.switch = switch
+    def __init__(self, name, queries, entries):
+        answered = printed.prefixes(name, queries)
+        self.windows = list(answered)
+        self.tables = {(q, j): printed.table_sizes(answered, queries[q], entry.path[j - 1])
+                       for q, entry in enumerate(entries) for j in range(1, len(entry.path))}
+
+
+def prefixes(count):
+    return '1 prefix' if count == 1 else '%s prefixes' % format(count, ',')
+
+
+class Picture:
+    """The lanes of a plan in a switch, and what answers along it install."""
+
+    def __init__(self, switch, queries, entries, installed=None):
+        self.switch, self.installed = switch, installed
         self.lanes = [(q, query, entry, piece) for q, (query, entry) in enumerate(zip(queries, entries)) for piece in entry.pieces]
         self.tables = [tables_of(switch, query, entry, piece) for _, query, entry, piece in self.lanes]
         self.stages = max([switch.stages] + [table.stage + 1 for tables in self.tables for table in tables])
-        height = 0.34 * len(self.lanes)
         self.pyplot = pictures.drawing()
+        heights = [0.34 * len(self.lanes), 0.8, 0.8] + [0.8] * (installed is not None)
         self.figure, self.parts = self.pyplot.subplots(
-            3, 2, figsize=(2.6 + 0.82 * self.stages + 1.8, height + 2.6), gridspec_kw={'height_ratios': [height, 0.8, 0.8],
+            len(heights), 2, figsize=(2.6 + 0.82 * self.stages + 1.8, heights[0] + 2.6 + 0.8 * (installed is not None)), gridspec_kw={'height_ratios': heights,
             'width_ratios': [0.82 * self.stages, 1.7], 'hspace': 0.12, 'wspace': 0.03}, squeeze=False, constrained_layout=False)
 
     def draw_lanes(self):
@@ -108,6 +127,37 @@ class Picture:
         self.mark_stages(part)
         part.tick_params(labelbottom=False, bottom=False)
 
+    def draw_installed(self, part):
+        """The prefixes of each table by window, side by side, against what a table holds. Those of an open table are light."""
+        limit, tables, windows = self.switch.entries, self.installed.tables, self.installed.windows
+        width = 0.9 / max(1, len(tables))
+        for place, ((q, _), sizes) in enumerate(tables.items()):
+            for window, count in sizes.items():
+                is_open = limit is not None and count > limit
+                part.bar(window + (place - (len(tables) - 1) / 2) * width, count, width, color=pictures.shade(q, 0, 4) if is_open else pictures.colour(q),
+                         edgecolor=pictures.colour(q), linewidth=0.6, linestyle=':' if is_open else '-')
+        most = max([1] + [count for sizes in tables.values() for count in sizes.values()])
+        if limit is not None and limit <= 4 * most:
+            part.axhline(limit, color='#b00000', linewidth=0.8, linestyle='--')
+            most = max(most, limit)
+            part.set_yticks([limit], ['%s a table' % prefixes(limit)])
+        else:
+            part.set_yticks([most], [prefixes(most)])
+        part.set_ylim(0, 1.25 * most)
+        if windows:
+            part.set_xlim(windows[0] - 0.6, windows[-1] + 0.6)
+        pictures.whole_ticks(part.xaxis)
+        part.set_xlabel('window')
+
+    def name_tables(self, part):
+        """Which colours the tables have, and what a light bar is."""
+        part.axis('off')
+        names = list(dict.fromkeys((q, query.name) for q, query, entry, piece in self.lanes if len(entry.path) > 1))
+        for row, (q, name) in enumerate(names):
+            part.text(0.08, 0.9 - 0.2 * row, '\u25a0 ' + name, transform=part.transAxes, va='center', fontsize=7, color=pictures.colour(q))
+        words = 'light: the table is open' if self.switch.entries is not None else 'tables without a limit'
+        part.text(0.08, 0.9 - 0.2 * len(names), words, transform=part.transAxes, va='center', fontsize=6.5, color='#333333')
+
     def draw_metadata(self, part):
         bits = [plans.metadata_of(query, piece) for _, query, _, piece in self.lanes]
         part.barh(range(len(bits)), bits, 0.8, color=[pictures.colour(q) for q, *_ in self.lanes])
@@ -133,6 +183,9 @@ class Picture:
         self.draw_stages(self.parts[2][0], lambda table: table.bits, self.switch.bits, 'bits', lambda total, limit: '%.1f %%' % (100 * total / limit))
         self.draw_legend(self.parts[1][1])
         self.parts[2][1].axis('off')
+        if self.installed is not None:
+            self.draw_installed(self.parts[3][0])
+            self.name_tables(self.parts[3][1])
         self.parts[0][0].set_title(title, loc='left', fontsize=9, pad=8)
 
 
@@ -141,6 +194,7 @@ def main():
     words.add_argument('switch')
     words.add_argument('queries')
     words.add_argument('plan', help='a plan, or what `sonata plan` printed; - is standard input')
+    words.add_argument('--answers', metavar='ANSWERS', help='answers along the plan; - is standard input')
     given = words.parse_args()
     pictures.form_of(given.output)
     switch, queries, entries = texts.read_switch(given.switch), texts.read_queries(given.queries), texts.read_plan(given.plan)
@@ -148,7 +202,7 @@ def main():
     fault = texts.misfit(queries, switch, entries)
     if fault and fault.split()[0] in ('Slots', 'Order'):
         sys.exit('the plan can not be drawn in this switch: ' + fault)
-    picture = Picture(switch, queries, entries)
+    picture = Picture(switch, queries, entries, Installed(given.answers, queries, entries) if given.answers else None)
     picture.draw('%d stages, %s registers and %s bits in each, chains of %d%s' % (
         switch.stages, switch.actions, format(switch.bits, ','), switch.chain, '; DOES NOT FIT: ' + fault if fault else ''))
     pictures.save(picture.figure, given.output)

@@ -90,6 +90,22 @@ def rows(name):
             sys.exit('%s: neither CSV nor printed answers' % name)
 
 
+def prefixes(name, queries):
+    """The refinement columns of answers: by window, and there by the name of the query and the level. The windows are in order."""
+    places = {query.name: [column for column, _, _ in query.columns].index(query.carried) for query in queries if query.levels}
+    found = {}
+    for window, query, level, row in rows(name):
+        answered = found.setdefault(window, {})
+        if query in places and places[query] < len(row):
+            answered.setdefault((query, level), set()).add(row[places[query]])
+    return found
+
+
+def table_sizes(answered, query, before):
+    """How many prefixes the table behind a level has in each window: those that the level answered in the window before."""
+    return {window: len(answered.get(window - 1, {}).get((query.name, before), ())) for window in answered}
+
+
 def key_places(query):
     """The places in a query's rows of the keys of its join or its last reduce, where its rows have them."""
     reduces = [operator.keys for operator in query.branches[0] if operator.kind == 'reduce']

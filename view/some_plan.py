@@ -6,7 +6,8 @@
 
 The plan goes to standard output, and a sentence to standard error: 'sends 2,600; none sends fewer than 2,381'. The first number is what `sonata run` says
 of the plan on TRAIN. The second is the bound of `sonata plan --nodes N`, or its cost where the search ends. So both are numbers of `sonata`, and nothing of
-the integer program has to be believed: what each piece would send is counted by `sonata emit`, and `run` refuses a plan that doesn't fit.
+the integer program has to be believed: what each piece would send is counted by `sonata emit`, and `run` refuses a plan that doesn't fit. Where the switch
+has a `weight`, it is 'costs' and 'costs less', with this much for each prefix that is installed.
 
 The counting takes longest, a run of `sonata emit` for each option of a piece; standard error tells every few seconds how far it is."""
 
@@ -19,6 +20,7 @@ import time
 
 import entries
 import programs
+import texts
 from texts import costs, plans
 
 EVERY = 5
@@ -176,11 +178,11 @@ def some_plan(switch, queries, options, found, seconds):
 
 
 def planned(program, names, seconds, told=lambda done: None, known=None):
-    """A plan's text, what `sonata run` says that it sends of the training capture, and whether the integer program holds it for the best. Entries that are
-    known aren't counted again."""
+    """A plan's text, what `sonata run` says that it sends of the training capture, with what its prefixes cost where they have a weight, and whether the
+    integer program holds it for the best. Entries that are known aren't counted again."""
     switch, queries = entries.read(*names[:2])
-    options = entries.possible(switch, queries)
-    found = entries.table(program, switch, queries, names[1], names[2], options, told, known)
+    options, paid = entries.possible(switch, queries), entries.fees(program, switch, queries, *names[1:])
+    found = entries.table(program, switch, queries, names[1:], options, told, known, paid)
     text, best = some_plan(switch, queries, options, found, seconds)
     if text is None:
         sys.exit('no plan was found in %g seconds' % seconds)
@@ -188,14 +190,14 @@ def planned(program, names, seconds, told=lambda done: None, known=None):
         name = os.path.join(folder, 'some.plan')
         with open(name, 'w') as file:
             file.write(text)
-        return text, programs.sent(program, names[0], names[1], name, names[2]), best
+        sends = programs.sent(program, names[0], names[1], name, names[2])
+        return text, sends + entries.fee_of(paid, queries, plans.parse(text.encode())), best
 
 
-def sentence(sends, least):
-    """What a plan sends beside the least that any plan sends, as far as it is known."""
-    if sends == least:
-        return 'sends %s; none sends fewer' % format(sends, ',')
-    return 'sends %s; none sends fewer than %s' % (format(sends, ','), format(least, ','))
+def sentence(sends, least, weighed=False):
+    """What a plan sends beside the least that any plan sends, as far as it is known; or what it costs, where prefixes have a weight."""
+    told, fewer = ('costs', 'costs less') if weighed else ('sends', 'sends fewer')
+    return '%s %s; none %s%s' % (told, format(sends, ','), fewer, '' if sends == least else ' than %s' % format(least, ','))
 
 
 class Teller:
@@ -229,7 +231,7 @@ def main():
     text, sends, _ = planned(given.sonata, names, given.seconds, Teller(given.seconds))
     sys.stdout.write(text)
     sys.stdout.flush()
-    print(sentence(sends, programs.searched(given.sonata, *names, given.nodes)[1]), file=sys.stderr)
+    print(sentence(sends, programs.searched(given.sonata, *names, given.nodes)[1], texts.read_switch(given.switch).weight > 0), file=sys.stderr)
     return 0
 
 

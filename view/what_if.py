@@ -6,7 +6,7 @@
     what_if.py SWITCH QUERIES TRAIN bits 32768..131072/16384 -o bits.svg
     what_if.py SWITCH QUERIES TRAIN slots 128 128,512 128,512,2048 -o slots.svg
 
-The word is one of the switch text: stages, actions, bits, meta, chain or slots. All else stays as the text says. Each switch gets the plan of `sonata
+The word is one of the switch text: stages, actions, bits, meta, chain, slots, entries or weight. All else stays as the text says. Each switch gets the plan of `sonata
 plan`, with a budget of --nodes. Where the search doesn't end, some_plan.py looks for a plan that fits, and the picture has a bar from what that plan sends
 down to the least that any plan sends, as far as `sonata` knows it. A table of the same stands on standard output; in the picture
 the values stand side by side, whatever lies between them."""
@@ -23,7 +23,7 @@ import texts
 from texts import switches, tokens
 
 RANGE = re.compile(r'(\d+)\.\.(\d+)(?:/(\d+))?$')
-WORDS = ('stages', 'actions', 'bits', 'meta', 'chain', 'slots')
+WORDS = ('stages', 'actions', 'bits', 'meta', 'chain', 'slots', 'entries', 'weight')
 
 
 def values_of(word, given):
@@ -45,10 +45,10 @@ def values_of(word, given):
 
 def switch_text(switch, word, value):
     """The text of the switch with one value in place of its own."""
-    own = {name: str(getattr(switch, name)) for name in WORDS[:-1]}
+    own = {name: str(getattr(switch, name)) for name in WORDS if getattr(switch, name) is not None}
     own['slots'] = ', '.join(map(str, switch.slots))
     own[word] = value
-    return ''.join('%s %s;\n' % (name, own[name]) for name in WORDS)
+    return ''.join('%s %s;\n' % item for item in own.items())
 
 
 def parsed(text, word, value):
@@ -89,7 +89,7 @@ def asked(given, value, known):
         found, least = programs.searched(given.sonata, name, given.queries, given.train, given.nodes)
         if found is not None:
             return Point(value, least, least)
-        entries = known.setdefault((switch.chain, tuple(switch.slots)), {})
+        entries = known.setdefault((switch.chain, tuple(switch.slots), switch.entries, switch.weight), {})
         return Point(value, some_plan.planned(given.sonata, (name, given.queries, given.train), given.seconds, known=entries)[1], least)
 
 
@@ -113,7 +113,7 @@ def drawn(points, word):
                     rotation=30 if len(points) > 8 or word == 'slots' else 0, fontsize=7)
     part.set_ylim(0, 1.18 * max(greatest, 1))
     part.set_xlabel(word)
-    part.set_ylabel('tuples sent on TRAIN')
+    part.set_ylabel('cost on TRAIN' if word == 'weight' else 'tuples sent on TRAIN')
     if any(point.least < point.sends for point in points):
         part.plot([], [], color=pictures.colour(1), linewidth=4, alpha=0.6, label='a plan that fits, and the least that any could send')
         part.legend(frameon=False, fontsize=7, loc='upper right')

@@ -111,8 +111,17 @@ def query_rows(query, tuples):
     return level, rows_at(query, level, tuples)
 
 
-def shown(number, address):
-    return '.'.join(str(number >> shift & 255) for shift in (24, 16, 8, 0)) if address else str(number)
+def shown(number, width, address):
+    """A number of a column: an address dotted, one of 128 bits as eight groups of hexadecimal digits, another number in decimal."""
+    if not address:
+        return str(number)
+    if width == 128:
+        return ':'.join('%04x' % (number >> shift & 65535) for shift in range(112, -1, -16))
+    return '.'.join(str(number >> shift & 255) for shift in (24, 16, 8, 0))
+
+
+def shown_row(query, row):
+    return [shown(number, width, address) for number, (_, width, address) in zip(row, query.columns)]
 
 
 def window_text(number, tuples, queries):
@@ -120,8 +129,7 @@ def window_text(number, tuples, queries):
     for query in queries:
         level, rows = query_rows(query, tuples)
         lines.append('query %s level %d rows %d' % (query.name, level, len(rows)))
-        marks = [address for _, _, address in query.columns]
-        lines += [' '.join(shown(number, mark) for number, mark in zip(row, marks)) for row in rows]
+        lines += [' '.join(shown_row(query, row)) for row in rows]
     return '\n'.join(lines) + '\n'
 
 

@@ -23,12 +23,20 @@ def options(switch, query, branch):
     return found
 
 
+@dataclass
+class Seen:
+    """A window at the last level of a front of a path: the tuples that pass its table, how many prefixes are installed in it, and the rows."""
+    passing: list
+    installed: int
+    rows: list
+
+
 class Costs:
     """The entries of a cost table, worked out where they are asked for."""
 
     def __init__(self, queries, switch, windows):
         self.queries, self.switch, self.windows = queries, switch, windows
-        self.seen, self.counts, self.known = {}, {}, {}
+        self.known_fronts, self.counts, self.known = {}, {}, {}
 
     def options(self, query, branch):
         """The options of a branch of one of the queries, worked out once."""
@@ -37,26 +45,29 @@ class Costs:
             self.known[key] = options(self.switch, query, branch)
         return self.known[key]
 
-    def kept(self, q, front):
-        """For each window the tuples that the last level of a front of a path sees, and the rows that it answers."""
-        if (q, front) not in self.seen:
-            query, found, before = self.queries[q], [], (None, [])
-            for place, (number, tuples) in enumerate(self.windows):
-                if len(front) > 1:
-                    previous = self.kept(q, front[:-1])[place - 1][1] if place and self.windows[place - 1][0] + 1 == number else []
-                    prefixes = split.column_of(query, previous)
-                    tuples = [(n, t) for n, t in tuples if split.keeps(query, front[-2], prefixes, t)]
-                found.append((tuples, split.answers.rows_at(query, front[-1], [t for _, t in tuples])))
-            self.seen[(q, front)] = found
-        return self.seen[(q, front)]
+    def seen(self, q, front):
+        """For each window what is seen of it at the last level of a front of a path."""
+        if (q, front) not in self.known_fronts:
+            self.known_fronts[(q, front)] = [self.seen_of(q, front, place) for place in range(len(self.windows))]
+        return self.known_fronts[(q, front)]
+
+    def seen_of(self, q, front, place):
+        query, (number, tuples) = self.queries[q], self.windows[place]
+        if len(front) == 1:
+            return Seen(tuples, 0, split.answers.rows_at(query, front[-1], [t for _, t in tuples]))
+        follows = place > 0 and self.windows[place - 1][0] + 1 == number
+        prefixes = split.column_of(query, self.seen(q, front[:-1])[place - 1].rows) if follows else set()
+        kept = [(n, t) for n, t in tuples if split.keeps(query, front[-2], prefixes, t)]
+        rows = split.answers.rows_at(query, front[-1], [t for _, t in kept])
+        return Seen(tuples, 0, rows) if split.is_open(self.switch.entries, prefixes) else Seen(kept, len(prefixes), rows)
 
     def entry(self, q, front, branch, option):
         key = q, front, branch, option[0], tuple(option[1])
         if key not in self.counts:
             total = 0
-            for tuples, _ in self.kept(q, front):
-                sent, read = pipes.items(self.queries[q], branch, front[-1], tuples, option[0], self.switch.chain, option[1])
-                total += len(sent) + len(read)
+            for seen in self.seen(q, front):
+                sent, read = pipes.items(self.queries[q], branch, front[-1], seen.passing, option[0], self.switch.chain, option[1])
+                total += len(sent) + len(read) + self.switch.weight * seen.installed
             self.counts[key] = total
         return self.counts[key]
 

@@ -1,6 +1,7 @@
 """Report frames, and what an engine makes of them."""
 
 from . import answers, pipes
+from .fields import WIDTHS
 
 
 class BadReports(Exception):
@@ -48,6 +49,12 @@ def decode(bytes_, at):
     return lane, (row[0] if kind == 2 else ('at' if kind == 0 else 'partial', operator, row)), end
 
 
+def refinement_column(query, rows):
+    """The refinement column of answers; nothing of a query that isn't refined."""
+    place = [name for name, _, _ in query.columns].index(query.carried) if query.levels else None
+    return set() if place is None else {row[place] for row in rows}
+
+
 class Lane:
     """What came of a piece in a window."""
 
@@ -72,26 +79,38 @@ class Lane:
         columns = self.columns(*item[:2])
         return len(item[2]) != len(columns) or any(number >> width for number, (_, width, _) in zip(item[2], columns))
 
-    def rows(self, tag, operator):
-        names = [name for name, _, _ in self.columns(tag, operator)]
-        return [dict(zip(names, row)) for t, o, row in self.items if (t, o) == (tag, operator)]
+    def left(self, bits, prefixes):
+        """Drop the items of other prefixes than these, which have so many bits."""
+        names, low = pipes.carried(self.query, self.piece.branch), WIDTHS[self.query.refine_field] - bits
+        kept = []
+        for tag, operator, row in self.items:
+            place = [name for name, _, _ in self.columns(tag, operator)].index(names[operator + (tag == 'partial')])
+            if row[place] >> low << low in prefixes:
+                kept.append((tag, operator, row))
+        return kept
 
-    def value(self):
+    def value(self, items):
         """The rows tagged with the first operator go through all, and the others join where they are tagged."""
+        def rows(tag, operator):
+            names = [name for name, _, _ in self.columns(tag, operator)]
+            return [dict(zip(names, row)) for t, o, row in items if (t, o) == (tag, operator)]
+
         operators, level = self.query.branches[self.piece.branch], self.piece.level
-        flow = self.rows('at', 0)
+        flow = rows('at', 0)
         for i, operator in enumerate(operators):
             if operator.kind == 'reduce':
-                flow = answers.reduced(flow + self.rows('partial', i), operator)
+                flow = answers.reduced(flow + rows('partial', i), operator)
             else:
                 flow = answers.apply(flow, operator, level)
-            flow = flow + self.rows('at', i + 1)
+            flow = flow + rows('at', i + 1)
         return flow
 
 
 class Engine:
+    """The lanes, the number of the window that was closed last, and the prefixes that each level of each query answered in it."""
+
     def __init__(self, queries, entries):
-        self.queries, self.entries, self.closed = queries, entries, None
+        self.queries, self.entries, self.closed, self.answered = queries, entries, None, {}
         self.lanes = {}
         for q, (query, entry) in enumerate(zip(queries, entries)):
             for piece in entry.pieces:
@@ -126,11 +145,18 @@ class Engine:
     def is_whole(self):
         return all(lane.end is not None for lane in self.lanes.values())
 
-    def part(self, q, j):
+    def value(self, q, j, branch, follows):
+        """What a lane makes of its items. Where a level stands before its own, only those of prefixes count that this one answered in the window before."""
+        lane = self.lanes[(q, j, branch)]
+        if j == 0:
+            return lane.value(lane.items)
+        return lane.value(lane.left(self.entries[q].path[j - 1], self.answered[(q, j - 1)] if follows else set()))
+
+    def part(self, q, j, follows):
         query, level = self.queries[q], self.entries[q].path[j]
-        rows = self.lanes[(q, j, 0)].value()
+        rows = self.value(q, j, 0, follows)
         if query.join_keys:
-            rows = answers.join(rows, self.lanes[(q, j, 1)].value(), query.join_keys)
+            rows = answers.join(rows, self.value(q, j, 1, follows), query.join_keys)
             for operator in query.after:
                 rows = answers.apply(rows, operator, level)
         return query, level, answers.sorted_rows(query, rows)
@@ -139,8 +165,10 @@ class Engine:
         """The window's number, its number of items, and its parts."""
         window = next(iter(self.lanes.values())).end
         emitted = sum(len(lane.items) for lane in self.lanes.values())
-        parts = [self.part(q, j) for q, entry in enumerate(self.entries) for j in range(len(entry.path))]
+        follows = self.closed is not None and self.closed + 1 == window
+        parts = {(q, j): self.part(q, j, follows) for q, entry in enumerate(self.entries) for j in range(len(entry.path))}
         for lane in self.lanes.values():
             lane.clear()
         self.closed = window
-        return window, emitted, parts
+        self.answered = {(q, j): refinement_column(query, rows) for (q, j), (query, _, rows) in parts.items()}
+        return window, emitted, list(parts.values())

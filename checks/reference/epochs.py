@@ -11,9 +11,9 @@ def is_early(cut, item):
 
 def answered(queries, switch, entries, levels, number, tuples):
     """The items of a window along a plan, each with the cut of its piece, and the window's block."""
-    seen, rows = levels.window(number, tuples)
+    passing, rows = levels.window(number, tuples)
     cuts = [piece.cut for entry in entries for piece in entry.pieces]
-    lanes = split.lane_items(switch, queries, entries, seen)
+    lanes = split.lane_items(switch, queries, entries, passing)
     items = [(cut, item) for cut, (_, (sent, read)) in zip(cuts, lanes) for item in [one for _, one in sent] + read]
     parts = [(queries[q], entry.path[j], rows[(q, j)]) for q, entry in enumerate(entries) for j in range(len(entry.path))]
     return items, split.block(number, len(items), parts)
@@ -21,13 +21,13 @@ def answered(queries, switch, entries, levels, number, tuples):
 
 def texts(windows, ending, queries, switch, entries, most, planned):
     """What is written after the first plan, piece by piece. `planned` gives the entries and the text of the plan of one window."""
-    levels, epoch, total, over = split.Levels(queries, entries), 0, 0, None
+    levels, epoch, total, over = split.Levels(queries, entries, switch.entries), 0, 0, None
     for number, tuples in windows:
         front = ''
         if over:
             epoch += 1
             entries, front = planned([over])
-            levels, front = split.Levels(queries, entries), 'epoch %d\n%s' % (epoch, front.decode())
+            levels, front = split.Levels(queries, entries, switch.entries), 'epoch %d\n%s' % (epoch, front.decode())
         items, block = answered(queries, switch, entries, levels, number, tuples)
         yield (front + block).encode()
         total += len(items)

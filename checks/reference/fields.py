@@ -6,10 +6,10 @@ FIELDS = [
     ('pkt.len', 32), ('eth.dst', 48), ('eth.src', 48), ('eth.type', 16), ('vlan.id', 12), ('ip.valid', 1), ('ip.len', 16), ('ip.ttl', 8),
     ('ip.proto', 8), ('ip.src', 32), ('ip.dst', 32), ('tcp.valid', 1), ('tcp.sport', 16), ('tcp.dport', 16), ('tcp.seq', 32),
     ('tcp.ack', 32), ('tcp.flags', 8), ('udp.valid', 1), ('udp.sport', 16), ('udp.dport', 16), ('udp.len', 16), ('icmp.valid', 1),
-    ('icmp.type', 8), ('icmp.code', 8)]
+    ('icmp.type', 8), ('icmp.code', 8), ('ip6.valid', 1), ('ip6.plen', 16), ('ip6.next', 8), ('ip6.hops', 8), ('ip6.src', 128), ('ip6.dst', 128)]
 NUMBERS = {name: number for number, (name, width) in enumerate(FIELDS)}
 WIDTHS = dict(FIELDS)
-ADDRESSES = {'ip.src', 'ip.dst'}
+ADDRESSES = {'ip.src', 'ip.dst', 'ip6.src', 'ip6.dst'}
 LINKS = {1, 101, 113, 276}
 TAGS = {0x8100, 0x88A8}
 LARGEST_PACKET = 262144
@@ -95,7 +95,7 @@ def link_end(packet, link, values):
 
 
 def internet(packet, at, values):
-    """Where the bytes behind an IPv4 header begin, or None."""
+    """The protocol that an IPv4 header carries and where its bytes begin, or None where there is no such header. Of a later fragment the protocol is None."""
     if values['eth.type'] != 0x0800 or len(packet) < at + 20:
         return None
     length = (packet[at] & 15) * 4
@@ -104,11 +104,22 @@ def internet(packet, at, values):
     values['ip.valid'], values['ip.len'] = 1, number(packet, at + 2, 2)
     values['ip.ttl'], values['ip.proto'] = packet[at + 8], packet[at + 9]
     values['ip.src'], values['ip.dst'] = number(packet, at + 12, 4), number(packet, at + 16, 4)
-    return at + length
+    is_first = number(packet, at + 6, 2) & 0x1FFF == 0
+    return packet[at + 9] if is_first else None, at + length
 
 
-def transport(packet, at, values):
-    left, protocol = len(packet) - at, values['ip.proto']
+def internet_6(packet, at, values):
+    """The next header of an IPv6 header and where its bytes begin, or None where there is no such header."""
+    if values['eth.type'] != 0x86DD or len(packet) < at + 40 or packet[at] >> 4 != 6:
+        return None
+    values['ip6.valid'], values['ip6.plen'] = 1, number(packet, at + 4, 2)
+    values['ip6.next'], values['ip6.hops'] = packet[at + 6], packet[at + 7]
+    values['ip6.src'], values['ip6.dst'] = number(packet, at + 8, 16), number(packet, at + 24, 16)
+    return packet[at + 6], at + 40
+
+
+def transport(packet, at, protocol, values):
+    left = len(packet) - at
     if protocol == 6 and left >= 20:
         values['tcp.valid'], values['tcp.sport'], values['tcp.dport'] = 1, number(packet, at, 2), number(packet, at + 2, 2)
         values['tcp.seq'], values['tcp.ack'] = number(packet, at + 4, 4), number(packet, at + 8, 4)
@@ -116,7 +127,7 @@ def transport(packet, at, values):
     elif protocol == 17 and left >= 8:
         values['udp.valid'], values['udp.sport'] = 1, number(packet, at, 2)
         values['udp.dport'], values['udp.len'] = number(packet, at + 2, 2), number(packet, at + 4, 2)
-    elif protocol == 1 and left >= 4:
+    elif protocol == 1 and left >= 4 and values['ip.valid']:
         values['icmp.valid'], values['icmp.type'], values['icmp.code'] = 1, packet[at], packet[at + 1]
 
 
@@ -127,7 +138,8 @@ def fields(packet, wire, link):
     at = link_end(packet, link, values)
     if at is None:
         return values
-    behind = internet(packet, at, values)
-    if behind is not None and number(packet, at + 6, 2) & 0x1FFF == 0:
-        transport(packet, behind, values)
+    carried = internet(packet, at, values) or internet_6(packet, at, values)
+    if carried is not None:
+        protocol, place = carried
+        transport(packet, place, protocol, values)
     return values

@@ -2,11 +2,9 @@
 
 from dataclasses import dataclass, field
 
-from .tokens import Fault, GREATEST, tokens
+from .tokens import ALL_BITS, Fault, GREATEST, tokens
 
 KEYWORDS = {'window', 'query', 'refine', 'packets', 'filter', 'at', 'map', 'as', 'distinct', 'reduce', 'sum', 'width', 'max', 'min', 'or', 'join'}
-# What a condition without `&` keeps: more bits than a number of a text has.
-ALL_BITS = (1 << 128) - 1
 COMPARISONS = ['==', '!=', '<', '<=', '>', '>=']
 
 

@@ -1,6 +1,6 @@
 """`many`: several switches, each with a capture of its own, that run one plan."""
 
-from . import answers, engines, fields, pipes, split
+from . import engines, fields, pipes, split
 
 
 def read(files):
@@ -53,43 +53,29 @@ def switch_items(query, piece, depth, tuples):
     return [retagged(operators, count, item) for item in [one for _, one in sent] + read_out]
 
 
-class Levels:
-    """What the levels of each query answered in the window before, over all switches."""
+class Switches:
+    """The switches and their engine: what the levels of each query answered in the window before, over all switches."""
 
-    def __init__(self, queries, entries):
-        self.queries, self.entries, self.number, self.before = queries, entries, None, {}
+    def __init__(self, queries, switch, entries):
+        self.queries, self.switch, self.entries = queries, switch, entries
+        self.levels, self.engine = split.Levels(queries, entries, switch.entries), engines.Engine(queries, entries)
 
-    def seen(self, q, j, number, tuples):
-        """Those tuples of one capture that a level sees."""
-        if j == 0:
-            return tuples
-        query = self.queries[q]
-        rows = self.before.get((q, j - 1), []) if self.number is not None and self.number + 1 == number else []
-        prefixes = split.column_of(query, rows)
-        return [t for t in tuples if split.keeps(query, self.entries[q].path[j - 1], prefixes, t)]
-
-
-def window(levels, switch, number, captures):
-    """The items of all switches and the answers of a window, by the queries themselves and by the engine from the items alone."""
-    emitted, rows, joined = 0, {}, {}
-    engine = engines.Engine(levels.queries, levels.entries)
-    for q, entry in enumerate(levels.entries):
-        query = levels.queries[q]
-        for j, level in enumerate(entry.path):
-            seen = [levels.seen(q, j, number, tuples) for tuples in captures]
-            rows[(q, j)] = answers.rows_at(query, level, [t for tuples in seen for t in tuples])
-            for piece in (piece for piece in entry.pieces if piece.level == level):
-                items = [item for tuples in seen for item in switch_items(query, piece, switch.chain, tuples)]
-                emitted += len(items)
-                engine.lanes[(q, j, piece.branch)].items = items
-            joined[(q, j)] = engine.part(q, j)[2]
-    levels.number, levels.before = number, rows
-    return emitted, rows, joined
+    def window(self, number, captures):
+        """The items of all switches and the answers of a window, by the queries themselves and by the engine from the items alone."""
+        whole = [(place, t) for place, tuples in enumerate(captures) for t in tuples]
+        passing, rows = self.levels.window(number, whole)
+        for (q, j, branch), lane in self.engine.lanes.items():
+            for place in range(len(captures)):
+                sent = [t for other, t in passing[(q, j)] if other == place]
+                lane.items += switch_items(self.queries[q], lane.piece, self.switch.chain, sent)
+            lane.end = number
+        _, emitted, parts = self.engine.close()
+        return emitted, rows, {place: part for place, (_, _, part) in zip(rows, parts)}
 
 
 def windows_along(window_us, queries, switch, entries, captures):
-    levels = Levels(queries, entries)
-    return [(number, *window(levels, switch, number, tuples)) for number, tuples in windows_of(window_us, captures)]
+    switches = Switches(queries, switch, entries)
+    return [(number, *switches.window(number, tuples)) for number, tuples in windows_of(window_us, captures)]
 
 
 def many(window_us, queries, switch, entries, files):

@@ -24,7 +24,7 @@ class Net:
 
     def __init__(self, queries, switch, entries, windows):
         self.queries, self.switch, self.entries = queries, switch, entries
-        self.levels = split.Levels(queries, entries)
+        self.levels = split.Levels(queries, entries, switch.entries)
         self.lanes = [Lane(queries[q], q, entry.path.index(piece.level), piece) for q, entry in enumerate(entries) for piece in entry.pieces]
         self.coming = [(number, place) for number, tuples in windows for place in range(len(tuples))]
         self.windows, self.held, self.window, self.closed = dict(windows), None, None, False
@@ -52,10 +52,11 @@ class Net:
     def begin(self, number):
         """Begin a window: what each lane will send in it is known from its tuples and the answers of the window before."""
         self.window, self.closed = number, False
-        seen, self.rows = self.levels.window(number, list(self.windows[number]))
+        passing, self.rows = self.levels.window(number, list(self.windows[number]))
         self.emitted = 0
         for lane in self.lanes:
-            sent, read = pipes.items(lane.query, lane.piece.branch, lane.piece.level, seen[(lane.q, lane.j)], lane.piece.cut, self.switch.chain, lane.piece.sizes)
+            piece, tuples = lane.piece, passing[(lane.q, lane.j)]
+            sent, read = pipes.items(lane.query, piece.branch, piece.level, tuples, piece.cut, self.switch.chain, piece.sizes)
             lane.begin(sent, read)
             self.emitted += len(sent) + len(read)
 

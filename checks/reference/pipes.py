@@ -2,7 +2,7 @@
 
 from . import answers
 from .fields import ADDRESSES, NUMBERS, WIDTHS
-from .typing_rules import Branch, walk
+from .typing_rules import Branch, copies, walk
 
 BASIS, PRIME, MODULUS = 14695981039346656037, 1099511628211, 1 << 64
 
@@ -37,11 +37,22 @@ def worked_schemas(query, number):
     return found
 
 
+def carried(query, number):
+    """The name of the refinement column before each operator of a branch, and at its end."""
+    name, found = query.refine_field, [query.refine_field]
+    for operator in query.branches[number]:
+        if operator.kind == 'map':
+            name = copies(operator, name)[0].name
+        found.append(name)
+    return found
+
+
 def slot(register, key, slots):
-    """FNV-1a over the key's columns, eight bytes each, least byte first; it begins with the basis exclusive-ored with the register's number."""
+    """FNV-1a over the key's columns, least byte first, eight bytes of one below 2^64 and sixteen of another; it begins with the basis exclusive-ored with
+    the register's number."""
     held = BASIS ^ register
     for column in key:
-        for byte in column.to_bytes(8, 'little'):
+        for byte in column.to_bytes(8 if column < MODULUS else 16, 'little'):
             held = (held ^ byte) * PRIME % MODULUS
     return held % slots
 

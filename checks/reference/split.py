@@ -13,37 +13,46 @@ def keeps(query, bits, prefixes, tuple_):
     return answers.masked(tuple_, query, bits)[query.refine_field] in prefixes
 
 
-class Levels:
-    """The answers of each query at each level of its path in the window before."""
+def is_open(limit, prefixes):
+    """Whether a table for at most so many prefixes stays open: it hasn't room for these. No limit is None."""
+    return limit is not None and len(prefixes) > limit
 
-    def __init__(self, queries, entries):
-        self.queries, self.entries = queries, entries
+
+class Levels:
+    """The answers of each query at each level of its path in the window before. A table has a limit of prefixes, or none."""
+
+    def __init__(self, queries, entries, limit=None):
+        self.queries, self.entries, self.limit = queries, entries, limit
         self.number, self.before = None, {}
 
-    def kept(self, q, j, number, tuples):
-        """The numbered tuples of a window that a level sees."""
+    def prefixes(self, q, j, number):
+        """What the level before another answered in the window before."""
+        follows = self.number is not None and self.number + 1 == number
+        return column_of(self.queries[q], self.before[(q, j - 1)]) if follows else set()
+
+    def shared(self, q, j, number, tuples):
+        """The numbered tuples of a window that pass the table of a level, and those of them that the level answers."""
         if j == 0:
-            return tuples
-        query, bits = self.queries[q], self.entries[q].path[j - 1]
-        rows = self.before.get((q, j - 1), []) if self.number is not None and self.number + 1 == number else []
-        prefixes = column_of(query, rows)
-        return [(n, t) for n, t in tuples if keeps(query, bits, prefixes, t)]
+            return tuples, tuples
+        query, bits, prefixes = self.queries[q], self.entries[q].path[j - 1], self.prefixes(q, j, number)
+        kept = [(n, t) for n, t in tuples if keeps(query, bits, prefixes, t)]
+        return tuples if is_open(self.limit, prefixes) else kept, kept
 
     def window(self, number, tuples):
-        """The tuples that each level of each query sees, and the rows that it answers."""
-        seen = {(q, j): self.kept(q, j, number, tuples) for q, entry in enumerate(self.entries) for j in range(len(entry.path))}
-        rows = {(q, j): answers.rows_at(self.queries[q], self.entries[q].path[j], [t for _, t in kept]) for (q, j), kept in seen.items()}
+        """The tuples that pass each level of each query, and the rows that it answers."""
+        shares = {(q, j): self.shared(q, j, number, tuples) for q, entry in enumerate(self.entries) for j in range(len(entry.path))}
+        rows = {(q, j): answers.rows_at(self.queries[q], self.entries[q].path[j], [t for _, t in kept]) for (q, j), (_, kept) in shares.items()}
         self.number, self.before = number, rows
-        return seen, rows
+        return {place: passing for place, (passing, _) in shares.items()}, rows
 
 
-def lane_items(switch, queries, entries, seen):
+def lane_items(switch, queries, entries, passing):
     """The lanes in order, each with what it sends and reads out in a window."""
     found = []
     for q, entry in enumerate(entries):
         for piece in entry.pieces:
             j = entry.path.index(piece.level)
-            found.append(((q, j, piece.branch), pipes.items(queries[q], piece.branch, piece.level, seen[(q, j)], piece.cut, switch.chain, piece.sizes)))
+            found.append(((q, j, piece.branch), pipes.items(queries[q], piece.branch, piece.level, passing[(q, j)], piece.cut, switch.chain, piece.sizes)))
     return found
 
 
@@ -56,9 +65,7 @@ def windows_of(window_us, file):
 
 
 def part_lines(query, level, rows):
-    marks = [address for _, _, address in query.columns]
-    lines = ['query %s level %d rows %d' % (query.name, level, len(rows))]
-    return lines + [' '.join(answers.shown(number, mark) for number, mark in zip(row, marks)) for row in rows]
+    return ['query %s level %d rows %d' % (query.name, level, len(rows))] + [' '.join(answers.shown_row(query, row)) for row in rows]
 
 
 def block(number, emitted, parts):
@@ -71,10 +78,10 @@ def block(number, emitted, parts):
 def windows_along(window_us, queries, switch, entries, file):
     """The number, items and parts of each window along a plan, and how the capture ends."""
     found, ending = windows_of(window_us, file)
-    levels, blocks = Levels(queries, entries), []
+    levels, blocks = Levels(queries, entries, switch.entries), []
     for number, tuples in found:
-        seen, rows = levels.window(number, tuples)
-        emitted = sum(len(sent) + len(read) for _, (sent, read) in lane_items(switch, queries, entries, seen))
+        passing, rows = levels.window(number, tuples)
+        emitted = sum(len(sent) + len(read) for _, (sent, read) in lane_items(switch, queries, entries, passing))
         blocks.append((number, emitted, [(queries[q], entry.path[j], rows[(q, j)]) for q, entry in enumerate(entries) for j in range(len(entry.path))]))
     return blocks, ending
 
@@ -98,9 +105,8 @@ def run_csv(window_us, queries, switch, entries, file):
     text = [HEADING]
     for number, _, parts in blocks:
         for query, level, rows in parts:
-            marks = [address for _, _, address in query.columns]
             for row in rows:
-                columns = [answers.shown(value, mark) for value, mark in zip(row, marks)]
+                columns = answers.shown_row(query, row)
                 text.append(','.join([str(number), query.name, str(level)] + columns + [''] * (8 - len(columns))) + '\n')
     return ''.join(text).encode(), ending
 
@@ -108,10 +114,10 @@ def run_csv(window_us, queries, switch, entries, file):
 def emit(window_us, queries, switch, entries, file):
     """The frames of `emit`, and how the capture ends."""
     found, ending = windows_of(window_us, file)
-    levels, frames = Levels(queries, entries), []
+    levels, frames = Levels(queries, entries, switch.entries), []
     for number, tuples in found:
-        seen, _ = levels.window(number, tuples)
-        lanes = lane_items(switch, queries, entries, seen)
+        passing, _ = levels.window(number, tuples)
+        lanes = lane_items(switch, queries, entries, passing)
         sent = sorted((n, place, lane, item) for place, (lane, (items, _)) in enumerate(lanes) for n, item in items)
         frames += [engines.encoded(lane, item) for _, _, lane, item in sent]
         for lane, (_, read) in lanes:

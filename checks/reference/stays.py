@@ -1,7 +1,7 @@
 """`detect`: how long an address is in the unrefined answers of a query, and when a plan prints it."""
 
-from . import answers, split
-from .grammar import ALL_BITS
+from . import answers, fields, split
+from .tokens import ALL_BITS
 
 
 def is_threshold(query, value, condition):
@@ -48,7 +48,7 @@ def lines(query, path, seen):
     for address in sorted(set().union(*(unrefined for _, unrefined, _ in seen)) if seen else set()):
         for first, last in stays_of({number for number, unrefined, _ in seen if address in unrefined}):
             printed = [number for number, _, refined in seen if first <= number <= last and address in refined]
-            shown.append('%s from %d to %d printed %s' % (answers.shown(address, True), first, last, min(printed) if printed else 'never'))
+            shown.append('%s from %d to %d printed %s' % (answers.shown(address, fields.WIDTHS[query.refine_field], True), first, last, min(printed) if printed else 'never'))
     return shown
 
 

@@ -4,7 +4,9 @@ from dataclasses import dataclass
 
 from .grammar import Reader
 
-RANGES = {'stages': (1, 32), 'actions': (1, 64), 'bits': (1, 4294967296), 'meta': (0, 65535), 'chain': (1, 4), 'slots': (1, 65536)}
+RANGES = {'stages': (1, 32), 'actions': (1, 64), 'bits': (1, 4294967296), 'meta': (0, 65535), 'chain': (1, 4), 'slots': (1, 65536),
+          'entries': (1, 4194304), 'weight': (0, 65536)}
+OPTIONAL = {'entries', 'weight'}
 
 
 @dataclass
@@ -15,6 +17,8 @@ class Switch:
     meta: int
     chain: int
     slots: list
+    entries: int = None
+    weight: int = 0
 
 
 class SwitchReader(Reader):
@@ -43,7 +47,7 @@ class SwitchReader(Reader):
             word = self.step().value
             found[word] = (self.sizes if word == 'slots' else self.ranged)(*RANGES[word])
             self.symbol(';')
-        if len(found) < len(RANGES):
+        if not set(RANGES) - OPTIONAL <= set(found):
             self.fault('Missing')
         return Switch(**found)
 

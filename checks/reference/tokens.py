@@ -8,6 +8,8 @@ DECIMAL = re.compile(rb'[0-9]+\Z')
 HEXADECIMAL = re.compile(rb'0x[0-9A-Fa-f]+\Z')
 ADDRESS = re.compile(rb'([0-9]{1,3})\.([0-9]{1,3})\.([0-9]{1,3})\.([0-9]{1,3})\Z')
 GREATEST = (1 << 64) - 1
+# What a condition without `&` keeps: more bits than a number of a text has.
+ALL_BITS = (1 << 128) - 1
 
 
 class Fault(Exception):

@@ -55,7 +55,12 @@ def fault_unknown(operator, at):
 def fault_too_wide(operator, at):
     if not at.mapped and operator.kind in ('filter', 'map'):
         return 'TooWide' if len(set(at.read) | set(names_read(operator))) > 8 else None
-    wide = at.mapped and operator.kind == 'reduce' and operator.fold == 'sum' and at.width()[operator.value] > operator.width
+    if not at.mapped:
+        return None
+    if operator.kind == 'reduce':
+        wide = at.width()[operator.value] > (operator.width if operator.fold == 'sum' else 64)
+    else:
+        wide = any(at.width()[name] > 64 for column in operator.columns if column.form in ('sum', 'ratio') for name in column.reads)
     return 'TooWide' if wide else None
 
 

@@ -1,6 +1,6 @@
 # A lab of two network namespaces, an attacker and a victim, joined by a veth pair. Recipes source this file; it is no command.
 #
-# The attacker is 10.77.0.1. The victim is 10.77.0.2 and answers for each address of 10.88.0.0/16 too. Nothing leaves the two namespaces. Both are
+# The attacker is 10.77.0.1 and fd77::1. The victim is 10.77.0.2 and fd77::2, and answers for each address of 10.88.0.0/16 and fd88::/32 too. Nothing leaves the two namespaces. Both are
 # removed at the end, and only processes that the recipe began are ended. It needs root, iproute2 and tcpdump.
 
 attacker=sonata_attacker_$$
@@ -43,6 +43,10 @@ lab_up() {
     ip -n "$victim" route add local 10.88.0.0/16 dev lo
     ip -n "$victim" route add default via 10.77.0.1
     ip -n "$attacker" route add 10.88.0.0/16 via 10.77.0.2
+    ip -n "$attacker" address add fd77::1/64 dev a0 nodad
+    ip -n "$victim" address add fd77::2/64 dev v0 nodad
+    ip -n "$victim" route add local fd88::/32 dev lo
+    ip -n "$attacker" route add fd88::/32 via fd77::2
 }
 
 lab_down() {

@@ -4,10 +4,11 @@
     written.py FOLDER                  # all of them, as FOLDER/port_scan.pcap and so on
     written.py FOLDER port_scan quiet
 
-The attacker is 10.77.0.1 and the victim 10.77.0.2, as in the recipes. The same words write the same bytes each time. Each attack goes on for about five
+The attacker is 10.77.0.1 and the victim 10.77.0.2, and over IPv6 fd77::1 and fd77::2, as in the recipes. The same words write the same bytes each time. Each attack goes on for about five
 seconds, so that a refined query has windows to look into; real tools are often done within one. Needs nothing but Python."""
 
 import argparse
+import ipaddress
 import os
 import struct
 import sys
@@ -15,6 +16,8 @@ import sys
 ATTACKER, VICTIM = (10, 77, 0, 1), (10, 77, 0, 2)
 FIN, SYN, RST, PUSH, ACK = 1, 2, 4, 8, 16
 SNAP = 128
+# The same two over IPv6, the network that is scanned, and the one of the spreader's partners.
+ATTACKER_6, VICTIM_6, SCANNED, PARTNERS = (int(ipaddress.IPv6Address(text)) for text in ('fd77::1', 'fd77::2', 'fd88:0:0:7::', 'fd88:0:2:3::'))
 
 
 def ip(source, target, protocol, body, ttl=64):
@@ -23,6 +26,12 @@ def ip(source, target, protocol, body, ttl=64):
 
 def tcp(source, target, sport, dport, flags, size=0, ttl=64):
     return ip(source, target, 6, struct.pack('>HHIIBBHHH', sport, dport, 0, 0, 0x50, flags, 64240, 0, 0) + bytes(size), ttl)
+
+
+def tcp6(source, target, sport, dport, flags, hops=64):
+    """A segment over IPv6, whose addresses are numbers."""
+    return (struct.pack('>IHBB', 6 << 28, 20, 6, hops) + source.to_bytes(16, 'big') + target.to_bytes(16, 'big')
+            + struct.pack('>HHIIBBHHH', sport, dport, 0, 0, 0x50, flags, 64240, 0, 0))
 
 
 def udp(source, target, sport, dport, size, ttl=64):
@@ -36,6 +45,10 @@ def echo(source, target, kind):
 def refused(target, sport, dport, when):
     """A SYN to a port that is closed, and the answer."""
     return [(when, tcp(ATTACKER, target, sport, dport, SYN)), (when + 60, tcp(target, ATTACKER, dport, sport, RST | ACK))]
+
+
+def refused6(target, sport, dport, when):
+    return [(when, tcp6(ATTACKER_6, target, sport, dport, SYN)), (when + 60, tcp6(target, ATTACKER_6, dport, sport, RST | ACK))]
 
 
 def opened(sport, dport, when):
@@ -90,6 +103,10 @@ RECIPES = {
     'dns_reflection': lambda: each(5000, 1000, lambda i, when: [(when, udp((10, 88, 0, 1 + i % 40), VICTIM, 53, 40000, 1200, 60))]),
     'icmp_sweep': lambda: each(1280, 4000, lambda i, when: ping((10, 88, 2 + i // 256, i % 256), when)),
     'top_talkers': lambda: each(10000, 500, lambda i, when: [(when, tcp(ATTACKER, VICTIM, 40000, 9000, ACK, 1448))]),
+    'ip6_opened': lambda: each(5000, 1000, lambda i, when: refused6(VICTIM_6, 50000, 1 + i, when)),
+    'ip6_spreader': lambda: each(5000, 1000, lambda i, when: refused6(PARTNERS + i * 37 % 4096, 1024 + i, 80, when)),
+    'ip6_scan': lambda: (each(500, 10_000, lambda i, when: refused6(SCANNED + i, 50000, 443, when))
+                         + each(20, 250_000, lambda i, when: refused6(SCANNED + (1 << 64) + i % 4, 50001, 443, when + 500))),
     'ttl_anomalies': lambda: (each(250, 20_000, lambda i, when: [(when, tcp((10, 77, 0, 50), VICTIM, 2000 + i, 80, SYN, ttl=64)),
                                                                  (when + 40, tcp((10, 77, 0, 50), VICTIM, 4000 + i, 80, SYN, ttl=113))])
                               + each(25, 200_000, lambda i, when: [(when + 80 + n, udp(ATTACKER, VICTIM, 40000, 33434, 0, 1 + i % 5)) for n in range(3)])),
@@ -97,11 +114,11 @@ RECIPES = {
 
 
 def write(name, packets):
-    """The capture of packets, each its time in microseconds and its IPv4 bytes, over Ethernet and cut to the first bytes."""
+    """The capture of packets, each its time in microseconds and its bytes from IPv4 or IPv6 on, over Ethernet and cut to the first bytes."""
     with open(name, 'wb') as out:
         out.write(struct.pack('<IHHIIII', 0xA1B2C3D4, 2, 4, 0, 0, SNAP, 1))
         for when, packet in sorted(packets, key=lambda packet: packet[0]):
-            frame = bytes.fromhex('0200000000020200000000010800') + packet
+            frame = bytes.fromhex('020000000002020000000001' + ('86dd' if packet[0] >> 4 == 6 else '0800')) + packet
             out.write(struct.pack('<IIII', 1 + when // 1_000_000, when % 1_000_000, min(SNAP, len(frame)), len(frame)) + frame[:SNAP])
 
 

@@ -1,4 +1,4 @@
--- A cost and a tree without a fault leave no plan that fits and sends fewer items.
+-- A cost and a tree without a fault leave no plan that fits and costs less.
 use Rattle.std.proofs.Common.{◌≡◌, ℕ, ◌≤◌, List, Option, None, Some, Ok, refl, sym, ◌∙◌, arith}
 use Rattle.sn_plan_lists.specs.Chosen.{plan_choices}
 use Rattle.sn_plan_lists.specs.Theorems.{HaveRisingNumbers, IsNamed}
@@ -10,7 +10,7 @@ use Rattle.sn_plan_fit.specs.Fits.{Fits}
 use Rattle.sn_plan_fit.specs.Pieces.{fit_misfit}
 use Rattle.sn_plan_fit.specs.declared.misfit.Misfit.{Misfit}
 use Rattle.sn_cost_laws.proofs.Plans.{trained_priced}
-use Rattle.sn_cost_laws.specs.Sent.{sent_over}
+use Rattle.sn_cost_laws.specs.Sent.{cost_over}
 use Rattle.sn_plan_grammar.specs.declared.plan.Entry.{Entry}
 use Rattle.sn_command_texts.specs.Fitting.{misfit_verdict}
 use Rattle.sn_command_texts.proofs.Accepted.{ok_err}
@@ -50,18 +50,18 @@ module _ (s : Switch) (queries : List TypedQuery) (given : List Window) (rising 
   named_as es k = plans_named s (trained_entry s queries given) placing_by_gaps queries es rising k
 
   -- what the bound of a plan's choices says
-  pub bound_is_sent : (es : List Entry) → Fits queries s es → plans.lower (plan_choices s queries es) ≡ sent_over s.chain queries es given
-  bound_is_sent es k = (named_as es k).one.cost ∙ trained_priced s queries given es rising k
+  pub bound_is_cost : (es : List Entry) → Fits queries s es → plans.lower (plan_choices s queries es) ≡ cost_over s queries es given
+  bound_is_cost es k = (named_as es k).one.cost ∙ trained_priced s queries given es rising k
 
   module _ (cost : ℕ) (nodes : List Node) (shown : Ok tt ≡ flaw_verdict (tree_fault plans (plan_choices s queries entries) cost nodes)) where
-    pub cost_is_sent : cost ≡ sent_over s.chain queries entries given
-    cost_is_sent =
-        (accepted_without_fault plans (plan_choices s queries entries) cost nodes (none_flawed (tree_fault plans (plan_choices s queries entries) cost nodes) shown)).0 ∙ bound_is_sent entries fits
+    pub cost_is_so : cost ≡ cost_over s queries entries given
+    cost_is_so =
+        (accepted_without_fault plans (plan_choices s queries entries) cost nodes (none_flawed (tree_fault plans (plan_choices s queries entries) cost nodes) shown)).0 ∙ bound_is_cost entries fits
 
-    pub none_sends_less : (es : List Entry) → Fits queries s es → sent_over s.chain queries entries given ≤ sent_over s.chain queries es given
-    none_sends_less es k =
+    pub none_costs_less : (es : List Entry) → Fits queries s es → cost_over s queries entries given ≤ cost_over s queries es given
+    none_costs_less es k =
         let tree = (accepted_without_fault plans (plan_choices s queries entries) cost nodes (none_flawed (tree_fault plans (plan_choices s queries entries) cost nodes) shown)).1 in
         let least = least_by_cover plans (plan_choices s queries entries) (plans_laws s (trained_entry s queries given) queries) (named_as entries fits).plan nodes tree.covers (plan_choices s queries es) (named_as es k).plan in
-        let mine = bound_is_sent entries fits in
-        let other = bound_is_sent es k in
+        let mine = bound_is_cost entries fits in
+        let other = bound_is_cost es k in
         omega (arith, least, mine, other)

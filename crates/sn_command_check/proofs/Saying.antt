@@ -23,7 +23,7 @@ use Rattle.sn_command_check.specs.Check.{Check, PlanTree, Showing, yes_line}
 use Rattle.sn_command_check.specs.Least.{ShowsLeast}
 use Rattle.sn_command_check.specs.PlanTrees.{PlanBefore, TreeBehind}
 use Rattle.sn_command_check.specs.Shown.{ShownFor}
-use Rattle.sn_command_check.proofs.Leasts.{cost_is_sent, none_sends_less, plan_fits}
+use Rattle.sn_command_check.proofs.Leasts.{cost_is_so, none_costs_less, plan_fits}
 use Rattle.sn_command_check.proofs.Stopping.{given, held, judged, passed, was_read}
 
 -- a plan that is read with the byte after it is read
@@ -88,7 +88,7 @@ yes_shows switch queries train plantree files outcome c e =
     let rising = all_rising limits read.window_us read.queries (typed_in of_queries.bytes read of_queries.judged) is_switch in
     let fits = plan_fits read.queries limits said.plan.0.entries is_switch said.fits in
     let given = trained training.numbers training.tuples in
-    let cost = cost_is_sent limits read.queries given rising said.plan.0.entries fits said.tree.0 said.tree.1 said.shown in
+    let cost = cost_is_so limits read.queries given rising said.plan.0.entries fits said.tree.0 said.tree.1 said.shown in
     record {
       query_text = of_queries.bytes;
       switch_text = of_switch.bytes;
@@ -107,7 +107,7 @@ yes_shows switch queries train plantree files outcome c e =
       is_training = of_train.judged;
       is_plan = plan_read b.value said.plan said.is_plan;
       fits = fits;
-      least = none_sends_less limits read.queries given rising said.plan.0.entries fits said.tree.0 said.tree.1 said.shown;
+      least = none_costs_less limits read.queries given rising said.plan.0.entries fits said.tree.0 said.tree.1 said.shown;
       nodes = length said.tree.1;
       told = silent_both q.text q.rest.text outcome.text _ q.texts of_queries.silent (silent_both s.text s.rest.text q.rest.text _ s.texts of_switch.silent
           (silent_both t.text t.rest.text s.rest.text _ t.texts of_train.silent (silent_both b.text b.rest.text t.rest.text _ b.texts of_plan.1 said.told)))

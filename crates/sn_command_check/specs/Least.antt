@@ -5,7 +5,7 @@ use Rattle.std.specs.FinMap.{get}
 use Rattle.sn_cost.specs.Entries.{trained}
 use Rattle.sn_plan_fit.specs.Fits.{Fits}
 use Rattle.sn_io.specs.Counts.{ByName}
-use Rattle.sn_cost_laws.specs.Sent.{sent_over}
+use Rattle.sn_cost_laws.specs.Sent.{cost_over}
 use Rattle.sn_plan_grammar.specs.declared.plan.Entry.{Entry}
 use Rattle.sn_plan_grammar.specs.declared.plan.Plan.{Plan}
 use Rattle.sn_command_texts.specs.Queries.{QueriesIn}
@@ -17,9 +17,10 @@ use Rattle.sn_command_training.specs.Training.{TrainingIn}
 use Rattle.sn_command_training.specs.declared.training.Training.{Training}
 use Rattle.sn_command_check.specs.Check.{yes_line}
 
--- how many items a plan sends of the windows of a training capture
-abbrev pub items_sent : Queries → Switch → Training → List Entry → ℕ
-items_sent read limits training entries = sent_over limits.chain read.queries entries (trained training.numbers training.tuples)
+-- what a plan costs over the windows of a training capture: the items that it sends, and the switch's weight for each prefix that is
+-- installed
+abbrev pub training_cost : Queries → Switch → Training → List Entry → ℕ
+training_cost read limits training entries = cost_over limits read.queries entries (trained training.numbers training.tuples)
 
 -- What is so where `check` says yes in this text, whoever made the tree.
 pub record ShowsLeast (switch queries train plantree : List ℕ) (files : ByName (List ℕ)) (text : List ℕ) : Type 0 where
@@ -42,8 +43,8 @@ pub record ShowsLeast (switch queries train plantree : List ℕ) (files : ByName
   pub is_plan : PlanIn plan_text (Ok plan)
   -- The plan fits every limit of the switch.
   pub fits : Fits read.queries limits plan.entries
-  -- No plan that fits sends fewer items of the training capture,
-  pub least : (entries : List Entry) → Fits read.queries limits entries → items_sent read limits training plan.entries ≤ items_sent read limits training entries
-  -- and the line says how many this one sends.
+  -- No plan that fits costs less over the training capture,
+  pub least : (entries : List Entry) → Fits read.queries limits entries → training_cost read limits training plan.entries ≤ training_cost read limits training entries
+  -- and the line says what this one costs.
   pub nodes : ℕ
-  pub told : text ≡ yes_line (items_sent read limits training plan.entries) nodes
+  pub told : text ≡ yes_line (training_cost read limits training plan.entries) nodes

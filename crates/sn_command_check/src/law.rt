@@ -10,7 +10,7 @@ pub fn check_has_one_outcome()
     ensures { (switch queries train plantree : List ℕ) → HasOne (Check switch queries train plantree) }
 {}
 
-/// Where `check` says yes, the plan fits, and no plan that fits sends fewer items of the training capture, whoever made the tree.
+/// Where `check` says yes, the plan fits, and no plan that fits costs less over the training capture, whoever made the tree.
 pub fn yes_shows_least()
     ensures { (switch queries train plantree : List ℕ) (files : ByName (List ℕ)) (outcome : Outcome (Unit {0})) →
         Check switch queries train plantree files outcome → outcome.end ≡ Ok tt →

@@ -5,7 +5,7 @@ use Rattle.std.proofs.lemmas.Bool.{ne_eqb}
 use Rattle.sn_base.specs.Groups.{Row}
 use Rattle.sn_base.proofs.Lists.{nat_self}
 use Rattle.sn_pipe_items.specs.Items.{at_packet, numbered, rows_of}
-use Rattle.sn_pipe.specs.declared.stage.Stage.{Stage}
+use Rattle.sn_pipe.specs.AnyStage.{Stage}
 use Rattle.sn_pipe.specs.Pipes.{PipeState, after_packets, item_of, lets_in, row_in}
 use Rattle.sn_pipe.specs.Stages.{item_from, stages_after, stages_behind}
 use Rattle.std.specs.Option.{option_to_list}

@@ -8,9 +8,9 @@ use Rattle.sn_engine_lockstep.specs.Sources.{kept_in, source_at}
 use Rattle.sn_engine_lockstep.specs.Windows.{Follows, Remembers, answers_from, plan_answers, window_answers, window_of}
 use Rattle.sn_engine_lockstep.proofs.Along.{kept_right, window_right}
 use Rattle.sn_engine_lockstep.proofs.Apart.{levels_known, place_is}
-use Rattle.sn_emit.specs.Plans.{Placed, level_before, pieces_from, placed}
+use Rattle.sn_emit.specs.Plans.{Placed, pieces_from, placed}
 use Rattle.sn_plan_fit.specs.Fits.{AreEntriesOf, IsEntryOf}
-use Rattle.sn_plan_fit.specs.Paths.{is_among, place_in}
+use Rattle.sn_plan_fit.specs.Paths.{is_among, level_before, place_in}
 use Rattle.sn_base.specs.Rising.{IsRising}
 use Rattle.sn_plan_grammar.specs.declared.plan.Entry.{Entry}
 use Rattle.sn_plan_grammar.specs.declared.plan.Piece.{Piece}
@@ -109,14 +109,14 @@ pub record IsLast (p : Planned) (windows : Windows) (last : Option Answers) (w :
 module _ (p : Planned) (windows : Windows) (h : AreEntriesOf p.queries p.entries) where
   last_right : (last : Option Answers) (closed : List Window) (number : ℕ) (tuples : List (List ℕ)) → AreRising (window_of last) (closed ++ (number, tuples) ∷ [])
       → ((v : ℕ) → IsAbove (window_of last) v → windows v ≡ windows_of (closed ++ (number, tuples) ∷ []) v) → Remembers p.queries p.entries windows last
-      → IsLast p windows (last_from last (answers_from p.queries p.depth p.entries last closed)) number
+      → IsLast p windows (last_from last (answers_from p.queries p.tables p.entries last closed)) number
   last_right last [] number tuples rises agrees r =
       record { follows = record { above = rises.0; none = λ v above lt. agrees v above ∙ earlier (number, tuples) [] v rises.1 lt }; remembers = r }
   last_right last (c ∷ closed) number tuples rises agrees r =
       let rest : List Window = closed ++ (number, tuples) ∷ [] in
-      let now : Answers = window_answers p.queries p.depth p.entries (kept_in p.queries last c.0) c.0 c.1 in
-      let e : now ≡ plan_answers p.queries p.depth p.entries windows c.0 =
-      window_right p.queries p.depth p.entries windows last c.0 c.1 h (agrees c.0 rises.0 ∙ here c rest) (record { above = rises.0; none = λ v above lt. agrees v above ∙ earlier c rest v rises.1 lt }) r in
+      let now : Answers = window_answers p.queries p.tables p.entries (kept_in p.queries last c.0) c.0 c.1 in
+      let e : now ≡ plan_answers p.queries p.tables p.entries windows c.0 =
+      window_right p.queries p.tables p.entries windows last c.0 c.1 h (agrees c.0 rises.0 ∙ here c rest) (record { above = rises.0; none = λ v above lt. agrees v above ∙ earlier c rest v rises.1 lt }) r in
       last_right (Some now) closed number tuples rises.1 (λ v lt. agrees v (above_last (window_of last) c.0 v rises.0 lt) ∙ later c rest v lt) (ap (λ (a : Answers). a.parts) e)
 
 -- the lanes admit the prefixes that were answered along the plan

@@ -10,6 +10,7 @@ use Rattle.sn_emit.specs.declared.sender.Sender.{Sender}
 use Rattle.sn_emit.specs.Making.{CanMake}
 use Rattle.sn_emit.specs.Plans.{Placed}
 use Rattle.sn_emit.specs.Senders.{frames_left}
+use Rattle.sn_emit.specs.declared.tables.Tables.{Tables}
 use Rattle.sn_engine.specs.declared.intake.Intake.{Intake}
 use Rattle.sn_refine.specs.Steps.{Set}
 use Rattle.sn_report.specs.Items.{Frame}
@@ -26,9 +27,9 @@ flat_beside f g (s ∷ ss) [] many each = absurd (omega (arith, many))
 flat_beside f g (s ∷ ss) (x ∷ xs) many each =
     ap (λ fs. fs ++ flat_map f ss) (each 0 x s refl refl) ∙ ap (λ fs. g x ++ fs) (flat_beside f g ss xs (omega (arith, many)) (λ j y t p q. each (suc j) y t p q))
 
-module _ (typed_for depth : ℕ) (queries : List TypedQuery) (pieces : List Placed) (kept : Source → Set) (tuples : List (List ℕ)) (senders : List Sender) (intakes : List Intake)
-    (typed : ∥ IsTyped typed_for queries ∥₁) (can : AllByRecursion (CanMake queries) pieces) (work : AreAtWork queries depth pieces kept tuples senders intakes) where
-  lane_work : (j : ℕ) (x : Placed) (s : Sender) → slice_get pieces j ≡ Some x → slice_get senders j ≡ Some s → (l : Intake) × IsAtWork queries depth x (kept (source_of x)) tuples s l
+module _ (typed_for : ℕ) (tables : Tables) (queries : List TypedQuery) (pieces : List Placed) (kept : Source → Set) (tuples : List (List ℕ)) (senders : List Sender) (intakes : List Intake)
+    (typed : ∥ IsTyped typed_for queries ∥₁) (can : AllByRecursion (CanMake queries) pieces) (work : AreAtWork queries tables pieces kept tuples senders intakes) where
+  lane_work : (j : ℕ) (x : Placed) (s : Sender) → slice_get pieces j ≡ Some x → slice_get senders j ≡ Some s → (l : Intake) × IsAtWork queries tables x (kept (source_of x)) tuples s l
   lane_work j x s p q =
       let lt = within pieces j x p in
       let many = work.taken in
@@ -37,16 +38,16 @@ module _ (typed_for depth : ℕ) (queries : List TypedQuery) (pieces : List Plac
 
   -- what all give at a tuple
   pub all_send : (tuple : List ℕ) (more : List (List ℕ)) → AllByRecursion HasWidths (tuples ++ tuple ∷ more)
-      → flat_map (frames_given tuple) senders ≡ flat_map (frames_at queries depth (λ x. kept (source_of x)) (tuples ++ tuple ∷ more) (length tuples)) pieces
+      → flat_map (frames_given tuple) senders ≡ flat_map (frames_at queries tables (λ x. kept (source_of x)) (tuples ++ tuple ∷ more) (length tuples)) pieces
   all_send tuple more widths =
-      flat_beside (frames_given tuple) (frames_at queries depth (λ x. kept (source_of x)) (tuples ++ tuple ∷ more) (length tuples)) senders pieces work.given
+      flat_beside (frames_given tuple) (frames_at queries tables (λ x. kept (source_of x)) (tuples ++ tuple ∷ more) (length tuples)) senders pieces work.given
       (λ j x s p q. let w = (lane_work j x s p q).1 in
-      ap (frames_given tuple) w.sender ∙ lane_sends typed_for queries depth x w.base (kept (source_of x)) typed (all_get (CanMake queries) pieces j x can p) w.lane tuples more tuple widths)
+      ap (frames_given tuple) w.sender ∙ lane_sends typed_for queries tables x w.base (kept (source_of x)) typed (all_get (CanMake queries) pieces j x can p) w.lane tuples more tuple widths)
 
   -- what is left of all after the last one
   pub all_read : (number : ℕ) → AllByRecursion HasWidths tuples
-      → flat_map (λ s. frames_left s number) senders ≡ flat_map (frames_behind queries depth (λ x. kept (source_of x)) tuples number) pieces
+      → flat_map (λ s. frames_left s number) senders ≡ flat_map (frames_behind queries tables (λ x. kept (source_of x)) tuples number) pieces
   all_read number widths =
-      flat_beside (λ s. frames_left s number) (frames_behind queries depth (λ x. kept (source_of x)) tuples number) senders pieces work.given
+      flat_beside (λ s. frames_left s number) (frames_behind queries tables (λ x. kept (source_of x)) tuples number) senders pieces work.given
       (λ j x s p q. let w = (lane_work j x s p q).1 in
-      ap (λ r. frames_left r number) w.sender ∙ lane_reads typed_for queries depth x w.base (kept (source_of x)) typed (all_get (CanMake queries) pieces j x can p) w.lane number tuples widths)
+      ap (λ r. frames_left r number) w.sender ∙ lane_reads typed_for queries tables x w.base (kept (source_of x)) typed (all_get (CanMake queries) pieces j x can p) w.lane number tuples widths)

@@ -16,7 +16,7 @@ use Rattle.sn_emit.specs.Plans.{IsLaneOf, IsNewPipeOf, Placed}
 use Rattle.sn_emit.specs.Senders.{frames_left, row_frame, sender_after, sender_next, sender_start}
 use Rattle.sn_pipe_items.specs.Items.{at_packet, numbered, read_from, sent_from}
 use Rattle.sn_pipe_items.proofs.Cuts.{IsCut, IsCutBehindDistinct, OnlyFilters}
-use Rattle.sn_pipe.specs.declared.stage.Stage.{Stage}
+use Rattle.sn_pipe.specs.AnyStage.{Stage}
 use Rattle.sn_pipe.specs.declared.stage.Stage.TheVariants.{Filter, Map, Distinct, Reduce}
 use Rattle.sn_pipe.specs.Pipes.{PipeState, after_packets, at_start, is_let_in, item_of, row_in}
 use Rattle.sn_pipe.specs.Prefixes.{left_in}
@@ -41,6 +41,8 @@ use Rattle.sn_command_emit.specs.Sent.{flow_of, ops_of, reads_out, sends_at, siz
 use Rattle.sn_command_emit.proofs.FlowLemmas.{after_run, all_flow, flow, rising_flow, run_at}
 use Rattle.sn_pipe.proofs.TypedLaw.{sized_same}
 use Rattle.sn_emit.proofs.LaneLaw.{same_lane, same_end, pipe_after}
+use Rattle.sn_emit.specs.declared.tables.Tables.{Tables}
+use Rattle.sn_pipe.specs.declared.gate.Gate.{Gate}
 
 -- ---- operators up to a cut
 
@@ -76,7 +78,7 @@ cut_prefix level (Reduce r chain ∷ ss) h = only_filters level ss h
 
 -- ---- the pipe of a piece
 
-module _ (window : ℕ) (queries : List TypedQuery) (depth : ℕ) (x : Placed) (pipe : PipeState) (kept : Set) (t : ∥ IsTyped window queries ∥₁) (can : CanMake queries x) (new : IsNewPipeOf queries depth x pipe) where
+module _ (window : ℕ) (queries : List TypedQuery) (tables : Tables) (x : Placed) (pipe : PipeState) (kept : Set) (t : ∥ IsTyped window queries ∥₁) (can : CanMake queries x) (new : IsNewPipeOf queries tables x pipe) where
   abbrev query : TypedQuery
   query = query_at queries x.query
 
@@ -105,10 +107,10 @@ module _ (window : ℕ) (queries : List TypedQuery) (depth : ℕ) (x : Placed) (
   prefix_is : IsPrefix stages
   prefix_is = cut_prefix level stages (subst IsCut (sym ops_are) (cut_within x.piece.level x.piece.cut branch_ops (cut_of window queries x.query x.piece.branch x.piece.cut t can.query can.branch can.cut)))
 
-  sized_is : HaveSizes depth size 0 stages
+  sized_is : HaveSizes tables.depth size 0 stages
   sized_is =
       let count : length stages ≤ x.piece.cut = omega (arith, length-map stages top_of, ap length new.stages.same, length-take x.piece.cut branch_ops) in
-      sized_same depth (size_at (take x.piece.cut branch_ops) x.piece.slots) size 0 stages
+      sized_same tables.depth (size_at (take x.piece.cut branch_ops) x.piece.slots) size 0 stages
       (λ j lt. ap (λ (os : List TOp). slice_index x.piece.slots (stateful os)) (take-take j x.piece.cut branch_ops (omega (arith, lt, count)))) new.stages.sized
 
   row_is : (tuple : List ℕ) → row_in start tuple ≡ packet_row query.field x.piece.level (branch_of query x.piece.branch).fields tuple
@@ -126,9 +128,9 @@ module _ (window : ℕ) (queries : List TypedQuery) (depth : ℕ) (x : Placed) (
       (subst (λ (os : List Acting). Had os row) (sym ops_are)
       (had_front x.piece.cut (map (op_at x.piece.level) branch_ops) row (row_had window queries x.query x.piece.branch x.piece.level row t can.query can.branch of)))
 
-  flow_is : (tuples : List (List ℕ)) → flow start 0 tuples ≡ flow_of queries x kept tuples
+  flow_is : (tuples : List (List ℕ)) → flow start 0 tuples ≡ flow_of queries tables x kept tuples
   flow_is tuples =
-      let made : TypedQuery → ℕ → ℕ → Option ℕ → Flow =
+      let made : TypedQuery → ℕ → ℕ → Option Gate → Flow =
       λ q b l o. map (λ z. (z.0, packet_row q.field l (branch_of q b).fields z.1)) (filter (λ z. is_let_in q.field o kept z.1) (numbered 0 tuples)) in
       ap (λ q. made q pipe.branch level pipe.coarser) new.same_query
       ∙ ap (λ n. made query n level pipe.coarser) new.same_branch
@@ -137,23 +139,23 @@ module _ (window : ℕ) (queries : List TypedQuery) (depth : ℕ) (x : Placed) (
 
   -- the tuple of a packet gives the item that stands at it
   pub piece_sends : (before later : List (List ℕ)) (tuple : List ℕ) → AllByRecursion HasWidths (before ++ tuple ∷ later)
-      → option_to_list (item_of (after_packets start before) tuple) ≡ sends_at queries depth x kept (before ++ tuple ∷ later) (length before)
+      → option_to_list (item_of (after_packets start before) tuple) ≡ sends_at queries tables x kept (before ++ tuple ∷ later) (length before)
   piece_sends before later tuple widths =
       let all : List (List ℕ) = before ++ tuple ∷ later in
       let none : 0 + length before ≡ length before = omega arith in
       sym (run_at start 0 before later tuple (map cleared stages))
       ∙ ap (at_packet (run level 0 (map cleared stages) (flow start 0 all))) none
-      ∙ sent_is level depth size (length before) 0 stages (flow start 0 all) sized_is (rising_flow start 0 all) (all_flow start (Had (acting level stages)) had_row 0 all widths)
-      ∙ ap (λ os. at_packet (sent_from depth size 0 os (flow start 0 all)) (length before)) ops_are
-      ∙ ap (λ fs. at_packet (sent_from depth size 0 (ops_of queries x) fs) (length before)) (flow_is all)
+      ∙ sent_is level tables.depth size (length before) 0 stages (flow start 0 all) sized_is (rising_flow start 0 all) (all_flow start (Had (acting level stages)) had_row 0 all widths)
+      ∙ ap (λ os. at_packet (sent_from tables.depth size 0 os (flow start 0 all)) (length before)) ops_are
+      ∙ ap (λ fs. at_packet (sent_from tables.depth size 0 (ops_of queries x) fs) (length before)) (flow_is all)
 
   -- what is left after the last packet is what is read out
-  pub piece_reads : (tuples : List (List ℕ)) → AllByRecursion HasWidths tuples → left_in (after_packets start tuples).prefix ≡ reads_out queries depth x kept tuples
+  pub piece_reads : (tuples : List (List ℕ)) → AllByRecursion HasWidths tuples → left_in (after_packets start tuples).prefix ≡ reads_out queries tables x kept tuples
   piece_reads tuples widths =
       ap (λ (p : PipeState). left_in p.prefix) (after_run start 0 tuples (map cleared stages))
-      ∙ read_is level depth size 0 false stages (flow start 0 tuples) prefix_is sized_is (all_flow start (Had (acting level stages)) had_row 0 tuples widths)
-      ∙ ap (λ os. read_from depth size 0 false os (flow start 0 tuples)) ops_are
-      ∙ ap (read_from depth size 0 false (ops_of queries x)) (flow_is tuples)
+      ∙ read_is level tables.depth size 0 false stages (flow start 0 tuples) prefix_is sized_is (all_flow start (Had (acting level stages)) had_row 0 tuples widths)
+      ∙ ap (λ os. read_from tables.depth size 0 false os (flow start 0 tuples)) ops_are
+      ∙ ap (read_from tables.depth size 0 false (ops_of queries x)) (flow_is tuples)
 
 -- ---- the lane of a piece
 
@@ -161,7 +163,7 @@ as_frames : (name : Lane) (o : Option Item) → option_to_list (option_map (row_
 as_frames name None = refl
 as_frames name (Some item) = refl
 
-module _ (window : ℕ) (queries : List TypedQuery) (depth : ℕ) (x : Placed) (base : Sender) (kept : Set) (t : ∥ IsTyped window queries ∥₁) (can : CanMake queries x) (lane : IsLaneOf queries depth x base) where
+module _ (window : ℕ) (queries : List TypedQuery) (tables : Tables) (x : Placed) (base : Sender) (kept : Set) (t : ∥ IsTyped window queries ∥₁) (can : CanMake queries x) (lane : IsLaneOf queries tables x base) where
   abbrev first : Sender
   first = sender_start base kept
 
@@ -173,20 +175,20 @@ module _ (window : ℕ) (queries : List TypedQuery) (depth : ℕ) (x : Placed) (
 
   -- what a tuple gives are the frames at its packet
   pub lane_sends : (before later : List (List ℕ)) (tuple : List ℕ) → AllByRecursion HasWidths (before ++ tuple ∷ later)
-      → frames_given tuple (sender_after first before) ≡ map (row_frame (name_of x)) (sends_at queries depth x kept (before ++ tuple ∷ later) (length before))
+      → frames_given tuple (sender_after first before) ≡ map (row_frame (name_of x)) (sends_at queries tables x kept (before ++ tuple ∷ later) (length before))
   lane_sends before later tuple widths =
       let s : Sender = sender_after first before in
       ap (λ n. option_to_list (option_map (row_frame n) (item_of s.pipe tuple))) (name_is before)
       ∙ as_frames (name_of x) (item_of s.pipe tuple)
       ∙ ap (λ (p : PipeState). map (row_frame (name_of x)) (option_to_list (item_of p tuple))) (pipe_is before)
-      ∙ ap (map (row_frame (name_of x))) (piece_sends window queries depth x (at_start base.pipe set.empty) kept t can lane.pipe before later tuple widths)
+      ∙ ap (map (row_frame (name_of x))) (piece_sends window queries tables x (at_start base.pipe set.empty) kept t can lane.pipe before later tuple widths)
 
   -- what is left after the last one are the frames after the last packet
   pub lane_reads : (number : ℕ) (tuples : List (List ℕ)) → AllByRecursion HasWidths tuples
-      → frames_left (sender_after first tuples) number ≡ map (row_frame (name_of x)) (reads_out queries depth x kept tuples) ++ End (name_of x) number ∷ []
+      → frames_left (sender_after first tuples) number ≡ map (row_frame (name_of x)) (reads_out queries tables x kept tuples) ++ End (name_of x) number ∷ []
   lane_reads number tuples widths =
       let s : Sender = sender_after first tuples in
       ap (λ (n : Lane). map (row_frame n) (left_in s.pipe.prefix) ++ cond s.ended [] (End n number ∷ [])) (name_is tuples)
       ∙ ap (λ b. map (row_frame (name_of x)) (left_in s.pipe.prefix) ++ cond b [] (End (name_of x) number ∷ [])) (same_end first tuples)
       ∙ ap (λ (p : PipeState). map (row_frame (name_of x)) (left_in p.prefix) ++ End (name_of x) number ∷ []) (pipe_is tuples)
-      ∙ ap (λ items. map (row_frame (name_of x)) items ++ End (name_of x) number ∷ []) (piece_reads window queries depth x (at_start base.pipe set.empty) kept t can lane.pipe tuples widths)
+      ∙ ap (λ items. map (row_frame (name_of x)) items ++ End (name_of x) number ∷ []) (piece_reads window queries tables x (at_start base.pipe set.empty) kept t can lane.pipe tuples widths)

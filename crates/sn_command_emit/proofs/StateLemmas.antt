@@ -12,11 +12,13 @@ use Rattle.sn_engine_lockstep.specs.declared.driver.Driver.{Driver}
 use Rattle.sn_engine_lockstep.specs.declared.source.Source.{Source}
 use Rattle.sn_engine_lockstep.specs.Sources.{kept_in, source_of, sources_of}
 use Rattle.sn_engine_lockstep.specs.Windows.{window_answers}
-use Rattle.sn_engine_lockstep.specs.Work.{AreAtWork, AreIdle, AreUnread, frames_given}
+use Rattle.sn_engine_lockstep.specs.Work.{AreAtWork, AreIdle, AreUnread, Recalls, frames_given}
 use Rattle.sn_engine_lockstep.proofs.Laws.{new_idle, plan_made}
+use Rattle.sn_engine_lockstep.proofs.Recalling.{recalls_none}
 use Rattle.sn_engine_lockstep.proofs.Sending.{one_behind}
-use Rattle.sn_emit.specs.Plans.{AreLanesOf, AreNewLanes, Placed, pieces_from}
+use Rattle.sn_emit.specs.Plans.{AreLanesOf, AreNewLanes, Placed, pieces_from, tables_of}
 use Rattle.sn_emit.specs.Senders.{frames_left}
+use Rattle.sn_emit.specs.declared.tables.Tables.{Tables}
 use Rattle.sn_engine.specs.declared.intake.Intake.{Intake}
 use Rattle.sn_engine.specs.Intakes.{intakes_of}
 use Rattle.sn_plan_fit.specs.Fits.{Fits}
@@ -39,7 +41,13 @@ use Rattle.sn_command_emit.proofs.KeptLemmas.{all_let_in}
 use Rattle.sn_command_emit.proofs.LanesLemmas.{all_read, all_send}
 
 abbrev pub with_sent : Reporter → Driver → Vec ℕ Global → Reporter
-with_sent a d sent = record { typed = a.typed; plan = a.plan; depth = a.depth; driver = d; last = a.last; sent = sent }
+with_sent a d sent = record { typed = a.typed; plan = a.plan; tables = a.tables; driver = d; last = a.last; sent = sent }
+
+-- what an engine keeps
+recalls_same : (queries : List TypedQuery) (pieces : List Placed) (last : Option Answers) (d e : Driver) → e.engine.closed ≡ d.engine.closed → e.engine.kept ≡ d.engine.kept
+    → Recalls queries pieces last d.engine.closed d.engine.kept → Recalls queries pieces last e.engine.closed e.engine.kept
+recalls_same queries pieces last d e same prefixes h =
+    subst (λ (o : Option ℕ). Recalls queries pieces last o e.engine.kept) (sym same) (subst (λ (sets : List Set). Recalls queries pieces last d.engine.closed sets) (sym prefixes) h)
 
 -- ---- the bytes of the frames
 
@@ -65,7 +73,7 @@ module _ (a : Reporter) (closed : List Window) (number : ℕ) (tuples : List (Li
       let frames : ℕ → List Frame = packet_frames p kept all in
       let count : suc (length tuples) ≡ length (tuples ++ tuple ∷ []) = let both = length-append tuples (tuple ∷ []) in omega (arith, both) in
       let given : flat_map (frames_given tuple) a.driver.emitter ≡ frames (length tuples) =
-      all_send h.driver.typed_for p.depth p.queries (pieces_from 0 p.entries) (kept_in p.queries a.last number) tuples a.driver.emitter a.driver.engine.lanes.items h.driver.typed h.driver.can h.work
+      all_send h.driver.typed_for p.tables p.queries (pieces_from 0 p.entries) (kept_in p.queries a.last number) tuples a.driver.emitter a.driver.engine.lanes.items h.driver.typed h.driver.can h.work
       tuple more (all_append HasWidths tuples (tuple ∷ more) h.widths (width, widths)) in
       sent
       ∙ ap (λ bs. bs ++ flat_map (spelling 2) (flat_map (frames_given tuple) a.driver.emitter)) (h.sent (tuple ∷ more) (width, widths))
@@ -86,12 +94,12 @@ module _ (a : Reporter) (closed : List Window) (number : ℕ) (tuples : List (Li
   block_is bytes sent =
       let windows : List Window = closed ++ (number, tuples) ∷ [] in
       let numbers : List ℕ = range_with_len 0 (length tuples) in
-      let behind : List Frame = flat_map (frames_behind p.queries p.depth kept tuples number) (pieces_from 0 p.entries) in
+      let behind : List Frame = flat_map (frames_behind p.queries p.tables kept tuples number) (pieces_from 0 p.entries) in
       sent
       ∙ ap (λ bs. bs ++ flat_map (spelling 2) (flat_map (λ s. frames_left s number) a.driver.emitter))
       (h.sent [] tt ∙ ap (λ ts. flat_map (spelling 2) (flat_map (packet_frames p kept ts) numbers)) (append-nil tuples))
       ∙ ap (λ fs. flat_map (spelling 2) (flat_map (packet_frames p kept tuples) numbers) ++ flat_map (spelling 2) fs)
-      (all_read h.driver.typed_for p.depth p.queries (pieces_from 0 p.entries) (kept_in p.queries a.last number) tuples a.driver.emitter a.driver.engine.lanes.items h.driver.typed h.driver.can h.work number h.widths)
+      (all_read h.driver.typed_for p.tables p.queries (pieces_from 0 p.entries) (kept_in p.queries a.last number) tuples a.driver.emitter a.driver.engine.lanes.items h.driver.typed h.driver.can h.work number h.widths)
       ∙ sym (flat_map-append (spelling 2) (flat_map (packet_frames p kept tuples) numbers) behind)
       ∙ ap (flat_map (spelling 2)) (same_frames p number tuples kept (kept_of p.queries windows number) same)
     where
@@ -101,54 +109,57 @@ module _ (a : Reporter) (closed : List Window) (number : ℕ) (tuples : List (Li
           (all_let_in p closed number tuples h.driver.entries rising)
 
   -- the window is closed
-  pub closed_idle : (d : Driver) (answers : Answers) (sent : Vec ℕ Global) → answers ≡ window_answers p.queries p.depth p.entries (kept_in p.queries a.last number) number tuples → IsDriverOf p d
-      → AreIdle p.queries p.depth (pieces_from 0 p.entries) d.emitter d.engine.lanes.items → sent.items ≡ []
-      → IsIdle (record { typed = a.typed; plan = a.plan; depth = a.depth; driver = d; last = Some answers; sent = sent }) (closed ++ (number, tuples) ∷ [])
-  closed_idle d answers sent is driver lanes none = record {
+  pub closed_idle : (d : Driver) (answers : Answers) (sent : Vec ℕ Global) → answers ≡ window_answers p.queries p.tables p.entries (kept_in p.queries a.last number) number tuples → IsDriverOf p d
+      → AreIdle p.queries p.tables (pieces_from 0 p.entries) d.emitter d.engine.lanes.items → Recalls p.queries (pieces_from 0 p.entries) (Some answers) d.engine.closed d.engine.kept → sent.items ≡ []
+      → IsIdle (record { typed = a.typed; plan = a.plan; tables = a.tables; driver = d; last = Some answers; sent = sent }) (closed ++ (number, tuples) ∷ [])
+  closed_idle d answers sent is driver lanes recalls none = record {
     driver = driver;
     lanes = lanes;
-    last = ap Some (is ∙ ap (λ (last : Option Answers). window_answers p.queries p.depth p.entries (kept_in p.queries last number) number tuples) h.last) ∙ sym (last_more p closed number tuples);
+    recalls = recalls;
+    last = ap Some (is ∙ ap (λ (last : Option Answers). window_answers p.queries p.tables p.entries (kept_in p.queries last number) number tuples) h.last) ∙ sym (last_more p closed number tuples);
     none_sent = none;
     rising = rising;
   }
 
 -- a tuple is given
 pub given_hand : (a : Reporter) (d : Driver) (sent : Vec ℕ Global) (tuple : List ℕ) (closed : List Window) (number : ℕ) (tuples : List (List ℕ)) → IsAtHand a closed number tuples → HasWidths tuple
-    → ((qs : List TypedQuery) (depth : ℕ) (xs : List Placed) (kept : Source → Set) (before : List (List ℕ)) → AreAtWork qs depth xs kept before a.driver.emitter a.driver.engine.lanes.items → AreAtWork qs depth xs kept (before ++ tuple ∷ []) d.emitter d.engine.lanes.items)
+    → ((qs : List TypedQuery) (tables : Tables) (xs : List Placed) (kept : Source → Set) (before : List (List ℕ)) → AreAtWork qs tables xs kept before a.driver.emitter a.driver.engine.lanes.items → AreAtWork qs tables xs kept (before ++ tuple ∷ []) d.emitter d.engine.lanes.items)
     → sent.items ≡ a.sent.items ++ flat_map (spelling 2) (flat_map (frames_given tuple) a.driver.emitter)
-    → AreUnread d.emitter → ((qs : List TypedQuery) (depth : ℕ) (xs : List Placed) → AreLanesOf qs depth xs a.driver.emitter → AreLanesOf qs depth xs d.emitter) → length d.emitter ≡ length a.driver.emitter
-    → d.engine.t.queries ≡ a.driver.engine.t.queries → d.sources ≡ a.driver.sources → IsAtHand (with_sent a d sent) closed number (tuples ++ tuple ∷ [])
-given_hand a d sent tuple closed number tuples h width work bytes unread lanes count queries sources = record {
-  driver = driver_after a.typed.queries a.depth a.plan.entries a.driver h.driver d queries sources count;
-  work = work a.typed.queries a.depth (pieces_from 0 a.plan.entries) (kept_in a.typed.queries a.last number) tuples h.work;
-  lanes = lanes a.typed.queries a.depth (pieces_from 0 a.plan.entries) h.lanes;
+    → AreUnread d.emitter → ((qs : List TypedQuery) (tables : Tables) (xs : List Placed) → AreLanesOf qs tables xs a.driver.emitter → AreLanesOf qs tables xs d.emitter) → length d.emitter ≡ length a.driver.emitter
+    → d.engine.t.queries ≡ a.driver.engine.t.queries → d.sources ≡ a.driver.sources → d.engine.closed ≡ a.driver.engine.closed → d.engine.kept ≡ a.driver.engine.kept → IsAtHand (with_sent a d sent) closed number (tuples ++ tuple ∷ [])
+given_hand a d sent tuple closed number tuples h width work bytes unread lanes count queries sources same prefixes = record {
+  driver = driver_after a.typed.queries a.tables a.plan.entries a.driver h.driver d queries sources count;
+  work = work a.typed.queries a.tables (pieces_from 0 a.plan.entries) (kept_in a.typed.queries a.last number) tuples h.work;
+  lanes = lanes a.typed.queries a.tables (pieces_from 0 a.plan.entries) h.lanes;
   unread = unread;
   widths = all_append HasWidths tuples (tuple ∷ []) h.widths (width, tt);
   last = h.last;
+  recalls = recalls_same a.typed.queries (pieces_from 0 a.plan.entries) a.last a.driver d same prefixes h.recalls;
   sent = more_sent a closed number tuples h tuple sent.items width bytes;
   rising = h.rising;
 }
 
 -- a window is begun
 pub begin_hand : (a : Reporter) (d : Driver) (number : ℕ) (closed : List Window) → IsIdle a closed → AreRising None (closed ++ (number, []) ∷ [])
-    → ((depth : ℕ) (xs : List Placed) → a.driver.sources ≡ map source_of xs → AreIdle a.driver.engine.t.queries depth xs a.driver.emitter a.driver.engine.lanes.items → AreAtWork a.driver.engine.t.queries depth xs (kept_in a.driver.engine.t.queries a.last number) [] d.emitter d.engine.lanes.items)
-    → AreUnread d.emitter → ((qs : List TypedQuery) (depth : ℕ) (xs : List Placed) → AreLanesOf qs depth xs a.driver.emitter → AreLanesOf qs depth xs d.emitter) → length d.emitter ≡ length a.driver.emitter
-    → d.engine.t.queries ≡ a.driver.engine.t.queries → d.sources ≡ a.driver.sources → IsAtHand (with_sent a d a.sent) closed number []
-begin_hand a d number closed idle rising work unread lanes count queries sources = record {
-  driver = driver_after a.typed.queries a.depth a.plan.entries a.driver idle.driver d queries sources count;
-  work = begun_at a.typed.queries a.depth a.plan.entries a.driver idle.driver a.last number d.emitter d.engine.lanes.items idle.lanes work;
-  lanes = lanes a.typed.queries a.depth (pieces_from 0 a.plan.entries) idle.lanes.lanes;
+    → ((tables : Tables) (xs : List Placed) → a.driver.sources ≡ map source_of xs → AreIdle a.driver.engine.t.queries tables xs a.driver.emitter a.driver.engine.lanes.items → AreAtWork a.driver.engine.t.queries tables xs (kept_in a.driver.engine.t.queries a.last number) [] d.emitter d.engine.lanes.items)
+    → AreUnread d.emitter → ((qs : List TypedQuery) (tables : Tables) (xs : List Placed) → AreLanesOf qs tables xs a.driver.emitter → AreLanesOf qs tables xs d.emitter) → length d.emitter ≡ length a.driver.emitter
+    → d.engine.t.queries ≡ a.driver.engine.t.queries → d.sources ≡ a.driver.sources → d.engine.closed ≡ a.driver.engine.closed → d.engine.kept ≡ a.driver.engine.kept → IsAtHand (with_sent a d a.sent) closed number []
+begin_hand a d number closed idle rising work unread lanes count queries sources same prefixes = record {
+  driver = driver_after a.typed.queries a.tables a.plan.entries a.driver idle.driver d queries sources count;
+  work = begun_at a.typed.queries a.tables a.plan.entries a.driver idle.driver a.last number d.emitter d.engine.lanes.items idle.lanes work;
+  lanes = lanes a.typed.queries a.tables (pieces_from 0 a.plan.entries) idle.lanes.lanes;
   unread = unread;
   widths = tt;
   last = idle.last;
+  recalls = recalls_same a.typed.queries (pieces_from 0 a.plan.entries) a.last a.driver d same prefixes idle.recalls;
   sent = none_sent (plan_of a) (kept_now a.typed.queries a.last number) a.sent.items idle.none_sent;
   rising = rising;
 }
 
 -- a plan as it is made
-pub made_idle : (a : Reporter) (s : Switch) → a.depth ≡ s.chain → IsSwitch s → Fits a.typed.queries s a.plan.entries → a.driver.engine.t.queries ≡ a.typed.queries → a.driver.sources ≡ sources_of 0 a.plan.entries
-    → AreNewLanes a.typed.queries s.chain (pieces_from 0 a.plan.entries) a.driver.emitter → a.driver.engine.lanes.items ≡ intakes_of 0 a.plan.entries → length a.driver.sources ≡ length a.driver.emitter → a.last ≡ None → a.sent.items ≡ [] → IsIdle a []
-made_idle a s depth is fits queries sources lanes empty many last none = record {
+pub made_idle : (a : Reporter) (s : Switch) → a.tables ≡ tables_of s → IsSwitch s → Fits a.typed.queries s a.plan.entries → a.driver.engine.t.queries ≡ a.typed.queries → a.driver.sources ≡ sources_of 0 a.plan.entries
+    → AreNewLanes a.typed.queries (tables_of s) (pieces_from 0 a.plan.entries) a.driver.emitter → a.driver.engine.lanes.items ≡ intakes_of 0 a.plan.entries → length a.driver.sources ≡ length a.driver.emitter → a.driver.engine.closed ≡ None → a.last ≡ None → a.sent.items ≡ [] → IsIdle a []
+made_idle a s tables is fits queries sources lanes empty many first last none = record {
   driver = record {
     typed_for = a.typed.window_us;
     typed = a.typed.typed;
@@ -158,9 +169,11 @@ made_idle a s depth is fits queries sources lanes empty many last none = record 
     sources = sources;
     many = many;
   };
-  lanes = subst (λ (items : List Intake). AreIdle a.typed.queries a.depth (pieces_from 0 a.plan.entries) a.driver.emitter items) (sym empty)
-      (new_idle a.typed.queries a.depth a.plan.entries a.driver.emitter fits.paths (subst (λ (n : ℕ). AreNewLanes a.typed.queries n (pieces_from 0 a.plan.entries) a.driver.emitter) (sym depth) lanes));
+  lanes = subst (λ (items : List Intake). AreIdle a.typed.queries a.tables (pieces_from 0 a.plan.entries) a.driver.emitter items) (sym empty)
+      (new_idle a.typed.queries a.tables a.plan.entries a.driver.emitter fits.paths (subst (λ (n : Tables). AreNewLanes a.typed.queries n (pieces_from 0 a.plan.entries) a.driver.emitter) (sym tables) lanes));
   last = last;
+  recalls = subst (λ (o : Option Answers). Recalls a.typed.queries (pieces_from 0 a.plan.entries) o a.driver.engine.closed a.driver.engine.kept) (sym last)
+      (recalls_none a.typed.queries (pieces_from 0 a.plan.entries) a.driver.engine.closed a.driver.engine.kept first);
   none_sent = none;
   rising = tt;
 }

@@ -81,27 +81,27 @@ module _ (p : Planned) (number : ℕ) (tuples : List (List ℕ)) (kept other : P
 
   same_packet : (n : ℕ) → packet_frames p kept tuples n ≡ packet_frames p other tuples n
   same_packet n =
-      let f = frames_at p.queries p.depth kept tuples n in
-      let g = frames_at p.queries p.depth other tuples n in
+      let f = frames_at p.queries p.tables kept tuples n in
+      let g = frames_at p.queries p.tables other tuples n in
       flat_same f g pieces
       (all_weaker (λ (x : Placed). kept x ≡ other x) (λ (x : Placed). f x ≡ g x)
-      (λ x e. ap (λ (k : Set). map (row_frame (name_of x)) (sends_at p.queries p.depth x k tuples n)) e) pieces same)
+      (λ x e. ap (λ (k : Set). map (row_frame (name_of x)) (sends_at p.queries p.tables x k tuples n)) e) pieces same)
 
-  same_behind : flat_map (frames_behind p.queries p.depth kept tuples number) pieces ≡ flat_map (frames_behind p.queries p.depth other tuples number) pieces
+  same_behind : flat_map (frames_behind p.queries p.tables kept tuples number) pieces ≡ flat_map (frames_behind p.queries p.tables other tuples number) pieces
   same_behind =
-      let f = frames_behind p.queries p.depth kept tuples number in
-      let g = frames_behind p.queries p.depth other tuples number in
+      let f = frames_behind p.queries p.tables kept tuples number in
+      let g = frames_behind p.queries p.tables other tuples number in
       flat_same f g pieces
       (all_weaker (λ (x : Placed). kept x ≡ other x) (λ (x : Placed). f x ≡ g x)
-      (λ x e. ap (λ (k : Set). map (row_frame (name_of x)) (reads_out p.queries p.depth x k tuples) ++ End (name_of x) number ∷ []) e) pieces same)
+      (λ x e. ap (λ (k : Set). map (row_frame (name_of x)) (reads_out p.queries p.tables x k tuples) ++ End (name_of x) number ∷ []) e) pieces same)
 
   -- lanes that admit the same send the same
   pub same_frames : flat_map (packet_frames p kept tuples) (range_with_len 0 (length tuples)) ++ flat_map
-      (frames_behind p.queries p.depth kept tuples number) pieces
-      ≡ flat_map (packet_frames p other tuples) (range_with_len 0 (length tuples)) ++ flat_map (frames_behind p.queries p.depth other tuples number) pieces
+      (frames_behind p.queries p.tables kept tuples number) pieces
+      ≡ flat_map (packet_frames p other tuples) (range_with_len 0 (length tuples)) ++ flat_map (frames_behind p.queries p.tables other tuples number) pieces
   same_frames =
       let numbers : List ℕ = range_with_len 0 (length tuples) in
-      ap (λ (fs : List Frame). fs ++ flat_map (frames_behind p.queries p.depth kept tuples number) pieces)
+      ap (λ (fs : List Frame). fs ++ flat_map (frames_behind p.queries p.tables kept tuples number) pieces)
       (flat_same (packet_frames p kept tuples) (packet_frames p other tuples) numbers
       (all_each (λ (n : ℕ). packet_frames p kept tuples n ≡ packet_frames p other tuples n) same_packet numbers))
       ∙ ap (λ (fs : List Frame). flat_map (packet_frames p other tuples) numbers ++ fs) same_behind

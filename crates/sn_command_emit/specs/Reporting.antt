@@ -6,7 +6,7 @@ use Rattle.sn_windows.specs.Rising.{AreRising, Window}
 use Rattle.sn_engine_lockstep.specs.declared.driver.Driver.{Driver}
 use Rattle.sn_engine_lockstep.specs.Driving as driving
 use Rattle.sn_engine_lockstep.specs.Sources.{kept_in, source_of}
-use Rattle.sn_engine_lockstep.specs.Work.{AreAtWork, AreIdle, AreUnread}
+use Rattle.sn_engine_lockstep.specs.Work.{AreAtWork, AreIdle, AreUnread, Recalls}
 use Rattle.sn_emit.specs.Plans.{AreLanesOf, Placed, pieces_from}
 use Rattle.sn_refine.specs.Steps.{Set}
 use Rattle.sn_report.specs.Frames.{spelling}
@@ -20,7 +20,7 @@ use Rattle.sn_command_emit.specs.Sent.{packet_frames}
 
 -- the plan
 abbrev pub plan_of : Reporter → Planned
-plan_of a = record { queries = a.typed.queries; depth = a.depth; entries = a.plan.entries }
+plan_of a = record { queries = a.typed.queries; tables = a.tables; entries = a.plan.entries }
 
 -- the driver is that of the plan
 abbrev pub IsDriverOf : Planned → Driver → Type 0
@@ -38,20 +38,22 @@ AreBytesOf p kept tuples bytes = (more : List (List ℕ)) → AllByRecursion Has
 -- these windows were closed, and none is open
 pub record IsIdle (a : Reporter) (closed : List Window) : Type 0 where
   pub driver : IsDriverOf (plan_of a) a.driver
-  pub lanes : AreIdle a.typed.queries a.depth (pieces_from 0 a.plan.entries) a.driver.emitter a.driver.engine.lanes.items
+  pub lanes : AreIdle a.typed.queries a.tables (pieces_from 0 a.plan.entries) a.driver.emitter a.driver.engine.lanes.items
   pub last : a.last ≡ last_of (plan_of a) closed
+  pub recalls : Recalls a.typed.queries (pieces_from 0 a.plan.entries) a.last a.driver.engine.closed a.driver.engine.kept
   pub none_sent : a.sent.items ≡ []
   pub rising : AreRising None closed
 
 -- these windows were closed, and of the one with this number these tuples came
 pub record IsAtHand (a : Reporter) (closed : List Window) (number : ℕ) (tuples : List (List ℕ)) : Type 0 where
   pub driver : IsDriverOf (plan_of a) a.driver
-  pub work : AreAtWork a.typed.queries a.depth (pieces_from 0 a.plan.entries)
+  pub work : AreAtWork a.typed.queries a.tables (pieces_from 0 a.plan.entries)
       (kept_in a.typed.queries a.last number) tuples a.driver.emitter a.driver.engine.lanes.items
-  pub lanes : AreLanesOf a.typed.queries a.depth (pieces_from 0 a.plan.entries) a.driver.emitter
+  pub lanes : AreLanesOf a.typed.queries a.tables (pieces_from 0 a.plan.entries) a.driver.emitter
   pub unread : AreUnread a.driver.emitter
   pub widths : AllByRecursion HasWidths tuples
   pub last : a.last ≡ last_of (plan_of a) closed
+  pub recalls : Recalls a.typed.queries (pieces_from 0 a.plan.entries) a.last a.driver.engine.closed a.driver.engine.kept
   pub sent : AreBytesOf (plan_of a) (kept_now a.typed.queries a.last number) tuples a.sent.items
   pub rising : AreRising None (closed ++ (number, []) ∷ [])
 

@@ -7,8 +7,9 @@ use Rattle.sn_command_capture.specs.Wording.{Wording}
 use Rattle.sn_base.specs.Groups.{Row}
 use Rattle.sn_base.specs.Operators.{Op}
 use Rattle.sn_engine_lockstep.specs.Work.{name_of}
-use Rattle.sn_emit.specs.Plans.{Placed, level_before, pieces_from}
+use Rattle.sn_emit.specs.Plans.{Placed, gate_before, pieces_from}
 use Rattle.sn_emit.specs.Senders.{row_frame}
+use Rattle.sn_emit.specs.declared.tables.Tables.{Tables}
 use Rattle.sn_plan_fit.specs.Paths.{place_in}
 use Rattle.sn_pipe_items.specs.Items.{at_packet, numbered, read_from, sent_from}
 use Rattle.sn_pcap.specs.declared.packet.Ending.{Ending}
@@ -43,9 +44,10 @@ abbrev pub row_beside : List TypedQuery → Placed → ℕ × List ℕ → ℕ �
 row_beside queries x p = (p.0, packet_row (query_at queries x.query).field x.piece.level (branch_at queries x.query x.piece.branch).fields p.1)
 
 -- the rows of the tuples of a window that the lane of a piece admits, each beside the number of its packet in the window
-abbrev pub flow_of : List TypedQuery → Placed → Set → List (List ℕ) → List (ℕ × Row)
-flow_of queries x kept tuples =
-    map (row_beside queries x) (filter (λ p. is_let_in (query_at queries x.query).field (level_before x.path x.piece.level) kept p.1) (numbered 0 tuples))
+abbrev pub flow_of : List TypedQuery → Tables → Placed → Set → List (List ℕ) → List (ℕ × Row)
+flow_of queries tables x kept tuples =
+    map (row_beside queries x) (filter (λ p. is_let_in (query_at queries x.query).field (gate_before tables.entries x.path x.piece.level) kept p.1)
+    (numbered 0 tuples))
 
 -- ---- the items of a lane
 
@@ -58,32 +60,32 @@ abbrev pub sizes_of : List TypedQuery → Placed → ℕ → ℕ
 sizes_of queries x = size_at (branch_at queries x.query x.piece.branch).ops x.piece.slots
 
 -- the items that stem from the packet of this number in the window
-abbrev pub sends_at : List TypedQuery → ℕ → Placed → Set → List (List ℕ) → ℕ → List Item
-sends_at queries depth x kept tuples n = at_packet (sent_from depth (sizes_of queries x) 0 (ops_of queries x) (flow_of queries x kept tuples)) n
+abbrev pub sends_at : List TypedQuery → Tables → Placed → Set → List (List ℕ) → ℕ → List Item
+sends_at queries tables x kept tuples n = at_packet (sent_from tables.depth (sizes_of queries x) 0 (ops_of queries x) (flow_of queries tables x kept tuples)) n
 
 -- the items that are read out after the last packet
-abbrev pub reads_out : List TypedQuery → ℕ → Placed → Set → List (List ℕ) → List Item
-reads_out queries depth x kept tuples = read_from depth (sizes_of queries x) 0 false (ops_of queries x) (flow_of queries x kept tuples)
+abbrev pub reads_out : List TypedQuery → Tables → Placed → Set → List (List ℕ) → List Item
+reads_out queries tables x kept tuples = read_from tables.depth (sizes_of queries x) 0 false (ops_of queries x) (flow_of queries tables x kept tuples)
 
 -- ---- the frames of all lanes
 
 -- the frames of a lane at a packet
-abbrev pub frames_at : List TypedQuery → ℕ → (Placed → Set) → List (List ℕ) → ℕ → Placed → List Frame
-frames_at queries depth kept tuples n x = map (row_frame (name_of x)) (sends_at queries depth x (kept x) tuples n)
+abbrev pub frames_at : List TypedQuery → Tables → (Placed → Set) → List (List ℕ) → ℕ → Placed → List Frame
+frames_at queries tables kept tuples n x = map (row_frame (name_of x)) (sends_at queries tables x (kept x) tuples n)
 
 -- the frames of a lane after the last packet: the rows that are read out, and the End with the window's number
-abbrev pub frames_behind : List TypedQuery → ℕ → (Placed → Set) → List (List ℕ) → ℕ → Placed → List Frame
-frames_behind queries depth kept tuples w x = map (row_frame (name_of x)) (reads_out queries depth x (kept x) tuples) ++ End (name_of x) w ∷ []
+abbrev pub frames_behind : List TypedQuery → Tables → (Placed → Set) → List (List ℕ) → ℕ → Placed → List Frame
+frames_behind queries tables kept tuples w x = map (row_frame (name_of x)) (reads_out queries tables x (kept x) tuples) ++ End (name_of x) w ∷ []
 
 -- the frames of all lanes at a packet, in the plan's order
 abbrev pub packet_frames : Planned → (Placed → Set) → List (List ℕ) → ℕ → List Frame
-packet_frames p kept tuples n = flat_map (frames_at p.queries p.depth kept tuples n) (pieces_from 0 p.entries)
+packet_frames p kept tuples n = flat_map (frames_at p.queries p.tables kept tuples n) (pieces_from 0 p.entries)
 
 -- The frames of a window: packet by packet those of all lanes, and then lane by lane those after the last packet.
 abbrev pub window_frames : Planned → List Window → ℕ → List (List ℕ) → List Frame
 window_frames p windows w tuples =
     flat_map (packet_frames p (kept_of p.queries windows w) tuples) (range_with_len 0 (length tuples))
-    ++ flat_map (frames_behind p.queries p.depth (kept_of p.queries windows w) tuples w) (pieces_from 0 p.entries)
+    ++ flat_map (frames_behind p.queries p.tables (kept_of p.queries windows w) tuples w) (pieces_from 0 p.entries)
 
 -- ---- what is written
 

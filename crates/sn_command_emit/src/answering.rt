@@ -6,12 +6,14 @@ ghost use Rattle.sn_command_emit.specs.Sent.{frames_block};
 ghost use Rattle.sn_plan_fit.specs.Fits.{Fits};
 ghost use Rattle.sn_switch.specs.Texts.{IsSwitch};
 ghost use Rattle.sn_windows.specs.Rising.{AreRising, Window};
+ghost use Rattle.sn_emit.specs.Plans.{tables_of};
 
 use crate::reporter::Reporter;
 use sn_base::memory::Memory;
 use sn_base::seq::Seq;
 use sn_command_capture::answering::Answering;
 use sn_command_capture::stop::Stop;
+use sn_emit::tables::Tables;
 use sn_engine_lockstep::driver::Driver;
 use sn_fields::tuple::Tuple;
 use sn_pcap::packet::Ending;
@@ -25,7 +27,7 @@ impl Reporter {
     pub fn make(typed: Typed, switch: &Switch, plan: Plan) -> Result<Reporter, Memory>
         requires switch { IsSwitch switch.now }
         requires fits { Fits typed.queries switch.now plan.entries }
-        ensures plan { IfOk result (λ a. plan_of a ≡ record { queries = typed.queries; depth = switch.now.chain; entries = plan.entries }) }
+        ensures plan { IfOk result (λ a. plan_of a ≡ record { queries = typed.queries; tables = tables_of switch.now; entries = plan.entries }) }
         ensures begun { IfOk result (λ a. IsAtHand a [] 0 []) }
     {
         let mut reporter = Reporter::new(typed, switch, plan)?;
@@ -37,7 +39,7 @@ impl Reporter {
     fn new(typed: Typed, switch: &Switch, plan: Plan) -> Result<Reporter, Memory>
         requires switch { IsSwitch switch.now }
         requires fits { Fits typed.queries switch.now plan.entries }
-        ensures plan { IfOk result (λ a. plan_of a ≡ record { queries = typed.queries; depth = switch.now.chain; entries = plan.entries }) }
+        ensures plan { IfOk result (λ a. plan_of a ≡ record { queries = typed.queries; tables = tables_of switch.now; entries = plan.entries }) }
         ensures idle { IfOk result (λ a. IsIdle a []) }
     {
         let driver = Driver::make(&typed, switch, &plan)?;
@@ -45,7 +47,7 @@ impl Reporter {
         Ok(Reporter {
             typed,
             plan,
-            depth: switch.chain,
+            tables: Tables::of(switch),
             driver,
             last: None,
             sent,

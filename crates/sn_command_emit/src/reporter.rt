@@ -1,5 +1,6 @@
 //! A plan that reports the windows of a capture.
 
+use sn_emit::tables::Tables;
 use sn_engine_lockstep::driver::Driver;
 use sn_plan_grammar::plan::Plan;
 use sn_types::answers::Answers;
@@ -11,8 +12,8 @@ use sn_types::typed::Typed;
 pub struct Reporter {
     pub typed: Typed,
     pub plan: Plan,
-    /// Registers in the chain of a stateful operator.
-    pub depth: u32,
+    /// The room of the switch for registers and prefixes.
+    pub tables: Tables,
     pub driver: Driver,
     /// The answers of the last window.
     pub last: Option<Answers>,

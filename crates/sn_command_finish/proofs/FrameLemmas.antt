@@ -17,6 +17,7 @@ use Rattle.sn_command.specs.Runs.{Answers, Runs}
 use Rattle.sn_command.specs.Stages.{Adds, Does}
 use Rattle.sn_command.specs.Worlds.{World}
 use Rattle.sn_command.proofs.StageLemmas.{MayCome, runs_chance, runs_gives, text_stops, text_then}
+use Rattle.sn_refine.specs.Steps.{Set}
 use Rattle.sn_types.specs.declared.typed_query.TypedQuery.{TypedQuery}
 use Rattle.sn_command_finish.specs.Taken.{Standing, close, close_ended, fault_at, kind_of, take_frame, take_verdict, taken_unless}
 
@@ -65,11 +66,12 @@ take_stops at fault taken ReadFault w h = absurd h
 take_stops at fault taken WriteFault w h = absurd h
 
 -- the same standing
-pub standing_same : (a b : Standing) → a.lanes ≡ b.lanes → a.closed ≡ b.closed → a.windows ≡ b.windows → a.emitted ≡ b.emitted → a ≡ b
-standing_same a b l c w e = made a.lanes b.lanes a.closed b.closed a.windows b.windows a.emitted b.emitted l c w e
+pub standing_same : (a b : Standing) → a.lanes ≡ b.lanes → a.closed ≡ b.closed → a.kept ≡ b.kept → a.windows ≡ b.windows → a.emitted ≡ b.emitted → a ≡ b
+standing_same a b l c k w e = made a.lanes b.lanes a.closed b.closed a.kept b.kept a.windows b.windows a.emitted b.emitted l c k w e
   where
-    made : (l m : List Intake) (c d : Option ℕ) (w x e f : ℕ) → l ≡ m → c ≡ d → w ≡ x → e ≡ f → ◌≡◌ {A = Standing} (record { lanes = l; closed = c; windows = w; emitted = e }) (record { lanes = m; closed = d; windows = x; emitted = f })
-    made l m c d w x e f same also too last = rw (same, also, too, last) refl
+    made : (l m : List Intake) (c d : Option ℕ) (k j : List Set) (w x e f : ℕ) → l ≡ m → c ≡ d → k ≡ j → w ≡ x → e ≡ f
+        → ◌≡◌ {A = Standing} (record { lanes = l; closed = c; kept = k; windows = w; emitted = e }) (record { lanes = m; closed = d; kept = j; windows = x; emitted = f })
+    made l m c d k j w x e f same also kept too last = rw (same, also, kept, too, last) refl
 
 -- a frame is taken, and then the window is closed if it can be
 pub take_goes : (queries : List TypedQuery) (at : ℕ) (frame : Frame) (s taken : Standing) {answer : Result Standing Refusal} {before now : World} → Ok tt ≡ take_verdict at (take_fault queries s.lanes s.closed frame) → taken ≡ record s { lanes = after_frame s.lanes frame }

@@ -1,12 +1,13 @@
 -- The reports of whole windows are answered.
 use Rattle.std.proofs.Common.{◌≡◌, ℕ, ◌+◌, ◌<◌, ◌==◌, List, [], ◌∷◌, ◌++◌, map, length, get_or, drop, sum_by, true, false, cond, Option, None, Some, is_none, Result, Ok, Err, refl, ap, sym, ◌∙◌, arith, append_assoc, append-nil}
-use Rattle.std.specs.List.{AllByRecursion, flat_map, list_any}
+use Rattle.std.specs.List.{AllByRecursion, list_any}
 use Rattle.std.proofs.lemmas.Bool.{eq-eqb}
 use Rattle.std.proofs.lemmas.List.{length-append}
 use Rattle.sn_base.proofs.Lists.{all_append}
 use Rattle.sn_engine.specs.declared.intake.Intake.{Intake}
-use Rattle.sn_engine.specs.Answers.{answers_of, parts_of, window_of}
+use Rattle.sn_engine.specs.Answers.{parts_of, window_of}
 use Rattle.sn_engine.specs.Intakes.{after_frame, first_open, has_started, intake_for, intakes_of, total}
+use Rattle.sn_engine.specs.Keeping.{all_left, gathered, kept_for, prefixes_for}
 use Rattle.sn_engine.specs.Taking.{is_above}
 use Rattle.sn_engine.proofs.Firsts.{sum_cons}
 use Rattle.sn_report.specs.Framed.{Framed, IsWritten, Written, bytes_in, bytes_of}
@@ -21,10 +22,13 @@ use Rattle.sn_report.specs.declared.frame.Frame.TheVariants.{Row, End}
 use Rattle.sn_command.specs.declared.fault.ReportKind.TheVariants as kinds
 use Rattle.sn_command.specs.declared.refusal.Refusal.{Refusal}
 use Rattle.sn_command.specs.Outcomes.{Outcome, silent}
+use Rattle.sn_refine.specs.Steps.{Set}
+use Rattle.sn_types.specs.declared.answers.Answers.{Answers}
+use Rattle.sn_types.specs.declared.answers.Part.{Part}
 use Rattle.sn_types.specs.declared.typed_query.TypedQuery.{TypedQuery}
 use Rattle.sn_command_finish.specs.Reported.{Reported, reported_from}
 use Rattle.sn_command_finish.specs.Taken.{Standing, begun, close, close_ended, end_at, ended, followed, goes_on, refused_at, take_frame, take_frames, taken_unless}
-use Rattle.sn_command_finish.specs.Whole.{HaveNames, IsIdle, IsWindow, Rise, Sent, answered_text, answers_to, block_of, filled, frames_in, frames_of, name_of}
+use Rattle.sn_command_finish.specs.Whole.{HaveNames, IsIdle, IsWindow, Rise, Sent, answered_text, answers_from, answers_to, blocks_of, filled, frames_in, frames_of, name_of}
 use Rattle.sn_command_finish.proofs.LaneLemmas.{after, frame_taken, lanes_after, lanes_before, lanes_emptied, lanes_filled, none_open, none_started, still_open}
 use Rattle.sn_command_finish.proofs.ReportLemmas.{cut_here, followed_twice}
 
@@ -83,12 +87,26 @@ some_none None h = absurd (h refl)
 some_none (Some n) h = refl
 
 module _ (queries : List TypedQuery) (lanes : List Intake) (names : HaveNames lanes) (idle : AllByRecursion IsIdle lanes) (some : 0 < length lanes) where
+  -- the answers of a window
+  abbrev answers_at : Standing → Sent → Answers
+  answers_at s sent = answers_to queries (kept_for s.closed s.kept sent.window) lanes sent
+
   -- after a window
   abbrev behind : Standing → Sent → Standing
-  behind s sent = record { lanes = lanes; closed = Some sent.window; windows = s.windows + 1; emitted = s.emitted + total (map (filled sent) lanes) }
+  behind s sent = record {
+    lanes = lanes;
+    closed = Some sent.window;
+    kept = gathered queries (answers_at s sent).parts lanes;
+    windows = s.windows + 1;
+    emitted = s.emitted + total (map (filled sent) lanes);
+  }
 
   abbrev closed_window : Standing → Sent → Outcome Standing
-  closed_window s sent = record { text = block_of queries lanes sent; end = Ok (behind s sent) }
+  closed_window s sent = record { text = block_text queries (answers_at s sent) true; end = Ok (behind s sent) }
+
+  gathered_filled : (sent : Sent) (parts : List Part) (xs : List Intake) → gathered queries parts (map (filled sent) xs) ≡ gathered queries parts xs
+  gathered_filled sent parts [] = refl
+  gathered_filled sent parts (x ∷ xs) = ap (λ (sets : List Set). prefixes_for queries parts x ∷ sets) (gathered_filled sent parts xs)
 
   window_filled : (sent : Sent) (xs : List Intake) → 0 < length xs → window_of (map (filled sent) xs) ≡ sent.window
   window_filled sent [] none = absurd (omega arith)
@@ -103,19 +121,30 @@ module _ (queries : List TypedQuery) (lanes : List Intake) (names : HaveNames la
         ap (λ o. taken_unless at o (close_ended queries (with_lanes (after_frame (map (after us) lanes) f) s))) (frame_taken queries lanes sent names idle window s.closed above us f vs whole)
         ∙ ap (λ (ls : List Intake). close_ended queries (with_lanes ls s)) (lanes_after us f lanes names)
 
+    -- what is closed, where these lanes are left, this is the window, and these are what is kept
+    abbrev parts_at : ℕ → List Part
+    parts_at n = parts_of queries (all_left queries (kept_for s.closed s.kept n) all)
+
+    abbrev closed_as : List Intake → ℕ → List Set → Outcome Standing
+    closed_as ls n sets = record {
+      text = block_text queries (record { window = n; emitted = total all; parts = parts_at n }) true;
+      end = Ok (record { lanes = ls; closed = Some n; kept = sets; windows = s.windows + 1; emitted = s.emitted + total all });
+    }
+
     last_frame : close_ended queries (with_lanes all s) ≡ closed_window s sent
     last_frame =
         let number : window_of all ≡ sent.window = window_filled sent lanes some in
         ap (λ (o : Option ℕ). cond (is_none o) (close queries (with_lanes all s)) (silent (Ok (with_lanes all s)))) (none_open sent lanes)
-        ∙ ap (λ (ls : List Intake). record { text = block_text queries (answers_of queries all) true; end = Ok (record { lanes = ls; closed = Some (window_of all); windows = s.windows + 1; emitted = s.emitted + total all }) }) (lanes_emptied sent lanes idle)
-        ∙ ap (λ (n : ℕ). record { text = block_text queries (record { window = n; emitted = total all; parts = parts_of queries all }) true; end = Ok (record { lanes = lanes; closed = Some n; windows = s.windows + 1; emitted = s.emitted + total all }) }) number
+        ∙ ap (λ (ls : List Intake). closed_as ls (window_of all) (gathered queries (parts_at (window_of all)) all)) (lanes_emptied sent lanes idle)
+        ∙ ap (λ (n : ℕ). closed_as lanes n (gathered queries (parts_at n) all)) number
+        ∙ ap (closed_as lanes sent.window) (gathered_filled sent (parts_at sent.window) lanes)
 
     window_goes : (at : ℕ) (us : List Frame) (w : Written) (vs : List Written) → us ++ w.frame ∷ map frame_of vs ≡ sent.frames → take_frames queries at (w ∷ vs) (with_lanes (map (after us) lanes) s) ≡ closed_window s sent
     window_goes at us w [] whole =
         let f : Frame = w.frame in
         ap (λ (o : Outcome Standing). followed o (λ next. silent (Ok next)))
         (one_frame at us f [] whole ∙ ap (λ (fs : List Frame). close_ended queries (with_lanes (map (after fs) lanes) s)) whole ∙ ap (λ (ls : List Intake). close_ended queries (with_lanes ls s)) (lanes_filled queries lanes sent names idle window) ∙ last_frame)
-        ∙ ap (λ (t : List ℕ). record { text = t; end = Ok (behind s sent) }) (append-nil (block_of queries lanes sent))
+        ∙ ap (λ (t : List ℕ). record { text = t; end = Ok (behind s sent) }) (append-nil (block_text queries (answers_at s sent) true))
     window_goes at us w (v ∷ vs) whole =
         let f : Frame = w.frame in
         let next : (us ++ f ∷ []) ++ v.frame ∷ map frame_of vs ≡ sent.frames = append_assoc us (f ∷ []) (v.frame ∷ map frame_of vs) ∙ whole in
@@ -144,7 +173,7 @@ module _ (queries : List TypedQuery) (lanes : List Intake) (names : HaveNames la
   behind_all s (sent ∷ later) = behind_all (behind s sent) later
 
   all_windows : (at : ℕ) (windows : List Sent) (written : List Written) (s : Standing) → map frame_of written ≡ frames_in windows → s.lanes ≡ lanes → Rise s.closed windows → AllByRecursion (IsWindow queries lanes) windows
-      → take_frames queries at written s ≡ record { text = flat_map (block_of queries lanes) windows; end = Ok (behind_all s windows) }
+      → take_frames queries at written s ≡ record { text = blocks_of queries (answers_from queries lanes s.closed s.kept windows); end = Ok (behind_all s windows) }
   all_windows at [] [] s is same rise each = refl
   all_windows at [] (w ∷ ws) s is same rise each = absurd (let none = ap length is in omega (arith, none))
   all_windows at (sent ∷ later) written s is same rise each =
@@ -153,12 +182,12 @@ module _ (queries : List TypedQuery) (lanes : List Intake) (names : HaveNames la
       ap (λ (ws : List Written). take_frames queries at ws s) p.whole
       ∙ frames_then queries at p.first p.second s
       ∙ ap (λ (o : Outcome Standing). followed o (λ last. take_frames queries next p.second last)) (whole_window sent each.0 s rise.0 at p.first p.of_first same)
-      ∙ ap (λ (o : Outcome Standing). record { text = block_of queries lanes sent ++ o.text; end = o.end }) (all_windows next later p.second (behind s sent) p.of_second refl rise.1 each.1)
+      ∙ ap (λ (o : Outcome Standing). record { text = block_text queries (answers_at s sent) true ++ o.text; end = o.end }) (all_windows next later p.second (behind s sent) p.of_second refl rise.1 each.1)
 
   record IsBehind (s : Standing) (windows : List Sent) : Type 0 where
     lanes_are : (behind_all s windows).lanes ≡ lanes
     count : (behind_all s windows).windows ≡ s.windows + length windows
-    emitted : (behind_all s windows).emitted ≡ s.emitted + sum_by (λ sent. (answers_to queries lanes sent).emitted) windows
+    emitted : (behind_all s windows).emitted ≡ s.emitted + sum_by (λ (a : Answers). a.emitted) (answers_from queries lanes s.closed s.kept windows)
 
   is_behind : (windows : List Sent) (s : Standing) → s.lanes ≡ lanes → IsBehind s windows
   is_behind [] s same = record { lanes_are = same; count = omega arith; emitted = omega arith }
@@ -169,21 +198,27 @@ module _ (queries : List TypedQuery) (lanes : List Intake) (names : HaveNames la
       record {
         lanes_are = rest.lanes_are;
         count = omega (arith, count);
-        emitted = omega (arith, emitted, sum_cons (λ (x : Sent). (answers_to queries lanes x).emitted) sent later);
+        emitted = omega (arith, emitted, sum_cons (λ (a : Answers). a.emitted) (answers_at s sent) (answers_from queries lanes (behind s sent).closed (behind s sent).kept later));
       }
 
+  abbrev all_reported : Standing → List Sent → Outcome (Unit {0})
+  all_reported s windows =
+      let found : List Answers = answers_from queries lanes s.closed s.kept windows in
+      record { text = blocks_of queries found ++ total_line (length windows) (Some (sum_by (λ (a : Answers). a.emitted) found)); end = Ok tt }
+
   whole_reports : (windows : List Sent) (written : List Written) (s : Standing) → map frame_of written ≡ frames_in windows → s.lanes ≡ lanes → s.windows ≡ 0 → s.emitted ≡ 0 → Rise s.closed windows → AllByRecursion (IsWindow queries lanes) windows
-      → reported_from queries 0 (length (bytes_of written)) (record { frames = written; left = More }) s ≡ record { text = answered_text queries lanes windows; end = Ok tt }
+      → reported_from queries 0 (length (bytes_of written)) (record { frames = written; left = More }) s ≡ all_reported s windows
   whole_reports windows written s frames same none zero rise each =
       let size : ℕ = length (bytes_of written) in
       let last : Standing = behind_all s windows in
-      let blocks : List ℕ = flat_map (block_of queries lanes) windows in
+      let found : List Answers = answers_from queries lanes s.closed s.kept windows in
+      let blocks : List ℕ = blocks_of queries found in
       let is = is_behind windows s same in
       let at_end : (0 + size == size) ≡ true = eq-eqb (0 + size) size (omega arith) in
       let closed : list_any has_started last.lanes ≡ false = ap (list_any has_started) is.lanes_are ∙ none_started lanes idle in
       let counted : last.windows ≡ length windows = (let c = is.count in omega (arith, c, none)) in
-      let sent_is : last.emitted ≡ sum_by (λ sent. (answers_to queries lanes sent).emitted) windows = (let e = is.emitted in omega (arith, e, zero)) in
-      let total_is : ended size last ≡ record { text = total_line (length windows) (Some (sum_by (λ sent. (answers_to queries lanes sent).emitted) windows)); end = Ok tt } =
+      let sent_is : last.emitted ≡ sum_by (λ (a : Answers). a.emitted) found = (let e = is.emitted in omega (arith, e, zero)) in
+      let total_is : ended size last ≡ record { text = total_line (length windows) (Some (sum_by (λ (a : Answers). a.emitted) found)); end = Ok tt } =
       ap (λ b. cond b (refused_at kinds.Unfinished size) (record { text = total_line last.windows (Some last.emitted); end = Ok tt })) closed
       ∙ ap (λ (n : ℕ). record { text = total_line n (Some last.emitted); end = Ok tt }) counted
       ∙ ap (λ (n : ℕ). record { text = total_line (length windows) (Some n); end = Ok tt }) sent_is in

@@ -7,6 +7,7 @@ use Rattle.sn_engine.specs.declared.fault.TakeFault.TheVariants as takes
 use Rattle.sn_engine.specs.declared.intake.Intake.{Intake}
 use Rattle.sn_engine.specs.Answers.{answers_of, window_of}
 use Rattle.sn_engine.specs.Intakes.{after_frame, emptied, first_open, has_started, intakes_of, total}
+use Rattle.sn_engine.specs.Keeping.{gathered, kept_for}
 use Rattle.sn_engine.specs.Taking.{take_fault}
 use Rattle.sn_out.specs.Text.{block_text, total_line}
 use Rattle.sn_plan_grammar.specs.declared.plan.Entry.{Entry}
@@ -21,6 +22,8 @@ use Rattle.sn_command.specs.declared.fault.ReportKind.TheVariants as kinds
 use Rattle.sn_command.specs.declared.refusal.Refusal.{Refusal}
 use Rattle.sn_command.specs.declared.refusal.Refusal.TheVariants.{Refused}
 use Rattle.sn_command.specs.Outcomes.{Outcome, silent}
+use Rattle.sn_refine.specs.Steps.{Set}
+use Rattle.sn_types.specs.declared.answers.Answers.{Answers}
 use Rattle.sn_types.specs.declared.typed_query.TypedQuery.{TypedQuery}
 
 -- ---- the faults of reports
@@ -58,23 +61,34 @@ followed first second = goes_on first.text first.end second
 
 -- ---- frames
 
--- what came of the reports so far: the lanes, the window that was closed last, how many windows were closed, and how many
--- items came in them
+-- what came of the reports so far: the lanes, the window that was closed last and the prefixes that are kept of it, how many windows
+-- were closed, and how many items came in them
 pub record Standing : Type 0 where
   pub lanes : List Intake
   pub closed : Option ℕ
+  pub kept : List Set
   pub windows : ℕ
   pub emitted : ℕ
 
 -- before any frame
 abbrev pub begun : List Entry → Standing
-begun entries = record { lanes = intakes_of 0 entries; closed = None; windows = 0; emitted = 0 }
+begun entries = record { lanes = intakes_of 0 entries; closed = None; kept = []; windows = 0; emitted = 0 }
 
--- A window is closed: its block is added, and all lanes are empty.
+-- the answers of the window that the lanes have ended
+abbrev pub answered : List TypedQuery → Standing → Answers
+answered queries s = answers_of queries (kept_for s.closed s.kept (window_of s.lanes)) s.lanes
+
+-- A window is closed: its block is added, all lanes are empty, and its prefixes are kept.
 abbrev pub close : List TypedQuery → Standing → Outcome Standing
 close queries s = record {
-  text = block_text queries (answers_of queries s.lanes) true;
-  end = Ok (record { lanes = map emptied s.lanes; closed = Some (window_of s.lanes); windows = s.windows + 1; emitted = s.emitted + total s.lanes });
+  text = block_text queries (answered queries s) true;
+  end = Ok (record {
+    lanes = map emptied s.lanes;
+    closed = Some (window_of s.lanes);
+    kept = gathered queries (answered queries s).parts s.lanes;
+    windows = s.windows + 1;
+    emitted = s.emitted + total s.lanes;
+  });
 }
 
 -- a window is closed as soon as all lanes have ended it

@@ -6,12 +6,14 @@ use Rattle.sn_base.specs.declared.lane.Lane.{Lane}
 use Rattle.sn_engine.specs.declared.intake.Intake.{Intake}
 use Rattle.sn_engine.specs.Answers.{parts_of}
 use Rattle.sn_engine.specs.Intakes.{is_lane, lane_at, total}
+use Rattle.sn_engine.specs.Keeping.{all_left, gathered, kept_for}
 use Rattle.sn_engine.specs.Taking.{is_above, row_fault}
 use Rattle.sn_out.specs.Text.{block_text, total_line}
 use Rattle.sn_report.specs.Items.{Frame}
 use Rattle.sn_report.specs.declared.frame.Frame.TheVariants.{Row, End}
 use Rattle.sn_report.specs.Items.{Item}
 use Rattle.sn_report.specs.Frames.{lane_of}
+use Rattle.sn_refine.specs.Steps.{Set}
 use Rattle.sn_types.specs.declared.answers.Answers.{Answers}
 use Rattle.sn_types.specs.declared.typed_query.TypedQuery.{TypedQuery}
 
@@ -55,23 +57,32 @@ Rise closed (sent ∷ later) = (is_above closed sent.window ≡ true) × Rise (S
 abbrev pub filled : Sent → Intake → Intake
 filled sent x = record x { items = sent.items x; end = Some sent.window }
 
--- the answers of a window: the value of the items of all lanes, and their number
-abbrev pub answers_to : List TypedQuery → List Intake → Sent → Answers
-answers_to queries lanes sent = record {
+-- the answers of a window with these prefixes, lane by lane: the value of the items that are left of all lanes, and the number of all items
+abbrev pub answers_to : List TypedQuery → List Set → List Intake → Sent → Answers
+answers_to queries sets lanes sent = record {
   window = sent.window;
   emitted = total (map (filled sent) lanes);
-  parts = parts_of queries (map (filled sent) lanes);
+  parts = parts_of queries (all_left queries sets (map (filled sent) lanes));
 }
+
+-- The answers of windows one after another, where this window was closed before them, and these prefixes were kept of it: each of them
+-- with what is kept of the one before it.
+abbrev pub answers_from : List TypedQuery → List Intake → Option ℕ → List Set → List Sent → List Answers
+answers_from queries lanes closed kept [] = []
+answers_from queries lanes closed kept (sent ∷ later) =
+    let answers = answers_to queries (kept_for closed kept sent.window) lanes sent in
+    answers ∷ answers_from queries lanes (Some sent.window) (gathered queries answers.parts lanes) later
 
 -- the frames of windows, one window after another
 abbrev pub frames_in : List Sent → List Frame
 frames_in windows = flat_map (λ sent. sent.frames) windows
 
--- the block of a window, with the number of its items
-abbrev pub block_of : List TypedQuery → List Intake → Sent → List ℕ
-block_of queries lanes sent = block_text queries (answers_to queries lanes sent) true
+-- the blocks of answers, each with the number of its items
+abbrev pub blocks_of : List TypedQuery → List Answers → List ℕ
+blocks_of queries answers = flat_map (λ a. block_text queries a true) answers
 
 -- the blocks of windows, and the total
 abbrev pub answered_text : List TypedQuery → List Intake → List Sent → List ℕ
 answered_text queries lanes windows =
-    flat_map (block_of queries lanes) windows ++ total_line (length windows) (Some (sum_by (λ sent. (answers_to queries lanes sent).emitted) windows))
+    let answers = answers_from queries lanes None [] windows in
+    blocks_of queries answers ++ total_line (length windows) (Some (sum_by (λ a. a.emitted) answers))

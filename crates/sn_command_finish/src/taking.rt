@@ -29,9 +29,10 @@ pub(crate) fn take(engine: &mut Engine, frame: &Frame<Row>, at: usize) -> Result
         take_verdict at (take_fault engine.old.t.queries engine.old.lanes.items engine.old.closed frame.now)) result }
     ensures taken { OnOk result (engine.new.lanes.items ≡ after_frame engine.old.lanes.items frame.now) }
     ensures closed { engine.new.closed ≡ engine.old.closed }
+    ensures prefixes { engine.new.kept ≡ engine.old.kept }
     ensures queries { engine.new.t.queries ≡ engine.old.t.queries }
 {
-    match engine.take_wide(frame) {
+    match engine.take(frame) {
         Ok(()) => Ok(()),
         Err(TakeFault::Stranger) => Err(refusal_at(ReportKind::Stranger, at)),
         Err(TakeFault::Width) => Err(refusal_at(ReportKind::Width, at)),

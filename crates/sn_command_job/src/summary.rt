@@ -13,7 +13,7 @@ use sn_base::memory::Memory;
 use sn_base::seq::Seq;
 use sn_gen::capture::packet_count;
 use sn_out::pieces::push_number;
-use sn_out::rows::push_rows;
+use sn_out::rows::push_answer;
 use sn_types::answers::{Answers, Part};
 use sn_types::typed::Typed;
 
@@ -45,11 +45,10 @@ fn push_rows_of(text: &mut Vec<u8>, t: &Typed, part: &Part) -> Result<(), Memory
     requires { IsPartOf t.now.queries part.now }
     ensures { OnOk result (text.new.items ≡ text.old.items ++ rows_text (query_at t.now.queries part.now.query) part.now.rows) }
 {
-    let rows = part.rows.as_slice();
     push_bytes(text, b"query ")?;
     push_bytes(text, t.name(part.query).as_bytes())?;
-    push_line(text, b" rows ", rows.len() as u64)?;
-    push_rows(text, t.final_schema(part.query).as_slice(), rows)
+    push_line(text, b" rows ", part.rows.len() as u64)?;
+    push_answer(text, t.final_schema(part.query).as_slice(), &part.rows)
 }
 
 /// Adds what a query answers, where that is at its finest level.

@@ -1,10 +1,10 @@
 -- Captures that were answered or trained on, to their ends.
-use Rattle.std.proofs.Common.{◌≡◌, ℕ, ◌≤◌, List, [], ◌∷◌, ◌++◌, Bool, true, false, cond, map, length, inl, inr, Option, Some, None, Result, Ok, Err, refl, ap, sym, ◌∙◌, subst, arith, append-nil, filter}
-use Rattle.std.specs.Prelude.{◌⊎◌, ◌&&◌, ◌==◌, ◌^◌, nat_eq, nat_lt}
+use Rattle.std.proofs.Common.{◌≡◌, ℕ, List, [], ◌∷◌, ◌++◌, Bool, true, false, cond, map, length, inl, inr, Option, Some, None, Result, Ok, Err, refl, ap, sym, ◌∙◌, subst, append-nil}
+use Rattle.std.specs.Prelude.{◌⊎◌, ◌&&◌, ◌^◌, nat_lt}
 use Rattle.std.specs.FinMap.{get}
 use Rattle.std.specs.List.{flat_map, list_all}
-use Rattle.std.proofs.lemmas.Bool.{false≢true, ltb-false}
-use Rattle.sn_command_capture.specs.Capture.{AfterHead, Answered, Found, Head, LastLines, RecordsIn, Whole, WindowsIn, WindowsOf, block_in, blocks_in, ending_verdict, known_bytes, packet_tuple, time_of, windows_in, windows_outcome, windows_refused, windows_whole}
+use Rattle.std.proofs.lemmas.Bool.{false≢true}
+use Rattle.sn_command_capture.specs.Capture.{AfterHead, Answered, Head, LastLines, RecordsIn, Whole, WindowsIn, WindowsOf, block_in, blocks_in, ending_verdict, known_bytes, packet_tuple, time_of, windows_in, windows_outcome, windows_refused, windows_whole}
 use Rattle.sn_command_capture.specs.Wording.{NeverStops, Wording}
 use Rattle.sn_command_capture.proofs.UnstoppedLemmas.{unstopped}
 use Rattle.sn_base.proofs.Lists.{by_test}
@@ -19,15 +19,14 @@ use Rattle.sn_pcap.specs.declared.packet.Packet.{Packet}
 use Rattle.sn_pcap.specs.declared.seen.Last.{Last}
 use Rattle.sn_pcap.specs.declared.seen.Last.TheVariants as last
 use Rattle.sn_pcap.proofs.OneCapture.{records_once}
-use Rattle.sn_command.specs.declared.fault.Fault.{Fault}
 use Rattle.sn_command.specs.declared.fault.Fault.TheVariants as faults
 use Rattle.sn_command.specs.declared.refusal.Refusal.{Refusal}
 use Rattle.sn_command.specs.declared.refusal.Refusal.TheVariants.{Missing, Refused}
-use Rattle.sn_command.specs.Outcomes.{Outcome, Stage, silent}
+use Rattle.sn_command.specs.Outcomes.{Outcome, Stage}
 use Rattle.sn_command.specs.Refusals.{refusing}
 use Rattle.sn_command.specs.Stages.{Adds, Does, Gives, GoesOn, Judges, Then, named}
-use Rattle.sn_windows.specs.Blocks.{all_few, answered, blocks, is_few, while_holds}
-use Rattle.sn_windows.specs.Windows.{in_window, number_at, numbered, record_at, windows_of}
+use Rattle.sn_windows.specs.Blocks.{all_few, is_few, while_holds}
+use Rattle.sn_windows.specs.Windows.{in_window, numbered, windows_of}
 use Rattle.sn_command_live.specs.Captures.{IsCapture}
 use Rattle.sn_command_live.proofs.Inversions.{EndsSo, NeverSo, is_ending, judged_so, never_does, never_judges, never_then, passed}
 use Rattle.sn_windows.specs.Rising.{Window}

@@ -1,6 +1,5 @@
 -- What `live` prints to its end.
-use Rattle.std.proofs.Common.{◌≡◌, ℕ, ◌≤◌, List, [], ◌∷◌, ◌++◌, false, true, Some, Result, Ok, Err, refl, ap, sym, ◌∙◌, subst, arith}
-use Rattle.std.specs.FinMap.{get}
+use Rattle.std.proofs.Common.{◌≡◌, ℕ, List, ◌++◌, false, Result, Ok, Err, refl, ap, sym, ◌∙◌, subst, arith}
 use Rattle.std.specs.List.{flat_map}
 use Rattle.sn_command_capture.specs.Capture.{ending_verdict}
 use Rattle.sn_windows.specs.Rising.{Window}
@@ -10,7 +9,7 @@ use Rattle.sn_command_search.specs.declared.certificate.Certificate.{Certificate
 use Rattle.sn_plan_lists.specs.Costs.{plan_cost}
 use Rattle.sn_plan_fit.specs.Fits.{Fits}
 use Rattle.sn_io.specs.Counts.{ByName}
-use Rattle.sn_cost_laws.specs.Sent.{sent_over}
+use Rattle.sn_cost_laws.specs.Sent.{cost_over}
 use Rattle.sn_pcap.specs.declared.packet.Ending.{Ending}
 use Rattle.sn_pcap.specs.declared.packet.Ending.TheVariants as endings
 use Rattle.sn_plan.specs.Printing.{plan_text}
@@ -19,7 +18,6 @@ use Rattle.sn_command_texts.specs.Queries.{QueriesIn}
 use Rattle.sn_command_texts.specs.Texts.{SwitchIn, switch_fault}
 use Rattle.sn_cost_laws.specs.Space.{trained_entry, trained_plans}
 use Rattle.sn_types_read.specs.Texts.{IsRead, Queries}
-use Rattle.sn_types_read.specs.declared.fault.QueryFault.{QueryFault}
 use Rattle.sn_command_run.specs.Planned.{Planned, as_they_are, plan_lines, plan_wording}
 use Rattle.sn_command_run.specs.Run.{AlongPlan, planned, window_ns}
 use Rattle.sn_tree_space.specs.Trees.{IsAccepted}
@@ -29,13 +27,13 @@ use Rattle.sn_command.specs.declared.refusal.Refusal.{Refusal}
 use Rattle.sn_command.specs.declared.refusal.Refusal.TheVariants.{Refused}
 use Rattle.sn_command.specs.Outcomes.{Outcome}
 use Rattle.sn_command.specs.Refusals.{refusing}
-use Rattle.sn_command.specs.Stages.{Does, Judges, ReadAs, Text, Then, named}
+use Rattle.sn_command.specs.Stages.{Does, Judges, Text, Then, named}
 use Rattle.sn_switch.specs.declared.fault.SwitchFault.{SwitchFault}
 use Rattle.sn_switch.specs.declared.fault.SwitchFault.TheVariants as switch_faults
 use Rattle.sn_switch.specs.declared.switch.Switch.{Switch}
 use Rattle.sn_switch.specs.Texts as switches
 use Rattle.sn_switch.specs.Texts.{IsSwitch}
-use Rattle.sn_switch.proofs.Switches.{bounds, one_switch, set_so}
+use Rattle.sn_switch.proofs.Switches.{limits_of, one_switch, set_so}
 use Rattle.sn_text.specs.Cutting.{tokens_of}
 use Rattle.sn_command_training.specs.declared.training.Training.{Training}
 use Rattle.sn_command_training.specs.Training.{TrainingIn}
@@ -87,9 +85,7 @@ queries_typed text read is = let h : IsRead text (Ok read) = subst (IsRead text)
 switch_limited : (text : List ℕ) (s : Switch) → SwitchIn text (Ok s) → IsSwitch s
 switch_limited text s is =
     let h : switches.StandsFor (tokens_of text) s = subst (switches.IsRead text) (named_value switch_fault is.found s is.same) is.is in
-    let b = bounds h.items h.accepted.fits in
-    subst IsSwitch (one_switch h.items (switches.switch_in h.items) s (set_so h.items h.accepted.fits) h.each)
-    (record { stages = b.stages; actions = b.actions; bits = b.bits; meta = b.meta; chain = b.chain; slots = b.slots })
+    subst IsSwitch (one_switch h.items (switches.switch_in h.items) s (set_so h.items h.accepted.fits) h.each) (limits_of h.items h.accepted.fits)
 
 -- ---- the search
 
@@ -202,7 +198,7 @@ abbrev pub Shows : Type 0
 Shows = (s : Switch) (window : ℕ) (queries : List TypedQuery) (given : List Window) (nodes : ℕ) (c : Certificate) → ∥ IsTyped window queries ∥₁ → IsSwitch s → SearchedIn s queries given nodes (Ok c) → ShowsLeast s queries given c
 
 abbrev pub Costs : Type 0
-Costs = (s : Switch) (window : ℕ) (queries : List TypedQuery) (given : List Window) (entries : List Entry) → ∥ IsTyped window queries ∥₁ → IsSwitch s → Fits queries s entries → plan_cost s (trained_entry s queries given) 0 queries entries ≡ sent_over s.chain queries entries given
+Costs = (s : Switch) (window : ℕ) (queries : List TypedQuery) (given : List Window) (entries : List Entry) → ∥ IsTyped window queries ∥₁ → IsSwitch s → Fits queries s entries → plan_cost s (trained_entry s queries given) 0 queries entries ≡ cost_over s queries entries given
 
 module _ (show : Shows) (costs : Costs) (switch queries train capture : List ℕ) (files : ByName (List ℕ)) (ending : Ending) where
   -- what was printed of a certificate is the headline
@@ -210,8 +206,8 @@ module _ (show : Shows) (costs : Costs) (switch queries train capture : List ℕ
     abbrev p : Planned
     p = planned given.read given.limits c.plan
 
-    abbrev sent : List Entry → ℕ
-    sent entries = cost_on given.first given.read given.limits entries
+    abbrev costs_so : List Entry → ℕ
+    costs_so entries = cost_on given.first given.read given.limits entries
 
     typed : ∥ IsTyped given.read.window_us given.read.queries ∥₁
     typed = queries_typed given.query_text given.read given.are_queries
@@ -219,13 +215,13 @@ module _ (show : Shows) (costs : Costs) (switch queries train capture : List ℕ
     limited : IsSwitch given.limits
     limited = switch_limited given.switch_text given.limits given.is_switch
 
-    all_cost : (entries : List Entry) → Fits given.read.queries given.limits entries → plan_cost given.limits (trained_entry given.limits given.read.queries given.first) 0 given.read.queries entries ≡ sent entries
+    all_cost : (entries : List Entry) → Fits given.read.queries given.limits entries → plan_cost given.limits (trained_entry given.limits given.read.queries given.first) 0 given.read.queries entries ≡ costs_so entries
     all_cost entries fits = costs given.limits given.read.window_us given.read.queries given.first entries typed limited fits
 
     pub headline_of : (text : List ℕ) → text ≡ certificate_text c ++ (flat_map (window_block p given.second) given.second ++ plan_lines p given.second ending) → Headline given text
     headline_of text printed =
         let shown : ShowsLeast given.limits given.read.queries given.first c = show given.limits given.read.window_us given.read.queries given.first nodes c typed limited is in
-        let cost : c.cost ≡ sent c.plan.entries = shown.cost ∙ all_cost c.plan.entries shown.fits in
+        let cost : c.cost ≡ costs_so c.plan.entries = shown.cost ∙ all_cost c.plan.entries shown.fits in
         record {
           plan = c.plan;
           fits = shown.fits;

@@ -8,8 +8,8 @@ use Rattle.sn_io.specs.Counts.{ByName}
 use Rattle.sn_command.specs.declared.fault.Fault.{Fault}
 use Rattle.sn_command.specs.declared.fault.Fault.TheVariants as faults
 use Rattle.sn_command.specs.declared.refusal.Refusal.{Refusal}
-use Rattle.sn_command.specs.declared.refusal.Refusal.TheVariants.{Memory, Usage, Missing, ReadFault, WriteFault, Refused}
-use Rattle.sn_command.specs.Outcomes.{Outcome, Stage, silent}
+use Rattle.sn_command.specs.declared.refusal.Refusal.TheVariants.{Missing, Refused}
+use Rattle.sn_command.specs.Outcomes.{Outcome, Stage}
 use Rattle.sn_command.specs.Refusals.{refusing}
 use Rattle.sn_command_live.specs.Captures.{IsHeld}
 use Rattle.sn_command.specs.Stages.{Bytes, Does, GoesOn, Judges, Text, Then, most_text, within_limit}

@@ -1,6 +1,5 @@
 -- A run of `live` keeps the headline.
-use Rattle.std.proofs.Common.{◌≡◌, ◌⊎◌, ℕ, List, [], ◌∷◌, Option, Some, Result, Ok, Err, inl, inr, refl, ap, sym, ◌∙◌, arith}
-use Rattle.std.specs.Io.KnownBytes.{append_known}
+use Rattle.std.proofs.Common.{◌≡◌, ℕ, List, [], ◌∷◌, Result, Ok, Err, inl, inr, refl, ap, ◌∙◌, arith}
 use Rattle.sn_command_capture.specs.Capture.{ending_verdict}
 use Rattle.sn_io.specs.Counts.{ByName}
 use Rattle.sn_pcap.specs.declared.packet.Ending.{Ending}
@@ -13,7 +12,7 @@ use Rattle.sn_command.specs.Outcomes.{Has, Outcome}
 use Rattle.sn_command.specs.Refusals.{refusing}
 use Rattle.sn_command.specs.Worlds.{AnyRose, OutRose}
 use Rattle.sn_command.proofs.FaultLemmas.{faults_own}
-use Rattle.sn_command_live.specs.Headline.{AreAccepted, Headline, IsPrinted, KeepsHeadline, KeepsLimits}
+use Rattle.sn_command_live.specs.Headline.{AreAccepted, Headline, KeepsHeadline, KeepsLimits}
 use Rattle.sn_command_live.specs.Live.{Live}
 use Rattle.sn_command_live.proofs.LiveLemmas.{one_live_run}
 

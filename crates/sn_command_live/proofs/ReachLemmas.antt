@@ -1,20 +1,20 @@
 -- Of accepted files, with limits that are kept, `live` prints the whole text.
-use Rattle.std.proofs.Common.{◌≡◌, ℕ, ◌+◌, ◌≤◌, List, [], ◌∷◌, ◌++◌, true, false, cond, map, sum, length, Option, Some, Result, Ok, Err, refl, ap, sym, ◌∙◌, subst, arith, append-nil}
-use Rattle.std.specs.Prelude.{◌&&◌, ◌^◌, nat_le, nat_lt}
+use Rattle.std.proofs.Common.{◌≡◌, ℕ, ◌+◌, ◌*◌, ◌≤◌, List, [], ◌∷◌, ◌++◌, true, false, cond, map, sum, length, Option, Some, Result, Ok, Err, refl, ap, sym, ◌∙◌, subst, arith, append-nil}
+use Rattle.std.specs.Prelude.{◌&&◌, ◌^◌, nat_lt}
 use Rattle.std.specs.FinMap.{get}
 use Rattle.std.specs.List.{AllByRecursion, flat_map, list_all, sum_by}
 use Rattle.std.proofs.lemmas.Bool.{le-leb, le-ltb}
 use Rattle.std.proofs.lemmas.List.{length-map}
 use Rattle.std.proofs.lemmas.List.Sums.{sum_by-cons}
-use Rattle.sn_command_capture.specs.Capture.{AfterHead, Answered, Found, Head, LastLines, RecordsIn, Whole, WindowsIn, WindowsOf, blocks_in, ending_verdict, known_bytes, packet_tuple, time_of, window_in, windows_in, windows_outcome, windows_refused, windows_whole}
+use Rattle.sn_command_capture.specs.Capture.{Answered, Found, Head, LastLines, Whole, WindowsIn, WindowsOf, blocks_in, ending_verdict, known_bytes, packet_tuple, time_of, window_in, windows_in, windows_outcome, windows_refused, windows_whole}
 use Rattle.sn_command_capture.specs.Wording.{NeverStops, Wording}
 use Rattle.sn_command_capture.proofs.UnstoppedLemmas.{unstopped}
-use Rattle.sn_command_search.specs.Certificates.{IsCertificate, IsSpent, SearchedIn, certificate_text}
+use Rattle.sn_command_search.specs.Certificates.{IsCertificate, SearchedIn, certificate_text}
 use Rattle.sn_command_search.specs.declared.certificate.Certificate.{Certificate}
 use Rattle.sn_command_search.proofs.Verdicts.{one_search}
 use Rattle.sn_plan_choices.proofs.Easy.{plans_laws}
 use Rattle.sn_io.specs.Counts.{ByName}
-use Rattle.sn_pcap.specs.Capture.{Records, head_of}
+use Rattle.sn_pcap.specs.Capture.{Records}
 use Rattle.sn_pcap.specs.Reading.{last_of, within}
 use Rattle.sn_pcap.specs.declared.header.Header.{Header}
 use Rattle.sn_pcap.specs.declared.header.HeadFault.{HeadFault}
@@ -24,12 +24,12 @@ use Rattle.sn_pcap.specs.declared.seen.Last.{Last}
 use Rattle.sn_pcap.specs.declared.seen.Last.TheVariants as last
 use Rattle.sn_command_texts.specs.Queries.{QueriesIn}
 use Rattle.sn_command_texts.specs.Texts.{SwitchIn}
+use Rattle.sn_cost_laws.proofs.Plans.{no_weight}
+use Rattle.sn_cost_laws.specs.Sent.{installed_over}
 use Rattle.sn_cost_laws.specs.Space.{trained_entry, trained_plans}
-use Rattle.sn_types_read.specs.Texts.{Queries}
 use Rattle.sn_plan_grammar.specs.declared.plan.Plan.{Plan}
 use Rattle.sn_command_run.specs.Planned.{Planned, as_they_are, emitted_at, emitted_in, plan_lines, plan_wording}
-use Rattle.sn_command_run.specs.Run.{AlongPlan, planned, window_ns}
-use Rattle.sn_tree_space.specs.Space.{IsFirstLeast}
+use Rattle.sn_command_run.specs.Run.{planned, window_ns}
 use Rattle.sn_tree_space.proofs.Existence.{some_first_least}
 use Rattle.sn_command.specs.declared.fault.Fault.{Fault}
 use Rattle.sn_command.specs.declared.fault.Fault.TheVariants as faults
@@ -37,8 +37,7 @@ use Rattle.sn_command.specs.declared.refusal.Refusal.{Refusal}
 use Rattle.sn_command.specs.declared.refusal.Refusal.TheVariants.{Refused}
 use Rattle.sn_command.specs.Outcomes.{Outcome, Stage, silent}
 use Rattle.sn_command.specs.Refusals.{refusing}
-use Rattle.sn_command.specs.Stages.{Bytes, HasVerdict, Judges, Text, Then, most_text, named, within_limit}
-use Rattle.sn_switch.specs.declared.switch.Switch.{Switch}
+use Rattle.sn_command.specs.Stages.{Text, Then, most_text, named, within_limit}
 use Rattle.sn_command_training.specs.declared.training.Training.{Training}
 use Rattle.sn_command_training.specs.Training.{JudgedAs, TrainingIn, judged_records, training_of}
 use Rattle.sn_windows.specs.Blocks.{all_few, is_few, most_records}
@@ -186,10 +185,24 @@ pub sums_are : {A : Type 0} (f : A → ℕ) (xs : List A) → sum_by f xs ≡ su
 sums_are f [] = refl
 sums_are f (x ∷ xs) = sum_by-cons f x xs ∙ ap (λ (n : ℕ). f x + n) (sums_are f xs) ∙ sym (sum_by-cons (λ n. n) (f x) (map f xs))
 
-pub one_capture : {switch queries file : List ℕ} {files : ByName (List ℕ)} {ending : Ending} (given : AreAccepted switch queries file file files ending) (plan : Plan) → cost_on given.first given.read given.limits plan.entries ≡ emitted_in (planned given.read given.limits plan) given.second
-one_capture {files = files} {ending} given plan =
-    let same : ◌≡◌ {A = Option (List ℕ)} (Some given.first_file) (Some given.second_file) = sym given.has_first.is ∙ given.has_second in
-    let file : given.second_file ≡ given.first_file = cc in
-    let windows = (capture_once (window_ns given.read) given.first_file given.first given.second given.first_ending ending given.is_first
-    (subst (λ (bytes : List ℕ). IsCapture (window_ns given.read) bytes given.second ending) file given.is_second)).0 in
-    ap (λ (ws : List Window). cost_on ws given.read given.limits plan.entries) windows ∙ sums_are (λ (w : Window). emitted_at (planned given.read given.limits plan) given.second w) given.second
+module _ {switch queries file : List ℕ} {files : ByName (List ℕ)} {ending : Ending} (given : AreAccepted switch queries file file files ending) (plan : Plan) where
+  abbrev sent : ℕ
+  sent = emitted_in (planned given.read given.limits plan) given.second
+
+  abbrev installed : ℕ
+  installed = installed_over given.limits given.read.queries plan.entries given.second
+
+  pub one_capture : cost_on given.first given.read given.limits plan.entries ≡ sent + given.limits.weight * installed
+  one_capture =
+      let same : ◌≡◌ {A = Option (List ℕ)} (Some given.first_file) (Some given.second_file) = sym given.has_first.is ∙ given.has_second in
+      let file : given.second_file ≡ given.first_file = cc in
+      let windows = (capture_once (window_ns given.read) given.first_file given.first given.second given.first_ending ending given.is_first
+      (subst (λ (bytes : List ℕ). IsCapture (window_ns given.read) bytes given.second ending) file given.is_second)).0 in
+      ap (λ (ws : List Window). cost_on ws given.read given.limits plan.entries) windows
+      ∙ ap (λ (n : ℕ). n + given.limits.weight * installed) (sums_are (λ (w : Window). emitted_at (planned given.read given.limits plan) given.second w) given.second)
+
+  pub one_number : given.limits.weight ≡ 0 → cost_on given.first given.read given.limits plan.entries ≡ sent
+  one_number light =
+      let none : given.limits.weight * installed ≡ 0 = ap (λ (n : ℕ). n * installed) light ∙ no_weight installed in
+      let whole = one_capture in
+      omega (arith, whole, none)

@@ -1,8 +1,6 @@
 -- Training captures.
-use Rattle.std.proofs.Common.{◌≡◌, ℕ, ◌≤◌, List, [], ◌∷◌, ◌++◌, true, false, cond, map, length, inl, inr, Option, Some, None, Result, Ok, Err, refl, ap, sym, ◌∙◌, subst, arith, append-nil, filter}
-use Rattle.std.specs.Prelude.{◌⊎◌, ◌&&◌, ◌==◌, ◌^◌, nat_eq, nat_lt}
-use Rattle.std.specs.List.{flat_map, list_all}
-use Rattle.std.proofs.lemmas.Bool.{false≢true, ltb-false}
+use Rattle.std.proofs.Common.{◌≡◌, ℕ, ◌≤◌, List, [], ◌∷◌, false, cond, map, length, Result, Ok, Err, refl, ap, sym, ◌∙◌, subst, arith, filter}
+use Rattle.std.specs.Prelude.{◌==◌, ◌^◌, nat_eq, nat_lt}
 use Rattle.std.proofs.lemmas.List.{take_all}
 use Rattle.sn_base.proofs.Lists.{by_test}
 use Rattle.sn_base.specs.Groups.{once}

@@ -1,7 +1,5 @@
 -- Stages that add a text and give a value, and work that goes on after several files.
-use Rattle.std.proofs.Common.{◌≡◌, ℕ, List, [], ◌∷◌, ◌++◌, false, Option, Result, Ok, Err, refl, sym, subst}
-use Rattle.std.specs.Io.KnownBytes.{append_known}
-use Rattle.sn_io.specs.Counts.{ByName}
+use Rattle.std.proofs.Common.{◌≡◌, ℕ, List, [], ◌∷◌, ◌++◌, Option, Result, Ok, Err, refl, sym, subst}
 use Rattle.sn_command_search.specs.Certificates.{SearchedIn, certificate_text}
 use Rattle.sn_command_search.specs.declared.certificate.Certificate.{Certificate}
 use Rattle.sn_command_search.proofs.Verdicts.{search_may, search_once}
@@ -9,7 +7,7 @@ use Rattle.sn_types_read.specs.Texts.{Queries}
 use Rattle.sn_command.specs.declared.fault.Fault.{Fault}
 use Rattle.sn_command.specs.declared.refusal.Refusal.{Refusal}
 use Rattle.sn_command.specs.Outcomes.{Keeps, Outcome, Stage}
-use Rattle.sn_command.specs.Refusals.{by_chance, seen_as}
+use Rattle.sn_command.specs.Refusals.{seen_as}
 use Rattle.sn_command.specs.Runs.{Answers, Runs, WorksFrom}
 use Rattle.sn_command.specs.Stages.{Adds, Does, Judges, Text, Then}
 use Rattle.sn_command.specs.Worlds.{World}
@@ -17,7 +15,7 @@ use Rattle.sn_command.proofs.StageLemmas.{runs_judges, runs_stops, runs_then, st
 use Rattle.sn_switch.specs.declared.switch.Switch.{Switch}
 use Rattle.sn_command_training.specs.declared.training.Training.{Training}
 use Rattle.sn_command_training.specs.Training.{TrainingIn}
-use Rattle.sn_command_live.specs.Live.{Searched, SearchesAfter, trained_windows}
+use Rattle.sn_command_live.specs.Live.{SearchesAfter, trained_windows}
 
 module _ {A : Type 0} (text : List ℕ) (value : A) where
   keeps_value : (answer : Result (Unit {0}) Refusal) (before now : Option (List ℕ)) → Keeps (record { text = text; end = Ok tt }) answer before now → Keeps (record { text = text; end = Ok value }) (seen_as (λ _. value) answer) before now

@@ -9,7 +9,7 @@ use Rattle.sn_windows.specs.Rising.{Window}
 use Rattle.sn_plan_lists.specs.Chosen.{plan_choices}
 use Rattle.sn_plan_fit.specs.Fits.{Fits}
 use Rattle.sn_io.specs.Counts.{ByName}
-use Rattle.sn_cost_laws.specs.Sent.{sent_over}
+use Rattle.sn_cost_laws.specs.Sent.{cost_over}
 use Rattle.sn_pcap.specs.declared.packet.Ending.{Ending}
 use Rattle.sn_pcap.specs.declared.packet.Ending.TheVariants.{Clean}
 use Rattle.sn_pcap.specs.Reading.{last_of}
@@ -36,9 +36,10 @@ use Rattle.sn_tree_text.specs.Printing.{nodes_text, tree_text}
 use Rattle.sn_command_live.specs.Captures.{IsCapture, IsHeld}
 use Rattle.sn_windows.specs.Blocks.{most_records}
 
--- what a plan costs on a capture with these windows: how many items all its pieces send of them
+-- what a plan costs on a capture with these windows: the items that all its pieces send of them, and the switch's weight for each
+-- prefix that is installed
 abbrev pub cost_on : List Window → Queries → Switch → List Entry → ℕ
-cost_on windows read limits entries = sent_over limits.chain read.queries entries windows
+cost_on windows read limits entries = cost_over limits read.queries entries windows
 
 -- of a window of a capture: its line, with the number of items that the plan sends of it; and for each query and each level of its path the
 -- answers of the unsplit query, refined along the path

@@ -1,8 +1,9 @@
 //! Laws on `plan` and `live`, with nothing to run.
-ghost use Rattle.std.specs.Prelude.{◌≡◌, ℕ, List, [], ◌∷◌};
+ghost use Rattle.std.specs.Prelude.{◌≡◌, ℕ, ◌+◌, ◌*◌, List, [], ◌∷◌};
 ghost use Rattle.sn_command_capture.specs.Capture.{ending_verdict};
 ghost use Rattle.sn_io.specs.Counts.{ByName};
 ghost use Rattle.sn_command_live.specs.Headline.{AreAccepted, Headline, KeepsHeadline, KeepsLimits, cost_on};
+ghost use Rattle.sn_cost_laws.specs.Sent.{installed_over};
 ghost use Rattle.sn_command_live.specs.Live.{Live, Plan, TracedLive};
 ghost use Rattle.sn_pcap.specs.declared.packet.Ending.{Ending};
 ghost use Rattle.sn_plan_grammar.specs.declared.plan.Plan.{Plan as AnyPlan};
@@ -63,9 +64,14 @@ pub fn runs_of_live_keep_the_headline()
     live_keeps_the_headline();
 }
 
-/// Where the two captures are one file, the cost that is printed is the number of items that are sent in total.
+/// Where the two captures are one file, the cost that is printed is the number of items that are sent in total, and the switch's weight for
+/// each prefix that is installed. So with weight 0 it is the number of items.
 pub fn trained_captures_cost_what_they_send()
-    ensures { (switch queries file : List ℕ) (files : ByName (List ℕ)) (ending : Ending) (given : AreAccepted switch queries file file files ending)
-        (plan : AnyPlan) →
+    ensures weighted { (switch queries file : List ℕ) (files : ByName (List ℕ)) (ending : Ending)
+        (given : AreAccepted switch queries file file files ending) (plan : AnyPlan) →
+        cost_on given.first given.read given.limits plan.entries ≡ emitted_in (planned given.read given.limits plan) given.second
+        + given.limits.weight * installed_over given.limits given.read.queries plan.entries given.second }
+    ensures unweighted { (switch queries file : List ℕ) (files : ByName (List ℕ)) (ending : Ending)
+        (given : AreAccepted switch queries file file files ending) (plan : AnyPlan) → given.limits.weight ≡ 0 →
         cost_on given.first given.read given.limits plan.entries ≡ emitted_in (planned given.read given.limits plan) given.second }
 {}

@@ -55,12 +55,12 @@ all_given ds tss e = each_at [] ds tss e
 -- ---- one call after another
 
 pub taken_none : (many : Many) → HasTaken (λ captures. captures) many many
-taken_none many = record { work = λ queries depth entries kept captures h. h; phase = refl; last = refl; count = refl; queries = refl }
+taken_none many = record { work = λ queries tables entries kept window captures h. h; phase = refl; last = refl; count = refl; queries = refl }
 
 module _ {f g : Captures → Captures} {before now later : Many} where
   pub taken_then : HasTaken f before now → HasTaken g now later → HasTaken (λ captures. g (f captures)) before later
   taken_then first second = record {
-    work = λ queries depth entries kept captures h. second.work queries depth entries kept (f captures) (first.work queries depth entries kept captures h);
+    work = λ queries tables entries kept window captures h. second.work queries tables entries kept window (f captures) (first.work queries tables entries kept window captures h);
     phase = second.phase ∙ first.phase;
     last = second.last ∙ first.last;
     count = second.count ∙ first.count;
@@ -69,8 +69,8 @@ module _ {f g : Captures → Captures} {before now later : Many} where
 
 taken_as : {f g : Captures → Captures} {before now : Many} → ((captures : Captures) → f captures ≡ g captures) → HasTaken f before now → HasTaken g before now
 taken_as {f} {g} {before} {now} same r = record {
-  work = λ queries depth entries kept captures h.
-      subst (λ (c : Captures). AreBegun queries depth entries kept c now.switches.items now.engine.lanes.items) (same captures) (r.work queries depth entries kept captures h);
+  work = λ queries tables entries kept window captures h.
+      subst (λ (c : Captures). AreBegun queries tables entries kept window c now.switches.items now.engine) (same captures) (r.work queries tables entries kept window captures h);
   phase = r.phase;
   last = r.last;
   count = r.count;

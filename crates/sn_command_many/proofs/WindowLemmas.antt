@@ -1,5 +1,5 @@
 -- One window of several switches after another.
-use Rattle.std.proofs.Common.{◌≡◌, ℕ, ◌+◌, ◌≤◌, List, [], ◌∷◌, ◌++◌, map, sum, length, None, Some, Result, Ok, Err, false, ap, sym, ◌∙◌, subst, arith}
+use Rattle.std.proofs.Common.{◌≡◌, ℕ, ◌+◌, ◌≤◌, List, [], ◌∷◌, ◌++◌, map, sum, length, Option, None, Some, Result, Ok, Err, false, ap, sym, ◌∙◌, subst, arith}
 use Rattle.std.specs.List.{AllByRecursion}
 use Rattle.std.specs.Result.{OnOk}
 use Rattle.std.proofs.lemmas.List.{map-append}
@@ -20,6 +20,7 @@ use Rattle.sn_command_run.proofs.PartLemmas.{parts_fit}
 use Rattle.sn_core_drive.specs.Telling.{IsSortedPart}
 use Rattle.sn_emit.specs.Making.{CanMake}
 use Rattle.sn_emit.specs.Plans.{pieces_from}
+use Rattle.sn_emit.specs.declared.tables.Tables.{Tables}
 use Rattle.sn_engine_lockstep.proofs.Along.{window_right}
 use Rattle.sn_engine_lockstep.specs.Sources.{kept_in}
 use Rattle.sn_engine_lockstep.specs.Windows.{Follows, Remembers, parts_from, refined_from, window_of}
@@ -65,21 +66,21 @@ begun_same a b e = cc
 
 -- what a window is begun as
 abbrev pub Begins : Many → Many → ℕ → Type 0
-Begins before now number = (queries : List TypedQuery) (depth : ℕ) (entries : List Entry) → AreBetween queries depth entries before.switches.items before.engine.lanes.items
-    → AreBegun queries depth entries (kept_in queries before.last number) (no_tuples before.switches.items) now.switches.items now.engine.lanes.items
+Begins before now number = (queries : List TypedQuery) (tables : Tables) (entries : List Entry) → AreBetween queries tables entries before.last before.switches.items before.engine
+    → AreBegun queries tables entries (kept_in queries before.last number) number (no_tuples before.switches.items) now.switches.items now.engine
 
 -- what it is closed as
 abbrev pub Closes : List TypedQuery → Many → Answers → Type 0
-Closes queries before answers = (typed_for depth : ℕ) (entries : List Entry) (kept : Source → Set) (captures : Captures)
+Closes queries before answers = (typed_for : ℕ) (tables : Tables) (entries : List Entry) (kept : Source → Set) (captures : Captures)
     → ∥ IsTyped typed_for queries ∥₁ → AreEntriesOf queries entries → AllByRecursion (CanMake queries) (pieces_from 0 entries) → AllByRecursion HasWidths (together captures)
-    → AreBegun queries depth entries kept captures before.switches.items before.engine.lanes.items
-    → (answers.emitted ≡ shared_sent queries depth (pieces_from 0 entries) kept captures) × (answers.parts ≡ parts_from queries kept (together captures) 0 entries)
+    → AreBegun queries tables entries kept answers.window captures before.switches.items before.engine
+    → (answers.emitted ≡ shared_sent queries tables (pieces_from 0 entries) kept captures) × (answers.parts ≡ parts_from queries kept (together captures) 0 entries)
 
-abbrev pub Empties : Many → Many → Type 0
-Empties before now = (typed_for depth : ℕ) (queries : List TypedQuery) (entries : List Entry) (kept : Source → Set) (captures : Captures)
+abbrev pub Empties : List TypedQuery → Many → Answers → Many → Type 0
+Empties queries before answers now = (typed_for : ℕ) (tables : Tables) (entries : List Entry) (kept : Source → Set) (captures : Captures)
     → ∥ IsTyped typed_for queries ∥₁ → AreEntriesOf queries entries → AllByRecursion (CanMake queries) (pieces_from 0 entries) → AllByRecursion HasWidths (together captures)
-    → AreBegun queries depth entries kept captures before.switches.items before.engine.lanes.items
-    → AreBetween queries depth entries now.switches.items now.engine.lanes.items
+    → AreBegun queries tables entries kept answers.window captures before.switches.items before.engine
+    → AreBetween queries tables entries (Some answers) now.switches.items now.engine
 
 -- The switches were as these before the window of this number. It was begun, these tuples came, and it was closed, with these answers.
 pub record WasClosed (a : Joint) (number : ℕ) (captures : Captures) (now : Many) (answers : Answers) : Type 0 where
@@ -93,7 +94,7 @@ pub record WasClosed (a : Joint) (number : ℕ) (captures : Captures) (now : Man
   pub widths : AllByRecursion HasWidths (together captures)
   pub closes : Closes taken.engine.t.queries taken answers
   pub ends : taken.phase ≡ Begun answers.window
-  pub empties : Empties taken now
+  pub empties : Empties taken.engine.t.queries taken answers now
   pub between : now.phase ≡ Between
   pub last : now.last ≡ Some answers
   pub count : length now.switches.items ≡ length taken.switches.items
@@ -141,28 +142,29 @@ module _ (a : Joint) (all done rest : List Shared) (number : ℕ) (captures : Ca
   as_many = (all_rest (λ (w : Shared). length w.1 ≡ length a.many.switches.items) done (window ∷ rest) (subst (AllByRecursion (λ (w : Shared). length w.1 ≡ length a.many.switches.items)) whole h.each)).0
 
   module _ {now : Many} {answers : Answers} (k : WasClosed a number captures now answers) where
-    all_came : AreBegun queries a.depth entries kept captures k.taken.switches.items k.taken.engine.lanes.items
+    number_is : answers.window ≡ number
+    number_is = sym (begun_same number answers.window (sym k.phase ∙ sym k.came.phase ∙ k.ends))
+
+    all_came : AreBegun queries a.tables entries kept answers.window captures k.taken.switches.items k.taken.engine
     all_came =
-        subst (λ (c : Captures). AreBegun queries a.depth entries kept c k.taken.switches.items k.taken.engine.lanes.items) (all_given a.many.switches.items captures as_many)
-        (k.came.work queries a.depth entries kept (no_tuples a.many.switches.items) (k.begins queries a.depth entries h.between))
+        subst (λ (n : ℕ). AreBegun queries a.tables entries kept n captures k.taken.switches.items k.taken.engine) (sym number_is)
+        (subst (λ (c : Captures). AreBegun queries a.tables entries kept number c k.taken.switches.items k.taken.engine) (all_given a.many.switches.items captures as_many)
+        (k.came.work queries a.tables entries kept number (no_tuples a.many.switches.items) (k.begins queries a.tables entries h.between)))
 
     taken_queries : k.taken.engine.t.queries ≡ queries
     taken_queries = k.came.queries ∙ k.begun_queries ∙ h.queries
 
-    number_is : answers.window ≡ number
-    number_is = sym (begun_same number answers.window (sym k.phase ∙ sym k.came.phase ∙ k.ends))
-
-    found : (answers.emitted ≡ shared_sent queries a.depth (pieces_from 0 entries) kept captures) × (answers.parts ≡ parts_from queries kept (together captures) 0 entries)
-    found = subst (λ (qs : List TypedQuery). Closes qs k.taken answers) taken_queries k.closes h.typed_for a.depth entries kept captures h.typed h.entries h.can k.widths all_came
+    found : (answers.emitted ≡ shared_sent queries a.tables (pieces_from 0 entries) kept captures) × (answers.parts ≡ parts_from queries kept (together captures) 0 entries)
+    found = subst (λ (qs : List TypedQuery). Closes qs k.taken answers) taken_queries k.closes h.typed_for a.tables entries kept captures h.typed h.entries h.can k.widths all_came
 
     parts_along : answers.parts ≡ refined_from queries (held_in all) number 0 entries
-    parts_along = found.1 ∙ ap (λ (x : Answers). x.parts) (window_right queries a.depth entries (held_in all) a.many.last number (together captures) h.entries holds follows h.remembers)
+    parts_along = found.1 ∙ ap (λ (x : Answers). x.parts) (window_right queries a.tables entries (held_in all) a.many.last number (together captures) h.entries holds follows h.remembers)
 
     -- its answers are those along the plan
     pub answers_right : answers ≡ answers_in (plan_of a) all window
     answers_right =
         answers_same answers (answers_in (plan_of a) all window) number_is
-        (found.0 ∙ sent_right queries a.depth entries (held_in all) a.many.last number captures h.entries follows h.remembers) parts_along
+        (found.0 ∙ sent_right queries a.tables entries (held_in all) a.many.last number captures h.entries follows h.remembers) parts_along
 
     pub answers_fit : AllByRecursion (IsPartOf queries) answers.parts
     answers_fit =
@@ -184,7 +186,8 @@ module _ (a : Joint) (all done rest : List Shared) (number : ℕ) (captures : Ca
           each = subst (λ (n : ℕ). AllByRecursion (λ (w : Shared). length w.1 ≡ n) all) (sym as_before) h.each;
           rises = h.rises;
           phase = k.between;
-          between = k.empties h.typed_for a.depth queries entries kept captures h.typed h.entries h.can k.widths all_came;
+          between = subst (λ (o : Option Answers). AreBetween queries a.tables entries o now.switches.items now.engine) (sym k.last)
+              (subst (λ (qs : List TypedQuery). Empties qs k.taken answers now) taken_queries k.empties h.typed_for a.tables entries kept captures h.typed h.entries h.can k.widths all_came);
           remembers = subst (Remembers queries entries (held_in all)) (sym k.last) (parts_along ∙ ap (λ n. refined_from queries (held_in all) n 0 entries) (sym number_is));
           last = ap window_of k.last ∙ ap Some number_is ∙ sym (last_push None done window);
           emitted = sum_is ∙ ap (λ n. n + answers.emitted) h.emitted ∙ ap (λ (x : Answers). emitted_in (plan_of a) all done + x.emitted) answers_right ∙ sym more_sum;

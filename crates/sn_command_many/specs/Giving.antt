@@ -6,6 +6,7 @@ use Rattle.sn_command_captures.specs.Answered.{ending_of}
 use Rattle.sn_command_captures.specs.Counted.{left_of}
 use Rattle.sn_command_captures.specs.Shares.{IsSound}
 use Rattle.sn_command_captures.specs.declared.share.Share.{Share}
+use Rattle.sn_emit.specs.declared.tables.Tables.{Tables}
 use Rattle.sn_engine_lockstep.specs.declared.source.Source.{Source}
 use Rattle.sn_engine_many.specs.Phases.{AreBegun}
 use Rattle.sn_engine_many.specs.Switches.{given_to}
@@ -30,9 +31,9 @@ given_each i (tuples ∷ others) captures = given_each (suc i) others (given_all
 
 -- of the window that is begun more tuples came to the switches
 pub record HasTaken (more : List (List (List ℕ)) → List (List (List ℕ))) (before now : Many) : Type 0 where
-  pub work : (queries : List TypedQuery) (depth : ℕ) (entries : List Entry) (kept : Source → Set) (captures : List (List (List ℕ)))
-      → AreBegun queries depth entries kept captures before.switches.items before.engine.lanes.items
-      → AreBegun queries depth entries kept (more captures) now.switches.items now.engine.lanes.items
+  pub work : (queries : List TypedQuery) (tables : Tables) (entries : List Entry) (kept : Source → Set) (window : ℕ)
+      (captures : List (List (List ℕ))) → AreBegun queries tables entries kept window captures before.switches.items before.engine
+      → AreBegun queries tables entries kept window (more captures) now.switches.items now.engine
   pub phase : now.phase ≡ before.phase
   pub last : now.last ≡ before.last
   pub count : length now.switches.items ≡ length before.switches.items

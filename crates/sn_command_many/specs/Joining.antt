@@ -18,7 +18,7 @@ use Rattle.sn_windows.specs.Rising.{AreRising}
 
 -- the plan
 abbrev pub plan_of : Joint → Planned
-plan_of a = record { queries = a.typed.queries; depth = a.depth; entries = a.plan.entries }
+plan_of a = record { queries = a.typed.queries; tables = a.tables; entries = a.plan.entries }
 
 -- the number of the last of these windows, if there is one
 abbrev pub last_number : Option ℕ → List Shared → Option ℕ
@@ -37,7 +37,7 @@ pub record IsAfter (a : Joint) (all done : List Shared) : Type 0 where
   pub each : AllByRecursion (λ (w : Shared). length w.1 ≡ length a.many.switches.items) all
   pub rises : AreRising None (map in_one all)
   pub phase : a.many.phase ≡ Between
-  pub between : AreBetween a.typed.queries a.depth a.plan.entries a.many.switches.items a.many.engine.lanes.items
+  pub between : AreBetween a.typed.queries a.tables a.plan.entries a.many.last a.many.switches.items a.many.engine
   pub remembers : Remembers a.typed.queries a.plan.entries (held_in all) a.many.last
   pub last : window_of a.many.last ≡ last_number None done
   pub emitted : a.emitted ≡ emitted_in (plan_of a) all done

@@ -19,7 +19,7 @@ held_in all = windows_of (map in_one all)
 -- The answers in a window: those of the queries refined along the plan over the tuples of all captures together, and how many items
 -- the switches send, each of its own capture.
 abbrev pub answers_in : Planned → List Shared → Shared → Answers
-answers_in p all w = many_answers p.queries p.depth p.entries (held_in all) w.0 w.1
+answers_in p all w = many_answers p.queries p.tables p.entries (held_in all) w.0 w.1
 
 -- how many items were sent in windows
 abbrev pub emitted_at : Planned → List Shared → Shared → ℕ

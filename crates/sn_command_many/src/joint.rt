@@ -3,6 +3,7 @@ ghost use Rattle.std.specs.Prelude.{◌≡◌, ◌≤◌, List, [], IfOk, None, 
 ghost use Rattle.std.specs.List.{AllByRecursion};
 ghost use Rattle.sn_command_captures.specs.Answered.{Shared};
 ghost use Rattle.sn_command_many.specs.Joining.{IsAfter, plan_of};
+ghost use Rattle.sn_emit.specs.Plans.{tables_of};
 ghost use Rattle.sn_engine_many.specs.Answers.{in_one};
 ghost use Rattle.sn_plan_fit.specs.Fits.{Fits};
 ghost use Rattle.sn_switch.specs.Texts.{IsSwitch};
@@ -15,6 +16,7 @@ use sn_base::seq::Seq;
 use sn_command_captures::share::Share;
 use sn_command_captures::team::Team;
 use sn_command_run::windows::sum_of;
+use sn_emit::tables::Tables;
 use sn_engine_many::many::Many;
 use sn_out::block::block;
 use sn_plan_grammar::plan::Plan;
@@ -26,8 +28,8 @@ use sn_types::typed::Typed;
 pub struct Joint {
     pub typed: Typed,
     pub plan: Plan,
-    /// Registers in the chain of a stateful operator.
-    pub depth: u32,
+    /// The room of each switch for registers and prefixes.
+    pub tables: Tables,
     pub many: Many,
     pub emitted: u64,
 }
@@ -38,7 +40,7 @@ impl Joint {
         requires switch { IsSwitch switch.now }
         requires fits { Fits typed.queries switch.now plan.entries }
         requires few { switches ≤ 8 }
-        ensures plan { IfOk result (λ joint. plan_of joint ≡ record { queries = typed.queries; depth = switch.now.chain; entries = plan.entries }) }
+        ensures plan { IfOk result (λ joint. plan_of joint ≡ record { queries = typed.queries; tables = tables_of switch.now; entries = plan.entries }) }
         ensures begun { IfOk result (λ joint. (all : List Shared) → AllByRecursion (λ w. length w.1 ≡ switches) all →
             AreRising None (map in_one all) → IsAfter joint all []) }
     {
@@ -46,7 +48,7 @@ impl Joint {
         Ok(Joint {
             typed,
             plan,
-            depth: switch.chain,
+            tables: Tables::of(switch),
             many,
             emitted: 0,
         })

@@ -8,10 +8,11 @@ use Rattle.sn_command_replan.specs.Replan.{Followed, entries_of, epochs_of, plan
 use Rattle.sn_command_replan.specs.Standing.{Standing, after, at_first, going, gone, over_at, stands_after, stands_from, turned, with_next}
 use Rattle.sn_replan.specs.Epochs.{Span, Spans, epochs_from, span, then_from}
 use Rattle.sn_windows.specs.Rising.{Window}
+use Rattle.sn_emit.specs.Plans.{tables_of}
 
 module _ (f : Followed) where
   abbrev from : Certificate → List Window → List Window → Spans Certificate Fault
-  from plan before windows = epochs_from f.queries f.limits.chain entries_of (planned_on f) f.most plan before windows
+  from plan before windows = epochs_from f.queries (tables_of f.limits) entries_of (planned_on f) f.most plan before windows
 
   abbrev put : List (Span Certificate) → Spans Certificate Fault → Spans Certificate Fault
   put front s = record { spans = front ++ s.spans; refused = s.refused }

@@ -31,15 +31,17 @@ use Rattle.sn_types.specs.declared.answers.Answers.{Answers}
 use Rattle.sn_types.specs.declared.answers.Part.{Part}
 use Rattle.sn_types.specs.declared.typed_query.TypedQuery.{TypedQuery}
 use Rattle.sn_windows.specs.Rising.{AreRising, IsAbove, Window}
+use Rattle.sn_emit.specs.declared.tables.Tables.{Tables}
+use Rattle.sn_emit.specs.Plans.{tables_of}
 
 none_some : {A : Type 0} (fault : Fault) → ◌≡◌ {A = Option Fault} None (Some fault) → A
 none_some fault e = absurd cc
 
 -- an epoch at work has windows that rise
-pub runs_rising : (queries : List TypedQuery) (depth : ℕ) (entries : List Entry) (windows : List Window) (e : Epochs) → Runs queries depth entries windows e → AreRising None windows
-runs_rising queries depth entries windows e runs = of e.epoch runs
+pub runs_rising : (queries : List TypedQuery) (tables : Tables) (entries : List Entry) (windows : List Window) (e : Epochs) → Runs queries tables entries windows e → AreRising None windows
+runs_rising queries tables entries windows e runs = of e.epoch runs
   where
-    of : (o : Option Epoch) → RestsIn queries depth entries windows o → AreRising None windows
+    of : (o : Option Epoch) → RestsIn queries tables entries windows o → AreRising None windows
     of None none = absurd none
     of (Some epoch) rests = rests.rising
 
@@ -188,7 +190,7 @@ module _ (f : Followed) (a : Replanning) (closed : List Window) (number : ℕ) (
     turned_to verdict is = after_it true h ∙ ap (turned past) (sym is)
 
     pub begins_next : (next : Certificate) → Ok next ≡ planned_on f given → IsSwitch b.limits → b.refused ≡ a.refused → b.emitted ≡ a.emitted → b.number ≡ a.number + 1
-        → b.heading ≡ epoch_text b.number next → AreEntriesOf b.typed.queries (entries_of next) → Runs b.typed.queries b.limits.chain (entries_of next) [] b.epochs → last_window b.epochs ≡ None
+        → b.heading ≡ epoch_text b.number next → AreEntriesOf b.typed.queries (entries_of next) → Runs b.typed.queries (tables_of b.limits) (entries_of next) [] b.epochs → last_window b.epochs ≡ None
         → IsClosed f b (closed ++ given ∷ []) number
     begins_next next is switch refused emitted count heading entries runs last =
         let stands = turned_to (Ok next) is in

@@ -11,6 +11,7 @@ use Rattle.sn_command_search.proofs.Verdicts.{one_search}
 use Rattle.sn_command_replan.specs.Replan.{Followed, entries_of, epochs_of, planned_on}
 use Rattle.sn_replan.specs.Epochs.{Spans, epochs_from, is_over, span, then_from}
 use Rattle.sn_windows.specs.Rising.{Window}
+use Rattle.sn_emit.specs.Plans.{tables_of}
 
 none_some : (fault : Fault) → ◌≡◌ {A = Option Fault} None (Some fault) → IsLate fault
 none_some fault e = absurd cc
@@ -26,7 +27,7 @@ module _ (f : Followed) where
   planned_late w fault e = spent_late w fault (subst (Verdict w) e (one_search f.limits f.queries (w ∷ []) f.nodes).is)
 
   abbrev from : Certificate → List Window → List Window → Spans Certificate Fault
-  from plan before windows = epochs_from f.queries f.limits.chain entries_of (planned_on f) f.most plan before windows
+  from plan before windows = epochs_from f.queries (tables_of f.limits) entries_of (planned_on f) f.most plan before windows
 
   then_late : (plan : Certificate) (now : List Window) (rest : Certificate → Spans Certificate Fault) (verdict : Result Certificate Fault)
       → ((fault : Fault) → verdict ≡ Err fault → IsLate fault) → ((next : Certificate) (fault : Fault) → (rest next).refused ≡ Some fault → IsLate fault)
@@ -39,7 +40,7 @@ module _ (f : Followed) where
   refused_late plan before (w ∷ []) fault e = none_some fault e
   refused_late plan before (w ∷ v ∷ more) fault e =
       let now : List Window = before ++ w ∷ [] in
-      by_test (is_over f.queries f.limits.chain entries_of (planned_on f) f.most plan now w.0)
+      by_test (is_over f.queries (tables_of f.limits) entries_of (planned_on f) f.most plan now w.0)
       (λ over. then_late plan now (λ next. from next [] (v ∷ more)) (planned_on f w) (planned_late w)
       (λ next other k. refused_late next [] (v ∷ more) other k) fault
       (sym (ap (λ b. (if b then then_from (span plan now) (λ next. from next [] (v ∷ more)) (planned_on f w) else from plan now (v ∷ more)).refused) over) ∙ e))

@@ -21,6 +21,7 @@ use Rattle.sn_switch.specs.declared.switch.Switch.{Switch}
 use Rattle.sn_types.specs.declared.typed_query.TypedQuery.{TypedQuery}
 use Rattle.sn_windows.specs.Rising.{Window}
 use Rattle.sn_command_replan.specs.Searched.{searched_on}
+use Rattle.sn_emit.specs.Plans.{tables_of}
 
 -- Queries on a switch, how many nodes a search may expand, how many items of a window may leave the switch before their cut, and
 -- the first plan.
@@ -36,7 +37,7 @@ entries_of certificate = certificate.plan.entries
 
 -- the plan of a certificate
 abbrev pub along : Followed → Certificate → Planned
-along f certificate = record { queries = f.queries; depth = f.limits.chain; entries = entries_of certificate }
+along f certificate = record { queries = f.queries; tables = tables_of f.limits; entries = entries_of certificate }
 
 -- what is planned on a window: the first of the plans that cost least on it alone
 abbrev pub planned_on : Followed → Window → Result Certificate Fault
@@ -44,7 +45,7 @@ planned_on f w = searched_on f.limits f.queries f.nodes (w ∷ [])
 
 -- the epochs of windows
 abbrev pub epochs_of : Followed → List Window → Spans Certificate Fault
-epochs_of f windows = epochs_from f.queries f.limits.chain entries_of (planned_on f) f.most f.first [] windows
+epochs_of f windows = epochs_from f.queries (tables_of f.limits) entries_of (planned_on f) f.most f.first [] windows
 
 -- ---- what is written
 

@@ -7,6 +7,7 @@ use Rattle.sn_command_search.specs.declared.certificate.Certificate.{Certificate
 use Rattle.sn_command_replan.specs.Replan.{Followed, along, entries_of, epoch_text, planned_on, sent_in}
 use Rattle.sn_replan.specs.Epochs.{Span, Spans, is_over, span}
 use Rattle.sn_windows.specs.Rising.{Window}
+use Rattle.sn_emit.specs.Plans.{tables_of}
 
 -- the plan of the next window, and the windows that its epoch had before
 pub record Current : Type 0 where
@@ -34,7 +35,7 @@ turned front (Err fault) = gone front fault
 
 module _ (f : Followed) where
   abbrev pub over_at : Certificate → List Window → Window → Bool
-  over_at plan before w = is_over f.queries f.limits.chain entries_of (planned_on f) f.most plan (before ++ w ∷ []) w.0
+  over_at plan before w = is_over f.queries (tables_of f.limits) entries_of (planned_on f) f.most plan (before ++ w ∷ []) w.0
 
   -- one window more
   abbrev pub after_in : List (Span Certificate) → Result Current Fault → Window → Standing

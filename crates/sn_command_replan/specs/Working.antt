@@ -15,28 +15,30 @@ use Rattle.sn_switch.specs.Texts.{IsSwitch}
 use Rattle.sn_types.specs.declared.typed_query.TypedQuery.{TypedQuery}
 use Rattle.sn_types.specs.Typed.{HasWidths}
 use Rattle.sn_windows.specs.Rising.{AreRising, IsAbove, Window}
+use Rattle.sn_emit.specs.Plans.{tables_of}
+use Rattle.sn_emit.specs.declared.tables.Tables.{Tables}
 
 -- what was given before the capture
 abbrev pub followed : Replanning → Followed
 followed a = record { queries = a.typed.queries; limits = a.limits; nodes = a.nodes; most = a.epochs.most; first = a.first }
 
--- the epochs at work: of queries on a switch with chains of this depth, the number of the current one, what stands before the block of the next
+-- the epochs at work: of queries on a switch with this room, the number of the current one, what stands before the block of the next
 -- window, and why there is no plan for it
 pub record Work : Type 0 where
   pub queries : List TypedQuery
-  pub depth : ℕ
+  pub tables : Tables
   pub epochs : Epochs
   pub number : ℕ
   pub heading : List ℕ
   pub refused : Option Fault
 
 abbrev pub work_of : Replanning → Work
-work_of a = record { queries = a.typed.queries; depth = a.limits.chain; epochs = a.epochs; number = a.number; heading = a.heading; refused = a.refused }
+work_of a = record { queries = a.typed.queries; tables = tables_of a.limits; epochs = a.epochs; number = a.number; heading = a.heading; refused = a.refused }
 
 -- the current epoch is at work, before a window with this number
 pub record IsGoing (w : Work) (front : List (Span Certificate)) (c : Current) (number : ℕ) : Type 0 where
   pub none : w.refused ≡ None
-  pub runs : Runs w.queries w.depth (entries_of c.plan) c.before w.epochs
+  pub runs : Runs w.queries w.tables (entries_of c.plan) c.before w.epochs
   pub above : IsAbove (last_window w.epochs) number
   pub entries : AreEntriesOf w.queries (entries_of c.plan)
   pub count : w.number ≡ length front
@@ -72,7 +74,7 @@ pub record IsAnswered (f : Followed) (a : Replanning) (closed : List Window) (nu
   pub over_is : over ≡ over_at f c.plan c.before (number, tuples)
   pub heading : a.heading ≡ []
   pub none : a.refused ≡ None
-  pub runs : Runs a.typed.queries a.limits.chain (entries_of c.plan) (c.before ++ (number, tuples) ∷ []) a.epochs
+  pub runs : Runs a.typed.queries (tables_of a.limits) (entries_of c.plan) (c.before ++ (number, tuples) ∷ []) a.epochs
   pub last : last_window a.epochs ≡ Some number
   pub entries : AreEntriesOf a.typed.queries (entries_of c.plan)
   pub count : a.number ≡ length (stands_after f closed).front

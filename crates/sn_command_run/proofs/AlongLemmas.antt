@@ -33,14 +33,14 @@ sum_end xs x =
 module _ (p : Planned) where
   -- the answers of one window more
   abbrev pub next_answers : List Window → ℕ → List (List ℕ) → Answers
-  next_answers closed number tuples = window_answers p.queries p.depth p.entries (kept_in p.queries (last_of p closed) number) number tuples
+  next_answers closed number tuples = window_answers p.queries p.tables p.entries (kept_in p.queries (last_of p closed) number) number tuples
 
   pub last_more : (closed : List Window) (number : ℕ) (tuples : List (List ℕ)) → last_of p (closed ++ (number, tuples) ∷ []) ≡ Some (next_answers closed number tuples)
-  last_more closed number tuples = driving.last_more p.queries p.depth p.entries closed number tuples
+  last_more closed number tuples = driving.last_more p.queries p.tables p.entries closed number tuples
 
   -- what is reported of them
   pub told_more : (told : Telling) (closed : List Window) (number : ℕ) (tuples : List (List ℕ)) → told_of told p (closed ++ (number, tuples) ∷ []) ≡ told_of told p closed ++ told (next_answers closed number tuples) ∷ []
-  told_more told closed number tuples = ap (map told) (one_more p.queries p.depth p.entries None closed number tuples) ∙ map-append told (answers_of p closed) (next_answers closed number tuples ∷ [])
+  told_more told closed number tuples = ap (map told) (one_more p.queries p.tables p.entries None closed number tuples) ∙ map-append told (answers_of p closed) (next_answers closed number tuples ∷ [])
 
   pub sent_more : (told : Telling) (closed : List Window) (number : ℕ) (tuples : List (List ℕ)) → sent_in told p (closed ++ (number, tuples) ∷ []) ≡ sent_in told p closed + (told (next_answers closed number tuples)).emitted
   sent_more told closed number tuples = ap (λ (xs : List Answers). sum (map (λ (a : Answers). a.emitted) xs)) (told_more told closed number tuples) ∙ sum_end (told_of told p closed) (told (next_answers closed number tuples))
@@ -48,10 +48,10 @@ module _ (p : Planned) where
   -- they are the answers along the plan
   pub next_right : (closed : List Window) (number : ℕ) (tuples : List (List ℕ)) → AreEntriesOf p.queries p.entries → AreRising None (closed ++ (number, tuples) ∷ [])
       → next_answers closed number tuples ≡ answers_at p (closed ++ (number, tuples) ∷ []) number
-  next_right closed number tuples h rising = driving.next_right p.queries p.depth p.entries closed number tuples h rising
+  next_right closed number tuples h rising = driving.next_right p.queries p.tables p.entries closed number tuples h rising
 
   pub told_right : (told : Telling) (closed : List Window) → AreEntriesOf p.queries p.entries → AreRising None closed → told_of told p closed ≡ map (λ (w : Window). told_at told p closed w.0) closed
-  told_right told closed h rising = ap (map told) (all_windows p.queries p.depth p.entries closed h rising) ∙ map_both (λ (w : Window). answers_at p closed w.0) told closed
+  told_right told closed h rising = ap (map told) (all_windows p.queries p.tables p.entries closed h rising) ∙ map_both (λ (w : Window). answers_at p closed w.0) told closed
 
   pub sent_right : (told : Telling) (closed : List Window) → AreEntriesOf p.queries p.entries → AreRising None closed → sent_in told p closed ≡ told_emitted_in told p closed
   sent_right told closed h rising =

@@ -23,16 +23,16 @@ use Rattle.sn_command_run.specs.Along.{IsUsed, plan_of}
 use Rattle.sn_command_run.specs.Planned.{Planned, told_emitted_in}
 use Rattle.sn_command_run.proofs.AlongLemmas.{rising_again}
 use Rattle.sn_command_run.proofs.HandLemmas.{all_emitted, used_earlier, used_end}
-use Rattle.sn_core_trace.specs.Lines.{lines_of}
-use Rattle.sn_core_trace.specs.Plain.{plain_state}
-use Rattle.sn_core_trace.specs.Turns.{Turns, Watch, events_in, no_turn, parted, turns_on, up_to_close, watch_on, watched_on}
+use Rattle.sn_core_drive.specs.Lines.{lines_of}
+use Rattle.sn_core_drive.specs.Plain.{plain_state}
+use Rattle.sn_core_drive.specs.Turns.{Turns, Watch, events_in, no_turn, parted, turns_on, up_to_close, watch_on, watched_on}
 use Rattle.sn_types.specs.declared.answers.Answers.{Answers}
 use Rattle.sn_command_run.specs.TraceWatching.{IsAtWork, IsIdle, IsWatched}
 use Rattle.sn_command_run.specs.TraceWording.{behind_windows, lines_before, lines_behind, works_of}
 use Rattle.sn_command_run.specs.declared.traced.Traced.{Traced}
 use Rattle.sn_command_run.proofs.WatchLemmas.{all_of_some, before_last, behind_more, front_is, ran}
 use Rattle.sn_windows.specs.Rising.{AreRising, Window}
-use Rattle.sn_core_trace.proofs.TurnLemmas.{still_turns}
+use Rattle.sn_core_drive.proofs.TurnLemmas.{still_turns}
 
 used_held : (number : ℕ) (tuples : List (List ℕ)) (s : State) → IsUsed number tuples s → s.held ≡ None
 used_held number [] s h = h.0

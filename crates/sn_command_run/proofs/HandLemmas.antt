@@ -95,7 +95,7 @@ module _ {M : Type 0} (machine : MachineOf M) (a : Along M) where
   s = machine.state a.machine
 
   abbrev with_machine : M → Draws → ℕ → Along M
-  with_machine m d emitted = record { alloc = a.alloc; typed = a.typed; plan = a.plan; depth = a.depth; machine = m; lanes = a.lanes; draws = d; form = a.form; emitted = emitted }
+  with_machine m d emitted = record { alloc = a.alloc; typed = a.typed; plan = a.plan; tables = a.tables; machine = m; lanes = a.lanes; draws = d; form = a.form; emitted = emitted }
 
   -- what a machine found that was given one supply more
   pub record Found (next : Supply (List ℕ)) (found : List Answers) (m : M) : Type 0 where

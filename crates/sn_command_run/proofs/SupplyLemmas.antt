@@ -111,7 +111,7 @@ pub all_answers : (p : Planned) (given : List Window) → AreEntriesOf p.queries
 all_answers p given entries r sound =
     let xs : List (Tuples (List ℕ)) = windows_of (and_end given) in
     let back : map given_of xs ≡ given = windows_back None given r sound in
-    let right : List Window → Window → Answers = λ ws g. plan_answers p.queries p.depth p.entries (refine.windows_of ws) g.0 in
+    let right : List Window → Window → Answers = λ ws g. plan_answers p.queries p.tables p.entries (refine.windows_of ws) g.0 in
     sym (map_both given_of (right (map given_of xs)) xs)
     ∙ ap (λ (ws : List Window). map (right ws) ws) back
-    ∙ sym (all_windows p.queries p.depth p.entries given entries r)
+    ∙ sym (all_windows p.queries p.tables p.entries given entries r)

@@ -19,12 +19,12 @@ use Rattle.sn_core_net.proofs.Lawful.{lawful}
 use Rattle.sn_command_run.specs.Along.{supplies_of}
 use Rattle.sn_command_run.specs.Planned.{Planned, Telling}
 use Rattle.sn_command_run.proofs.SupplyLemmas.{one_supply}
-use Rattle.sn_core_trace.specs.Lines.{lines_of}
-use Rattle.sn_core_trace.specs.Plain.{plain_state, plain_turns}
-use Rattle.sn_core_trace.specs.Turns.{Turns, Watch, events_in, parted, turns_on, up_to_close, watch_on, watch_over, watched_on}
-use Rattle.sn_core_trace.proofs.CloseLemmas.{same_front}
-use Rattle.sn_core_trace.proofs.StateLemmas.{turns_on_same}
-use Rattle.sn_core_trace.proofs.TurnLemmas.{run_turns_on}
+use Rattle.sn_core_drive.specs.Lines.{lines_of}
+use Rattle.sn_core_drive.specs.Plain.{plain_state, plain_turns}
+use Rattle.sn_core_drive.specs.Turns.{Turns, Watch, events_in, parted, turns_on, up_to_close, watch_on, watch_over, watched_on}
+use Rattle.sn_core_drive.proofs.CloseLemmas.{same_front}
+use Rattle.sn_core_drive.proofs.StateLemmas.{turns_on_same}
+use Rattle.sn_core_drive.proofs.TurnLemmas.{run_turns_on}
 use Rattle.sn_command_run.specs.TraceCausal.{up_to_front}
 use Rattle.sn_command_run.specs.TraceWording.{at_first, behind_windows, lines_before, works_of}
 

@@ -25,11 +25,11 @@ use Rattle.sn_command_run.specs.Planned.{Planned, Telling}
 
 -- the plan
 abbrev pub plan_of : {M : Type 0} → Along M → Planned
-plan_of a = record { queries = a.typed.queries; depth = a.depth; entries = a.plan.entries }
+plan_of a = record { queries = a.typed.queries; tables = a.tables; entries = a.plan.entries }
 
 -- what windows are answered, one after another
 abbrev pub answers_of : Planned → List Window → List Answers
-answers_of p closed = answers_from p.queries p.depth p.entries None closed
+answers_of p closed = answers_from p.queries p.tables p.entries None closed
 
 abbrev pub last_of : Planned → List Window → Option Answers
 last_of p closed = last_from None (answers_of p closed)
@@ -53,7 +53,7 @@ supplies_of windows = flat_map supplies_in windows
 abbrev pub answers_for : Planned → List (Supply (List ℕ)) → List Answers
 answers_for p supplies =
     let windows = core.windows_of supplies in
-    map (λ x. plan_answers p.queries p.depth p.entries (windows_of (map given_of windows)) x.number) windows
+    map (λ x. plan_answers p.queries p.tables p.entries (windows_of (map given_of windows)) x.number) windows
 
 -- Whatever follows what was given: what was reported, and then what is reported of what is due, is what is reported of all answers along the plan.
 abbrev pub Owes : Works → Telling → Planned → List (Supply (List ℕ)) → List Answers → State → Type 0

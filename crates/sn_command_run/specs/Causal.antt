@@ -1,20 +1,24 @@
 -- serves proofs
 -- The block of a window depends on no later one.
-use Rattle.std.specs.Prelude.{◌≡◌, ℕ, zero, suc, ◌<◌, ◌≤◌, List, [], ◌∷◌, ◌++◌, map, sum, true, false, ◌==◌, slice_index, length, Option, None, Some}
+use Rattle.std.specs.Prelude.{◌≡◌, ℕ, zero, suc, ◌<◌, ◌≤◌, List, [], ◌∷◌, ◌++◌, map, sum, cond, true, false, ◌==◌, slice_index, length, Option, None, Some}
 use Rattle.std.specs.List.{range_with_len}
 use Rattle.std.specs.Option.{option_map}
 use Rattle.std.proofs.Common.{refl, ap, ◌∙◌, arith}
 use Rattle.std.proofs.lemmas.Bool.{ne_eqb}
+use Rattle.std.specs.FinSet as set
 use Rattle.sn_base.specs.Groups.{Row}
 use Rattle.sn_base.proofs.Lists.{by_test}
 use Rattle.sn_command_capture.specs.Wording.{IsCausal, NeverStops}
 use Rattle.sn_engine_lockstep.specs.Windows.{count_of, piece_count, plan_answers, refined_from}
+use Rattle.sn_engine_split.specs.Opened.{is_open}
 use Rattle.sn_emit.specs.Plans.{Placed, pieces_from}
+use Rattle.sn_emit.specs.declared.tables.Tables.{Tables}
 use Rattle.sn_plan_fit.specs.Paths.{place_in}
 use Rattle.sn_out.specs.Records.{window_records}
 use Rattle.sn_out.specs.Text.{block_text}
 use Rattle.sn_plan_grammar.specs.declared.plan.Entry.{Entry}
-use Rattle.sn_refine.specs.Refined.{Windows, answered, before, level_rows, part_at, refined_parts, refined_rows, seen_at}
+use Rattle.sn_refine.specs.Passes.{passes_at, prefixes_before}
+use Rattle.sn_refine.specs.Refined.{Windows, answered, before, column_of, level_rows, part_at, refined_parts, refined_rows, seen_at}
 use Rattle.sn_refine.specs.Steps.{windows_of}
 use Rattle.sn_types.specs.declared.answers.Answers.{Answers}
 use Rattle.sn_types.specs.declared.answers.Part.{Part}
@@ -55,6 +59,17 @@ module _ (ws vs : Windows) where
       ap (λ o. option_map (answered query (slice_index path j) (before (refined_rows query ws path j) w)) o) (a w (omega arith))
       ∙ ap (λ (rows : List Row). option_map (answered query (slice_index path j) rows) (vs w)) earlier
 
+  -- so do the tuples that tables admit
+  same_passes : (query : TypedQuery) (entries : Option ℕ) (path : List ℕ) (j w : ℕ) → Agree w
+      → passes_at query entries ws path j w ≡ passes_at query entries vs path j w
+  same_passes query entries path zero w a = a w (omega arith)
+  same_passes query entries path (suc j) w a =
+      let earlier : before (refined_rows query ws path j) w ≡ before (refined_rows query vs path j) w =
+      before_same (refined_rows query ws path j) (refined_rows query vs path j) w (λ u lt. same_rows query path j u (λ v le. a v (omega arith))) in
+      ap (λ (rows : List Row). cond (is_open entries (set.from_list (column_of query rows))) (ws w) (seen_at query ws path (suc j) w)) earlier
+      ∙ ap (λ o. cond (is_open entries (prefixes_before query vs path j w)) o (seen_at query ws path (suc j) w)) (a w (omega arith))
+      ∙ ap (λ o. cond (is_open entries (prefixes_before query vs path j w)) (vs w) o) (same_seen query path (suc j) w a)
+
   same_parts : (q : ℕ) (query : TypedQuery) (path : List ℕ) (w : ℕ) → Agree w → refined_parts q query ws path w ≡ refined_parts q query vs path w
   same_parts q query path w a =
       map_same (part_at q path (λ j. refined_rows query ws path j w)) (part_at q path (λ j. refined_rows query vs path j w))
@@ -69,17 +84,17 @@ module _ (ws vs : Windows) where
       ap (λ (ps : List Part). ps ++ refined_from queries ws w (suc q) es) (same_parts q (query_at queries q) e.levels w a)
       ∙ ap (λ (ps : List Part). refined_parts q (query_at queries q) vs e.levels w ++ ps) (same_refined queries w (suc q) es a)
 
-  same_counts : (queries : List TypedQuery) (depth w : ℕ) (xs : List Placed) → Agree w
-      → map (piece_count queries depth ws w) xs ≡ map (piece_count queries depth vs w) xs
-  same_counts queries depth w xs a =
-      map_same (piece_count queries depth ws w) (piece_count queries depth vs w)
-      (λ x. ap (count_of queries depth x) (same_seen (query_at queries x.query) x.path (place_in x.path x.piece.level) w a)) xs
+  same_counts : (queries : List TypedQuery) (tables : Tables) (w : ℕ) (xs : List Placed) → Agree w
+      → map (piece_count queries tables ws w) xs ≡ map (piece_count queries tables vs w) xs
+  same_counts queries tables w xs a =
+      map_same (piece_count queries tables ws w) (piece_count queries tables vs w)
+      (λ x. ap (count_of queries tables.depth x) (same_passes (query_at queries x.query) tables.entries x.path (place_in x.path x.piece.level) w a)) xs
 
-  same_answers : (queries : List TypedQuery) (depth : ℕ) (es : List Entry) (w : ℕ) → Agree w
-      → plan_answers queries depth es ws w ≡ plan_answers queries depth es vs w
-  same_answers queries depth es w a =
-      ap (λ (ns : List ℕ). made (sum ns) (refined_from queries ws w 0 es)) (same_counts queries depth w (pieces_from 0 es) a)
-      ∙ ap (made (sum (map (piece_count queries depth vs w) (pieces_from 0 es)))) (same_refined queries w 0 es a)
+  same_answers : (queries : List TypedQuery) (tables : Tables) (es : List Entry) (w : ℕ) → Agree w
+      → plan_answers queries tables es ws w ≡ plan_answers queries tables es vs w
+  same_answers queries tables es w a =
+      ap (λ (ns : List ℕ). made (sum ns) (refined_from queries ws w 0 es)) (same_counts queries tables w (pieces_from 0 es) a)
+      ∙ ap (made (sum (map (piece_count queries tables vs w) (pieces_from 0 es)))) (same_refined queries w 0 es a)
     where
       made : ℕ → List Part → Answers
       made emitted parts = record { window = w; emitted = emitted; parts = parts }
@@ -105,7 +120,7 @@ answers_stand : (p : Planned) (closed : List Window) (number : ℕ) (tuples : Li
     → AreRising None (closed ++ (number, tuples) ∷ more)
     → answers_at p (closed ++ (number, tuples) ∷ more) number ≡ answers_at p (closed ++ (number, tuples) ∷ []) number
 answers_stand p closed number tuples more rising =
-    same_answers (windows_of (closed ++ (number, tuples) ∷ more)) (windows_of (closed ++ (number, tuples) ∷ [])) p.queries p.depth p.entries number
+    same_answers (windows_of (closed ++ (number, tuples) ∷ more)) (windows_of (closed ++ (number, tuples) ∷ [])) p.queries p.tables p.entries number
     (λ v le. up_to None closed number tuples more v rising le)
 
 pub plan_is_causal : (form : Form) (told : Telling) (p : Planned) → IsCausal (wording_in form told p)

@@ -13,17 +13,18 @@ use Rattle.sn_types.specs.declared.typed_query.TypedQuery.{TypedQuery}
 use Rattle.sn_command_run.specs.declared.form.Form.{Form}
 use Rattle.sn_command_run.specs.declared.form.Form.TheVariants as forms
 use Rattle.sn_windows.specs.Rising.{Window}
+use Rattle.sn_emit.specs.declared.tables.Tables.{Tables}
 
--- a plan of queries, on a switch with chains of this depth
+-- a plan of queries, on a switch with this room
 pub record Planned : Type 0 where
   pub queries : List TypedQuery
-  pub depth : ℕ
+  pub tables : Tables
   pub entries : List Entry
 
 -- The answers in a window along the plan, in a capture with these windows: the refined answers of the queries along their
 -- paths, of which windows that hold no record have none, and how many items were sent.
 abbrev pub answers_at : Planned → List Window → ℕ → Answers
-answers_at p windows w = plan_answers p.queries p.depth p.entries (windows_of windows) w
+answers_at p windows w = plan_answers p.queries p.tables p.entries (windows_of windows) w
 
 -- how many items were sent in all windows
 abbrev pub emitted_at : Planned → List Window → Window → ℕ

@@ -13,10 +13,11 @@ use Rattle.sn_switch.specs.declared.switch.Switch.{Switch}
 use Rattle.sn_command_run.specs.declared.form.Form.{Form}
 use Rattle.sn_command_run.specs.declared.form.Form.TheVariants as forms
 use Rattle.sn_command_run.specs.Planned.{Planned, Telling, form_of, wording_in}
+use Rattle.sn_emit.specs.Plans.{tables_of}
 
 -- a plan of the queries that were read, on the switch that was read
 abbrev pub planned : Queries → Switch → Plan → Planned
-planned read limits plan = record { queries = read.queries; depth = limits.chain; entries = plan.entries }
+planned read limits plan = record { queries = read.queries; tables = tables_of limits; entries = plan.entries }
 
 -- a window in nanoseconds
 abbrev pub window_ns : Queries → ℕ

@@ -8,8 +8,8 @@ use Rattle.sn_core.specs.declared.supply.Supply.TheVariants.{End}
 use Rattle.sn_command_run.specs.Causal.{plan_is_causal}
 use Rattle.sn_command_run.specs.Planned.{Planned, Telling}
 use Rattle.sn_command_run.specs.declared.form.Form.TheVariants as forms
-use Rattle.sn_core_trace.specs.Lines.{lines_of}
-use Rattle.sn_core_trace.specs.Turns.{up_to_close}
+use Rattle.sn_core_drive.specs.Lines.{lines_of}
+use Rattle.sn_core_drive.specs.Turns.{up_to_close}
 use Rattle.sn_command_run.specs.TraceWording.{behind_windows, traced_wording, up_to, works_of}
 use Rattle.sn_windows.specs.Rising.{AreRising, Window}
 

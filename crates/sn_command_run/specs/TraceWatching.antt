@@ -6,9 +6,9 @@ use Rattle.sn_windows.specs.Rising.{Window}
 use Rattle.sn_core_drive.specs.declared.machine.Machine.{Ghosts as MachineOf}
 use Rattle.sn_command_run.specs.Along.{IsAtHand, plan_of}
 use Rattle.sn_command_run.specs.Along as run
-use Rattle.sn_core_trace.specs.Lines.{lines_of}
-use Rattle.sn_core_trace.specs.Plain.{plain_state}
-use Rattle.sn_core_trace.specs.Turns.{Watch}
+use Rattle.sn_core_drive.specs.Lines.{lines_of}
+use Rattle.sn_core_drive.specs.Plain.{plain_state}
+use Rattle.sn_core_drive.specs.Turns.{Watch}
 use Rattle.sn_command_run.specs.TraceWording.{behind_windows, lines_behind, works_of}
 use Rattle.sn_command_run.specs.declared.traced.Traced.{Traced}
 

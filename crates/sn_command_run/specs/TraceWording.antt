@@ -14,9 +14,9 @@ use Rattle.sn_command_run.specs.Planned.{Planned, Telling, told_block, told_line
 use Rattle.sn_command_run.specs.Run.{planned, window_ns}
 use Rattle.sn_command.specs.Outcomes.{Stage}
 use Rattle.sn_switch.specs.declared.switch.Switch.{Switch}
-use Rattle.sn_core_trace.specs.Lanes.{new_state}
-use Rattle.sn_core_trace.specs.Lines.{lines_of}
-use Rattle.sn_core_trace.specs.Turns.{Watch, up_to_close, watch_on, watch_over}
+use Rattle.sn_core_drive.specs.Lanes.{new_state}
+use Rattle.sn_core_drive.specs.Lines.{lines_of}
+use Rattle.sn_core_drive.specs.Turns.{Watch, up_to_close, watch_on, watch_over}
 use Rattle.sn_windows.specs.Rising.{Window}
 
 -- the windows of a capture up to one
@@ -30,7 +30,7 @@ works_of p = workings p.queries p.entries
 module _ (schedule : ℕ) (p : Planned) where
   -- A machine of the plan to which nothing was given, with room for 64 frames in each lane. Nothing has happened.
   abbrev pub at_first : Watch
-  at_first = record { since = []; number = schedule; state = new_state 64 p.queries p.depth p.entries }
+  at_first = record { since = []; number = schedule; state = new_state 64 p.queries p.tables p.entries }
 
   -- once these windows were given, tuple by tuple
   abbrev pub behind_windows : List Window → Watch

@@ -1,6 +1,7 @@
 //! A plan at work over the windows of a capture.
 
 use crate::form::Form;
+use sn_emit::tables::Tables;
 use sn_gen::draws::Draws;
 use sn_plan_grammar::plan::Plan;
 use sn_types::typed::Typed;
@@ -12,8 +13,8 @@ pub struct Along<M: Drop> {
     pub alloc: Global,
     pub typed: Typed,
     pub plan: Plan,
-    /// Registers in the chain of a stateful operator.
-    pub depth: u32,
+    /// The room of the switch for registers and prefixes.
+    pub tables: Tables,
     pub machine: M,
     /// How many lanes the machine has.
     pub lanes: u32,

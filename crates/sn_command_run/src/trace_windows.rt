@@ -10,6 +10,7 @@ ghost use Rattle.sn_switch.specs.Texts.{IsSwitch};
 ghost use Rattle.sn_command_run.specs.TraceWatching.{IsAtWork, IsIdle};
 ghost use Rattle.sn_command_run.specs.TraceWording.{lines_before};
 ghost use Rattle.sn_windows.specs.Rising.{Window};
+ghost use Rattle.sn_emit.specs.Plans.{tables_of};
 
 use crate::along::Along;
 use crate::form::Form;
@@ -19,8 +20,8 @@ use crate::windows::sum_of;
 use sn_base::memory::Memory;
 use sn_core::supply::Supply;
 use sn_core_drive::driving::advance;
+use sn_core_drive::lines::follow;
 use sn_core_drive::machine::Machine;
-use sn_core_trace::lines::follow;
 use sn_fields::tuple::Tuple;
 use sn_gen::draws::Draws;
 use sn_plan_grammar::plan::Plan;
@@ -38,7 +39,7 @@ impl<M: Machine> Traced<M> {
     ) -> Result<Traced<M>, Memory>
         requires switch { IsSwitch switch.now }
         requires fits { Fits typed.queries switch.now plan.entries }
-        ensures plan { IfOk result (λ a. plan_of a.along ≡ record { queries = typed.queries; depth = switch.now.chain; entries = plan.entries }) }
+        ensures plan { IfOk result (λ a. plan_of a.along ≡ record { queries = typed.queries; tables = tables_of switch.now; entries = plan.entries }) }
         ensures schedule { IfOk result (λ a. a.schedule ≡ schedule) }
         ensures begun { IfOk result (λ a. IsAtWork M.Machine a [] 0 []) }
     {

@@ -3,7 +3,7 @@ ghost use Rattle.std.specs.Prelude.{◌≡◌, ◌<◌, ◌+◌, ℕ, List, [], 
 ghost use Rattle.std.specs.List.{AllByRecursion};
 ghost use Rattle.sn_command_capture.specs.Wording.{Holds, HoldsSome};
 ghost use Rattle.sn_core.specs.Calls.{made};
-ghost use Rattle.sn_emit.specs.Plans.{pieces_from};
+ghost use Rattle.sn_emit.specs.Plans.{pieces_from, tables_of};
 ghost use Rattle.sn_plan_fit.specs.Fits.{Fits};
 ghost use Rattle.sn_core_net.specs.PlanWorkings.{AreLanesFor, workings};
 ghost use Rattle.sn_out.specs.Text.{IsPartOf};
@@ -19,6 +19,7 @@ use sn_base::memory::Memory;
 use sn_core::supply::Supply;
 use sn_core_drive::driving::{advance, start};
 use sn_core_drive::machine::Machine;
+use sn_emit::tables::Tables;
 use sn_fields::tuple::Tuple;
 use sn_gen::draws::Draws;
 use sn_plan_grammar::plan::Plan;
@@ -44,19 +45,19 @@ impl<M: Machine> Along<M> {
     pub fn make(form: Form, typed: Typed, switch: &Switch, plan: Plan) -> Result<Along<M>, Memory>
         requires switch { IsSwitch switch.now }
         requires fits { Fits typed.queries switch.now plan.entries }
-        ensures plan { IfOk result (λ a. plan_of a ≡ record { queries = typed.queries; depth = switch.now.chain; entries = plan.entries }) }
+        ensures plan { IfOk result (λ a. plan_of a ≡ record { queries = typed.queries; tables = tables_of switch.now; entries = plan.entries }) }
         ensures form { IfOk result (λ a. a.form ≡ form) }
         ensures begun { IfOk result (λ a. IsAtHand M.Machine a [] 0 []) }
         ensures works { IfOk result (λ a. M.works a.machine ≡ workings typed.queries plan.entries) }
         ensures new { IfOk result (λ a. M.state a.machine ≡ made (M.works a.machine) 64 (M.state a.machine).lanes) }
-        ensures pipes { IfOk result (λ a. AreLanesFor typed.queries switch.now.chain (pieces_from 0 plan.entries) (M.state a.machine).lanes) }
+        ensures pipes { IfOk result (λ a. AreLanesFor typed.queries (tables_of switch.now) (pieces_from 0 plan.entries) (M.state a.machine).lanes) }
     {
         let (machine, lanes) = start(&typed, switch, &plan, ROOM)?;
         Ok(Along {
             alloc: typed.alloc,
             typed,
             plan,
-            depth: switch.chain,
+            tables: Tables::of(switch),
             machine,
             lanes,
             draws: Draws { number: 0 },

@@ -7,7 +7,7 @@ use Rattle.sn_types_read.specs.Texts.{Queries}
 use Rattle.sn_command.specs.declared.fault.Fault.{Fault}
 use Rattle.sn_command.specs.declared.fault.Fault.TheVariants as faults
 use Rattle.sn_command.specs.Stages.{ReadAs, named}
-use Rattle.sn_switch.proofs.Switches.{bounds, one_switch, set_so}
+use Rattle.sn_switch.proofs.Switches.{limits_of, one_switch, set_so}
 use Rattle.sn_switch.specs.Texts as switches
 use Rattle.sn_switch.specs.Texts.{IsSwitch, switch_in}
 use Rattle.sn_switch.specs.declared.switch.Switch.{Switch}
@@ -34,6 +34,4 @@ pub switch_limits : (text : List ℕ) (s : Switch) → SwitchIn text (Ok s) → 
 switch_limits text s is =
     let k = read_ok switch_fault (switches.IsRead text) s is in
     let fits = k.accepted.fits in
-    let b = bounds k.items fits in
-    let known : IsSwitch (switch_in k.items) = record { stages = b.stages; actions = b.actions; bits = b.bits; meta = b.meta; chain = b.chain; slots = b.slots } in
-    subst IsSwitch (one_switch k.items (switch_in k.items) s (set_so k.items fits) k.each) known
+    subst IsSwitch (one_switch k.items (switch_in k.items) s (set_so k.items fits) k.each) (limits_of k.items fits)

@@ -4,6 +4,7 @@ use Rattle.std.proofs.lemmas.List.{length-append, length-map, length-take}
 use Rattle.sn_core.specs.Nets.{Lane}
 use Rattle.sn_emit.proofs.PlanLanes.{pieces_more}
 use Rattle.sn_emit.specs.Plans.{Placed, pieces_from, placed}
+use Rattle.sn_emit.specs.declared.tables.Tables.{Tables}
 use Rattle.sn_core_net.specs.PlanWorkings.{AreLanesFor}
 use Rattle.sn_pipe.specs.Pipes.{PipeState}
 use Rattle.sn_plan_grammar.specs.declared.plan.Entry.{Entry}
@@ -27,8 +28,8 @@ fewer_pieces n (suc k) (e ∷ es) =
     omega (arith, length-append own (pieces_from (suc n) (take k es)), length-append own (pieces_from (suc n) es), fewer_pieces (suc n) k es)
 
 -- as many lanes as pieces
-pub as_many_lanes : (queries : List TypedQuery) (depth : ℕ) (xs : List Placed) (lanes : List (Lane PipeState Item)) → AreLanesFor queries depth xs lanes → length lanes ≡ length xs
-as_many_lanes queries depth [] [] are = refl
-as_many_lanes queries depth [] (lane ∷ lanes) are = absurd are
-as_many_lanes queries depth (x ∷ xs) [] are = absurd are
-as_many_lanes queries depth (x ∷ xs) (lane ∷ lanes) are = ap suc (as_many_lanes queries depth xs lanes are.1)
+pub as_many_lanes : (queries : List TypedQuery) (tables : Tables) (xs : List Placed) (lanes : List (Lane PipeState Item)) → AreLanesFor queries tables xs lanes → length lanes ≡ length xs
+as_many_lanes queries tables [] [] are = refl
+as_many_lanes queries tables [] (lane ∷ lanes) are = absurd are
+as_many_lanes queries tables (x ∷ xs) [] are = absurd are
+as_many_lanes queries tables (x ∷ xs) (lane ∷ lanes) are = ap suc (as_many_lanes queries tables xs lanes are.1)

@@ -5,3 +5,10 @@ mod Behind
 mod Counting
 mod Counted
 mod Noting
+pub mod PickLemmas
+pub mod TurnLemmas
+pub mod CloseLemmas
+pub mod LineLemmas
+pub mod PipeLemmas
+pub mod StateLemmas
+pub mod MadeLemmas

@@ -13,7 +13,7 @@ ghost use Rattle.sn_core_drive.specs.Schedules.{IsBehind, IsRun, Leads, answers_
 ghost use Rattle.sn_core_drive.specs.declared.note.Note.{Note as Noted};
 ghost use Rattle.sn_core_drive.specs.declared.note.Note.TheVariants as Note;
 ghost use Rattle.sn_engine_lockstep.specs.Windows.{plan_answers};
-ghost use Rattle.sn_emit.specs.Plans.{pieces_from};
+ghost use Rattle.sn_emit.specs.Plans.{pieces_from, tables_of};
 ghost use Rattle.sn_plan_fit.specs.Fits.{Fits};
 ghost use Rattle.sn_core_net.specs.States.{State};
 ghost use Rattle.sn_core_net.specs.Steps.{IsOneOf};
@@ -171,12 +171,12 @@ pub fn start<M: Machine>(t: &Typed, s: &Switch, plan: &Plan, room: u32) -> Resul
     ensures lanes { IfOk result (λ found. found.1 ≡ length (M.state found.0).lanes) }
     ensures works { IfOk result (λ found. M.works found.0 ≡ workings t.now.queries plan.now.entries) }
     ensures stands { IfOk result (λ found. IsNet (M.works found.0) (M.state found.0)) }
-    ensures pipes { IfOk result (λ found. AreLanesFor t.now.queries s.now.chain (pieces_from 0 plan.now.entries) (M.state found.0).lanes) }
+    ensures pipes { IfOk result (λ found. AreLanesFor t.now.queries (tables_of s.now) (pieces_from 0 plan.now.entries) (M.state found.0).lanes) }
     ensures new { IfOk result (λ found. M.state found.0 ≡ made (M.works found.0) room (M.state found.0).lanes) }
     // Whatever follows, what is due are the answers of the plan for each window that is given.
     ensures due { IfOk result (λ found. (following : List (Given (List ℕ))) → let windows = windows_of following in DontFall 0 following → HaveWidths windows →
         due (M.works found.0) (M.state found.0) following ≡ map
-        (λ x. plan_answers t.now.queries s.now.chain plan.now.entries (given_windows (map given_of windows)) x.number) windows) }
+        (λ x. plan_answers t.now.queries (tables_of s.now) plan.now.entries (given_windows (map given_of windows)) x.number) windows) }
 {
     let machine = M::make(t, s, plan, room)?;
     Ok((machine, lane_count(plan)))

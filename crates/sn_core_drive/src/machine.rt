@@ -11,7 +11,7 @@ ghost use Rattle.sn_core.specs.Workings.{AreLawful};
 ghost use Rattle.sn_core.specs.declared.supply.Supply.{Supply as Given};
 ghost use Rattle.sn_core_drive.specs.Telling.{Tells};
 ghost use Rattle.sn_engine_lockstep.specs.Windows.{plan_answers};
-ghost use Rattle.sn_emit.specs.Plans.{pieces_from};
+ghost use Rattle.sn_emit.specs.Plans.{pieces_from, tables_of};
 ghost use Rattle.sn_plan_fit.specs.Fits.{Fits};
 ghost use Rattle.sn_core_net.specs.States.{State, Works};
 ghost use Rattle.sn_core_net.specs.Steps.{IsOneOf, takes_memory};
@@ -48,14 +48,14 @@ pub trait Machine: Sized + Drop {
         requires some_room { 1 ≤ room }
         ensures works { IfOk result (λ machine. works machine ≡ workings t.now.queries plan.now.entries) }
         ensures state { IfOk result (λ machine. state machine ≡ made (works machine) room (state machine).lanes) }
-        ensures lanes { IfOk result (λ machine. AreLanesFor t.now.queries s.now.chain (pieces_from 0 plan.now.entries) (state machine).lanes) }
+        ensures lanes { IfOk result (λ machine. AreLanesFor t.now.queries (tables_of s.now) (pieces_from 0 plan.now.entries) (state machine).lanes) }
         ensures some_lane { IfOk result (λ machine. 0 < length (state machine).lanes) }
         ensures stands { IfOk result (λ machine. IsNet (works machine) (state machine)) }
         // Whatever follows, what is due are the answers of the plan for each window that is given.
         ensures due { IfOk result (λ machine. (following : List (Given (List ℕ))) → let windows = windows_of following in DontFall 0 following →
             HaveWidths windows →
             due (works machine) (state machine) following ≡ map
-            (λ x. plan_answers t.now.queries s.now.chain plan.now.entries (given_windows (map given_of windows)) x.number) windows) };
+            (λ x. plan_answers t.now.queries (tables_of s.now) plan.now.entries (given_windows (map given_of windows)) x.number) windows) };
 
     /// Whether it is to be given a tuple or the end. Takes no memory.
     fn wants(&self) -> bool

@@ -11,7 +11,7 @@ use Rattle.sn_chain.specs.declared.offer.Offer.{Offer}
 use Rattle.sn_chain.specs.declared.offer.Offer.TheVariants.{New, Held, Over}
 use Rattle.sn_report.specs.Items.{Item}
 use Rattle.sn_types.specs.Values.{holds, value_of}
-use Rattle.sn_pipe.specs.declared.stage.Stage.{Stage}
+use Rattle.sn_pipe.specs.AnyStage.{Stage}
 use Rattle.sn_pipe.specs.declared.stage.Stage.TheVariants.{Filter, Map, Distinct, Reduce}
 use Rattle.sn_pipe.specs.Pipes.{PipeState, after_packet, item_of, lets_in, row_in}
 use Rattle.sn_pipe.specs.Stages.{answer_to, cleared, is_new, is_over, item_at, item_from, stages_after}

@@ -25,10 +25,12 @@ use Rattle.sn_report.specs.Items.{Item}
 use Rattle.sn_types.specs.declared.typed_query.TypedQuery.{TypedQuery}
 use Rattle.sn_core_net.specs.declared.holder.Holder.{Holder}
 use Rattle.sn_core_net.specs.Facts.{are_own, are_roomy, are_unread, names_of}
-use Rattle.sn_core_net.specs.Holders.{all_begun, all_took, appended, begun, took}
+use Rattle.sn_core_net.specs.Holders.{all_begun, all_took, begun, took}
+use Rattle.sn_core_net.specs.Rings.{appended}
 use Rattle.sn_core_net.specs.Reports.{are_same, frame_of, is_own}
 use Rattle.sn_core_net.specs.States.{lane_of, lanes_of}
-use Rattle.sn_core_net.proofs.Zips.{all_appended, all_dropped, fits, kept_whole}
+use Rattle.sn_core_net.proofs.Rings.{kept_whole}
+use Rattle.sn_core_net.proofs.Zips.{all_appended, all_dropped, fits}
 
 abbrev pub Set : Type 0
 Set = set.FinSet nat_cmp

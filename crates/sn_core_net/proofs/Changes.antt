@@ -1,13 +1,13 @@
 -- What each event does to the state.
-use Rattle.std.proofs.Common.{◌≡◌, ℕ, ◌<◌, List, [], map, drop, length, true, not, is_none, nat_lt, get_or, set, slice_get, Option, None, Some, refl, ap, ap₂, sym, ◌∙◌, subst}
+use Rattle.std.proofs.Common.{◌≡◌, ℕ, ◌<◌, List, [], map, drop, length, true, not, is_none, nat_eq, nat_lt, get_or, set, slice_get, Option, None, Some, refl, ap, ap₂, sym, ◌∙◌, subst}
 use Rattle.std.proofs.lemmas.List.{length-map}
 use Rattle.sn_core.proofs.Tests.{all_hold, need_holds, none_passes}
 use Rattle.sn_core.specs.Events as core
-use Rattle.sn_core.specs.Events.{after_close, after_event, after_install, after_packet, all_started, closes_with, kept_for_held, window_of_held, delivered, with_next, with_tuple}
-use Rattle.sn_core.specs.Needs.{first_full, first_need_that_fails, first_open, has_room, is_begun_with, is_of, is_over, is_tuple, needs, needs_of_all, passes}
+use Rattle.sn_core.specs.Events.{after_close, after_event, after_install, after_packet, all_started, closes_with, kept_for_held, kept_from, window_of_held, delivered, with_next, with_tuple}
+use Rattle.sn_core.specs.Needs.{first_full, first_need_that_fails, first_open, has_room, is_begun_with, is_empty, is_of, is_over, is_tuple, needs, needs_of_all, passes}
 use Rattle.sn_core.specs.Nets.{Lane}
 use Rattle.sn_core.specs.declared.event.Event.TheVariants as event
-use Rattle.sn_core.specs.declared.event.Why.TheVariants.{Ended, Full, NoInput, NotReading, Reading, Unfinished, Waiting}
+use Rattle.sn_core.specs.declared.event.Why.TheVariants.{Empty, Ended, Full, NoInput, NotReading, Reading, Unfinished, Waiting}
 use Rattle.sn_core.specs.declared.supply.Supply.{Supply}
 use Rattle.sn_core.specs.declared.supply.Supply.TheVariants.{Numbered}
 use Rattle.sn_core.specs.declared.supply.Window.{Window}
@@ -76,6 +76,13 @@ module _ (queries : List TypedQuery) (intakes : List Intake) (sources : List Sou
           ap (λ (lanes : List (Lane PipeState Item)). record (at held window) { lanes = lanes })
           (change_left (with_next works) hs xs n h next matched within (λ x. ap (λ (k : Holder). with_next works (lane_of k x)) (sym own) ∙ sym (is x)))
 
+      -- what holds where the engine may take a frame
+      pub deliver_may : first_need_that_fails (at held window) (event.Deliver n) ≡ None → not (nat_eq (length h.ring.items) 0) ≡ true
+      deliver_may may =
+          let some = need_holds (passes (λ x. not (is_empty x)) (lanes_of hs xs) n) (Empty n) None may in
+          ap (λ (x : Holder). not (nat_eq (length x.ring.items) 0)) own
+          ∙ sym (passes_left (λ x. not (nat_eq (length x.ring.items) 0)) (λ x. not (is_empty x)) (λ x y. ap (λ m. not (nat_eq m 0)) (length-map x.ring.items frame_of)) hs xs n h matched within) ∙ some.0
+
       pub deliver_changes : (next : Holder) (number : ℕ) (frame : Report) → slice_get h.ring.items 0 ≡ Some frame → next.sender ≡ h.sender → next.ring.items ≡ drop 1 h.ring.items →
           state_of room held window (set hs n next) (core.change_at (λ x. taken x (report_of h.sender.lane number (frame_of frame))) xs n) installs last waiting ≡ after_event works (at held window) (event.Deliver n)
       deliver_changes next number frame first sender ring =
@@ -86,18 +93,23 @@ module _ (queries : List TypedQuery) (intakes : List Intake) (sources : List Sou
           ∙ ap (λ (s : Sender). record (lane_of next (change x)) { pipe = settled s.pipe; ended = s.ended; ring = map frame_of (drop 1 h.ring.items) }) (sym sender)
           ∙ ap (λ (frames : List Report). record (lane_of next (change x)) { ring = map frame_of frames }) (sym ring)))
 
-    -- the answers are those of the items that the lanes have
-    pub close_changes : (held : Option (Supply (List ℕ))) (window : Window) (number : ℕ) (answers : Answers) (sets others : List Set) → intakes ≡ xs → window ≡ Begun number → first_need_that_fails (at held window) event.CloseWindow ≡ None → ends_agree window xs ≡ true →
-        answers ≡ answers_of queries xs → sets ≡ map (prefixes_in queries answers.parts) sources → others ≡ map (prefixes_in queries answers.parts) sources →
-        state_of room held (Closed number) hs (map emptied xs) sets (Some (number, others)) (Some answers) ≡ after_event works (at held window) event.CloseWindow
-    close_changes held window number answers sets others here is may agreed value kept also =
+    -- the lanes of the engine have ended the window
+    pub close_may : (held : Option (Supply (List ℕ))) (window : Window) (number : ℕ) → intakes ≡ xs → window ≡ Begun number → first_need_that_fails (at held window) event.CloseWindow ≡ None → ends_agree window xs ≡ true →
+        all_ended number (map emptied intakes) (map (λ lane. lane.taken) (lanes_of hs xs)) ≡ xs
+    close_may held window number here is may agreed =
         let behind = need_holds (is_begun_with (λ n. true) window) NotReading (needs_of_all (first_open (lanes_of hs xs)) Unfinished (needs (is_none waiting) Waiting None)) may in
         let closed = none_passes (λ (lane : Lane PipeState Item). not lane.closed) (lanes_of hs xs) (all_hold (first_open (lanes_of hs xs)) Unfinished (needs (is_none waiting) Waiting None) behind.1).0 in
-        let again : all_ended number (map emptied intakes) (map (λ lane. lane.taken) (lanes_of hs xs)) ≡ xs =
-        ap (λ (is : List Intake). all_ended number (map emptied is) (map (λ lane. lane.taken) (lanes_of hs xs))) here ∙ ended_again number hs xs matched closed (subst (λ (w : Window). ends_agree w xs ≡ true) is agreed) in
+        ap (λ (is : List Intake). all_ended number (map emptied is) (map (λ lane. lane.taken) (lanes_of hs xs))) here ∙ ended_again number hs xs matched closed (subst (λ (w : Window). ends_agree w xs ≡ true) is agreed)
+
+    -- the answers are those of the items that the lanes have
+    pub close_changes : (held : Option (Supply (List ℕ))) (window : Window) (number : ℕ) (answers : Answers) (sets others : List Set) → intakes ≡ xs → window ≡ Begun number → first_need_that_fails (at held window) event.CloseWindow ≡ None → ends_agree window xs ≡ true →
+        answers ≡ answers_of queries (kept_from last number) xs → sets ≡ map (prefixes_in queries answers.parts) sources → others ≡ map (prefixes_in queries answers.parts) sources →
+        state_of room held (Closed number) hs (map emptied xs) sets (Some (number, others)) (Some answers) ≡ after_event works (at held window) event.CloseWindow
+    close_changes held window number answers sets others here is may agreed value kept also =
+        let again = close_may held window number here is may agreed in
         ap (λ (lanes : List (Lane PipeState Item)). record (at held window) { window = Closed number; lanes = lanes; installs = sets; last = Some (number, others); waiting = Some answers }) (emptied_lanes hs xs)
         ∙ ap₂ (λ (ks ls : List Set). record (at held window) { window = Closed number; lanes = map core.emptied (lanes_of hs xs); installs = ks; last = Some (number, ls); waiting = Some answers }) kept also
-        ∙ ap (closes_with works (at held window) number) (value ∙ ap (answers_of queries) (sym again))
+        ∙ ap (closes_with works (at held window) number) (value ∙ ap (answers_of queries (kept_from last number)) (sym again))
         ∙ sym (ap (after_close works (at held window)) is)
 
     pub install_changes : (held : Option (Supply (List ℕ))) (window : Window) (closed : ℕ) (lanes : List Holder) → window ≡ Closed closed → lanes ≡ all_begun hs (kept_for_held closed installs held) →

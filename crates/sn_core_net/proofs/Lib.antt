@@ -1,7 +1,9 @@
+mod Rings
 pub mod Zips
 mod Named
 mod Both
 mod Facts
+mod Closing
 mod Changes
 mod Reading
 mod Makings

@@ -18,6 +18,7 @@ use Rattle.sn_engine_lockstep.specs.declared.source.Source.{Source}
 use Rattle.sn_emit.proofs.PlanLanes.{lanes_of_new, pipe_start}
 use Rattle.sn_emit.specs.Plans.{AreLanesOf, AreNewLanes, IsNewLane, Placed, pieces_from, placed}
 use Rattle.sn_emit.specs.declared.sender.Sender.{Sender}
+use Rattle.sn_emit.specs.declared.tables.Tables.{Tables}
 use Rattle.sn_engine.specs.Intakes.{emptied, is_lane}
 use Rattle.sn_engine.specs.declared.intake.Intake.{Intake}
 use Rattle.sn_plan_fit.specs.Fits.{AreEntriesOf, IsEntryOf}
@@ -51,39 +52,39 @@ pub new_own : (window room : ℕ) (ss : List Sender) → are_own window (map (wi
 new_own window room [] = refl
 new_own window room (s ∷ ss) = new_own window room ss
 
-module _ (queries : List TypedQuery) (depth room : ℕ) where
-  new_names : (xs : List Placed) (ss : List Sender) → AreNewLanes queries depth xs ss → names_of (map (with_ring room) ss) ≡ map name_of xs
+module _ (queries : List TypedQuery) (tables : Tables) (room : ℕ) where
+  new_names : (xs : List Placed) (ss : List Sender) → AreNewLanes queries tables xs ss → names_of (map (with_ring room) ss) ≡ map name_of xs
   new_names [] [] are = refl
   new_names [] (s ∷ ss) are = absurd are
   new_names (x ∷ xs) [] are = absurd are
   new_names (x ∷ xs) (s ∷ ss) are = ap₂ (λ name names. name ∷ names) are.0.lane (new_names xs ss are.1)
 
-  pub new_unread : (xs : List Placed) (ss : List Sender) → AreNewLanes queries depth xs ss → are_unread (map (with_ring room) ss) ≡ true
+  pub new_unread : (xs : List Placed) (ss : List Sender) → AreNewLanes queries tables xs ss → are_unread (map (with_ring room) ss) ≡ true
   new_unread [] [] are = refl
   new_unread [] (s ∷ ss) are = absurd are
   new_unread (x ∷ xs) [] are = absurd are
   new_unread (x ∷ xs) (s ∷ ss) are = both (s.pipe.prefix.place == 0) (are_unread (map (with_ring room) ss)) (ap (λ n. n == 0) are.0.pipe.unread) (new_unread xs ss are.1)
 
   -- they are those of the pieces
-  lanes_for : (xs : List Placed) (ss : List Sender) (is : List Intake) → length is ≡ length ss → AreLanesOf queries depth xs ss → AreLanesFor queries depth xs (lanes_of (map (with_ring room) ss) is)
+  lanes_for : (xs : List Placed) (ss : List Sender) (is : List Intake) → length is ≡ length ss → AreLanesOf queries tables xs ss → AreLanesFor queries tables xs (lanes_of (map (with_ring room) ss) is)
   lanes_for [] [] is e are = tt
   lanes_for [] (s ∷ ss) is e are = absurd are
   lanes_for (x ∷ xs) [] is e are = absurd are
   lanes_for (x ∷ xs) (s ∷ ss) [] e are = absurd (omega (arith, e))
   lanes_for (x ∷ xs) (s ∷ ss) (i ∷ is) e are = (are.0.pipe, lanes_for xs ss is (omega (arith, e)) are.1)
 
-  pub new_lanes_for : (xs : List Placed) (ss : List Sender) (is : List Intake) → length is ≡ length ss → AreNewLanes queries depth xs ss → AreLanesFor queries depth xs (lanes_of (map (with_ring room) ss) is)
-  new_lanes_for xs ss is e are = lanes_for xs ss is e (lanes_of_new queries depth xs ss are)
+  pub new_lanes_for : (xs : List Placed) (ss : List Sender) (is : List Intake) → length is ≡ length ss → AreNewLanes queries tables xs ss → AreLanesFor queries tables xs (lanes_of (map (with_ring room) ss) is)
+  new_lanes_for xs ss is e are = lanes_for xs ss is e (lanes_of_new queries tables xs ss are)
 
   -- and as a net is made
   module _ (intakes : List Intake) (sources : List Source) where
-    fresh_lane : (x : Placed) (s : Sender) → IsNewLane queries depth x s → lane_of (with_ring room s) (intake_of x) ≡ fresh (workings_of queries intakes sources) set.empty (lane_of (with_ring room s) (intake_of x))
+    fresh_lane : (x : Placed) (s : Sender) → IsNewLane queries tables x s → lane_of (with_ring room s) (intake_of x) ≡ fresh (workings_of queries intakes sources) set.empty (lane_of (with_ring room s) (intake_of x))
     fresh_lane x s new =
-        let start : settled s.pipe ≡ at_start s.pipe set.empty = unread_settled s.pipe new.pipe.unread ∙ sym (pipe_start queries depth x s new) in
+        let start : settled s.pipe ≡ at_start s.pipe set.empty = unread_settled s.pipe new.pipe.unread ∙ sym (pipe_start queries tables x s new) in
         ap (λ (p : PipeState). record (lane_of (with_ring room s) (intake_of x)) { pipe = p }) start
         ∙ ap (λ (b : Bool). record (lane_of (with_ring room s) (intake_of x)) { pipe = at_start s.pipe set.empty; ended = b }) new.no_end
 
-    pub fresh_lanes : (xs : List Placed) (ss : List Sender) → AreNewLanes queries depth xs ss
+    pub fresh_lanes : (xs : List Placed) (ss : List Sender) → AreNewLanes queries tables xs ss
         → lanes_of (map (with_ring room) ss) (map intake_of xs) ≡ map (fresh (workings_of queries intakes sources) set.empty) (lanes_of (map (with_ring room) ss) (map intake_of xs))
     fresh_lanes [] [] are = refl
     fresh_lanes [] (s ∷ ss) are = absurd are
@@ -102,7 +103,7 @@ module _ (queries : List TypedQuery) (depth room : ℕ) where
       both (is_lane (name_of x) (intake_of x) && list_all (λ other. not (is_lane other (intake_of x))) (map name_of xs)) (are_named (map name_of xs) (map emptied (map intake_of xs)))
       (both (is_lane (name_of x) (intake_of x)) (list_all (λ other. not (is_lane other (intake_of x))) (map name_of xs)) (own_name x) (none_other x xs h.0)) (pieces_named xs h.1)
 
-  pub new_named : (xs : List Placed) (ss : List Sender) (is : List Intake) → AreApart xs → AreNewLanes queries depth xs ss → is ≡ map intake_of xs → are_named (names_of (map (with_ring room) ss)) (map emptied is) ≡ true
+  pub new_named : (xs : List Placed) (ss : List Sender) (is : List Intake) → AreApart xs → AreNewLanes queries tables xs ss → is ≡ map intake_of xs → are_named (names_of (map (with_ring room) ss)) (map emptied is) ≡ true
   new_named xs ss is apart are e =
       ap₂ (λ (names : List Name) (ys : List Intake). are_named names (map emptied ys)) (new_names xs ss are) e ∙ pieces_named xs apart
 

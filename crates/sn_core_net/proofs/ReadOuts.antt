@@ -6,7 +6,7 @@ use Rattle.sn_chain.specs.Homes.{held_in_order}
 use Rattle.sn_report.specs.Items.{Item}
 use Rattle.sn_report.specs.declared.frame.Tag.{Tag}
 use Rattle.sn_pipe_items.specs.Items.{tagged}
-use Rattle.sn_pipe.specs.declared.stage.Stage.{Stage}
+use Rattle.sn_pipe.specs.AnyStage.{Stage}
 use Rattle.sn_pipe.specs.declared.stage.Stage.TheVariants.{Filter, Map, Distinct, Reduce}
 use Rattle.sn_pipe.specs.Windows.{goes_up, held_row, left_from, rows_left, tag_up}
 use Rattle.sn_pipe.proofs.ReadOuts.{left_up_is, reduce_behind}

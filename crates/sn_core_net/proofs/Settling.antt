@@ -8,7 +8,7 @@ use Rattle.sn_chain.specs.Chain.{ChainState}
 use Rattle.sn_report.specs.Items.{Item}
 use Rattle.sn_report.specs.declared.frame.Tag.{Tag}
 use Rattle.sn_pipe_items.specs.Items.{tagged}
-use Rattle.sn_pipe.specs.declared.stage.Stage.{Stage}
+use Rattle.sn_pipe.specs.AnyStage.{Stage}
 use Rattle.sn_pipe.specs.declared.stage.Stage.TheVariants.{Filter, Map, Distinct, Reduce}
 use Rattle.sn_pipe.specs.Pipes.{PipeState}
 use Rattle.sn_pipe.specs.Prefixes.{left_in}

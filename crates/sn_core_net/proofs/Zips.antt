@@ -1,13 +1,12 @@
 -- A test of one side of the lanes.
-use Rattle.std.proofs.Common.{◌≡◌, ℕ, zero, suc, ◌+◌, ◌<◌, List, [], ◌∷◌, map, length, Bool, true, not, cond, nat_lt, slice_get, is_some, position, get_or, set, drop, ◌==◌, ◌&&◌, ◌++◌, ◌-◌, OnOk, subst, unwrap_or, Result, Ok, Err, None, Some, refl, ap, ap₂, sym, ◌∙◌, arith}
+use Rattle.std.proofs.Common.{◌≡◌, ℕ, zero, suc, ◌+◌, ◌<◌, List, [], ◌∷◌, map, length, Bool, true, not, cond, nat_lt, slice_get, is_some, position, get_or, set, drop, ◌==◌, ◌&&◌, ◌++◌, OnOk, subst, unwrap_or, Result, Ok, Err, None, Some, refl, ap, ap₂, sym, ◌∙◌, arith}
 use Rattle.std.specs.List.{list_all, position_or_len}
 use Rattle.std.proofs.lemmas.Bool.{eqb-true, ltb-true}
-use Rattle.std.proofs.lemmas.List.{length-append}
 use Rattle.sn_base.proofs.Lists.{and_both, and_parts}
 use Rattle.sn_base.specs.declared.lane.Lane.{Lane as Name}
 use Rattle.sn_core.specs.Nets.{Lane}
 use Rattle.sn_core.proofs.Tests.{some_not_none}
-use Rattle.sn_core.specs.Events.{change_at, delivered, delivered_of}
+use Rattle.sn_core.specs.Events.{change_at, delivered_of}
 use Rattle.sn_core.specs.declared.supply.Frame.{Frame}
 use Rattle.sn_core.specs.declared.supply.Frame.TheVariants.{Row, Last}
 use Rattle.sn_core.specs.Needs.{passes}
@@ -70,13 +69,6 @@ change_both change other (k ∷ hs) [] n d h e within same = absurd (omega (arit
 change_both change other (k ∷ hs) (x ∷ xs) zero d h e within same = ap (λ lane. lane ∷ lanes_of hs xs) (sym (same x))
 change_both change other (k ∷ hs) (x ∷ xs) (suc n) d h e within same = ap (λ lanes. lane_of k x ∷ lanes) (change_both change other hs xs n d h (omega (arith, e)) (omega arith) same)
 
--- ---- rings
-
-pub kept_whole : {X : Type 0} (n : ℕ) (xs : List X) (x : X) → length xs < n → drop (length (xs ++ x ∷ []) - n) (xs ++ x ∷ []) ≡ xs ++ x ∷ []
-kept_whole n xs x room =
-    let none : length (xs ++ x ∷ []) - n ≡ 0 = omega (arith, room, length-append xs (x ∷ [])) in
-    ap (λ k. drop k (xs ++ x ∷ [])) none
-
 -- ---- tests of all holders
 
 pub all_at : {X : Type 0} (test : X → Bool) (xs : List X) (n : ℕ) (d : X) → list_all test xs ≡ true → n < length xs → test (get_or xs n d) ≡ true
@@ -104,25 +96,16 @@ pub all_first : {X : Type 0} (test : X → Bool) (xs : List X) (x : X) → list_
 all_first test [] x e first = some_not_none x (sym first)
 all_first test (y ∷ xs) x e first = ap test (ap (λ o. unwrap_or o x) (sym first)) ∙ (and_parts (test y) (list_all test xs) e).0
 
+-- a list in which an item is put where the same one stands
+pub set_same : {X : Type 0} (xs : List X) (n : ℕ) (x y : X) → n < length xs → x ≡ get_or xs n x → y ≡ x → set xs n y ≡ xs
+set_same [] n x y within at is = absurd (omega arith)
+set_same (z ∷ xs) zero x y within at is = ap (λ w. w ∷ xs) (is ∙ at)
+set_same (z ∷ xs) (suc n) x y within at is = ap (λ zs. z ∷ zs) (set_same xs n x y (omega arith) at is)
+
 pub fits : (len room capacity : ℕ) → nat_lt len room ≡ true → (capacity == room) ≡ true → len < capacity
 fits len room capacity less same = omega (arith, ltb-true len room less, eqb-true capacity room same)
 
 -- ---- the first frame of a lane
-
-pub get_same : {X : Type 0} (xs : List X) (n : ℕ) (d e : X) → n < length xs → get_or xs n d ≡ get_or xs n e
-get_same [] n d e within = absurd (omega arith)
-get_same (x ∷ xs) zero d e within = refl
-get_same (x ∷ xs) (suc n) d e within = get_same xs n d e (omega arith)
-
-none_moves : (lane : Lane PipeState Item) (frames : List Report) → slice_get frames 0 ≡ None → delivered_of lane (map frame_of frames) ≡ lane
-none_moves lane [] e = refl
-none_moves lane (frame ∷ frames) e = some_not_none frame e
-
-pub nothing_moves : (hs : List Holder) (xs : List Intake) (n : ℕ) (d : Holder) → length hs ≡ length xs → n < length hs → slice_get (get_or hs n d).ring.items 0 ≡ None → change_at delivered (lanes_of hs xs) n ≡ lanes_of hs xs
-nothing_moves [] xs n d e within none = absurd (omega arith)
-nothing_moves (h ∷ hs) [] n d e within none = absurd (omega (arith, e))
-nothing_moves (h ∷ hs) (x ∷ xs) zero d e within none = ap (λ lane. lane ∷ lanes_of hs xs) (none_moves (lane_of h x) h.ring.items none)
-nothing_moves (h ∷ hs) (x ∷ xs) (suc n) d e within none = ap (λ lanes. lane_of h x ∷ lanes) (nothing_moves hs xs n d (omega (arith, e)) (omega arith) none)
 
 abbrev lane_with : Holder → List (Frame Item) → Intake → Lane PipeState Item
 lane_with h frames x = record { pipe = settled h.sender.pipe; ended = h.sender.ended; ring = frames; taken = x.items; closed = is_some x.end }

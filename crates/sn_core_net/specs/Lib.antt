@@ -1,5 +1,7 @@
 pub mod States
 pub mod Facts
+pub mod Kinds
+pub mod Rings
 pub mod Holders
 pub mod Nets
 pub mod Reports

@@ -8,6 +8,7 @@ use Rattle.sn_core.specs.Due.{Tuples}
 use Rattle.sn_core.specs.Nets.{Lane}
 use Rattle.sn_core.specs.Workings.{Workings}
 use Rattle.sn_emit.specs.Plans.{IsNewPipeOf, Placed, pieces_from}
+use Rattle.sn_emit.specs.declared.tables.Tables.{Tables}
 use Rattle.sn_engine.specs.Answers.{answers_of}
 use Rattle.sn_engine.specs.declared.intake.Intake.{Intake}
 use Rattle.sn_pipe.specs.Pipes.{PipeState, after_packet, at_start, item_of}
@@ -33,8 +34,8 @@ all_ended window [] items = []
 all_ended window (x ∷ xs) [] = ended window [] x ∷ all_ended window xs []
 all_ended window (x ∷ xs) (items ∷ rest) = ended window items x ∷ all_ended window xs rest
 
--- A net over the pipes of a switch and these lanes of an engine: its answers are those of the engine, which looks at no prefixes, and
--- the prefixes that they keep for a lane are those of the lane's source.
+-- A net over the pipes of a switch and these lanes of an engine: its answers are those of the engine, which drops items of other
+-- prefixes, and the prefixes that they keep for a lane are those of the lane's source.
 abbrev pub workings_of : List TypedQuery → List Intake → List Source → Workings PipeState (List ℕ) Item (set.FinSet nat_cmp) Answers
 workings_of queries intakes sources = record {
   item_of = item_of;
@@ -45,7 +46,7 @@ workings_of queries intakes sources = record {
   unwalked = unwalked;
   start = at_start;
   nothing = set.empty;
-  answers = λ sets window items. answers_of queries (all_ended window intakes items);
+  answers = λ sets window items. answers_of queries sets (all_ended window intakes items);
   kept_of = λ answers. map (prefixes_in queries answers.parts) sources;
 }
 
@@ -56,11 +57,11 @@ workings queries entries = workings_of queries (map intake_of (pieces_from 0 ent
 -- ---- the lanes of a net of a plan
 
 -- a lane for each piece in order: at the start of a window its pipe is as it was made, but for the prefix set
-abbrev pub AreLanesFor : List TypedQuery → ℕ → List Placed → List (Lane PipeState Item) → Type 0
-AreLanesFor queries depth [] [] = Unit {0}
-AreLanesFor queries depth [] (lane ∷ lanes) = ⊥
-AreLanesFor queries depth (x ∷ xs) [] = ⊥
-AreLanesFor queries depth (x ∷ xs) (lane ∷ lanes) = IsNewPipeOf queries depth x (at_start lane.pipe set.empty) × AreLanesFor queries depth xs lanes
+abbrev pub AreLanesFor : List TypedQuery → Tables → List Placed → List (Lane PipeState Item) → Type 0
+AreLanesFor queries tables [] [] = Unit {0}
+AreLanesFor queries tables [] (lane ∷ lanes) = ⊥
+AreLanesFor queries tables (x ∷ xs) [] = ⊥
+AreLanesFor queries tables (x ∷ xs) (lane ∷ lanes) = IsNewPipeOf queries tables x (at_start lane.pipe set.empty) × AreLanesFor queries tables xs lanes
 
 -- a window that is given, with its number
 abbrev pub given_of : Tuples (List ℕ) → Window

@@ -3,7 +3,7 @@
 use Rattle.std.specs.Prelude.{ℕ, suc, List, [], ◌∷◌, drop, filter, length, map, Bool, false, ◌||◌, nat_le, Option, if◌then◌else◌}
 use Rattle.sn_base.specs.Groups.{Row}
 use Rattle.sn_chain.specs.Homes.{held_in_order}
-use Rattle.sn_pipe.specs.declared.stage.Stage.{Stage}
+use Rattle.sn_pipe.specs.AnyStage.{Stage}
 use Rattle.sn_pipe.specs.declared.stage.Stage.TheVariants.{Filter, Map, Distinct, Reduce}
 use Rattle.sn_pipe.specs.Pipes.{PipeState}
 use Rattle.sn_pipe.specs.Windows.{goes_up, held_row}

@@ -1,6 +1,6 @@
 -- serves proofs
 -- The state of a net, as it is spoken of.
-use Rattle.std.specs.Prelude.{ℕ, List, [], ◌∷◌, map, is_some, Option}
+use Rattle.std.specs.Prelude.{ℕ, List, [], ◌∷◌, map, is_some, Option, None, Some}
 use Rattle.sn_core.specs.Nets.{Lane, Net}
 use Rattle.sn_core.specs.Workings.{Workings}
 use Rattle.sn_core.specs.declared.supply.Supply.{Supply}
@@ -37,6 +37,11 @@ abbrev pub lanes_of : List Holder → List Intake → List (Lane PipeState Item)
 lanes_of [] xs = []
 lanes_of (h ∷ hs) [] = []
 lanes_of (h ∷ hs) (x ∷ xs) = lane_of h x ∷ lanes_of hs xs
+
+-- what an engine keeps of its last close: the number of that window, and by lane the prefixes of its answers
+abbrev pub last_of : Option ℕ → List Set → Option (ℕ × List Set)
+last_of None sets = None
+last_of (Some closed) sets = Some (closed, sets)
 
 abbrev pub state_of : ℕ → Option (Supply (List ℕ)) → Window → List Holder → List Intake → List Set → Option (ℕ × List Set) → Option Answers → State
 state_of room held window hs xs installs last waiting =

@@ -49,7 +49,7 @@ impl Net {
         requires { lane < length self.now.lanes.items }
         ensures { result ≡ passes (λ x. not x.ended) (state self.now).lanes lane }
     {
-        !self.lanes[lane as usize].sender.ended
+        !self.lanes[lane as usize].has_ended()
     }
 
     /// Whether a lane has room for one more frame.
@@ -65,7 +65,7 @@ impl Net {
         requires { lane < length self.now.lanes.items }
         ensures { result ≡ passes (λ x. not (is_empty x)) (state self.now).lanes lane }
     {
-        !self.lanes[lane as usize].ring.is_empty()
+        !self.lanes[lane as usize].is_empty()
     }
 
     fn packet_need(&self) -> Option<Why>

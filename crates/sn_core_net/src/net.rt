@@ -5,7 +5,7 @@ ghost use Rattle.sn_engine.specs.Intakes.{emptied};
 ghost use Rattle.sn_core_net.specs.Facts.{are_named, are_own, are_roomy, are_unread, ends_agree, may_be_read, names_of};
 ghost use Rattle.sn_engine_lockstep.specs.Known.{AreKnown, are_known_prop};
 ghost use Rattle.sn_core_net.specs.Reports.{window_number};
-ghost use Rattle.sn_core_net.specs.States.{state_of, works_of};
+ghost use Rattle.sn_core_net.specs.States.{last_of, state_of, works_of};
 
 use crate::holder::Holder;
 use sn_base::members::Members;
@@ -32,8 +32,6 @@ pub struct Net {
     pub sources: Seq<Source>,
     /// By lane: the prefixes to install, from the answers of the window that was closed last.
     pub installs: Vec<Members>,
-    /// What the engine keeps of its last close: the number of that window, and by lane the prefixes of its answers.
-    pub last: Option<(u64, Seq<Members>)>,
     /// The answers that wait to be taken.
     pub waiting: Option<Answers>,
     ghost matched: { length lanes.items ≡ length engine.lanes.items },
@@ -46,5 +44,5 @@ pub struct Net {
     ghost agreed: { ends_agree window engine.lanes.items ≡ true },
     ghost known: { AreKnown engine.t.queries sources } by { are_known_prop engine.t.queries sources },
     ghost standing: { ∥ IsNet (works_of engine.t.queries engine.lanes.items sources)
-        (state_of room held window lanes.items engine.lanes.items installs.items last waiting) ∥₁ },
+        (state_of room held window lanes.items engine.lanes.items installs.items (last_of engine.closed engine.kept) waiting) ∥₁ },
 }

@@ -1,13 +1,12 @@
 //! The events.
 ghost use Rattle.std.specs.Prelude.{◌≡◌, ◌<◌, suc, map, nat_eq, length, true, IfOk, OnOk, OnErr, None};
-ghost use Rattle.std.specs.List.{list_all};
 ghost use Rattle.sn_core.specs.Events.{after_event, kept_for_held, window_of_held};
 ghost use Rattle.sn_core.specs.Needs.{first_need_that_fails};
 ghost use Rattle.sn_core.specs.declared.event.Event.TheVariants as Event;
 ghost use Rattle.sn_core.specs.declared.supply.Window.TheVariants as Window;
 ghost use Rattle.sn_engine_lockstep.specs.Sources.{prefixes_in};
-ghost use Rattle.sn_engine.specs.Answers.{answers_of};
-ghost use Rattle.sn_engine.specs.Intakes.{after_frame, has_ended};
+ghost use Rattle.sn_engine.specs.Answers.{answers_of, window_of};
+ghost use Rattle.sn_engine.specs.Keeping.{kept_for};
 ghost use Rattle.sn_core_net.specs.Holders.{all_begun};
 ghost use Rattle.sn_core_net.specs.Nets.{state, works};
 ghost use Rattle.sn_core_net.specs.Reports.{window_number};
@@ -21,12 +20,10 @@ use crate::prefixes::prefix_sets;
 use sn_base::members::Members;
 use sn_base::memory::Memory;
 use sn_base::seq::Seq;
-use sn_base::short_row::ShortRow;
 use sn_core::event::Event;
 use sn_core::supply::{Supply, Window};
 use sn_engine::engine::Engine;
 use sn_fields::tuple::Tuple;
-use sn_report::frame::Frame;
 use sn_types::answers::Answers;
 use std::alloc::Global;
 
@@ -83,22 +80,10 @@ fn window_number(window: &Window) -> u64
     }
 }
 
-/// The engine takes a frame.
-fn take(engine: &mut Engine, frame: &Frame<ShortRow>) -> Result<(), Memory>
-    ensures ok { OnOk result (engine.new.lanes.items ≡ after_frame engine.old.lanes.items frame.now) }
-    ensures err { OnErr result (engine.new.lanes.items ≡ engine.old.lanes.items) }
-    ensures queries { engine.new.t.queries ≡ engine.old.t.queries }
-{
-    match engine.take(frame) {
-        Ok(()) => Ok(()),
-        Err(_) => Err(Memory),
-    }
-}
-
 /// The answers of the window that all lanes have ended.
 fn value(engine: &Engine) -> Result<Answers, Memory>
-    ensures answers { IfOk result (λ answers. answers ≡ answers_of engine.now.t.queries engine.now.lanes.items) }
-    ensures ended { IfOk result (λ answers. list_all (has_ended answers.window) engine.now.lanes.items ≡ true) }
+    ensures { let lanes = engine.now.lanes.items in
+        IfOk result (λ answers. answers ≡ answers_of engine.now.t.queries (kept_for engine.now.closed engine.now.kept (window_of lanes)) lanes) }
 {
     match engine.value() {
         Ok(answers) => Ok(answers),
@@ -113,9 +98,9 @@ impl Net {
         ensures state { state self.new ≡ after_event (works self.old) (state self.old) Event.Packet }
         ensures works { works self.new ≡ works self.old }
     {
-        if let Some(held) = self.held {
+        if let Some(held) = &self.held {
             if let Supply::Numbered(_, tuple) = held {
-                take_in_all(&mut self.lanes, &tuple);
+                take_in_all(&mut self.lanes, tuple);
                 self.held = None;
             }
         }
@@ -140,20 +125,15 @@ impl Net {
         ensures err { OnErr result (state self.new ≡ state self.old) }
         ensures works { works self.new ≡ works self.old }
     {
-        let frame = match self.lanes[lane as usize].ring.front() {
-            Some(frame) => frame,
-            None => return Ok(()),
-        };
-        take(&mut self.engine, frame)?;
-        self.lanes[lane as usize].ring.pop_front();
+        self.lanes[lane as usize].deliver(&mut self.engine)?;
         Ok(())
     }
 
     /// The answers of the window that all lanes have ended, and twice the prefixes that they keep for each lane: to install, and
     /// for the engine to keep.
     fn answer(&self) -> Result<(Answers, Vec<Members>, Seq<Members>), Memory>
-        ensures answers { IfOk result (λ found. found.0 ≡ answers_of self.now.engine.t.queries self.now.engine.lanes.items) }
-        ensures ended { IfOk result (λ found. list_all (has_ended found.0.window) self.now.engine.lanes.items ≡ true) }
+        ensures answers { let engine = self.now.engine in let lanes = engine.lanes.items in
+            IfOk result (λ found. found.0 ≡ answers_of engine.t.queries (kept_for engine.closed engine.kept (window_of lanes)) lanes) }
         ensures sets { IfOk result (λ found. found.1.items ≡ map (prefixes_in self.now.engine.t.queries found.0.parts) self.now.sources) }
         ensures kept { IfOk result (λ found. found.2 ≡ map (prefixes_in self.now.engine.t.queries found.0.parts) self.now.sources) }
     {
@@ -167,16 +147,15 @@ impl Net {
     fn close_with(&mut self, number: u64, answers: Answers, sets: Vec<Members>, kept: Seq<Members>)
         requires begun { self.old.window ≡ Window.Begun number }
         requires may { first_need_that_fails (state self.old) Event.CloseWindow ≡ None }
-        requires answers { answers ≡ answers_of self.old.engine.t.queries self.old.engine.lanes.items }
-        requires ended { list_all (has_ended answers.window) self.old.engine.lanes.items ≡ true }
+        requires answers { let engine = self.old.engine in let lanes = engine.lanes.items in
+            answers ≡ answers_of engine.t.queries (kept_for engine.closed engine.kept (window_of lanes)) lanes }
         requires sets { sets.items ≡ map (prefixes_in self.old.engine.t.queries answers.parts) self.old.sources }
         requires kept { kept ≡ map (prefixes_in self.old.engine.t.queries answers.parts) self.old.sources }
         ensures state { state self.new ≡ after_event (works self.old) (state self.old) Event.CloseWindow }
         ensures works { works self.new ≡ works self.old }
     {
-        self.engine.empty(answers.window);
+        self.engine.empty(number, kept);
         self.installs = sets;
-        self.last = Some((number, kept));
         self.waiting = Some(answers);
         self.window = Window::Closed(number);
     }

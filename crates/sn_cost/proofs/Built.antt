@@ -1,5 +1,6 @@
 -- The entries of a table, query by query.
-use Rattle.std.proofs.Common.{◌≡◌, ℕ, zero, suc, ◌+◌, ◌-◌, ◌*◌, ◌≤◌, ◌<◌, ◌^◌, List, [], ◌∷◌, length, length-append, map, take, slice_index, nat_eq, nat_lt, Option, None, Some, refl, ap, sym, ◌∙◌, arith}
+use Rattle.std.proofs.Common.{◌≡◌, ℕ, zero, suc, ◌+◌, ◌-◌, ◌*◌, ◌≤◌, ◌<◌, ◌^◌, List, [], ◌∷◌, length, length-append, map, take, slice_index, nat_eq, nat_lt}
+use Rattle.std.proofs.Common.{Option, None, Some, refl, ap, sym, ◌∙◌, arith}
 use Rattle.std.specs.Prelude.{slice_get, unwrap_or}
 use Rattle.std.specs.List.{flat_map, range_with_len, sum_by}
 use Rattle.std.proofs.lemmas.Bool.{lt-ltb}
@@ -20,13 +21,14 @@ use Rattle.sn_plan_choices.proofs.Narrow.{typed_narrow}
 use Rattle.sn_plan_choices.proofs.OptionLists.{of_cut, one_size, pair, two_sizes}
 use Rattle.sn_cost_counts.specs.Counts.{setting_count}
 use Rattle.sn_ops.specs.Packets.{packet_rows}
-use Rattle.sn_refine.specs.Refined.{Windows, seen_at}
+use Rattle.sn_refine.specs.Passes.{passes_at}
+use Rattle.sn_refine.specs.Refined.{Windows}
 use Rattle.sn_refine.specs.Steps.{windows_of}
 use Rattle.sn_cost.specs.Adding.{Adds, where_so}
-use Rattle.sn_cost.specs.Entries.{IsPiece, entry_count, front_of, sent_in, sent_of}
+use Rattle.sn_cost.specs.Entries.{IsPiece, cost_in, entry_count, front_of, installed_in, sent_of}
 use Rattle.sn_cost.specs.Training.{IsFresh, added, at_prefix, counts_in, of_fronts, of_queries, window_counts}
 use Rattle.sn_cost.proofs.Fronts.{few_fronts, four_levels}
-use Rattle.sn_cost.proofs.Growing.{next_where, none_where}
+use Rattle.sn_cost.proofs.Growing.{fee_within, next_where, none_where}
 use Rattle.sn_windows.specs.Rising.{Window}
 use Rattle.sn_base.proofs.Tests.{not_less}
 
@@ -62,7 +64,7 @@ few_options s b switch narrow =
     let few : length (options s b) ≤ 16 * (b.max_cut + 1) = few_cuts s b switch.slots.most narrow (b.max_cut + 1) 0 (omega arith) in
     omega (arith, few, narrow.cut)
 
--- ---- what a window adds is what the piece sends
+-- ---- what a window adds is what the piece costs
 
 mapped_at : {X : Type 0} (f : X → ℕ) (d : X) (xs : List X) (n : ℕ) → n < length xs → slice_index (map f xs) n ≡ f (unwrap_or (slice_get xs n) d)
 mapped_at f d [] n lt = absurd (omega (arith, lt))
@@ -73,20 +75,33 @@ pub sums_same : {X : Type 0} (f g : X → ℕ) → ((x : X) → f x ≡ g x) →
 sums_same f g e [] = refl
 sums_same f g e (x ∷ xs) = sum_by-cons f x xs ∙ ap (λ n. n + sum_by f xs) (e x) ∙ ap (λ n. g x + n) (sums_same f g e xs) ∙ sym (sum_by-cons g x xs)
 
-sent_seen : (s : Switch) (query : TypedQuery) (b level n : ℕ) (seen : Option (List (List ℕ))) → n < length (options s (branch_of query b))
-    → slice_index (counts_in s query b level seen) n ≡ sent_of query b level s.chain (option_at s (branch_of query b) n) seen
-sent_seen s query b level n None lt = refl
-sent_seen s query b level n (Some seen) lt =
-    mapped_at (setting_count (branch_of query b) level s.chain (packet_rows query b level None seen)) (0, []) (options s (branch_of query b)) n lt
+sent_seen : (s : Switch) (query : TypedQuery) (b level n : ℕ) (passing : Option (List (List ℕ))) → n < length (options s (branch_of query b))
+    → slice_index (counts_in s query b level passing) n ≡ sent_of query b level s.chain (option_at s (branch_of query b) n) passing
+sent_seen s query b level n None lt = mapped_at (λ o. 0) (0, []) (options s (branch_of query b)) n lt
+sent_seen s query b level n (Some passing) lt =
+    mapped_at (setting_count (branch_of query b) level s.chain (packet_rows query b level None passing)) (0, []) (options s (branch_of query b)) n lt
+
+counts_long : (s : Switch) (query : TypedQuery) (b level : ℕ) (passing : Option (List (List ℕ))) → length (counts_in s query b level passing) ≡ length (options s (branch_of query b))
+counts_long s query b level None = length-map (options s (branch_of query b)) (λ o. 0)
+counts_long s query b level (Some passing) = length-map (options s (branch_of query b)) (setting_count (branch_of query b) level s.chain (packet_rows query b level None passing))
+
+cost_seen : (s : Switch) (query : TypedQuery) (windows : Windows) (front : List ℕ) (b n w : ℕ) → n < length (options s (branch_of query b))
+    → slice_index (window_counts s query windows front b w) n ≡ cost_in query s.entries s.weight windows front b s.chain (option_at s (branch_of query b) n) w
+cost_seen s query windows front b n w lt =
+    let last : ℕ = length front - 1 in
+    let level : ℕ = slice_index front last in
+    let passing : Option (List (List ℕ)) = passes_at query s.entries windows front last w in
+    let fee : ℕ = s.weight * installed_in query s.entries windows front last w in
+    let long = counts_long s query b level passing in
+    fee_within fee (counts_in s query b level passing) n (omega (arith, long, lt)) ∙ ap (λ m. m + fee) (sent_seen s query b level n passing lt)
 
 counted_sent : (s : Switch) (query : TypedQuery) (given : List Window) (prefix b n : ℕ) → n < length (options s (branch_of query b))
-    → added s query (windows_of given) (front_of prefix query.levels) b n given ≡ entry_count s.chain query given prefix b (option_at s (branch_of query b) n)
+    → added s query (windows_of given) (front_of prefix query.levels) b n given ≡ entry_count s.chain s.entries s.weight query given prefix b (option_at s (branch_of query b) n)
 counted_sent s query given prefix b n lt =
     let windows : Windows = windows_of given in
     let front : List ℕ = front_of prefix query.levels in
-    let last : ℕ = length front - 1 in
-    sums_same (λ (g : Window). slice_index (window_counts s query windows front b g.0) n) (λ (g : Window). sent_in query windows front b s.chain (option_at s (branch_of query b) n) g.0)
-    (λ g. sent_seen s query b (slice_index front last) n (seen_at query windows front last g.0) lt) given
+    sums_same (λ (g : Window). slice_index (window_counts s query windows front b g.0) n) (λ (g : Window). cost_in query s.entries s.weight windows front b s.chain (option_at s (branch_of query b) n) g.0)
+    (λ g. cost_seen s query windows front b n g.0 lt) given
 
 -- ---- query by query
 
@@ -119,9 +134,9 @@ module _ (s : Switch) (queries : List TypedQuery) (given : List Window) where
   query_fresh table n lt so_far prefix = λ b option p.
       so_far.entries n prefix b option lt p.of_prefix p.of_branch p.of_option ∙ ap (λ c. where_so c (at_query prefix b option n)) (not_less n n (omega arith))
 
-  -- the table of all queries holds what each piece sends
+  -- the table of all queries holds what each piece costs
   pub all_built : (window n : ℕ) (table : CostTable) → ∥ IsTyped window queries ∥₁ → IsSwitch s → length queries ≤ n → BuiltTo n table
-      → (q prefix b o : ℕ) → IsPiece s queries q prefix b o → entry_in table q prefix b o ≡ entry_count s.chain (query_at queries q) given prefix b (option_at s (branch_at queries q b) o)
+      → (q prefix b o : ℕ) → IsPiece s queries q prefix b o → entry_in table q prefix b o ≡ entry_count s.chain s.entries s.weight (query_at queries q) given prefix b (option_at s (branch_at queries q b) o)
   all_built window n table t switch le so_far q prefix b o piece =
       let query : TypedQuery = query_at queries q in
       let front : List ℕ = front_of prefix query.levels in

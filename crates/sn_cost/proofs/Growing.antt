@@ -9,10 +9,10 @@ use Rattle.sn_types.specs.declared.typed_query.TypedQuery.{TypedQuery}
 use Rattle.sn_types.specs.Typed.{branch_of, packet_row}
 use Rattle.std.proofs.lemmas.Bool.{false≢true, lt-ltb, ltb-false, ltb-true}
 use Rattle.sn_cost.specs.Entries.{front_of}
-use Rattle.sn_base.proofs.Lists.{by_test, nat_same, nat_self, not_true, filter_short}
+use Rattle.sn_base.proofs.Lists.{by_test, nat_same, nat_self, filter_short}
 use Rattle.sn_plan_choices.specs.declared.costs.CostTable.{CostTable}
 use Rattle.sn_plan_choices.specs.Costs.{HasPlaces, IsPlace, OthersStay, entry_in}
-use Rattle.sn_cost.specs.Adding.{Adds, AreSmall, Entries, HasRoom, of_branches, of_counts, where_so}
+use Rattle.sn_cost.specs.Adding.{Adds, AreSmall, Entries, HasRoom, of_branches, of_counts, where_so, with_fee}
 use Rattle.sn_base.proofs.Tests.{not_less}
 use Rattle.sn_windows.specs.Blocks.{most_records}
 
@@ -160,13 +160,25 @@ small_at [] option h = omega arith
 small_at (n ∷ counts) zero h = h.0
 small_at (n ∷ counts) (suc option) h = small_at counts option h.1
 
+-- a count with a fee
+pub fee_within : (fee : ℕ) (counts : List ℕ) (option : ℕ) → option < length counts → slice_index (with_fee fee counts) option ≡ slice_index counts option + fee
+fee_within fee [] option lt = absurd (omega (arith, lt))
+fee_within fee (n ∷ counts) zero lt = refl
+fee_within fee (n ∷ counts) (suc option) lt = fee_within fee counts option (omega (arith, lt))
+
+pub fee_most : (fee : ℕ) (counts : List ℕ) (option : ℕ) → slice_index (with_fee fee counts) option ≤ slice_index counts option + fee
+fee_most fee [] option = omega arith
+fee_most fee (n ∷ counts) zero = omega arith
+fee_most fee (n ∷ counts) (suc option) = fee_most fee counts option
+
 -- there is room for the next count
-pub room_at : (a b : CostTable) (q prefix n : ℕ) (counts : List ℕ) (i : ℕ) → i < 256 → HasPlaces a (q + 1) → prefix < 16 → n < 2 → HasRoom a q prefix n → AreSmall counts → Adds a b (counts_below q prefix n counts i)
-    → entry_in b q prefix n i + slice_index counts i ≤ 2 ^ 56
-room_at a b q prefix n counts i lt has of_prefix of_branch room small so_far =
+pub room_at : (a b : CostTable) (q prefix n : ℕ) (counts : List ℕ) (fee i : ℕ) → i < 256 → HasPlaces a (q + 1) → prefix < 16 → n < 2 → HasRoom a q prefix n fee → AreSmall counts → Adds a b (counts_below q prefix n (with_fee fee counts) i)
+    → entry_in b q prefix n i + slice_index counts i + fee ≤ 2 ^ 56
+room_at a b q prefix n counts fee i lt has of_prefix of_branch room small so_far =
     let p : IsPlace a q prefix n i = record { of_query = has; of_prefix = of_prefix; of_branch = of_branch; of_option = lt } in
     let one = so_far.grown q prefix n i p in
-    let z = zeros (nat_eq q q) (nat_eq prefix prefix) (nat_eq n n) (where_so (nat_lt i i) (slice_index counts i)) (ap (λ c. where_so c (slice_index counts i)) (not_less i i (omega arith))) in
+    let next : ℕ = slice_index (with_fee fee counts) i in
+    let z = zeros (nat_eq q q) (nat_eq prefix prefix) (nat_eq n n) (where_so (nat_lt i i) next) (ap (λ c. where_so c next) (not_less i i (omega arith))) in
     let r = room i lt in
     let s = small_at counts i small in
     omega (arith, one, z, r, s)
@@ -191,8 +203,8 @@ one_branch a b c q prefix i counts found so_far is more =
     (λ q' prefix' n option. two (nat_eq q q') (nat_eq prefix prefix') _ _ _ (next_where (λ x. slice_index (counts x) option) n i))
 
 -- the entries of a branch that isn't counted yet have the room that they had
-pub room_left : (a b : CostTable) (q prefix i : ℕ) (counts : ℕ → List ℕ) → HasPlaces a (q + 1) → prefix < 16 → i < 2 → Adds a b (of_branches q prefix i counts) → HasRoom a q prefix i → HasRoom b q prefix i
-room_left a b q prefix i counts has of_prefix of_branch so_far room = λ option lt.
+pub room_left : (a b : CostTable) (q prefix i fee : ℕ) (counts : ℕ → List ℕ) → HasPlaces a (q + 1) → prefix < 16 → i < 2 → Adds a b (of_branches q prefix i counts) → HasRoom a q prefix i fee → HasRoom b q prefix i fee
+room_left a b q prefix i fee counts has of_prefix of_branch so_far room = λ option lt.
     let place : IsPlace a q prefix i option = record { of_query = has; of_prefix = of_prefix; of_branch = of_branch; of_option = lt } in
     let one = so_far.grown q prefix i option place in
     let z = zeros (nat_eq q q) (nat_eq prefix prefix) true (where_so (nat_lt i i) (slice_index (counts i) option)) (ap (λ c. where_so c (slice_index (counts i) option)) (not_less i i (omega arith))) in

@@ -1,7 +1,11 @@
 pub mod Growing
 pub mod Running
+pub mod Installed
+pub mod Few
+pub mod Fees
 pub mod Seeing
 pub mod Totals
 pub mod Trained
 pub mod Fronts
+pub mod Bounded
 pub mod Built

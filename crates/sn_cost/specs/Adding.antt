@@ -1,6 +1,6 @@
 -- serves proofs
 -- Tables that grow entry by entry.
-use Rattle.std.specs.Prelude.{◌≡◌, ℕ, ◌+◌, ◌*◌, ◌≤◌, ◌<◌, ◌^◌, List, Bool, nat_eq, nat_lt, slice_index, Option, if◌then◌else◌}
+use Rattle.std.specs.Prelude.{◌≡◌, ℕ, ◌+◌, ◌*◌, ◌≤◌, ◌<◌, ◌^◌, List, map, Bool, nat_eq, nat_lt, slice_index, Option, if◌then◌else◌}
 use Rattle.std.specs.List.{AllByRecursion}
 use Rattle.sn_switch.specs.declared.switch.Switch.{Switch}
 use Rattle.sn_types.specs.declared.typed_query.TypedQuery.{TypedQuery}
@@ -24,12 +24,16 @@ pub record Adds (old new : CostTable) (more : Entries) : Type 0 where
   pub grown : (q prefix b option : ℕ) → IsPlace old q prefix b option → entry_in new q prefix b option ≡ entry_in old q prefix b option + more q prefix b option
   pub places : (queries : ℕ) → HasPlaces old queries → HasPlaces new queries
 
--- the entries of a branch at a front have room for the counts of one more window
-abbrev pub HasRoom : CostTable → ℕ → ℕ → ℕ → Type 0
-HasRoom table q prefix b = (option : ℕ) → option < 256 → entry_in table q prefix b option + 13 * most_records ≤ 2 ^ 56
+-- the entries of a branch at a front have room for the counts of one more window, and for this fee
+abbrev pub HasRoom : CostTable → ℕ → ℕ → ℕ → ℕ → Type 0
+HasRoom table q prefix b fee = (option : ℕ) → option < 256 → entry_in table q prefix b option + fee + 13 * most_records ≤ 2 ^ 56
 
 abbrev pub AreSmall : List ℕ → Type 0
 AreSmall counts = AllByRecursion (λ n. n ≤ 13 * most_records) counts
+
+-- counts, each with a fee
+abbrev pub with_fee : ℕ → List ℕ → List ℕ
+with_fee fee counts = map (λ n. n + fee) counts
 
 -- the counts of one branch, at a front
 abbrev pub of_counts : ℕ → ℕ → ℕ → List ℕ → Entries

@@ -1,15 +1,21 @@
 //! The counts of a window.
-ghost use Rattle.std.specs.Prelude.{◌≡◌, ℕ, ◌<◌, ◌≤◌, ◌+◌, length, nat_eq, true, OnOk};
+ghost use Rattle.std.specs.Prelude.{◌≡◌, ℕ, ◌<◌, ◌≤◌, ◌+◌, length, nat_eq, true, IfOk, OnOk};
 ghost use Rattle.std.specs.List.{list_any};
 ghost use Rattle.sn_plan_choices.specs.Costs.{HasPlaces};
-ghost use Rattle.sn_cost.specs.Adding.{Adds, AreSmall, HasRoom, kept_counts, of_branches};
+ghost use Rattle.sn_cost.specs.Adding.{Adds, AreSmall, HasRoom, kept_counts, of_branches, with_fee};
 ghost use Rattle.sn_ops.specs.Packets.{OfALevel};
 ghost use Rattle.sn_switch.specs.Texts.{IsSwitch};
-ghost use Rattle.sn_types.specs.Typed.{query_at};
+ghost use Rattle.sn_types.specs.Kinds.{AreBelow};
+ghost use Rattle.sn_types.specs.Typed.{branch_at, query_at};
 ghost use Rattle.sn_windows.specs.Blocks.{most_records};
 
 use crate::adding::add_counts;
+use sn_base::any_row::AnyRow;
 use sn_base::memory::Memory;
+use sn_base::row::Row;
+use sn_base::row_seq::RowSeq;
+use sn_base::seq::Seq;
+use sn_base::short_row::ShortRow;
 use sn_cost_counts::branch::counts_of;
 use sn_fields::tuple::Tuple;
 use sn_ops::packets::{Kept, packet_rows};
@@ -18,7 +24,59 @@ use sn_plan_choices::setting::options;
 use sn_switch::switch::Switch;
 use sn_types::typed::Typed;
 
-/// Adds the counts of all branches at a level, over the tuples of a window that are kept, to their entries at a front.
+/// The counts of a branch at a level, over the tuples of a window that are kept, whose packet rows are of a kind.
+fn counts_over<R: AnyRow>(
+    t: &Typed,
+    s: &Switch,
+    q: u32,
+    b: u32,
+    level: u32,
+    kept: Option<Kept>,
+    tuples: &[Tuple],
+) -> Result<Seq<u64>, Memory>
+    requires switch { IsSwitch s.now }
+    requires query { q < length t.now.queries }
+    requires branch { b < length (query_at t.now.queries q).branches }
+    requires level { list_any (nat_eq level) (query_at t.now.queries q).levels ≡ true }
+    requires kept { OfALevel (query_at t.now.queries q) kept }
+    requires below { AreBelow R.Number.limit (branch_at t.now.queries q b).fields }
+    requires few { length tuples.now ≤ most_records }
+    ensures counts { IfOk result (λ counts. counts ≡ kept_counts s.now (query_at t.now.queries q) level kept.entry tuples.now b) }
+    ensures small { IfOk result (λ counts. AreSmall counts) }
+{
+    let alloc = t.alloc;
+    let rows: RowSeq<R> = packet_rows(alloc, t, q, b, level, kept, tuples)?;
+    counts_of(alloc, t, q, b, level, s.chain, s.slots.as_slice(), rows)
+}
+
+/// The counts of a branch at a level, over the tuples of a window that are kept. Its packet rows are short where it isn't wide: that
+/// is asked once, and then no row is.
+fn kept_counts(
+    t: &Typed,
+    s: &Switch,
+    q: u32,
+    b: u32,
+    level: u32,
+    kept: Option<Kept>,
+    tuples: &[Tuple],
+) -> Result<Seq<u64>, Memory>
+    requires switch { IsSwitch s.now }
+    requires query { q < length t.now.queries }
+    requires branch { b < length (query_at t.now.queries q).branches }
+    requires level { list_any (nat_eq level) (query_at t.now.queries q).levels ≡ true }
+    requires kept { OfALevel (query_at t.now.queries q) kept }
+    requires few { length tuples.now ≤ most_records }
+    ensures counts { IfOk result (λ counts. counts ≡ kept_counts s.now (query_at t.now.queries q) level kept.entry tuples.now b) }
+    ensures small { IfOk result (λ counts. AreSmall counts) }
+{
+    if t.is_wide(q, b) {
+        counts_over::<Row>(t, s, q, b, level, kept, tuples)
+    } else {
+        counts_over::<ShortRow>(t, s, q, b, level, kept, tuples)
+    }
+}
+
+/// Adds the counts of all branches at a level, over the tuples of a window that are kept, each with a fee, to their entries at a front.
 pub(crate) fn add_branches(
     t: &Typed,
     s: &Switch,
@@ -27,6 +85,7 @@ pub(crate) fn add_branches(
     level: u32,
     kept: Option<Kept>,
     tuples: &[Tuple],
+    fee: u64,
     table: &mut CostTable,
 ) -> Result<(), Memory>
     requires switch { IsSwitch s.now }
@@ -36,17 +95,23 @@ pub(crate) fn add_branches(
     requires few { length tuples.now ≤ most_records }
     requires places { HasPlaces table.old (q + 1) }
     requires prefix { prefix < 16 }
-    requires room { (b : ℕ) → b < 2 → HasRoom table.old q prefix b }
+    requires room { (b : ℕ) → b < 2 → HasRoom table.old q prefix b fee }
     ensures small { let query = query_at t.now.queries q in OnOk result ((b : ℕ) → b < length query.branches →
         AreSmall (kept_counts s.now query level kept.entry tuples.now b)) }
     ensures adds { let query = query_at t.now.queries q in OnOk result
-        (Adds table.old table.new (of_branches q prefix (length query.branches) (kept_counts s.now query level kept.entry tuples.now))) }
+        (Adds table.old table.new (of_branches q prefix (length query.branches) (λ b. with_fee fee (kept_counts s.now query level kept.entry tuples.now b)))) }
 {
-    let alloc = t.alloc;
     for b in 0..t.branches(q) {
-        let rows = packet_rows(alloc, t, q, b, level, kept, tuples)?;
-        let counts = counts_of(alloc, t, q, b, level, s.chain, s.slots.as_slice(), rows)?;
-        add_counts(table, q, prefix, b, options(t, s, q, b), counts.as_slice());
+        let counts = kept_counts(t, s, q, b, level, kept, tuples)?;
+        add_counts(
+            table,
+            q,
+            prefix,
+            b,
+            options(t, s, q, b),
+            counts.as_slice(),
+            fee,
+        );
     }
     Ok(())
 }

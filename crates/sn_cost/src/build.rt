@@ -46,10 +46,12 @@ fn add_query(
     Ok(())
 }
 
-/// The cost table of training windows. Each entry, of a query, a front of a path, a branch and an option, is the number of
-/// items that the piece sends over all windows, on the tuples that the level before on the front admits. `numbers` has
-/// the number of each tuple's window: as many as there are tuples, no more than a window may have records, and never falling.
-/// A window without a tuple answers nothing, so a level after the first sees nothing in the window after it.
+/// The cost table of training windows. Each entry, of a query, a front of a path, a branch and an option, is the number of items
+/// that the piece sends over all windows, and the switch's weight for each prefix that is installed in them. What passes at a level
+/// after the first are the tuples with a prefix that the level before on the front answered in the window before. Where these
+/// prefixes are more than the switch's entries, none is installed, and all tuples pass. `numbers` has the number of each
+/// tuple's window: as many as there are tuples, no more than a window may have records, and never falling. A window without a tuple
+/// answers nothing, so a level after the first sees nothing in the window after it.
 ///
 /// # Errors
 /// Out of memory.
@@ -60,7 +62,7 @@ pub fn build(t: &Typed, s: &Switch, tuples: &[Tuple], numbers: &[u64]) -> Result
     requires never_fall { NeverFall numbers.now }
     ensures places { IfOk result (λ table. HasPlaces table (length t.now.queries)) }
     ensures entries { IfOk result (λ table. (q prefix b n : ℕ) → IsPiece s.now t.now.queries q prefix b n →
-        entry_in table q prefix b n ≡ entry_count s.now.chain (query_at t.now.queries q) (trained numbers.now tuples.now) prefix b
+        entry_in table q prefix b n ≡ entry_count s.now.chain s.now.entries s.now.weight (query_at t.now.queries q) (trained numbers.now tuples.now) prefix b
         (option_at s.now (branch_at t.now.queries q b) n)) }
 {
     let mut table = CostTable::make(t, s)?;

@@ -1,11 +1,12 @@
 //! The training windows of a front.
-ghost use Rattle.std.specs.Prelude.{◌≡◌, ℕ, Some, ◌<◌, ◌≤◌, ◌+◌, ◌-◌, length, slice_index, nat_eq, true, IfSome, OnOk};
+ghost use Rattle.std.specs.Prelude.{◌≡◌, ℕ, Some, ◌<◌, ◌≤◌, ◌+◌, ◌-◌, ◌*◌, ◌^◌, length, slice_index, nat_eq, true, IfSome, OnOk};
 ghost use Rattle.std.specs.List.{list_any};
 ghost use Rattle.std.specs.FinSet as set;
 ghost use Rattle.sn_plan_choices.specs.Costs.{HasPlaces};
 ghost use Rattle.sn_cost.specs.Adding.{Adds, HasRoom, kept_counts, of_branches};
 ghost use Rattle.sn_cost.specs.Entries.{trained};
-ghost use Rattle.sn_cost.specs.Training.{AddsWindow, IsFresh, IsKept, NeverFall, of_front};
+ghost use Rattle.sn_cost.specs.Training.{AddsWindow, IsFresh, IsKept, NeverFall, admitted, fee_of, of_front, kept_count};
+ghost use Rattle.sn_engine_split.specs.Opened.{is_open};
 ghost use Rattle.sn_refine.specs.Steps.{IsPathOf, kept_at, kept_of, parts_in};
 ghost use Rattle.sn_switch.specs.Texts.{IsSwitch};
 ghost use Rattle.sn_types.specs.Typed.{query_at};
@@ -44,6 +45,40 @@ fn kept_behind<'a>(
     })
 }
 
+/// Whether a table with this many entries stays open, since there are more prefixes.
+fn is_open(entries: Option<u32>, members: &Members) -> bool
+    ensures { result ≡ is_open entries members.now }
+{
+    match entries {
+        Some(entries) => (entries as u64) < members.len(),
+        None => false,
+    }
+}
+
+/// The prefixes by which a table with this many entries admits tuples. It admits all where it stays open.
+fn admitted<'a>(entries: Option<u32>, kept: Option<Kept<'a>>) -> Option<Kept<'a>>
+    ensures { result ≡ admitted entries kept.entry }
+{
+    let Some(kept) = kept else {
+        return None;
+    };
+    if is_open(entries, kept.members) {
+        return None;
+    }
+    Some(kept)
+}
+
+/// What installed prefixes cost.
+fn fee_of(s: &Switch, installed: Option<Kept>) -> u64
+    requires { fee_of s.now installed ≤ 2 ^ 56 }
+    ensures { result ≡ fee_of s.now installed.entry }
+{
+    match installed {
+        Some(kept) => s.weight as u64 * kept.members.len(),
+        None => 0,
+    }
+}
+
 /// Adds the counts of a window at the front along which `refined` goes, and answers the window.
 fn add_window(
     t: &Typed,
@@ -61,7 +96,7 @@ fn add_window(
     requires few { length tuples.now ≤ most_records }
     requires places { HasPlaces table.old (refined.old.query + 1) }
     requires prefix { prefix < 16 }
-    requires room { (b : ℕ) → b < 2 → HasRoom table.old refined.old.query prefix b }
+    requires room { (b : ℕ) → b < 2 → HasRoom table.old refined.old.query prefix b (s.now.weight * kept_count refined.old.kept (length refined.old.path - 1)) }
     ensures adds { OnOk result (AddsWindow s.now (query_at t.now.queries refined.old.query) prefix refined.old w tuples.now table.old table.new) }
     ensures last { OnOk result (refined.new.last ≡ Some w) }
     ensures kept { let r = refined.old in let query = query_at t.now.queries r.query in OnOk result
@@ -73,14 +108,17 @@ fn add_window(
     let front = refined.path.as_slice();
     let place = front.len() - 1;
     let kept = kept_behind(refined, w, place, &none);
+    let installed = admitted(s.entries, kept);
+    let fee = fee_of(s, installed);
     add_branches(
         t,
         s,
         refined.query,
         prefix,
         front[place],
-        kept,
+        installed,
         tuples,
+        fee,
         table,
     )?;
     refined.pass(t, w, tuples)?;

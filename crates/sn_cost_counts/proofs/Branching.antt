@@ -27,10 +27,10 @@ use Rattle.sn_types.proofs.Schemas.{IsSchema, packet_schema, schema_after}
 use Rattle.sn_types.proofs.Sound.{AreSound, IsSound, sound_branch}
 use Rattle.sn_types.proofs.TypedRows.{first_along}
 use Rattle.sn_ops.specs.Flow.{AllFit, Fits}
-use Rattle.sn_ops.proofs.Fitting.{all_fit_prop, fit_along, fits_prop, has_prop}
+use Rattle.sn_ops.proofs.Fitting.{fit_along, fits_prop, has_prop}
 use Rattle.sn_engine_split.proofs.Cuts.{cut_within}
 use Rattle.sn_engine_split.proofs.TypedItems.{grouping, with_fold}
-use Rattle.sn_cost_counts.specs.declared.flow.Flow.{Flow}
+use Rattle.sn_cost_counts.specs.AnyFlow.{Flow}
 use Rattle.sn_cost_counts.specs.Counts.{counts_of, setting_count}
 use Rattle.sn_cost_counts.specs.Fitting.{AllGo, CanGo, Takes}
 use Rattle.sn_cost_counts.specs.Flows.{counted, counts_from, run, starting, wider}

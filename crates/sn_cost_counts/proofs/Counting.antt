@@ -18,7 +18,7 @@ use Rattle.sn_types.specs.declared.typed_op.TOp.{TOp}
 use Rattle.sn_types.specs.declared.typed_op.TOp.TheVariants as ops
 use Rattle.sn_types.specs.Cuts.{size_at, stateful}
 use Rattle.sn_types.specs.Values.{op_at}
-use Rattle.sn_cost_counts.specs.declared.flow.Flow.{Flow}
+use Rattle.sn_cost_counts.specs.AnyFlow.{Flow}
 use Rattle.sn_cost_counts.specs.Flows.{counted, held_rows, run, starting, stepped}
 use Rattle.sn_cost_counts.specs.Flows as flows
 

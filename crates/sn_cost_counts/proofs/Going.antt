@@ -22,7 +22,7 @@ use Rattle.sn_types.specs.declared.typed_op.TOp.TheVariants as ops
 use Rattle.sn_types.specs.declared.typed_op.TReduce.{TReduce}
 use Rattle.sn_types.specs.Cuts.{is_stateful}
 use Rattle.sn_types.specs.Values.{ReadsWithin, holds, op_at, value_of}
-use Rattle.sn_cost_counts.specs.declared.flow.Flow.{Flow}
+use Rattle.sn_cost_counts.specs.AnyFlow.{Flow}
 use Rattle.sn_cost_counts.specs.Fitting.{AllGo, CanGo, Takes}
 use Rattle.sn_cost_counts.specs.Flows.{counted, counts_from, held_rows, over_distinct, over_reduce, stepped, wider}
 use Rattle.sn_windows.specs.Blocks.{most_records}

@@ -25,12 +25,17 @@ use Rattle.sn_cost_counts.proofs.Offering.{pairs_in}
 use Rattle.sn_cost_counts.specs.Overs.{value_in}
 
 -- what a place holds is held
-pub held_at : (P : Row × ℕ → Type 0) (cells : List (Option (Row × ℕ))) (p : ℕ) (e : Row × ℕ) → AllByRecursion P (held_in_order cells) → cell cells p ≡ Some e → P e
+held_at : (P : Row × ℕ → Type 0) (cells : List (Option (Row × ℕ))) (p : ℕ) (e : Row × ℕ) → AllByRecursion P (held_in_order cells) → cell cells p ≡ Some e → P e
 held_at P [] p e h is = absurd (none_some is)
 held_at P (Some x ∷ cells) zero e h is = subst P (some_same x e is) h.0
 held_at P (None ∷ cells) zero e h is = absurd (none_some is)
 held_at P (Some x ∷ cells) (suc p) e h is = held_at P cells p e h.1 is
 held_at P (None ∷ cells) (suc p) e h is = held_at P cells p e h is
+
+-- so that a key that a place holds has the columns of a key
+pub short_key : {X : Type 0} (columns : X → Row) (cells : List (Option (Row × ℕ))) (p : ℕ) (got : Option (X × ℕ)) (held : X × ℕ) → AllByRecursion (λ (e : Row × ℕ). length e.0 < 8) (held_in_order cells)
+    → option_map (λ e. (columns e.0, e.1)) got ≡ cell cells p → got ≡ Some held → length (columns held.0) < 8
+short_key columns cells p got held short value is = held_at (λ (e : Row × ℕ). length e.0 < 8) cells p (columns held.0, held.1) short (sym value ∙ ap (option_map (λ e. (columns e.0, e.1))) is)
 
 abbrev pub Read : ChainState AnyFold → ℕ → List Row → Type 0
 Read chain at out = out ++ rows_left chain at ≡ rows_left chain 0

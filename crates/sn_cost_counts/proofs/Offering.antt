@@ -1,21 +1,23 @@
 -- Rows that are offered to registers one after another.
-use Rattle.std.proofs.Common.{◌≡◌, ℕ, suc, ◌+◌, ◌<◌, ◌≤◌, List, [], ◌∷◌, ◌++◌, map, filter, take, drop, length, Bool, true, false, not, cond, get_or, refl, ap, sym, ◌∙◌, arith, append_assoc, zero-add}
+use Rattle.std.proofs.Common.{◌≡◌, ℕ, suc, ◌+◌, ◌<◌, ◌≤◌, List, [], ◌∷◌, ◌++◌, map, filter, take, drop, length, Bool, true, false, not, cond, get_or, slice_get, Some, refl, ap, sym, ◌∙◌, arith, append_assoc, zero-add}
 use Rattle.std.specs.List.{AllByRecursion}
 use Rattle.std.proofs.Math.Seq.{drop-cons}
 use Rattle.std.proofs.Math.Pow.{pow_pos}
 use Rattle.std.proofs.lemmas.List.{append-nil, drop_all, map-append, take_all, take_more}
 use Rattle.sn_base.specs.AnyFold.{any_has, any_laws, any_step}
 use Rattle.sn_base.specs.Folds.{HasBits, bit_or_laws}
-use Rattle.sn_base.specs.Groups.{Row, once, same_row}
+use Rattle.sn_base.specs.Groups.{Row, columns_at, once, same_row}
 use Rattle.sn_base.specs.declared.any_fold.AnyFold.{AnyFold}
 use Rattle.sn_base.specs.declared.fold.Or.{Or}
 use Rattle.sn_base.specs.Operators.{pair_of}
 use Rattle.sn_chain.specs.Chain.{ChainState, after_offer, after_offers, empty_chain, has_home}
+use Rattle.sn_chain.specs.declared.offer.Offer.{Offer}
 use Rattle.sn_chain.proofs.ChainLemmas.{after_offers_push}
 use Rattle.sn_types.specs.declared.typed_op.TReduce.{TReduce}
 use Rattle.sn_cost_counts.specs.Flows.{first_rows, over_distinct, over_reduce}
 use Rattle.sn_cost_counts.specs.Overs.{key_in, overs_of, value_in}
 use Rattle.sn_ops.specs.Flow.{grouping_of}
+use Rattle.sn_ops.proofs.Steps.{item_at}
 use Rattle.sn_pipe.specs.Stages.{answer_to, is_new, is_over, or_join}
 use Rattle.sn_pipe.proofs.Residing.{news, news_are, overs, overs_are}
 
@@ -104,6 +106,19 @@ one_sifted first chain later rows i row sent more out next lt at so_far is after
       ∙ so_far.new;
 }
 
+pub put_new : (b : Bool) (row : Row) (out pushed next : List Row) → next ≡ pushed → pushed ≡ out ++ row ∷ [] → b ≡ true → next ≡ cond b (out ++ row ∷ []) out
+put_new b row out pushed next is put new = is ∙ put ∙ sym (ap (λ x. cond x (out ++ row ∷ []) out) new)
+
+pub put_none : (b : Bool) (row : Row) (out next : List Row) → next ≡ out → b ≡ false → next ≡ cond b (out ++ row ∷ []) out
+put_none b row out next is isnt = is ∙ sym (ap (λ x. cond x (out ++ row ∷ []) out) isnt)
+
+-- by the answer of the registers
+pub row_sifted : (first chain later : ChainState Or) (rows : List Row) (i : ℕ) (row : Row) (answer : Offer) (is_first : Bool) (sent more : ℕ) (out next : List Row) → i < length rows → slice_get rows i ≡ Some row → Sifted first rows i chain sent out
+    → answer ≡ answer_to chain row → later ≡ after_offer or_join chain row 0 → more ≡ cond (is_over answer) 1 0 → is_first ≡ is_new answer → next ≡ cond is_first (out ++ row ∷ []) out → Sifted first rows (i + 1) later (sent + more) next
+row_sifted first chain later rows i row answer is_first sent more out next lt at so_far is after counted new grown =
+    one_sifted first chain later rows i row sent more out next lt (item_at rows i row at) so_far (counted ∙ ap (λ o. cond (is_over o) 1 0) is) after
+    (grown ∙ ap (λ b. cond b (out ++ row ∷ []) out) (new ∙ ap is_new is))
+
 no_values : (f : Or) (rows : List Row) → AllByRecursion (λ row. HasBits f.v 0) rows
 no_values f [] = tt
 no_values f (row ∷ rows) = (pow_pos f.v, no_values f rows)
@@ -151,6 +166,15 @@ one_folded r first chain later rows i row sent more lt at so_far is after = reco
       ∙ sym (after_offers_push any_step first (pairs_in r (take i rows)) (pair_of (grouping_of r) row))
       ∙ ap (after_offers any_step first) (sym (ap (pairs_in r) (take_more rows i row lt ∙ ap (λ x. take i rows ++ x ∷ []) (sym at)) ∙ map-append (pair_of (grouping_of r)) (take i rows) (row ∷ [])));
 }
+
+-- by its key and its value, as they were read
+pub row_folded : (r : TReduce) (first chain later : ChainState AnyFold) (rows : List Row) (i : ℕ) (row : Row) (places : List ℕ) (key : Row) (value : ℕ) (answer : Offer) (sent more : ℕ) → i < length rows → slice_get rows i ≡ Some row
+    → Folded r first rows i chain sent → places ≡ r.keys → key ≡ columns_at places row → value ≡ value_in r row → answer ≡ answer_to chain key → later ≡ after_offer any_step chain key value → more ≡ cond (is_over answer) 1 0
+    → Folded r first rows (i + 1) later (sent + more)
+row_folded r first chain later rows i row places key value answer sent more lt at so_far keys read taken is after counted =
+    let of_row : key ≡ key_in r row = read ∙ ap (λ ks. columns_at ks row) keys in
+    one_folded r first chain later rows i row sent more lt (item_at rows i row at) so_far (counted ∙ ap (λ o. cond (is_over o) 1 0) (is ∙ ap (answer_to chain) of_row))
+    (after ∙ ap (λ k. after_offer any_step chain k value) of_row ∙ ap (after_offer any_step chain (key_in r row)) taken)
 
 pub all_folded : (r : TReduce) (first chain : ChainState AnyFold) (rows : List Row) (i sent : ℕ) → length rows ≤ i → Folded r first rows i chain sent → chain ≡ after_offers any_step first (pairs_in r rows)
 all_folded r first chain rows i sent le so_far = so_far.after ∙ ap (λ rs. after_offers any_step first (pairs_in r rs)) (take_all i rows le)

@@ -9,7 +9,7 @@ use Rattle.sn_types.specs.declared.typed_op.TOp.{TOp}
 use Rattle.sn_types.specs.declared.typed_op.TOp.TheVariants as ops
 use Rattle.sn_types.specs.Cuts.{stateful}
 use Rattle.sn_types.specs.Values.{op_at}
-use Rattle.sn_cost_counts.specs.declared.flow.Flow.{Flow}
+use Rattle.sn_cost_counts.specs.AnyFlow.{Flow}
 use Rattle.sn_cost_counts.specs.Flows.{counted, counts_from, run, stepped, wider}
 use Rattle.sn_plan_choices.specs.Options.{Setting, size_lists}
 use Rattle.sn_cost_counts.specs.Settings.{settings}

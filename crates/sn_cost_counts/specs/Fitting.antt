@@ -8,7 +8,7 @@ use Rattle.sn_ops.specs.Flow.{AllFit, Fits}
 use Rattle.sn_types.specs.declared.typed_op.TOp.{TOp}
 use Rattle.sn_types.specs.declared.typed_op.TOp.TheVariants as ops
 use Rattle.sn_types.specs.Values.{value_of}
-use Rattle.sn_cost_counts.specs.declared.flow.Flow.{Flow}
+use Rattle.sn_cost_counts.specs.AnyFlow.{Flow}
 use Rattle.sn_windows.specs.Blocks.{most_records}
 
 -- operators can be evaluated at a row and at what comes of it, one after another

@@ -10,7 +10,7 @@ use Rattle.sn_chain.specs.Homes.{homes_by_place}
 use Rattle.sn_types.specs.declared.typed_op.TOp.{TOp}
 use Rattle.sn_types.specs.Cuts.{is_stateful}
 use Rattle.sn_types.specs.Values.{op_at}
-use Rattle.sn_cost_counts.specs.declared.flow.Flow.{Flow}
+use Rattle.sn_cost_counts.specs.AnyFlow.{Flow}
 
 -- ---- a stateful operator, with a chain of n registers of m slots each
 

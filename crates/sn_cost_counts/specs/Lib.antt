@@ -1,3 +1,4 @@
+pub mod AnyFlow
 pub mod Flows
 pub mod Fitting
 pub mod Settings

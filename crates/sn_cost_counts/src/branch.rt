@@ -10,10 +10,10 @@ ghost use Rattle.sn_chain.specs.Limits.{largest_register};
 ghost use Rattle.sn_windows.specs.Blocks.{most_records};
 
 use crate::counts::counts_along;
+use sn_base::any_row::AnyRow;
 use sn_base::memory::Memory;
 use sn_base::row_seq::RowSeq;
 use sn_base::seq::Seq;
-use sn_base::short_row::ShortRow;
 use sn_types::typed::Typed;
 use std::alloc::Global;
 
@@ -23,7 +23,7 @@ use std::alloc::Global;
 ///
 /// # Errors
 /// Out of memory.
-pub fn counts_of(
+pub fn counts_of<R: AnyRow>(
     alloc: Global,
     t: &Typed,
     q: u32,
@@ -31,7 +31,7 @@ pub fn counts_of(
     level: u32,
     chain: u32,
     slots: &[u32],
-    rows: RowSeq<ShortRow>,
+    rows: RowSeq<R>,
 ) -> Result<Seq<u64>, Memory>
     requires query { q < length t.now.queries }
     requires branch { b < length (query_at t.now.queries q).branches }

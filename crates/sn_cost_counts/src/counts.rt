@@ -8,19 +8,19 @@ ghost use Rattle.sn_types.specs.declared.typed_op.TOp.{TOp};
 ghost use Rattle.sn_chain.specs.Limits.{largest_register};
 ghost use Rattle.sn_windows.specs.Blocks.{most_records};
 
-use crate::flow::Flow;
+use crate::flow::{Flow, FlowOf};
 use crate::sizes::by_size;
 use crate::stateless::pass_all;
+use sn_base::any_row::AnyRow;
 use sn_base::memory::Memory;
 use sn_base::row_seq::RowSeq;
 use sn_base::seq::Seq;
-use sn_base::short_row::ShortRow;
 use sn_types::cuts::is_stateful;
 use sn_types::typed_op::TOp;
 use std::alloc::Global;
 
 /// Adds how many items each of these makes.
-fn add_counts(flows: &[Flow], counts: &mut Seq<u64>) -> Result<(), Memory>
+fn add_counts<R: AnyRow>(flows: &[FlowOf<R>], counts: &mut Seq<u64>) -> Result<(), Memory>
     requires sent { All (λ f. f.sent ≤ 13 * most_records) flows.now }
     requires few { All (λ f. length f.rows ≤ most_records) flows.now }
     ensures { OnOk result (counts.new ≡ counts.old ++ map counted flows.now) }
@@ -32,14 +32,14 @@ fn add_counts(flows: &[Flow], counts: &mut Seq<u64>) -> Result<(), Memory>
 }
 
 /// All rows after an operator.
-fn behind(
+fn behind<R: AnyRow>(
     alloc: Global,
     op: &TOp,
     level: u32,
     depth: u32,
     slots: &[u32],
-    flows: Vec<Flow>,
-) -> Result<Vec<Flow>, Memory>
+    flows: Vec<FlowOf<R>>,
+) -> Result<Vec<FlowOf<R>>, Memory>
     requires some_depth { 1 ≤ depth }
     requires most_depth { depth ≤ 4 }
     requires sizes { All (λ size. (1 ≤ size) × (size ≤ largest_register)) slots.now }
@@ -55,7 +55,7 @@ fn behind(
 }
 
 /// The rows of a window before the first operator, alone in a list.
-fn at_start(alloc: Global, rows: RowSeq<ShortRow>) -> Result<Vec<Flow>, Memory>
+fn at_start<R: AnyRow>(alloc: Global, rows: RowSeq<R>) -> Result<Vec<FlowOf<R>>, Memory>
     ensures { IfOk result (λ flows. flows.items ≡ starting rows ∷ []) }
 {
     let flow = Flow {
@@ -68,13 +68,13 @@ fn at_start(alloc: Global, rows: RowSeq<ShortRow>) -> Result<Vec<Flow>, Memory>
 }
 
 /// How many items a prefix of these operators sends of these rows, for each cut and all sizes of its registers.
-pub(crate) fn counts_along(
+pub(crate) fn counts_along<R: AnyRow>(
     alloc: Global,
     ops: &[TOp],
     level: u32,
     depth: u32,
     slots: &[u32],
-    rows: RowSeq<ShortRow>,
+    rows: RowSeq<R>,
 ) -> Result<Seq<u64>, Memory>
     requires some_depth { 1 ≤ depth }
     requires most_depth { depth ≤ 4 }

@@ -4,33 +4,22 @@ ghost use Rattle.std.specs.List.{AllByRecursion};
 ghost use Rattle.sn_chain.specs.Homes.{held_in_order};
 ghost use Rattle.sn_cost_counts.specs.Flows.{held_rows, over_reduce};
 ghost use Rattle.sn_ops.specs.Flow.{ReduceFits, grouping_of};
-ghost use Rattle.sn_pipe.specs.Windows.{held_row, rows_left};
+ghost use Rattle.sn_pipe.specs.Windows.{rows_left};
 ghost use Rattle.sn_chain.specs.Limits.{largest_register};
 ghost use Rattle.sn_windows.specs.Blocks.{most_records};
 
-use crate::offers::{Passed, offer_all};
+use crate::offers::{Passed, PassedOf, offer_all};
 use sn_base::any_fold::AnyFold;
+use sn_base::any_row::AnyRow;
 use sn_base::memory::Memory;
 use sn_base::row_seq::RowSeq;
-use sn_base::short_row::ShortRow;
 use sn_chain::chain::Chain;
+use sn_pipe::reading::held_row;
 use sn_types::typed_op::TReduce;
 use std::alloc::Global;
 
-/// A key that is held, as a row: its columns, and the fold of its values.
-fn held_row(held: (ShortRow, u64)) -> ShortRow
-    requires { length held.0 < 8 }
-    ensures { result ≡ held_row held }
-{
-    let (key, value) = held;
-    let Some(row) = key.with(value) else {
-        unreachable!();
-    };
-    row
-}
-
 /// The rows of all places, upwards.
-fn read_out(alloc: Global, chain: &Chain<AnyFold, ShortRow>) -> Result<RowSeq<ShortRow>, Memory>
+fn read_out<R: AnyRow>(alloc: Global, chain: &Chain<AnyFold, R>) -> Result<RowSeq<R>, Memory>
     requires { AllByRecursion (λ e. length e.0 < 8) (held_in_order chain.now.cells) }
     ensures { IfOk result (λ rows. rows ≡ rows_left chain.now 0) }
 {
@@ -44,13 +33,13 @@ fn read_out(alloc: Global, chain: &Chain<AnyFold, ShortRow>) -> Result<RowSeq<Sh
 }
 
 /// A reduce: each resident key with the fold of its values, by rising place.
-pub(crate) fn reduce(
+pub(crate) fn reduce<R: AnyRow>(
     alloc: Global,
-    rows: &[ShortRow],
+    rows: &RowSeq<R>,
     r: &TReduce,
     depth: u32,
     slots: u32,
-) -> Result<Passed, Memory>
+) -> Result<PassedOf<R>, Memory>
     requires some_depth { 1 ≤ depth }
     requires most_depth { depth ≤ 4 }
     requires some_slots { 1 ≤ slots }

@@ -11,23 +11,23 @@ ghost use Rattle.sn_chain.specs.Limits.{largest_register};
 ghost use Rattle.sn_windows.specs.Blocks.{most_records};
 
 use sn_base::any_fold::AnyFold;
+use sn_base::any_row::AnyRow;
 use sn_base::fold::Or;
 use sn_base::memory::Memory;
 use sn_base::row_seq::RowSeq;
-use sn_base::short_row::ShortRow;
 use sn_chain::chain::Chain;
 use sn_chain::offer::Offer;
-use sn_types::evaluate::columns_of;
+use sn_types::evaluate::{columns_of, folded_at};
 use sn_types::typed_op::TReduce;
 use std::alloc::Global;
 
 /// What a stateful operator makes of rows.
 #[derive(Drop)]
-pub(crate) struct Passed {
+pub(crate) struct Passed<L> {
     /// How many rows overflow.
     pub over: u64,
     /// The rows after it.
-    pub rows: RowSeq<ShortRow>,
+    pub rows: L,
 }
 
 /// One where an offer overflowed.
@@ -49,13 +49,16 @@ fn is_new(answer: Offer) -> bool
     }
 }
 
+/// What it makes of rows of a kind.
+pub(crate) type PassedOf<R> = Passed<RowSeq<R>>;
+
 /// A distinct: each resident row goes on at its first appearance.
-pub(crate) fn distinct(
+pub(crate) fn distinct<R: AnyRow>(
     alloc: Global,
-    rows: &[ShortRow],
+    rows: &RowSeq<R>,
     depth: u32,
     slots: u32,
-) -> Result<Passed, Memory>
+) -> Result<PassedOf<R>, Memory>
     requires some_depth { 1 ≤ depth }
     requires most_depth { depth ≤ 4 }
     requires some_slots { 1 ≤ slots }
@@ -68,7 +71,8 @@ pub(crate) fn distinct(
     let mut chain = Chain::make(alloc, Or { v: 1 }, depth, slots)?;
     let mut sent = 0;
     let mut out = RowSeq::new(alloc);
-    for row in rows {
+    for place in 0..rows.len() {
+        let row = rows.at(place);
         let answer = chain.offer(row, 0);
         sent += over(answer);
         if is_new(answer) {
@@ -83,7 +87,11 @@ pub(crate) fn distinct(
 
 /// Adds the values of rows to the folds of their keys in the registers of a reduce. The answer is how many rows
 /// overflow.
-pub(crate) fn offer_all(chain: &mut Chain<AnyFold, ShortRow>, rows: &[ShortRow], r: &TReduce) -> u64
+pub(crate) fn offer_all<R: AnyRow>(
+    chain: &mut Chain<AnyFold, R>,
+    rows: &RowSeq<R>,
+    r: &TReduce,
+) -> u64
     requires fold { chain.old.fold ≡ r.now.fold }
     requires fits { ReduceFits r.now rows.now }
     requires few { length rows.now ≤ most_records }
@@ -92,9 +100,11 @@ pub(crate) fn offer_all(chain: &mut Chain<AnyFold, ShortRow>, rows: &[ShortRow],
     ensures after { chain.new ≡ after_offers any_step chain.old (map (pair_of (grouping_of r.now)) rows.now) }
 {
     let mut sent = 0;
-    for row in rows {
+    for place in 0..rows.len() {
+        let row = rows.at(place);
         let key = columns_of(row, r.keys.as_slice());
-        sent += over(chain.offer(&key, row.as_slice()[r.value as usize]));
+        let value = folded_at(r.fold, row, r.value);
+        sent += over(chain.offer(&key, value));
     }
     sent
 }

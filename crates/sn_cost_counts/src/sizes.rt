@@ -8,16 +8,22 @@ ghost use Rattle.sn_types.specs.Values.{op_at};
 ghost use Rattle.sn_chain.specs.Limits.{largest_register};
 ghost use Rattle.sn_windows.specs.Blocks.{most_records};
 
-use crate::flow::Flow;
+use crate::flow::{Flow, FlowOf};
 use crate::held::reduce;
 use crate::offers::distinct;
+use sn_base::any_row::AnyRow;
 use sn_base::memory::Memory;
-use sn_ops::short::short_rows;
 use sn_types::typed_op::TOp;
 use std::alloc::Global;
 
 /// Rows after a distinct or a reduce with `depth` registers of this many slots each.
-fn behind(alloc: Global, op: &TOp, depth: u32, slots: u32, flow: &Flow) -> Result<Flow, Memory>
+fn behind<R: AnyRow>(
+    alloc: Global,
+    op: &TOp,
+    depth: u32,
+    slots: u32,
+    flow: &FlowOf<R>,
+) -> Result<FlowOf<R>, Memory>
     requires stateful { is_stateful op.now ≡ true }
     requires some_depth { 1 ≤ depth }
     requires most_depth { depth ≤ 4 }
@@ -30,7 +36,7 @@ fn behind(alloc: Global, op: &TOp, depth: u32, slots: u32, flow: &Flow) -> Resul
 {
     match op {
         TOp::Distinct => {
-            let passed = distinct(alloc, short_rows(&flow.rows), depth, slots)?;
+            let passed = distinct(alloc, &flow.rows, depth, slots)?;
             Ok(Flow {
                 sent: flow.sent + passed.over,
                 rows: passed.rows,
@@ -39,7 +45,7 @@ fn behind(alloc: Global, op: &TOp, depth: u32, slots: u32, flow: &Flow) -> Resul
             })
         }
         TOp::Reduce(r) => {
-            let passed = reduce(alloc, short_rows(&flow.rows), r, depth, slots)?;
+            let passed = reduce(alloc, &flow.rows, r, depth, slots)?;
             Ok(Flow {
                 sent: flow.sent + passed.over,
                 rows: passed.rows,
@@ -52,13 +58,13 @@ fn behind(alloc: Global, op: &TOp, depth: u32, slots: u32, flow: &Flow) -> Resul
 }
 
 /// Adds the rows after a distinct or a reduce for each size, in order.
-fn add_sizes(
+fn add_sizes<R: AnyRow>(
     alloc: Global,
     op: &TOp,
     depth: u32,
     slots: &[u32],
-    flow: &Flow,
-    out: &mut Vec<Flow>,
+    flow: &FlowOf<R>,
+    out: &mut Vec<FlowOf<R>>,
 ) -> Result<(), Memory>
     requires stateful { is_stateful op.now ≡ true }
     requires some_depth { 1 ≤ depth }
@@ -79,13 +85,13 @@ fn add_sizes(
 }
 
 /// The rows after a distinct or a reduce: of each of these for each size, in order.
-pub(crate) fn by_size(
+pub(crate) fn by_size<R: AnyRow>(
     alloc: Global,
     op: &TOp,
     depth: u32,
     slots: &[u32],
-    flows: &[Flow],
-) -> Result<Vec<Flow>, Memory>
+    flows: &[FlowOf<R>],
+) -> Result<Vec<FlowOf<R>>, Memory>
     requires stateful { is_stateful op.now ≡ true }
     requires some_depth { 1 ≤ depth }
     requires most_depth { depth ≤ 4 }

@@ -5,14 +5,15 @@ ghost use Rattle.sn_ops.specs.Flow.{Fits};
 ghost use Rattle.sn_types.specs.Cuts.{is_stateful};
 ghost use Rattle.sn_types.specs.Values.{op_at};
 
-use crate::flow::Flow;
+use crate::flow::FlowOf;
+use sn_base::any_row::AnyRow;
 use sn_base::memory::Memory;
 use sn_ops::select::{filter, map};
 use sn_types::typed_op::TOp;
 use std::alloc::Global;
 
 /// Takes rows through a filter or a map.
-fn pass(alloc: Global, op: &TOp, level: u32, flow: &mut Flow) -> Result<(), Memory>
+fn pass<R: AnyRow>(alloc: Global, op: &TOp, level: u32, flow: &mut FlowOf<R>) -> Result<(), Memory>
     requires stateless { is_stateful op.now ≡ false }
     requires fits { Fits op.now flow.old.rows }
     ensures { OnOk result (flow.new ≡ stepped 0 0 (op_at level op.now) flow.old) }
@@ -30,11 +31,11 @@ fn pass(alloc: Global, op: &TOp, level: u32, flow: &mut Flow) -> Result<(), Memo
 }
 
 /// Takes each of these through a filter or a map.
-pub(crate) fn pass_all(
+pub(crate) fn pass_all<R: AnyRow>(
     alloc: Global,
     op: &TOp,
     level: u32,
-    flows: &mut [Flow],
+    flows: &mut [FlowOf<R>],
 ) -> Result<(), Memory>
     requires stateless { is_stateful op.now ≡ false }
     requires fits { All (λ f. Fits op.now f.rows) flows.old }

@@ -1,10 +1,9 @@
 -- The front of a path up to a level is the path up to that level.
-use Rattle.std.proofs.Common.{◌≡◌, ℕ, zero, suc, ◌+◌, ◌*◌, ◌^◌, ◌≤◌, ◌<◌, List, [], ◌∷◌, length, filter, take, Bool, true, false, ◌&&◌, ◌||◌, cond, nat_eq, refl, ap, sym, ◌∙◌, subst, arith, slice_index}
-use Rattle.std.specs.Prelude.{◌/◌, ◌%◌, ◌==◌, nat_le, if◌then◌else◌}
+use Rattle.std.proofs.Common.{◌≡◌, ℕ, zero, suc, ◌+◌, ◌*◌, ◌^◌, ◌<◌, List, [], ◌∷◌, length, filter, take, Bool, true, false, ◌&&◌, ◌||◌, cond, nat_eq, refl, ap, sym, ◌∙◌, subst, arith, slice_index}
+use Rattle.std.specs.Prelude.{◌/◌, ◌==◌, nat_le, if◌then◌else◌}
 use Rattle.std.specs.List.{AllByRecursion, list_any}
 use Rattle.std.proofs.Math.Nat.{pow-suc}
-use Rattle.std.proofs.lemmas.Bool.Decides.{nat_tests}
-use Rattle.sn_base.proofs.Lists.{all_weaker, by_test, nat_same, all_two, all_at as all_index}
+use Rattle.sn_base.proofs.Lists.{all_weaker, by_test, nat_same, all_at as all_index}
 use Rattle.sn_plan_lists.proofs.PathNumbers.{among_head, among_rest, not_among, among_all, known_rest}
 use Rattle.sn_plan_lists.specs.Costs.{bits_of, is_upto}
 use Rattle.sn_cost.specs.Entries.{front_of}

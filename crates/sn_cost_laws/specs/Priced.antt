@@ -7,6 +7,6 @@ use Rattle.sn_windows.specs.Rising.{Window}
 use Rattle.sn_cost.specs.Entries.{IsPiece}
 use Rattle.sn_cost_laws.specs.Space.{trained_entry}
 
--- the entry of each piece is the number of items that it sends over these windows
+-- the entry of each piece is what it costs over these windows
 abbrev pub AreCounted : Switch → List TypedQuery → List Window → (ℕ → ℕ → ℕ → ℕ → ℕ) → Type 0
 AreCounted s queries given entry = (q prefix b n : ℕ) → IsPiece s queries q prefix b n → entry q prefix b n ≡ trained_entry s queries given q prefix b n

@@ -1,4 +1,5 @@
-//! What plans cost by tables that count training windows: as many items as they send in them. Laws with nothing to run.
+//! What plans cost by tables that count training windows: the items that they send in them, and the prefixes that are installed.
+//! Laws with nothing to run.
 #![tactic(auto)]
 
 pub mod sent;

@@ -1,5 +1,5 @@
 -- The events of windows: in order once they are sorted, and what they say is what the windows hold.
-use Rattle.std.proofs.Common.{Ordering, Less, Equal, Greater, ◌≡◌, ◌⊎◌, inl, inr, ℕ, suc, ◌+◌, ◌<◌, ◌≤◌, List, [], ◌∷◌, map, length, Bool, true, false, cond, ◌&&◌, ◌||◌, ◌==◌, nat_eq, nat_lt, Option, None, Some, IsSomeAnd, refl, ap, sym, ◌∙◌, subst, arith}
+use Rattle.std.proofs.Common.{Ordering, Less, Equal, Greater, ◌≡◌, ◌⊎◌, inl, inr, ℕ, suc, ◌+◌, ◌*◌, ◌/◌, ◌%◌, ◌^◌, ◌<◌, ◌≤◌, List, [], ◌∷◌, map, length, Bool, true, false, cond, ◌&&◌, ◌||◌, ◌==◌, nat_eq, nat_lt, slice_index, Option, None, Some, IsSomeAnd, refl, ap, sym, ◌∙◌, subst, arith}
 use Rattle.std.specs.List.{AllByRecursion, list_any}
 use Rattle.std.specs.Option.{option_map_or}
 use Rattle.std.specs.Ordering.{nat_cmp, is_gt, ordering_then}
@@ -21,18 +21,25 @@ use Rattle.sn_detect.proofs.StayLemmas.{Has, InOrder, IsUpTo, either, found_stay
 
 -- ---- sorted events are in order
 
-record Three (e : Row) : Type 0 where
-  a : ℕ
+-- a row is one of an event: it has four columns, of which the second has 64 bits
+abbrev IsMade : Row → Type 0
+IsMade e = (length e ≡ 4) × (slice_index e 1 < 2 ^ 64)
+
+record Four (e : Row) : Type 0 where
+  high : ℕ
+  low : ℕ
   w : ℕ
   kind : ℕ
-  is : e ≡ a ∷ w ∷ kind ∷ []
+  small : low < 2 ^ 64
+  is : e ≡ high ∷ low ∷ w ∷ kind ∷ []
 
-three : (e : Row) → length e ≡ 3 → Three e
-three [] long = absurd (omega (arith, long))
-three (a ∷ []) long = absurd (omega (arith, long))
-three (a ∷ w ∷ []) long = absurd (omega (arith, long))
-three (a ∷ w ∷ kind ∷ []) long = record { a = a; w = w; kind = kind; is = refl }
-three (a ∷ w ∷ kind ∷ d ∷ more) long = absurd (omega (arith, long))
+four : (e : Row) → IsMade e → Four e
+four [] made = absurd (let long = made.0 in omega (arith, long))
+four (a ∷ []) made = absurd (let long = made.0 in omega (arith, long))
+four (a ∷ c ∷ []) made = absurd (let long = made.0 in omega (arith, long))
+four (a ∷ c ∷ w ∷ []) made = absurd (let long = made.0 in omega (arith, long))
+four (a ∷ c ∷ w ∷ kind ∷ []) made = record { high = a; low = c; w = w; kind = kind; small = made.1; is = refl }
+four (a ∷ c ∷ w ∷ kind ∷ d ∷ more) made = absurd (let long = made.0 in omega (arith, long))
 
 -- what an order by one number, and then by more, says where the first isn't above the second
 not_above : (x y : ℕ) (o : Ordering) → is_gt (ordering_then (nat_cmp x y) o) ≡ false → (x < y) ⊎ ((x ≡ y) × (is_gt o ≡ false))
@@ -45,46 +52,60 @@ not_above x y o h =
     (λ ne. let above : nat_cmp x y ≡ Greater = ap (λ b. cond b Less (cond (x == y) Equal Greater)) ge ∙ ap (λ b. cond b Equal Greater) ne in
     absurd (false≢true (sym h ∙ ap (λ r. is_gt (ordering_then r o)) above))))
 
-upto_of : (a w k b u j : ℕ) → gt (a ∷ w ∷ k ∷ []) (b ∷ u ∷ j ∷ []) ≡ false → IsUpTo (a ∷ w ∷ k ∷ []) (b ∷ u ∷ j ∷ [])
-upto_of a w k b u j h =
-    either (not_above a b (ordering_then (nat_cmp w u) (ordering_then (nat_cmp k j) Equal)) h)
-    (λ less. inl less)
-    (λ one. inr (
-      one.0,
-      either (not_above w u (ordering_then (nat_cmp k j) Equal) one.1)
+upto_of : (a c w k b d u j : ℕ) → c < 2 ^ 64 → d < 2 ^ 64 → gt (a ∷ c ∷ w ∷ k ∷ []) (b ∷ d ∷ u ∷ j ∷ []) ≡ false → IsUpTo (a ∷ c ∷ w ∷ k ∷ []) (b ∷ d ∷ u ∷ j ∷ [])
+upto_of a c w k b d u j small little h =
+    either (not_above a b (ordering_then (nat_cmp c d) (ordering_then (nat_cmp w u) (ordering_then (nat_cmp k j) Equal))) h)
+    (λ less. inl (omega (arith, less, small, little)))
+    (λ one. let high = one.0 in either (not_above c d (ordering_then (nat_cmp w u) (ordering_then (nat_cmp k j) Equal)) one.1)
+    (λ less. inl (omega (arith, less, high)))
+    (λ low. let same = low.0 in inr (
+      omega (arith, high, same),
+      either (not_above w u (ordering_then (nat_cmp k j) Equal) low.1)
           (λ less. inl less)
-          (λ two. inr (two.0, either (not_above k j Equal two.1) (λ less. omega (arith, less)) (λ last. let same = last.0 in omega (arith, same)))),
-    ))
+          (λ two. inr (two.0, either (not_above k j Equal two.1) (λ less. omega (arith, less)) (λ last. let kinds = last.0 in omega (arith, kinds)))),
+    )))
 
-upto_rows : (e x : Row) → Three e → Three x → gt e x ≡ false → IsUpTo e x
+upto_rows : (e x : Row) → Four e → Four x → gt e x ≡ false → IsUpTo e x
 upto_rows e x te tx h =
+    let last : Row = tx.high ∷ tx.low ∷ tx.w ∷ tx.kind ∷ [] in
     subst (λ (r : Row). IsUpTo r x) (sym te.is)
-    (subst (λ (r : Row). IsUpTo (te.a ∷ te.w ∷ te.kind ∷ []) r) (sym tx.is)
-    (upto_of te.a te.w te.kind tx.a tx.w tx.kind (sym (ap (λ (r : Row). gt r (tx.a ∷ tx.w ∷ tx.kind ∷ [])) te.is) ∙ sym (ap (gt e) tx.is) ∙ h)))
+    (subst (λ (r : Row). IsUpTo (te.high ∷ te.low ∷ te.w ∷ te.kind ∷ []) r) (sym tx.is)
+    (upto_of te.high te.low te.w te.kind tx.high tx.low tx.w tx.kind te.small tx.small (sym (ap (λ (r : Row). gt r last) te.is) ∙ sym (ap (gt e) tx.is) ∙ h)))
 
-in_order : (es : List Row) → AllByRecursion (λ (e : Row). length e ≡ 3) es → AreOrdered es → InOrder es
-in_order [] long h = tt
-in_order (e ∷ es) long h =
-    (all_two (λ (x : Row). length x ≡ 3) (λ (x : Row). gt e x ≡ false) (IsUpTo e) (λ x is far. upto_rows e x (three e long.0) (three x is) far) es long.1 h.0, in_order es long.1 h.1)
+in_order : (es : List Row) → AllByRecursion IsMade es → AreOrdered es → InOrder es
+in_order [] made h = tt
+in_order (e ∷ es) made h =
+    (all_two IsMade (λ (x : Row). gt e x ≡ false) (IsUpTo e) (λ x is far. upto_rows e x (four e made.0) (four x is) far) es made.1 h.0, in_order es made.1 h.1)
 
-all_long : (looks : List Look) → AllByRecursion (λ (e : Row). length e ≡ 3) (events_of looks)
-all_long [] = tt
-all_long (l ∷ looks) = all_append (λ (e : Row). length e ≡ 3) (look_events l) (events_of looks)
-    (all_append (λ (e : Row). length e ≡ 3) (map (event l.window 1) l.unrefined) (map (event l.window 0) l.refined) (column l.window 1 l.unrefined) (column l.window 0 l.refined)) (all_long looks)
+all_made : (looks : List Look) → AllByRecursion IsMade (events_of looks)
+all_made [] = tt
+all_made (l ∷ looks) = all_append IsMade (look_events l) (events_of looks)
+    (all_append IsMade (map (event l.window 1) l.unrefined) (map (event l.window 0) l.refined) (column l.window 1 l.unrefined) (column l.window 0 l.refined)) (all_made looks)
   where
-    column : (w k : ℕ) (ns : List ℕ) → AllByRecursion (λ (e : Row). length e ≡ 3) (map (event w k) ns)
-    column w k ns = all_map (λ (e : Row). length e ≡ 3) (event w k) ns (all_of (λ (n : ℕ). length (event w k n) ≡ 3) (λ n. refl) ns)
+    is_made : (w k n : ℕ) → IsMade (event w k n)
+    is_made w k n = (refl, omega arith)
+
+    column : (w k : ℕ) (ns : List ℕ) → AllByRecursion IsMade (map (event w k) ns)
+    column w k ns = all_map IsMade (event w k) ns (all_of (λ (n : ℕ). IsMade (event w k n)) (is_made w k) ns)
 
 -- ---- what events say
 
 abbrev told_or_held : Bool → Look → List ℕ
 told_or_held kind l = cond kind l.refined l.unrefined
 
+-- an address is made of its two halves
+whole : (n : ℕ) → n / 2 ^ 64 * 2 ^ 64 + n % 2 ^ 64 ≡ n
+whole n = omega arith
+
 mapped : (kind : Bool) (b u w k : ℕ) (c : Bool) → (is_kind kind k && (w == u)) ≡ c → (ns : List ℕ) → list_any (is_event kind b u) (map (event w k) ns) ≡ (c && list_any (nat_eq b) ns)
 mapped kind b u w k true e [] = refl
-mapped kind b u w k true e (n ∷ ns) = ap (λ t. (t && nat_eq b n) || list_any (is_event kind b u) (map (event w k) ns)) e ∙ ap (λ r. nat_eq b n || r) (mapped kind b u w k true e ns)
+mapped kind b u w k true e (n ∷ ns) =
+    ap (λ m. ((is_kind kind k && (w == u)) && nat_eq b m) || list_any (is_event kind b u) (map (event w k) ns)) (whole n)
+    ∙ ap (λ t. (t && nat_eq b n) || list_any (is_event kind b u) (map (event w k) ns)) e ∙ ap (λ r. nat_eq b n || r) (mapped kind b u w k true e ns)
 mapped kind b u w k false e [] = refl
-mapped kind b u w k false e (n ∷ ns) = ap (λ t. (t && nat_eq b n) || list_any (is_event kind b u) (map (event w k) ns)) e ∙ mapped kind b u w k false e ns
+mapped kind b u w k false e (n ∷ ns) =
+    ap (λ m. ((is_kind kind k && (w == u)) && nat_eq b m) || list_any (is_event kind b u) (map (event w k) ns)) (whole n)
+    ∙ ap (λ t. (t && nat_eq b n) || list_any (is_event kind b u) (map (event w k) ns)) e ∙ mapped kind b u w k false e ns
 
 in_look : (kind : Bool) (b u : ℕ) (l : Look) → (l.window == u) ≡ true → list_any (is_event kind b u) (look_events l) ≡ holds (told_or_held kind l) b
 in_look false b u l is =
@@ -141,7 +162,7 @@ stays_are looks rise =
     (λ b u has. sym (sorted_said false b u looks rise) ∙ has) (λ b u is. sorted_said false b u looks rise ∙ is)
     (λ b u has. sym (sorted_said true b u looks rise) ∙ has) (λ b u is. sorted_said true b u looks rise ∙ is)
     (found_on (sorted_events looks) [])
-    (found_stays (sorted_events looks) (in_order (sorted_events looks) (sorted_all (λ (e : Row). length e ≡ 3) (events_of looks) (all_long looks)) (ordered (events_of looks))))
+    (found_stays (sorted_events looks) (in_order (sorted_events looks) (sorted_all IsMade (events_of looks) (all_made looks)) (ordered (events_of looks))))
 
 -- ---- in time
 

@@ -6,7 +6,7 @@ use Rattle.sn_base.proofs.Lists.{all_two, all_weaker, and_both, and_parts, by_te
 use Rattle.sn_base.proofs.Tests.{at_most, by_order, not_at_most}
 use Rattle.sn_base.specs.Groups.{Row}
 use Rattle.sn_detect.specs.declared.stay.Stay.{Stay}
-use Rattle.sn_detect.specs.Finding.{begun, found_on, from_window, meets, told_in, with_held, with_told}
+use Rattle.sn_detect.specs.Finding.{address_in, begun, found_on, from_window, meets, told_in, with_held, with_told}
 use Rattle.sn_detect.specs.Stays.{AreStays, IsBefore, IsCovered, IsPrinted, IsStay}
 
 pub either : {A B G : Type 0} → A ⊎ B → (A → G) → (B → G) → G
@@ -267,36 +267,36 @@ is_kind false n = not (n == 0)
 
 -- an event says of an address and a window that it is told (true) or held (false)
 abbrev pub is_event : Bool → ℕ → ℕ → Row → Bool
-is_event kind b u e = (is_kind kind (slice_index e 2) && (slice_index e 1 == u)) && nat_eq b (slice_index e 0)
+is_event kind b u e = (is_kind kind (slice_index e 3) && (slice_index e 2 == u)) && nat_eq b (address_in e)
 
 abbrev pub Has : Bool → List Row → ℕ → ℕ → Type 0
 Has kind es b u = list_any (is_event kind b u) es ≡ true
 
 record Says (kind : Bool) (b u : ℕ) (e : Row) : Type 0 where
-  kind_is : is_kind kind (slice_index e 2) ≡ true
-  window : slice_index e 1 ≡ u
-  address : b ≡ slice_index e 0
+  kind_is : is_kind kind (slice_index e 3) ≡ true
+  window : slice_index e 2 ≡ u
+  address : b ≡ address_in e
 
 says : (kind : Bool) (b u : ℕ) (e : Row) → is_event kind b u e ≡ true → Says kind b u e
 says kind b u e is =
-    let one = and_parts (is_kind kind (slice_index e 2) && (slice_index e 1 == u)) (nat_eq b (slice_index e 0)) is in
-    let two = and_parts (is_kind kind (slice_index e 2)) (slice_index e 1 == u) one.0 in
-    record { kind_is = two.0; window = nat_same (slice_index e 1) u two.1; address = nat_same b (slice_index e 0) one.1 }
+    let one = and_parts (is_kind kind (slice_index e 3) && (slice_index e 2 == u)) (nat_eq b (address_in e)) is in
+    let two = and_parts (is_kind kind (slice_index e 3)) (slice_index e 2 == u) one.0 in
+    record { kind_is = two.0; window = nat_same (slice_index e 2) u two.1; address = nat_same b (address_in e) one.1 }
 
-own : (kind : Bool) (e : Row) → is_kind kind (slice_index e 2) ≡ true → is_event kind (slice_index e 0) (slice_index e 1) e ≡ true
+own : (kind : Bool) (e : Row) → is_kind kind (slice_index e 3) ≡ true → is_event kind (address_in e) (slice_index e 2) e ≡ true
 own kind e is =
-    and_both (is_kind kind (slice_index e 2) && (slice_index e 1 == slice_index e 1)) (nat_eq (slice_index e 0) (slice_index e 0))
-    (and_both (is_kind kind (slice_index e 2)) (slice_index e 1 == slice_index e 1) is (nat_self (slice_index e 1))) (nat_self (slice_index e 0))
+    and_both (is_kind kind (slice_index e 3) && (slice_index e 2 == slice_index e 2)) (nat_eq (address_in e) (address_in e))
+    (and_both (is_kind kind (slice_index e 3)) (slice_index e 2 == slice_index e 2) is (nat_self (slice_index e 2))) (nat_self (address_in e))
 
 -- an event is at most another one: by address, then by window, and what is told before what is held
 abbrev pub IsUpTo : Row → Row → Type 0
-IsUpTo e x = (slice_index e 0 < slice_index x 0) ⊎ ((slice_index e 0 ≡ slice_index x 0) × ((slice_index e 1 < slice_index x 1) ⊎ ((slice_index e 1 ≡ slice_index x 1) × (slice_index e 2 ≤ slice_index x 2))))
+IsUpTo e x = (address_in e < address_in x) ⊎ ((address_in e ≡ address_in x) × ((slice_index e 2 < slice_index x 2) ⊎ ((slice_index e 2 ≡ slice_index x 2) × (slice_index e 3 ≤ slice_index x 3))))
 
 abbrev pub InOrder : List Row → Type 0
 InOrder [] = Unit {0}
 InOrder (e ∷ es) = AllByRecursion (IsUpTo e) es × InOrder es
 
-after : (kind : Bool) (e : Row) (es : List Row) → AllByRecursion (IsUpTo e) es → (b u : ℕ) → Has kind es b u → (slice_index e 0 < b) ⊎ ((slice_index e 0 ≡ b) × (slice_index e 1 ≤ u))
+after : (kind : Bool) (e : Row) (es : List Row) → AllByRecursion (IsUpTo e) es → (b u : ℕ) → Has kind es b u → (address_in e < b) ⊎ ((address_in e ≡ b) × (slice_index e 2 ≤ u))
 after kind e [] upto b u has = absurd (false≢true has)
 after kind e (x ∷ es) upto b u has =
     either (or_which (is_event kind b u x) (list_any (is_event kind b u) es) has)
@@ -313,20 +313,20 @@ zero_is : (n : ℕ) → (n == 0) ≡ true → n ≡ 0
 zero_is n is = nat_same n 0 is
 
 -- behind an event that is held nothing of its address and window is told
-none_told : (e : Row) (es : List Row) → (slice_index e 2 == 0) ≡ false → AllByRecursion (IsUpTo e) es → Has true es (slice_index e 0) (slice_index e 1) → ⊥
+none_told : (e : Row) (es : List Row) → (slice_index e 3 == 0) ≡ false → AllByRecursion (IsUpTo e) es → Has true es (address_in e) (slice_index e 2) → ⊥
 none_told e [] isnt upto has = false≢true has
 none_told e (x ∷ es) isnt upto has =
-    either (or_which (is_event true (slice_index e 0) (slice_index e 1) x) (list_any (is_event true (slice_index e 0) (slice_index e 1)) es) has)
-    (λ is. let s = says true (slice_index e 0) (slice_index e 1) x is in
+    either (or_which (is_event true (address_in e) (slice_index e 2) x) (list_any (is_event true (address_in e) (slice_index e 2)) es) has)
+    (λ is. let s = says true (address_in e) (slice_index e 2) x is in
     let address = s.address in
     let window = s.window in
-    let told : slice_index x 2 ≡ 0 = zero_is (slice_index x 2) s.kind_is in
+    let told : slice_index x 3 ≡ 0 = zero_is (slice_index x 3) s.kind_is in
     either upto.0
     (λ less. absurd (omega (arith, less, address)))
     (λ same. either same.1
     (λ lt. absurd (omega (arith, lt, window)))
     (λ two. let kinds = two.1 in
-    let none : slice_index e 2 ≡ 0 = omega (arith, kinds, told) in
+    let none : slice_index e 3 ≡ 0 = omega (arith, kinds, told) in
     absurd (false≢true (sym isnt ∙ ap (λ n. n == 0) none)))))
     (none_told e es isnt upto.1)
 
@@ -334,10 +334,10 @@ pub found_stays : (es : List Row) → InOrder es → AreStays (Has false es) (Ha
 found_stays [] h = record { each = tt; all = λ b u is. false≢true is; apart = tt }
 found_stays (e ∷ es) h =
     let ss : List Stay = found_on es [] in
-    let a : ℕ = slice_index e 0 in
-    let w : ℕ = slice_index e 1 in
+    let a : ℕ = address_in e in
+    let w : ℕ = slice_index e 2 in
     let before : AreStays (Has false es) (Has true es) ss = found_stays es h.1 in
-    by_test (slice_index e 2 == 0)
+    by_test (slice_index e 3 == 0)
     (λ is. let here : is_event true a w e ≡ true = own true e is in
     subst (λ (b : Bool). AreStays (Has false (e ∷ es)) (Has true (e ∷ es)) (cond b (with_told a w ss) (with_held a w ss))) (sym is)
     (same_stays (Has false es) (Has false (e ∷ es)) (Has true (e ∷ es)) (Has true (e ∷ es)) (later false) (λ b u has. not_here false b u (λ kind. absurd (false≢true (sym (ap not is) ∙ kind))) has) (λ b u x. x) (λ b u x. x) (with_told a w ss)
@@ -350,13 +350,13 @@ found_stays (e ∷ es) h =
     later : (kind : Bool) (b u : ℕ) → Has kind es b u → Has kind (e ∷ es) b u
     later kind b u has = or_right (is_event kind b u e) (list_any (is_event kind b u) es) has
 
-    which : (kind : Bool) (b u : ℕ) → Has kind (e ∷ es) b u → ((slice_index e 0 ≡ b) × (slice_index e 1 ≡ u)) ⊎ Has kind es b u
+    which : (kind : Bool) (b u : ℕ) → Has kind (e ∷ es) b u → ((address_in e ≡ b) × (slice_index e 2 ≡ u)) ⊎ Has kind es b u
     which kind b u has =
         either (or_which (is_event kind b u e) (list_any (is_event kind b u) es) has)
         (λ is. let s = says kind b u e is in inl (sym s.address, s.window))
         (λ rest. inr rest)
 
-    not_here : (kind : Bool) (b u : ℕ) → (is_kind kind (slice_index e 2) ≡ true → ⊥) → Has kind (e ∷ es) b u → Has kind es b u
+    not_here : (kind : Bool) (b u : ℕ) → (is_kind kind (slice_index e 3) ≡ true → ⊥) → Has kind (e ∷ es) b u → Has kind es b u
     not_here kind b u other has =
         either (or_which (is_event kind b u e) (list_any (is_event kind b u) es) has)
         (λ is. let s = says kind b u e is in absurd (other s.kind_is))

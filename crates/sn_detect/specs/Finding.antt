@@ -1,15 +1,20 @@
 -- serves proofs
 -- Stays as they are found: what the windows hold is sorted by address and window, and taken from the last on.
-use Rattle.std.specs.Prelude.{ℕ, ◌-◌, List, [], ◌∷◌, ◌++◌, map, Bool, cond, ◌&&◌, ◌==◌, nat_le, slice_index, None, Some}
+use Rattle.std.specs.Prelude.{ℕ, ◌+◌, ◌-◌, ◌*◌, ◌/◌, ◌%◌, ◌^◌, List, [], ◌∷◌, ◌++◌, map, Bool, cond, ◌&&◌, ◌==◌, nat_le, slice_index, None, Some}
 use Rattle.std.specs.List.{flat_map}
 use Rattle.sn_base.specs.Groups.{Row}
 use Rattle.sn_base.specs.Sorted.{sorted_rows}
 use Rattle.sn_detect.specs.declared.look.Look.{Look}
 use Rattle.sn_detect.specs.declared.stay.Stay.{Stay}
 
--- an address in a window, and 0 where it is of the refined answers, 1 where it is of the unrefined ones
+-- An address in a window, and 0 where it is of the refined answers, 1 where it is of the unrefined ones. The address stands as two
+-- numbers of 64 bits, so that short rows hold the events of addresses of 128 bits too.
 abbrev pub event : ℕ → ℕ → ℕ → Row
-event w kind a = a ∷ w ∷ kind ∷ []
+event w kind a = (a / 2 ^ 64) ∷ (a % 2 ^ 64) ∷ w ∷ kind ∷ []
+
+-- the address of an event
+abbrev pub address_in : Row → ℕ
+address_in e = slice_index e 0 * 2 ^ 64 + slice_index e 1
 
 abbrev pub look_events : Look → List Row
 look_events look = map (event look.window 1) look.unrefined ++ map (event look.window 0) look.refined
@@ -44,7 +49,7 @@ with_told a w [] = []
 with_told a w (s ∷ ss) = cond ((s.address == a) && (s.first == w)) (told_in w s ∷ ss) (s ∷ ss)
 
 abbrev pub with_event : Row → List Stay → List Stay
-with_event e ss = cond (slice_index e 2 == 0) (with_told (slice_index e 0) (slice_index e 1) ss) (with_held (slice_index e 0) (slice_index e 1) ss)
+with_event e ss = cond (slice_index e 3 == 0) (with_told (address_in e) (slice_index e 2) ss) (with_held (address_in e) (slice_index e 2) ss)
 
 abbrev pub found_on : List Row → List Stay → List Stay
 found_on [] ss = ss

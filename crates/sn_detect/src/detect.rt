@@ -1,5 +1,6 @@
 //! The refined answers of a query beside the unrefined ones, window by window.
-ghost use Rattle.std.specs.Prelude.{◌≡◌, ◌<◌, ◌≤◌, ◌++◌, ◌∷◌, ◌-◌, [], ℕ, suc, filter, length, true, slice_index, IsSome, Some, None, IfOk, OnOk, OnErr};
+ghost use Rattle.std.specs.Prelude.{◌≡◌, ◌<◌, ◌≤◌, ◌++◌, ◌∷◌, ◌-◌, [], ℕ, suc, filter, length, map, true, slice_index, unwrap_or};
+ghost use Rattle.std.specs.Prelude.{IsSome, Some, None, IfOk, OnOk, OnErr};
 ghost use Rattle.std.specs.List.{AllByRecursion};
 ghost use Rattle.std.proofs.Math.Bool.{Bool-set};
 ghost use Rattle.std.proofs.Math.Bridge.{le_prop};
@@ -17,12 +18,14 @@ ghost use Rattle.sn_windows.specs.Rising.{IsAbove};
 use crate::finding::stays_of;
 use crate::look::Look;
 use crate::stay::Stay;
+use sn_base::any_row::AnyRow;
 use sn_base::memory::Memory;
+use sn_base::number::Number;
 use sn_base::seq::Seq;
-use sn_base::short_row::ShortRow;
 use sn_fields::tuple::Tuple;
 use sn_refine::members::{column, place_of};
 use sn_refine::refined::{Refined, first_rows};
+use sn_types::answers::{AnswerRows, EitherRows};
 use sn_types::typed::Typed;
 use std::alloc::Global;
 
@@ -30,9 +33,9 @@ use std::alloc::Global;
 #[derive(Drop)]
 pub struct Compared {
     /// Refined along the path.
-    pub refined: Seq<ShortRow>,
+    pub refined: AnswerRows,
     /// To all tuples.
-    pub unrefined: Seq<ShortRow>,
+    pub unrefined: AnswerRows,
 }
 
 /// A query that is refined along a path, beside the same query unrefined.
@@ -59,17 +62,29 @@ pub struct Detect {
         InTime refined.path looks } by { time_prop (is_monotone (query_at t.queries refined.query)) refined.path looks },
 }
 
-/// The numbers in the refinement column of rows.
-fn addresses(alloc: Global, t: &Typed, q: u32, rows: &[ShortRow]) -> Result<Seq<u64>, Memory>
+/// The numbers in the refinement column of rows of one kind.
+fn numbers_of<R: AnyRow>(alloc: Global, t: &Typed, q: u32, rows: &[R]) -> Result<Seq<u128>, Memory>
     requires { q < length t.now.queries }
-    ensures { IfOk result (λ numbers. numbers ≡ column_of (query_at t.now.queries q) rows.now) }
+    ensures { IfOk result (λ numbers. numbers ≡
+        map (λ row. slice_index (R.columns row) (unwrap_or (query_at t.now.queries q).column 0)) rows.now) }
 {
     let place = place_of(t, q);
     let mut numbers = Seq::new(alloc);
     for row in rows {
-        numbers.push(column(row, place))?;
+        numbers.push(column(row, place).whole())?;
     }
     Ok(numbers)
+}
+
+/// The numbers in the refinement column of answers, whose kind is asked once.
+fn addresses(alloc: Global, t: &Typed, q: u32, rows: &AnswerRows) -> Result<Seq<u128>, Memory>
+    requires { q < length t.now.queries }
+    ensures { IfOk result (λ numbers. numbers ≡ column_of (query_at t.now.queries q) rows.now) }
+{
+    match rows.either() {
+        EitherRows::Short(rows) => numbers_of(alloc, t, q, rows.as_slice()),
+        EitherRows::Wide(rows) => numbers_of(alloc, t, q, rows.as_slice()),
+    }
 }
 
 impl Detect {
@@ -97,7 +112,7 @@ impl Detect {
     }
 
     /// The answers to all tuples at the finest level.
-    fn unrefined(&self, tuples: &[Tuple]) -> Result<Seq<ShortRow>, Memory>
+    fn unrefined(&self, tuples: &[Tuple]) -> Result<AnswerRows, Memory>
         ensures { let query = query_at self.now.t.queries self.now.refined.query in IfOk result
             (λ rows. rows ≡ level_rows query (finest_level query) (Some tuples.now)) }
     {
@@ -144,8 +159,8 @@ impl Detect {
         };
         let look = Look {
             window: w,
-            unrefined: addresses(self.alloc, &self.t, q, unrefined.as_slice())?,
-            refined: addresses(self.alloc, &self.t, q, refined.as_slice())?,
+            unrefined: addresses(self.alloc, &self.t, q, &unrefined)?,
+            refined: addresses(self.alloc, &self.t, q, &refined)?,
         };
         self.looks.push(look)?;
         self.refined.keep(w, kept);

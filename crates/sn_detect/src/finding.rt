@@ -1,6 +1,7 @@
 //! The stays of addresses, found in what the windows hold.
 ghost use Rattle.std.specs.Prelude.{◌≡◌, ◌++◌, [], map, reverse, IfOk, OnOk};
-ghost use Rattle.sn_detect.specs.Finding.{begun, event, events_of, found_on, from_window, look_events, meets, stays_of, told_in};
+ghost use Rattle.sn_base.specs.Sorted.{sorted_rows};
+ghost use Rattle.sn_detect.specs.Finding.{address_in, begun, event, events_of, found_on, from_window, look_events, meets, stays_of, told_in};
 ghost use Rattle.sn_detect.specs.Finding.{with_event, with_held, with_told};
 
 use crate::look::Look;
@@ -9,18 +10,29 @@ use sn_base::memory::Memory;
 use sn_base::seq::Seq;
 use sn_base::short_row::ShortRow;
 use sn_refine::members::column;
-use sn_refine::refined::sorted;
 use std::alloc::Global;
 
-/// An address in a window, and 0 where it is of the refined answers, 1 where it is of the unrefined ones.
-fn event(window: u64, kind: u64, address: u64) -> ShortRow
+/// How many numbers have 64 bits.
+const WORD: u128 = 1 << 64;
+
+/// An address in a window, and 0 where it is of the refined answers, 1 where it is of the unrefined ones. The address stands as two
+/// numbers of 64 bits.
+fn event(window: u64, kind: u64, address: u128) -> ShortRow
     ensures { result ≡ event window kind address }
 {
     let mut row = ShortRow::empty();
-    row.push(address);
+    row.push((address / WORD) as u64);
+    row.push((address % WORD) as u64);
     row.push(window);
     row.push(kind);
     row
+}
+
+/// The address of an event.
+fn address_in(event: &ShortRow) -> u128
+    ensures { result ≡ address_in event.now }
+{
+    u128::from(column(event, 0)) * WORD + u128::from(column(event, 1))
 }
 
 /// Adds an event of each of these addresses.
@@ -28,7 +40,7 @@ fn add_events(
     events: &mut Seq<ShortRow>,
     window: u64,
     kind: u64,
-    addresses: &[u64],
+    addresses: &[u128],
 ) -> Result<(), Memory>
     ensures { OnOk result (events.new ≡ events.old ++ map (event window kind) addresses.now) }
 {
@@ -57,8 +69,17 @@ fn events_of(alloc: Global, looks: &[Look]) -> Result<Seq<ShortRow>, Memory>
     Ok(events)
 }
 
+/// Events in order.
+fn sorted(events: Seq<ShortRow>) -> Result<Seq<ShortRow>, Memory>
+    ensures { IfOk result (λ sorted. sorted ≡ sorted_rows events) }
+{
+    let mut rows = events.into_vec();
+    rows.sort()?;
+    Ok(Seq::from_vec(rows))
+}
+
 /// A stay of one window.
-fn begun(address: u64, window: u64) -> Stay
+fn begun(address: u128, window: u64) -> Stay
     ensures { result ≡ begun address window }
 {
     Stay {
@@ -70,7 +91,7 @@ fn begun(address: u64, window: u64) -> Stay
 }
 
 /// Whether a stay of this address begins in this window or in the next one.
-fn meets(address: u64, window: u64, stay: Stay) -> bool
+fn meets(address: u128, window: u64, stay: Stay) -> bool
     ensures { result ≡ meets address window stay }
 {
     stay.address == address && window <= stay.first && stay.first - window <= 1
@@ -101,7 +122,7 @@ fn told_in(window: u64, stay: Stay) -> Stay
 }
 
 /// Takes an address that is held in a window before all that was taken.
-fn take_held(stays: &mut Seq<Stay>, address: u64, window: u64) -> Result<(), Memory>
+fn take_held(stays: &mut Seq<Stay>, address: u128, window: u64) -> Result<(), Memory>
     ensures { OnOk result (reverse stays.new ≡ with_held address window (reverse stays.old)) }
 {
     match stays.pop() {
@@ -118,7 +139,7 @@ fn take_held(stays: &mut Seq<Stay>, address: u64, window: u64) -> Result<(), Mem
 }
 
 /// Takes an address that is told in a window before all that was taken.
-fn take_told(stays: &mut Seq<Stay>, address: u64, window: u64) -> Result<(), Memory>
+fn take_told(stays: &mut Seq<Stay>, address: u128, window: u64) -> Result<(), Memory>
     ensures { OnOk result (reverse stays.new ≡ with_told address window (reverse stays.old)) }
 {
     match stays.pop() {
@@ -137,9 +158,9 @@ fn take_told(stays: &mut Seq<Stay>, address: u64, window: u64) -> Result<(), Mem
 fn take(stays: &mut Seq<Stay>, event: &ShortRow) -> Result<(), Memory>
     ensures { OnOk result (reverse stays.new ≡ with_event event.now (reverse stays.old)) }
 {
-    let address = column(event, 0);
-    let window = column(event, 1);
-    if column(event, 2) == 0 {
+    let address = address_in(event);
+    let window = column(event, 2);
+    if column(event, 3) == 0 {
         take_told(stays, address, window)
     } else {
         take_held(stays, address, window)

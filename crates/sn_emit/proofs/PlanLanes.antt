@@ -8,10 +8,12 @@ use Rattle.sn_base.proofs.Lists.{all_front, all_rest, all_unmap}
 use Rattle.sn_plan_grammar.specs.declared.plan.Entry.{Entry}
 use Rattle.sn_plan_grammar.specs.declared.plan.Piece.{Piece}
 use Rattle.sn_pipe.specs.Pipes.{IsNewPipe, PipeState, at_start}
-use Rattle.sn_pipe.specs.declared.stage.Stage.{Stage}
+use Rattle.sn_pipe.specs.AnyStage.{Stage}
+use Rattle.sn_pipe.specs.declared.gate.Gate.{Gate}
 use Rattle.sn_types.specs.declared.typed_op.TOp.{TOp}
 use Rattle.sn_types.specs.declared.typed_query.TypedQuery.{TypedQuery}
 use Rattle.sn_emit.specs.declared.sender.Sender.{Sender}
+use Rattle.sn_emit.specs.declared.tables.Tables.{Tables}
 use Rattle.sn_emit.specs.Making.{CanMake, InRange}
 use Rattle.sn_emit.specs.Plans.{AreLanesOf, AreNewLanes, IsLaneOf, IsNewLane, IsNewPipeOf, Placed, pieces_from, placed}
 use Rattle.sn_emit.specs.Senders.{sender_next, sender_start}
@@ -64,23 +66,23 @@ entry_all P n (f ∷ es) (suc i) e lt at h =
 
 -- ---- lanes as they are made
 
-module _ (queries : List TypedQuery) (depth : ℕ) where
-  pub lanes_push : (xs : List Placed) (x : Placed) (ss : List Sender) (s : Sender) → AreNewLanes queries depth xs ss → IsNewLane queries depth x s → AreNewLanes queries depth (xs ++ x ∷ []) (ss ++ s ∷ [])
+module _ (queries : List TypedQuery) (tables : Tables) where
+  pub lanes_push : (xs : List Placed) (x : Placed) (ss : List Sender) (s : Sender) → AreNewLanes queries tables xs ss → IsNewLane queries tables x s → AreNewLanes queries tables (xs ++ x ∷ []) (ss ++ s ∷ [])
   lanes_push [] x [] s h new = (new, tt)
   lanes_push [] x (r ∷ ss) s h new = absurd h
   lanes_push (y ∷ xs) x [] s h new = absurd h
   lanes_push (y ∷ xs) x (r ∷ ss) s h new = (h.0, lanes_push xs x ss s h.1 new)
 
-  pub lanes_count : (xs : List Placed) (ss : List Sender) → AreNewLanes queries depth xs ss → length ss ≡ length xs
+  pub lanes_count : (xs : List Placed) (ss : List Sender) → AreNewLanes queries tables xs ss → length ss ≡ length xs
   lanes_count [] [] h = refl
   lanes_count [] (s ∷ ss) h = absurd h
   lanes_count (x ∷ xs) [] h = absurd h
   lanes_count (x ∷ xs) (s ∷ ss) h = ap suc (lanes_count xs ss h.1)
 
-  lane_in_range : (x : Placed) (s : Sender) → CanMake queries x → IsNewLane queries depth x s → InRange s.lane
+  lane_in_range : (x : Placed) (s : Sender) → CanMake queries x → IsNewLane queries tables x s → InRange s.lane
   lane_in_range x s can new = subst InRange (sym new.lane) (record { query = can.few; level = can.short; branch = can.sides })
 
-  pub lanes_in_range : (xs : List Placed) (ss : List Sender) → AllByRecursion (CanMake queries) xs → AreNewLanes queries depth xs ss → AllByRecursion (λ (s : Sender). InRange s.lane) ss
+  pub lanes_in_range : (xs : List Placed) (ss : List Sender) → AllByRecursion (CanMake queries) xs → AreNewLanes queries tables xs ss → AllByRecursion (λ (s : Sender). InRange s.lane) ss
   lanes_in_range [] [] can h = tt
   lanes_in_range [] (s ∷ ss) can h = absurd h
   lanes_in_range (x ∷ xs) [] can h = tt
@@ -88,34 +90,34 @@ module _ (queries : List TypedQuery) (depth : ℕ) where
 
   -- ---- at the start of a window
 
-  start_of_new : (query : TypedQuery) (b level : ℕ) (coarser : Option ℕ) (ops : List TOp) (sizes : List ℕ) (p : PipeState) → IsNewPipe query b level coarser ops depth sizes p → at_start p set.empty ≡ p
+  start_of_new : (query : TypedQuery) (b level : ℕ) (coarser : Option Gate) (ops : List TOp) (sizes : List ℕ) (p : PipeState) → IsNewPipe query b level coarser ops tables.depth sizes p → at_start p set.empty ≡ p
   start_of_new query b level coarser ops sizes p new =
       ap (λ (ss : List Stage). record p { members = set.empty; prefix = record p.prefix { stages = ss; place = 0 } }) new.stages.fresh
       ∙ ap (λ (n : ℕ). record p { members = set.empty; prefix = record p.prefix { place = n } }) (sym new.unread)
       ∙ ap (λ (m : set.FinSet nat_cmp). record p { members = m }) (sym new.no_member)
 
-  pub pipe_start : (x : Placed) (s : Sender) → IsNewLane queries depth x s → at_start s.pipe set.empty ≡ s.pipe
+  pub pipe_start : (x : Placed) (s : Sender) → IsNewLane queries tables x s → at_start s.pipe set.empty ≡ s.pipe
   pipe_start x s new = start_of_new _ _ _ _ _ _ s.pipe new.pipe
 
-  lane_of_new : (x : Placed) (s : Sender) → IsNewLane queries depth x s → IsLaneOf queries depth x s
+  lane_of_new : (x : Placed) (s : Sender) → IsNewLane queries tables x s → IsLaneOf queries tables x s
   lane_of_new x s new = record {
     lane = new.lane;
-    pipe = subst (IsNewPipeOf queries depth x) (sym (pipe_start x s new)) new.pipe;
+    pipe = subst (IsNewPipeOf queries tables x) (sym (pipe_start x s new)) new.pipe;
   }
 
-  pub lanes_of_new : (xs : List Placed) (ss : List Sender) → AreNewLanes queries depth xs ss → AreLanesOf queries depth xs ss
+  pub lanes_of_new : (xs : List Placed) (ss : List Sender) → AreNewLanes queries tables xs ss → AreLanesOf queries tables xs ss
   lanes_of_new [] [] h = tt
   lanes_of_new [] (s ∷ ss) h = absurd h
   lanes_of_new (x ∷ xs) [] h = absurd h
   lanes_of_new (x ∷ xs) (s ∷ ss) h = (lane_of_new x s h.0, lanes_of_new xs ss h.1)
 
-  start_same : (x : Placed) (s : Sender) → IsNewLane queries depth x s → sender_start s set.empty ≡ s
+  start_same : (x : Placed) (s : Sender) → IsNewLane queries tables x s → sender_start s set.empty ≡ s
   start_same x s new =
       ap (λ (p : PipeState). record s { pipe = p; given = 0; ended = false }) (pipe_start x s new)
       ∙ ap (λ (n : ℕ). record s { given = n; ended = false }) (sym new.none_given)
       ∙ ap (λ (b : Bool). record s { ended = b }) (sym new.no_end)
 
-  pub starts_same : (xs : List Placed) (ss : List Sender) → AreNewLanes queries depth xs ss → map (λ s. sender_start s set.empty) ss ≡ ss
+  pub starts_same : (xs : List Placed) (ss : List Sender) → AreNewLanes queries tables xs ss → map (λ s. sender_start s set.empty) ss ≡ ss
   starts_same [] [] h = refl
   starts_same [] (s ∷ ss) h = absurd h
   starts_same (x ∷ xs) [] h = absurd h
@@ -123,14 +125,14 @@ module _ (queries : List TypedQuery) (depth : ℕ) where
 
   -- ---- lanes stay those of their pieces
 
-  lane_stays : (x : Placed) (s t : Sender) → Stays s t → IsLaneOf queries depth x s → IsLaneOf queries depth x t
+  lane_stays : (x : Placed) (s t : Sender) → Stays s t → IsLaneOf queries tables x s → IsLaneOf queries tables x t
   lane_stays x s t same h = record {
     lane = same.lane ∙ h.lane;
-    pipe = subst (IsNewPipeOf queries depth x) (sym same.pipe) h.pipe;
+    pipe = subst (IsNewPipeOf queries tables x) (sym same.pipe) h.pipe;
   }
 
   -- a lane changed in place
-  pub lanes_stay : (xs : List Placed) (ss : List Sender) (i : ℕ) (d s t : Sender) → s ≡ get_or ss i d → Stays s t → AreLanesOf queries depth xs ss → AreLanesOf queries depth xs (slice_set ss i t)
+  pub lanes_stay : (xs : List Placed) (ss : List Sender) (i : ℕ) (d s t : Sender) → s ≡ get_or ss i d → Stays s t → AreLanesOf queries tables xs ss → AreLanesOf queries tables xs (slice_set ss i t)
   lanes_stay [] [] i d s t at same h = tt
   lanes_stay [] (r ∷ ss) i d s t at same h = absurd h
   lanes_stay (x ∷ xs) [] i d s t at same h = absurd h

@@ -2,17 +2,18 @@
 use Rattle.std.proofs.Common.{◌≡◌, ℕ, zero, suc, ◌<◌, ◌≤◌, List, [], ◌∷◌, length, Option, Some, None, IfSome, slice_get, slice_set, refl, ap, sym, subst, ◌∙◌, arith}
 use Rattle.sn_types.specs.declared.typed_query.TypedQuery.{TypedQuery}
 use Rattle.sn_emit.specs.declared.sender.Sender.{Sender}
+use Rattle.sn_emit.specs.declared.tables.Tables.{Tables}
 use Rattle.sn_emit.specs.Plans.{AreNewLanes, Placed}
 
 abbrev pub Unread : Sender → Type 0
 Unread s = s.pipe.prefix.place ≡ 0
 
-pub new_unread : (queries : List TypedQuery) (depth : ℕ) (xs : List Placed) (ss : List Sender) → AreNewLanes queries depth xs ss → (i : ℕ) → IfSome (slice_get ss i) Unread
-new_unread queries depth [] [] h i = tt
-new_unread queries depth [] (s ∷ ss) h i = absurd h
-new_unread queries depth (x ∷ xs) [] h i = absurd h
-new_unread queries depth (x ∷ xs) (s ∷ ss) h zero = h.0.pipe.unread
-new_unread queries depth (x ∷ xs) (s ∷ ss) h (suc i) = new_unread queries depth xs ss h.1 i
+pub new_unread : (queries : List TypedQuery) (tables : Tables) (xs : List Placed) (ss : List Sender) → AreNewLanes queries tables xs ss → (i : ℕ) → IfSome (slice_get ss i) Unread
+new_unread queries tables [] [] h i = tt
+new_unread queries tables [] (s ∷ ss) h i = absurd h
+new_unread queries tables (x ∷ xs) [] h i = absurd h
+new_unread queries tables (x ∷ xs) (s ∷ ss) h zero = h.0.pipe.unread
+new_unread queries tables (x ∷ xs) (s ∷ ss) h (suc i) = new_unread queries tables xs ss h.1 i
 
 set_unread : (ss : List Sender) (i : ℕ) (t : Sender) → Unread t → IfSome (slice_get (slice_set ss i t) i) Unread
 set_unread [] i t h = tt

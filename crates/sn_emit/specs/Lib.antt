@@ -1,3 +1,4 @@
+pub mod Kinds
 pub mod Lanes
 pub mod Making
 pub mod Plans

@@ -4,14 +4,14 @@ use Rattle.std.specs.Prelude.{◌≡◌, ◌≤◌, ◌<◌, List, length, take,
 use Rattle.std.specs.List.{list_any}
 use Rattle.sn_base.specs.declared.lane.Lane.{Lane}
 use Rattle.sn_chain.specs.Limits.{largest_register}
-use Rattle.sn_plan_fit.specs.Paths.{place_in}
+use Rattle.sn_plan_fit.specs.Paths.{level_before, place_in}
 use Rattle.sn_pipe.specs.Pipes.{IsCoarser}
 use Rattle.sn_types.specs.declared.typed_query.TypedQuery.{TypedQuery}
 use Rattle.sn_types.specs.Cuts.{stateful}
 use Rattle.sn_types.specs.Typed.{branch_at, query_at}
 use Rattle.sn_report.specs.Frames.{lane_of as lane_in, operator_in}
 use Rattle.sn_report.specs.Items.{Frame}
-use Rattle.sn_emit.specs.Plans.{Placed, level_before}
+use Rattle.sn_emit.specs.Plans.{Placed}
 
 -- the numbers of a lane have one byte each in a frame: there are at most eight queries, four levels and two branches
 pub record InRange (lane : Lane) : Type 0 where

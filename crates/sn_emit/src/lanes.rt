@@ -4,22 +4,23 @@ ghost use Rattle.std.specs.List.{AllByRecursion};
 ghost use Rattle.std.specs.Option.{option_map};
 ghost use Rattle.sn_emit.specs.Lanes.{emitted_by};
 ghost use Rattle.sn_emit.specs.Making.{CanEncode, CanMake};
-ghost use Rattle.sn_emit.specs.Plans.{AreLanesOf, AreNewLanes, Placed, pieces_from};
+ghost use Rattle.sn_emit.specs.Plans.{AreLanesOf, AreNewLanes, Placed, pieces_from, tables_of};
 ghost use Rattle.sn_emit.specs.Runs.{IsReadOut};
 ghost use Rattle.sn_emit.specs.Senders.{row_frame, sender_next, sender_start};
+ghost use Rattle.sn_emit.specs.declared.tables.Tables.{Tables};
 ghost use Rattle.sn_plan_fit.specs.Fits.{Fits};
 ghost use Rattle.sn_pipe.specs.Pipes.{item_of};
 ghost use Rattle.sn_switch.specs.Texts.{IsSwitch};
 ghost use Rattle.sn_types.specs.declared.typed_query.TypedQuery.{TypedQuery};
 
+use crate::given::Given;
 use crate::making::senders_of;
 use crate::sender::Sender;
+use crate::tables::Tables;
 use sn_base::members::Members;
 use sn_base::memory::Memory;
-use sn_base::short_row::ShortRow;
 use sn_fields::tuple::Tuple;
 use sn_plan_grammar::plan::Plan;
-use sn_report::frame::Frame;
 use sn_switch::switch::Switch;
 use sn_types::typed::Typed;
 use std::marker::Model;
@@ -30,7 +31,7 @@ fn emitted(lanes: &[Sender]) -> u64
 {
     let mut sum = 0u64;
     for lane in lanes {
-        sum = sum.saturating_add(lane.given);
+        sum = sum.saturating_add(lane.given());
     }
     sum
 }
@@ -64,22 +65,23 @@ impl Emitter {
     pub fn make(t: &Typed, s: &Switch, plan: &Plan) -> Result<Emitter, Memory>
         requires switch { IsSwitch s.now }
         requires fits { Fits t.now.queries s.now plan.now.entries }
-        ensures { IfOk result (λ lanes. AreNewLanes t.now.queries s.now.chain (pieces_from 0 plan.now.entries) lanes) }
+        ensures { IfOk result (λ lanes. AreNewLanes t.now.queries (tables_of s.now) (pieces_from 0 plan.now.entries) lanes) }
     {
-        Emitter::of(t, s.chain, plan)
+        let tables = Tables::of(s);
+        Emitter::of(t, tables, plan)
     }
 
-    /// The lanes of pieces that can be made, each at the start of a window, with an empty prefix set, where each stateful operator
-    /// has `chain` registers. All memory that they ever need is taken here.
-    pub fn of(t: &Typed, chain: u32, plan: &Plan) -> Result<Emitter, Memory>
-        requires some_depth { 1 ≤ chain }
-        requires most_depth { chain ≤ 4 }
+    /// The lanes of pieces that can be made, each at the start of a window, with an empty prefix set, in a switch with this room. All
+    /// memory that they ever need is taken here.
+    pub fn of(t: &Typed, tables: Tables, plan: &Plan) -> Result<Emitter, Memory>
+        requires some_depth { 1 ≤ tables.depth }
+        requires most_depth { tables.depth ≤ 4 }
         requires few { length plan.now.entries ≤ 8 }
         requires most { length (pieces_from 0 plan.now.entries) ≤ 64 }
         requires can { AllByRecursion (CanMake t.now.queries) (pieces_from 0 plan.now.entries) }
-        ensures { IfOk result (λ lanes. AreNewLanes t.now.queries chain (pieces_from 0 plan.now.entries) lanes) }
+        ensures { IfOk result (λ lanes. AreNewLanes t.now.queries tables (pieces_from 0 plan.now.entries) lanes) }
     {
-        let lanes = senders_of(t, chain, plan)?;
+        let lanes = senders_of(t, tables, plan)?;
         Ok(Emitter { lanes })
     }
 
@@ -91,26 +93,26 @@ impl Emitter {
     }
 
     /// Gives a tuple to a lane, before its read-out. Takes no memory.
-    pub fn packet(&mut self, lane: u32, tuple: &Tuple) -> Option<Frame<ShortRow>>
+    pub fn packet(&mut self, lane: u32, tuple: &Tuple) -> Option<Given>
         requires lane { lane < length self.old }
         requires unread { IfSome (slice_get self.old lane) (λ s. s.pipe.prefix.place ≡ 0) }
         ensures frame { IfSome (slice_get self.old lane) (λ s. result ≡ option_map (row_frame s.lane) (item_of s.pipe tuple.now)) }
         ensures after { IfSome (slice_get self.old lane) (λ s. self.new ≡ slice_set self.old lane (sender_next s tuple.now)) }
-        ensures lanes { (queries : List TypedQuery) (depth : ℕ) (pieces : List Placed) → AreLanesOf queries depth pieces self.old →
-            AreLanesOf queries depth pieces self.new }
+        ensures lanes { (queries : List TypedQuery) (tables : Tables) (pieces : List Placed) → AreLanesOf queries tables pieces self.old →
+            AreLanesOf queries tables pieces self.new }
         ensures range { IfSome result CanEncode }
     {
         self.lanes[lane as usize].packet(tuple)
     }
 
     /// The next frame of a lane's read-out: the rows, then one End, then `None`. Takes no memory.
-    pub fn read_out(&mut self, lane: u32, window: u64) -> Option<Frame<ShortRow>>
+    pub fn read_out(&mut self, lane: u32, window: u64) -> Option<Given>
         requires lane { lane < length self.old }
         ensures frame { IfSome (slice_get self.old lane) (λ s. IfSome (slice_get self.new lane) (λ t. IsReadOut window s result t)) }
         ensures count { length self.new ≡ length self.old }
         ensures others { (other : ℕ) → other ≢ lane → slice_get self.new other ≡ slice_get self.old other }
-        ensures lanes { (queries : List TypedQuery) (depth : ℕ) (pieces : List Placed) → AreLanesOf queries depth pieces self.old →
-            AreLanesOf queries depth pieces self.new }
+        ensures lanes { (queries : List TypedQuery) (tables : Tables) (pieces : List Placed) → AreLanesOf queries tables pieces self.old →
+            AreLanesOf queries tables pieces self.new }
         ensures range { IfSome result CanEncode }
     {
         self.lanes[lane as usize].read_out(window)
@@ -120,8 +122,8 @@ impl Emitter {
     pub fn next_window(&mut self, lane: u32, kept: Members)
         requires { lane < length self.old }
         ensures after { IfSome (slice_get self.old lane) (λ s. self.new ≡ slice_set self.old lane (sender_start s kept)) }
-        ensures lanes { (queries : List TypedQuery) (depth : ℕ) (pieces : List Placed) → AreLanesOf queries depth pieces self.old →
-            AreLanesOf queries depth pieces self.new }
+        ensures lanes { (queries : List TypedQuery) (tables : Tables) (pieces : List Placed) → AreLanesOf queries tables pieces self.old →
+            AreLanesOf queries tables pieces self.new }
     {
         self.lanes[lane as usize].next_window(kept);
     }

@@ -1,5 +1,5 @@
 -- The operators of a typed branch can be evaluated at its items, and give rows of the branch's end.
-use Rattle.std.proofs.Common.{◌≡◌, ℕ, suc, ◌<◌, List, [], ◌∷◌, ◌++◌, map, take, length, slice_index, ap, sym, ◌∙◌, subst, arith, zero-add}
+use Rattle.std.proofs.Common.{◌≡◌, ℕ, suc, ◌<◌, List, [], ◌∷◌, ◌++◌, map, take, length, slice_index, sym, ◌∙◌, subst, arith, zero-add}
 use Rattle.std.proofs.Math.Bridge.{le_prop}
 use Rattle.std.proofs.Math.Logic.{∥∥₁_elim}
 use Rattle.std.proofs.lemmas.List.{length-map}
@@ -30,9 +30,8 @@ use Rattle.sn_types.proofs.RowsAfter.{AreOf, named_of, rows_after, value_had}
 use Rattle.sn_types.proofs.Schemas.{IsSchema, columns_along, packet_schema, reduced_whole, schema_after}
 use Rattle.sn_types.proofs.Sound.{IsSound, AreSound, sound_branch}
 use Rattle.sn_types.proofs.TypedRows.{end_along, first_along as first_schema}
-use Rattle.sn_ops.specs.Flow.{Fits}
 use Rattle.sn_ops.proofs.Branches.{are_of_prop}
-use Rattle.sn_ops.proofs.Fitting.{fit_along, all_fit_prop, fits_prop, has_prop}
+use Rattle.sn_ops.proofs.Fitting.{fit_along, fits_prop, has_prop}
 use Rattle.sn_report.specs.Items.{Item}
 use Rattle.sn_pipe_items.specs.Value.{is_at, is_partial, rows_with, taken, finish}
 use Rattle.sn_pipe_items.proofs.ValueBag.{IsHeld, PartialHad}

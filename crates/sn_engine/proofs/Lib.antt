@@ -1,10 +1,12 @@
 pub mod Columns
 pub mod Counts
+pub mod Drops
 pub mod Ends
 pub mod Firsts
 pub mod Frames
 pub mod Lanes
-pub mod Shorts
+pub mod Lefts
+pub mod OfKinds
 pub mod Orders
 pub mod FitLemmas
 pub mod Steps

@@ -23,31 +23,38 @@ use Rattle.sn_engine.specs.Intakes.{after_frame, is_lane, items_at, lane_at, tot
 use Rattle.sn_base.specs.Changed.{with_first}
 use Rattle.sn_engine.proofs.Firsts.{sum_cons}
 use Rattle.sn_engine.proofs.Lanes.{items_at_of}
+use Rattle.std.specs.FinSet as set
+use Rattle.sn_engine_split.specs.Opened.{left_in}
+use Rattle.sn_engine_split.proofs.Whole.{left_bag}
+use Rattle.sn_refine.specs.Steps.{Set}
+use Rattle.sn_engine.specs.Keeping.{all_left, left, with_bits}
+use Rattle.sn_engine.proofs.Lefts.{lefts_sound}
 
 -- ---- lanes that are alike: of the same pieces, with equal bags of items
 
-record Like (x y : Intake) : Type 0 where
+pub record Like (x y : Intake) : Type 0 where
   query : x.query ≡ y.query
   place : x.place ≡ y.place
   level : x.level ≡ y.level
   branch : x.branch ≡ y.branch
+  before : x.before ≡ y.before
   items : SameBag x.items y.items
 
-abbrev Alike : List Intake → List Intake → Type 0
+abbrev pub Alike : List Intake → List Intake → Type 0
 Alike [] [] = Unit {0}
 Alike [] (y ∷ ys) = ⊥
 Alike (x ∷ xs) [] = ⊥
 Alike (x ∷ xs) (y ∷ ys) = Like x y × Alike xs ys
 
 like_self : (x : Intake) → Like x x
-like_self x = record { query = refl; place = refl; level = refl; branch = refl; items = stays x.items }
+like_self x = record { query = refl; place = refl; level = refl; branch = refl; before = refl; items = stays x.items }
 
 alike_self : (xs : List Intake) → Alike xs xs
 alike_self [] = tt
 alike_self (x ∷ xs) = (like_self x, alike_self xs)
 
 like_then : (x y z : Intake) → Like x y → Like y z → Like x z
-like_then x y z a b = record { query = a.query ∙ b.query; place = a.place ∙ b.place; level = a.level ∙ b.level; branch = a.branch ∙ b.branch; items = bag_then a.items b.items }
+like_then x y z a b = record { query = a.query ∙ b.query; place = a.place ∙ b.place; level = a.level ∙ b.level; branch = a.branch ∙ b.branch; before = a.before ∙ b.before; items = bag_then a.items b.items }
 
 alike_then : (xs ys zs : List Intake) → Alike xs ys → Alike ys zs → Alike xs zs
 alike_then [] [] zs a b = b
@@ -82,8 +89,8 @@ same_lane lane (Row other item) x = refl
 same_lane lane (End other window) x = refl
 
 like_changed : (frame : Frame) (x y : Intake) → Like x y → Like (changed frame x) (changed frame y)
-like_changed (Row lane item) x y a = record { query = a.query; place = a.place; level = a.level; branch = a.branch; items = bag_after (item ∷ []) x.items y.items a.items }
-like_changed (End lane window) x y a = record { query = a.query; place = a.place; level = a.level; branch = a.branch; items = a.items }
+like_changed (Row lane item) x y a = record { query = a.query; place = a.place; level = a.level; branch = a.branch; before = a.before; items = bag_after (item ∷ []) x.items y.items a.items }
+like_changed (End lane window) x y a = record { query = a.query; place = a.place; level = a.level; branch = a.branch; before = a.before; items = a.items }
 
 first_alike : (frame : Frame) (xs ys : List Intake) → Alike xs ys → Alike (with_first (is_lane (lane_of frame)) (changed frame) xs) (with_first (is_lane (lane_of frame)) (changed frame) ys)
 first_alike frame [] [] a = tt
@@ -110,12 +117,13 @@ like_swapped (Row l a) (Row m b) x = record {
   place = refl;
   level = refl;
   branch = refl;
+  before = refl;
   items = bag_then (bag_same (append_assoc x.items (a ∷ []) (b ∷ [])))
       (bag_then (bag_before x.items (a ∷ b ∷ []) (b ∷ a ∷ []) (turned a b [])) (bag_same (sym (append_assoc x.items (b ∷ []) (a ∷ [])))));
 }
-like_swapped (Row l a) (End m v) x = record { query = refl; place = refl; level = refl; branch = refl; items = stays (x.items ++ a ∷ []) }
-like_swapped (End l w) (Row m b) x = record { query = refl; place = refl; level = refl; branch = refl; items = stays (x.items ++ b ∷ []) }
-like_swapped (End l w) (End m v) x = record { query = refl; place = refl; level = refl; branch = refl; items = stays x.items }
+like_swapped (Row l a) (End m v) x = record { query = refl; place = refl; level = refl; branch = refl; before = refl; items = stays (x.items ++ a ∷ []) }
+like_swapped (End l w) (Row m b) x = record { query = refl; place = refl; level = refl; branch = refl; before = refl; items = stays (x.items ++ b ∷ []) }
+like_swapped (End l w) (End m v) x = record { query = refl; place = refl; level = refl; branch = refl; before = refl; items = stays x.items }
 
 -- one frame and then the other
 both : Frame → Frame → List Intake → List Intake
@@ -251,10 +259,39 @@ parts_from window queries xs ys (u ∷ us) (v ∷ vs) t sound alike s a =
     (λ isnt. ap (λ b. map f (cond b (u ∷ filter first us) (filter first us))) isnt ∙ rest
     ∙ sym (ap (λ b. map g (cond b (v ∷ filter first vs) (filter first vs))) (sym same ∙ isnt)))
 
-pub order_is_free : (window : ℕ) (queries : List TypedQuery) (lanes : List Intake) (frames others : List Frame) → ∥ IsTyped window queries ∥₁ → AreIntakes queries (fold after_frame lanes frames) → SameBag frames others
-    → (parts_of queries (fold after_frame lanes frames) ≡ parts_of queries (fold after_frame lanes others)) × (total (fold after_frame lanes frames) ≡ total (fold after_frame lanes others))
-order_is_free window queries lanes frames others t sound same =
-    let xs = fold after_frame lanes frames in
-    let ys = fold after_frame lanes others in
-    let alike = orders_alike frames others same lanes in
-    (parts_from window queries xs ys xs ys t sound alike sound alike, total_alike xs ys alike)
+-- ---- lanes without the items of other prefixes
+
+like_left : (queries : List TypedQuery) (members : Set) (x y : Intake) → Like x y → Like (left queries members x) (left queries members y)
+like_left queries members x y a = record {
+  query = a.query;
+  place = a.place;
+  level = a.level;
+  branch = a.branch;
+  before = a.before;
+  items = bag_then (bag_same (ap (λ q. left_in (query_at queries q) x.branch (with_bits x.before members) x.items) a.query))
+      (bag_then (bag_same (ap (λ b. left_in (query_at queries y.query) b (with_bits x.before members) x.items) a.branch))
+      (bag_then (bag_same (ap (λ o. left_in (query_at queries y.query) y.branch (with_bits o members) x.items) a.before))
+      (left_bag (query_at queries y.query) y.branch (with_bits y.before members) x.items y.items a.items)));
+}
+
+lefts_alike : (queries : List TypedQuery) (sets : List Set) (xs ys : List Intake) → Alike xs ys → Alike (all_left queries sets xs) (all_left queries sets ys)
+lefts_alike queries sets [] [] a = tt
+lefts_alike queries sets [] (y ∷ ys) a = absurd a
+lefts_alike queries sets (x ∷ xs) [] a = absurd a
+lefts_alike queries [] (x ∷ xs) (y ∷ ys) a = (like_left queries set.empty x y a.0, lefts_alike queries [] xs ys a.1)
+lefts_alike queries (members ∷ sets) (x ∷ xs) (y ∷ ys) a = (like_left queries members x y a.0, lefts_alike queries sets xs ys a.1)
+
+-- lanes that are alike have equal answers with the same prefixes, and equally many items
+pub parts_alike : (window : ℕ) (queries : List TypedQuery) (sets : List Set) (xs ys : List Intake) → ∥ IsTyped window queries ∥₁ → AreIntakes queries xs → Alike xs ys
+    → (parts_of queries (all_left queries sets xs) ≡ parts_of queries (all_left queries sets ys)) × (total xs ≡ total ys)
+parts_alike window queries sets xs ys t sound alike =
+    let ls : List Intake = all_left queries sets xs in
+    let ms : List Intake = all_left queries sets ys in
+    let same = lefts_alike queries sets xs ys alike in
+    let of = lefts_sound queries sets xs sound in
+    (parts_from window queries ls ms ls ms t of same of same, total_alike xs ys alike)
+
+pub order_is_free : (window : ℕ) (queries : List TypedQuery) (sets : List Set) (lanes : List Intake) (frames others : List Frame) → ∥ IsTyped window queries ∥₁ → AreIntakes queries (fold after_frame lanes frames) → SameBag frames others
+    → (parts_of queries (all_left queries sets (fold after_frame lanes frames)) ≡ parts_of queries (all_left queries sets (fold after_frame lanes others))) × (total (fold after_frame lanes frames) ≡ total (fold after_frame lanes others))
+order_is_free window queries sets lanes frames others t sound same =
+    parts_alike window queries sets (fold after_frame lanes frames) (fold after_frame lanes others) t sound (orders_alike frames others same lanes)

@@ -8,7 +8,7 @@ use Rattle.std.proofs.Math.Bridge.{le_prop}
 use Rattle.std.specs.Option.{option_map_or}
 use Rattle.sn_base.specs.Changed.{with_first}
 use Rattle.sn_base.specs.declared.lane.Lane.{Lane}
-use Rattle.sn_plan_fit.specs.Paths.{place_in}
+use Rattle.sn_plan_fit.specs.Paths.{level_before, place_in}
 use Rattle.sn_plan_grammar.specs.declared.plan.Entry.{Entry}
 use Rattle.sn_plan_grammar.specs.declared.plan.Piece.{Piece}
 use Rattle.sn_report.specs.Items.{Frame}
@@ -29,6 +29,7 @@ intake_for q path piece =
       query = q;
       place = place_in path piece.level;
       level = piece.level;
+      before = level_before path piece.level;
       branch = piece.branch;
       cut = piece.cut;
       shared = false;

@@ -1,5 +1,5 @@
 //! The engine.
-ghost use Rattle.std.specs.Prelude.{◌≡◌, ◌<◌, ◌^◌, length, map, position, slice_get, is_some, true, false, Some, None, IfOk, OnOk, OnErr};
+ghost use Rattle.std.specs.Prelude.{◌≡◌, ◌<◌, ◌^◌, [], length, map, position, slice_get, is_some, true, false, Some, None, IfOk, OnOk, OnErr};
 ghost use Rattle.std.specs.List.{list_all, list_any};
 ghost use Rattle.std.specs.Option.{option_map_or};
 ghost use Rattle.sn_engine.specs.Intakes.{AreIntakes, are_intakes_prop, EndsAgree, ends_agree_prop, total, with_item, with_end};
@@ -7,20 +7,23 @@ ghost use Rattle.sn_engine.specs.Intakes.{is_lane, after_frame, emptied, shared}
 ghost use Rattle.sn_engine.specs.Intakes.{has_ended, has_started, intakes_of};
 ghost use Rattle.sn_base.specs.Changed.{with_first};
 ghost use Rattle.sn_engine.specs.Taking.{take_fault, Refuses};
-ghost use Rattle.sn_engine.specs.Answers.{Closes};
+ghost use Rattle.sn_engine.specs.Answers.{Closes, window_of};
+ghost use Rattle.sn_engine.specs.Keeping.{gathered, kept_for};
 ghost use Rattle.sn_plan_fit.specs.Fits.{HasShape};
+ghost use Rattle.sn_report.specs.Items.{frame_by, item_by};
 ghost use Rattle.sn_report.specs.declared.frame.Frame.TheVariants as Frame;
 
 use crate::answers::{first_open, parts, window_of};
 use crate::fault::{CloseFault, TakeFault};
 use crate::intake::Intake;
+use crate::keep::{gather, kept_for};
+use crate::lane_row::LaneRow;
 use crate::make::intakes;
 use crate::refuse::{place_for_end, place_for_item};
-use crate::short::short_item;
 use sn_base::lane::Lane;
+use sn_base::members::Members;
 use sn_base::memory::Memory;
-use sn_base::row::Row;
-use sn_base::short_row::ShortRow;
+use sn_base::seq::Seq;
 use sn_plan_grammar::plan::Plan;
 use sn_report::frame::{Frame, Item};
 use sn_types::answers::Answers;
@@ -38,6 +41,8 @@ pub struct Engine {
     pub count: u64,
     /// The window that was closed last.
     pub closed: Option<u64>,
+    /// By lane: the prefixes that the answers of that window have at the level before the lane's own.
+    pub kept: Seq<Members>,
     ghost counted: { count ≡ total lanes.items },
     // so that the number of a lane is one for `Unfinished`
     ghost few: { length lanes.items < 2 ^ 32 },
@@ -46,14 +51,14 @@ pub struct Engine {
 }
 
 /// Adds an item to a lane.
-fn push_item(
+fn push_item<R: LaneRow>(
     lanes: &mut Vec<Intake>,
     at: usize,
     lane: Lane,
-    item: &Item<ShortRow>,
+    item: &Item<R>,
 ) -> Result<(), TakeFault>
     requires { position (is_lane lane) lanes.old.items ≡ Some at }
-    ensures ok { OnOk result (lanes.new.items ≡ with_first (is_lane lane) (with_item item.now) lanes.old.items) }
+    ensures ok { OnOk result (lanes.new.items ≡ with_first (is_lane lane) (with_item (item_by R.columns item.now)) lanes.old.items) }
     ensures err { OnErr result (lanes.new.items ≡ lanes.old.items) }
     ensures fault { OnErr result (result ≡ Err TakeFault.Memory) }
 {
@@ -93,6 +98,7 @@ impl Engine {
         ensures queries { IfOk result (λ engine. engine.t.queries ≡ t.now.queries) }
         ensures lanes { IfOk result (λ engine. engine.lanes.items ≡ intakes_of 0 plan.now.entries) }
         ensures closed { IfOk result (λ engine. engine.closed ≡ None) }
+        ensures prefixes { IfOk result (λ engine. engine.kept ≡ []) }
     {
         let lanes = intakes(alloc, plan.entries.as_slice())?;
         let copied = t.copy()?;
@@ -102,6 +108,7 @@ impl Engine {
             lanes,
             count: 0,
             closed: None,
+            kept: Seq::new(alloc),
         })
     }
 
@@ -114,6 +121,7 @@ impl Engine {
         ensures queries { IfOk result (λ engine. engine.t.queries ≡ t.now.queries) }
         ensures lanes { IfOk result (λ engine. engine.lanes.items ≡ map shared (intakes_of 0 plan.now.entries)) }
         ensures closed { IfOk result (λ engine. engine.closed ≡ None) }
+        ensures prefixes { IfOk result (λ engine. engine.kept ≡ []) }
     {
         let mut engine = Engine::make(alloc, t, plan)?;
         engine.share();
@@ -124,16 +132,18 @@ impl Engine {
     fn share(&mut self)
         ensures lanes { self.new.lanes.items ≡ map shared self.old.lanes.items }
         ensures closed { self.new.closed ≡ self.old.closed }
+        ensures prefixes { self.new.kept ≡ self.old.kept }
         ensures queries { self.new.t.queries ≡ self.old.t.queries }
     {
         share_all(&mut self.lanes);
     }
 
-    fn take_row(&mut self, lane: Lane, item: &Item<ShortRow>) -> Result<(), TakeFault>
-        ensures fault { Refuses result (take_fault self.old.t.queries self.old.lanes.items self.old.closed (Frame.Row lane item.now)) }
-        ensures taken { OnOk result (self.new.lanes.items ≡ after_frame self.old.lanes.items (Frame.Row lane item.now)) }
+    fn take_row<R: LaneRow>(&mut self, lane: Lane, item: &Item<R>) -> Result<(), TakeFault>
+        ensures fault { Refuses result (take_fault self.old.t.queries self.old.lanes.items self.old.closed (Frame.Row lane (item_by R.columns item.now))) }
+        ensures taken { OnOk result (self.new.lanes.items ≡ after_frame self.old.lanes.items (Frame.Row lane (item_by R.columns item.now))) }
         ensures kept { OnErr result (self.new.lanes.items ≡ self.old.lanes.items) }
         ensures closed { self.new.closed ≡ self.old.closed }
+        ensures prefixes { self.new.kept ≡ self.old.kept }
         ensures queries { self.new.t.queries ≡ self.old.t.queries }
     {
         let at = place_for_item(&self.t, &self.lanes, lane, item)?;
@@ -150,6 +160,7 @@ impl Engine {
         ensures taken { OnOk result (self.new.lanes.items ≡ after_frame self.old.lanes.items (Frame.End lane window)) }
         ensures kept { OnErr result (self.new.lanes.items ≡ self.old.lanes.items) }
         ensures closed { self.new.closed ≡ self.old.closed }
+        ensures prefixes { self.new.kept ≡ self.old.kept }
         ensures queries { self.new.t.queries ≡ self.old.t.queries }
     {
         let at = place_for_end(&self.lanes, self.closed, lane, window)?;
@@ -158,11 +169,12 @@ impl Engine {
     }
 
     /// Takes a frame. A refusal changes nothing. Refusals are looked for in the order of the variants, out of memory last.
-    pub fn take(&mut self, frame: &Frame<ShortRow>) -> Result<(), TakeFault>
-        ensures fault { Refuses result (take_fault self.old.t.queries self.old.lanes.items self.old.closed frame.now) }
-        ensures taken { OnOk result (self.new.lanes.items ≡ after_frame self.old.lanes.items frame.now) }
+    pub fn take<R: LaneRow>(&mut self, frame: &Frame<R>) -> Result<(), TakeFault>
+        ensures fault { Refuses result (take_fault self.old.t.queries self.old.lanes.items self.old.closed (frame_by R.columns frame.now)) }
+        ensures taken { OnOk result (self.new.lanes.items ≡ after_frame self.old.lanes.items (frame_by R.columns frame.now)) }
         ensures kept { OnErr result (self.new.lanes.items ≡ self.old.lanes.items) }
         ensures closed { self.new.closed ≡ self.old.closed }
+        ensures prefixes { self.new.kept ≡ self.old.kept }
         ensures queries { self.new.t.queries ≡ self.old.t.queries }
     {
         match frame {
@@ -171,45 +183,20 @@ impl Engine {
         }
     }
 
-    /// Takes an item with columns of 128 bits. Since a lane takes no column past the width that the queries give it, which is 64 at
-    /// most, an item that one takes is short.
-    fn take_wide_row(&mut self, lane: Lane, item: &Item<Row>) -> Result<(), TakeFault>
-        ensures fault { Refuses result (take_fault self.old.t.queries self.old.lanes.items self.old.closed (Frame.Row lane item.now)) }
-        ensures taken { OnOk result (self.new.lanes.items ≡ after_frame self.old.lanes.items (Frame.Row lane item.now)) }
-        ensures kept { OnErr result (self.new.lanes.items ≡ self.old.lanes.items) }
-        ensures closed { self.new.closed ≡ self.old.closed }
-        ensures queries { self.new.t.queries ≡ self.old.t.queries }
-    {
-        place_for_item(&self.t, &self.lanes, lane, item)?;
-        let short = short_item(item);
-        self.take_row(lane, &short)
-    }
-
-    /// Takes a frame with columns of 128 bits, as `take` does one with columns of 64.
-    pub fn take_wide(&mut self, frame: &Frame<Row>) -> Result<(), TakeFault>
-        ensures fault { Refuses result (take_fault self.old.t.queries self.old.lanes.items self.old.closed frame.now) }
-        ensures taken { OnOk result (self.new.lanes.items ≡ after_frame self.old.lanes.items frame.now) }
-        ensures kept { OnErr result (self.new.lanes.items ≡ self.old.lanes.items) }
-        ensures closed { self.new.closed ≡ self.old.closed }
-        ensures queries { self.new.t.queries ≡ self.old.t.queries }
-    {
-        match frame {
-            Frame::Row(lane, item) => self.take_wide_row(*lane, item),
-            Frame::End(lane, window) => self.take_end(*lane, *window),
-        }
-    }
-
     /// What `close_window` would answer. Nothing changes.
     pub fn value(&self) -> Result<Answers, CloseFault>
-        ensures answers { Closes self.now.t.queries self.now.lanes.items result }
+        ensures answers { let lanes = self.now.lanes.items in
+            Closes self.now.t.queries (kept_for self.now.closed self.now.kept (window_of lanes)) lanes result }
         ensures ended { IfOk result (λ answers. list_all (has_ended answers.window) self.now.lanes.items ≡ true) }
     {
         if let Some(lane) = first_open(&self.lanes) {
             return Err(CloseFault::Unfinished(lane as u32));
         }
-        match parts(self.alloc, &self.t, &self.lanes) {
+        let window = window_of(&self.lanes);
+        let sets = kept_for(self.closed, self.kept.as_slice(), window);
+        match parts(self.alloc, &self.t, &self.lanes, sets) {
             Ok(parts) => Ok(Answers {
-                window: window_of(&self.lanes),
+                window,
                 emitted: self.count,
                 parts,
             }),
@@ -217,39 +204,57 @@ impl Engine {
         }
     }
 
+    /// What an engine keeps of answers, by lane: the prefixes that they have at the level before the lane's own.
+    pub fn gathered(&self, answers: &Answers) -> Result<Seq<Members>, Memory>
+        ensures { IfOk result (λ sets. sets ≡ gathered self.now.t.queries answers.now.parts self.now.lanes.items) }
+    {
+        gather(self.alloc, &self.t, answers.parts.as_slice(), &self.lanes)
+    }
+
     /// The answers of the window that all lanes have ended: the value of the items that came since the last close, sorted,
-    /// and their number. The engine is then empty, and keeps the number of the window. A refusal changes nothing.
+    /// and their number. On a lane with a level before its own, items of other prefixes than the window before was answered
+    /// with at that level are dropped before, and counted nevertheless; all of them, if that window wasn't closed last.
+    /// The engine is then empty, and keeps the number of the window and its prefixes. A refusal changes nothing.
     pub fn close_window(&mut self) -> Result<Answers, CloseFault>
-        ensures answers { Closes self.old.t.queries self.old.lanes.items result }
+        ensures answers { let lanes = self.old.lanes.items in
+            Closes self.old.t.queries (kept_for self.old.closed self.old.kept (window_of lanes)) lanes result }
         // All lanes have ended the one window that is answered.
         ensures ended { IfOk result (λ answers. list_all (has_ended answers.window) self.old.lanes.items ≡ true) }
         ensures emptied { OnOk result (self.new.lanes.items ≡ map emptied self.old.lanes.items) }
         ensures last { IfOk result (λ answers. self.new.closed ≡ Some answers.window) }
-        ensures kept { OnErr result ((self.new.lanes.items ≡ self.old.lanes.items) × (self.new.closed ≡ self.old.closed)) }
+        ensures prefixes { IfOk result (λ answers. self.new.kept ≡ gathered self.old.t.queries answers.parts self.old.lanes.items) }
+        ensures kept { OnErr result ((self.new.lanes.items ≡ self.old.lanes.items) × (self.new.closed ≡ self.old.closed)
+            × (self.new.kept ≡ self.old.kept)) }
         ensures queries { self.new.t.queries ≡ self.old.t.queries }
     {
         let answers = self.value()?;
-        self.empty(answers.window);
+        match self.gathered(&answers) {
+            Ok(sets) => self.empty(answers.window, sets),
+            Err(_) => return Err(CloseFault::Memory),
+        }
         Ok(answers)
     }
 
     /// Closes the window that all lanes have ended, without its answers, which `value` gave. The engine is then empty, and keeps
-    /// the number of the window. Takes no memory.
-    pub fn empty(&mut self, window: u64)
+    /// the number of the window and these prefixes by lane, which `gathered` gave. Takes no memory.
+    pub fn empty(&mut self, window: u64, sets: Seq<Members>)
         requires { list_all (has_ended window) self.old.lanes.items ≡ true }
         ensures emptied { self.new.lanes.items ≡ map emptied self.old.lanes.items }
         ensures last { self.new.closed ≡ Some window }
+        ensures prefixes { self.new.kept ≡ sets }
         ensures queries { self.new.t.queries ≡ self.old.t.queries }
     {
         empty_all(&mut self.lanes);
         self.count = 0;
         self.closed = Some(window);
+        self.kept = sets;
     }
 
     /// Drops what came since the last close, as if it hadn't come. Takes no memory.
     pub fn clear(&mut self)
         ensures emptied { self.new.lanes.items ≡ map emptied self.old.lanes.items }
         ensures closed { self.new.closed ≡ self.old.closed }
+        ensures prefixes { self.new.kept ≡ self.old.kept }
         ensures queries { self.new.t.queries ≡ self.old.t.queries }
     {
         empty_all(&mut self.lanes);

@@ -1,5 +1,5 @@
 -- Windows one after another get the refined answers along the plan.
-use Rattle.std.proofs.Common.{◌≡◌, ℕ, zero, suc, ◌+◌, ◌<◌, List, [], ◌∷◌, ◌++◌, ◌&&◌, ◌==◌, map, length, sum, true, false, cond, Option, Some, None, slice_get, slice_index, refl, ap, sym, ◌∙◌, subst, arith, eq-eqb}
+use Rattle.std.proofs.Common.{◌≡◌, ℕ, zero, suc, ◌+◌, ◌<◌, List, [], ◌∷◌, ◌++◌, ◌&&◌, ◌==◌, map, length, sum, Bool, true, false, cond, Option, Some, None, slice_get, slice_index, refl, ap, sym, ◌∙◌, subst, arith, eq-eqb}
 use Rattle.std.specs.List.{AllByRecursion, find, range_with_len}
 use Rattle.std.specs.Option.{option_map, option_map_or}
 use Rattle.std.specs.FinSet as set
@@ -8,11 +8,14 @@ use Rattle.std.proofs.lemmas.List.{map-append}
 use Rattle.sn_base.proofs.Lists.{by_test, nat_same, nat_self, none_some, not_true, some_same}
 use Rattle.sn_base.specs.Groups.{Row}
 use Rattle.sn_emit.specs.Plans.{Placed, items_of, pieces_from, placed}
+use Rattle.sn_emit.specs.declared.tables.Tables.{Tables}
 use Rattle.sn_plan_fit.specs.Fits.{AreEntriesOf, IsEntryOf}
 use Rattle.sn_plan_fit.specs.Paths.{is_among, place_in}
 use Rattle.sn_base.specs.Rising.{IsRising}
 use Rattle.sn_plan_grammar.specs.declared.plan.Entry.{Entry}
 use Rattle.sn_plan_grammar.specs.declared.plan.Piece.{Piece}
+use Rattle.sn_engine_split.specs.Opened.{is_open}
+use Rattle.sn_refine.specs.Passes.{passes_at}
 use Rattle.sn_refine.specs.Refined.{Windows, answered, before, level_rows, part_at, refined_parts, refined_rows, seen_at}
 use Rattle.sn_refine.specs.Steps.{Set, parts_in, prefixes_of, rows_at}
 use Rattle.sn_refine.proofs.Held.{held_answered}
@@ -23,12 +26,13 @@ use Rattle.sn_types.specs.declared.answers.Part.{Part}
 use Rattle.sn_types.specs.declared.typed_query.TypedQuery.{TypedQuery}
 use Rattle.sn_types.specs.Typed.{query_at}
 use Rattle.sn_engine_lockstep.specs.declared.source.Source.{Source}
-use Rattle.sn_engine_lockstep.specs.Sources.{is_part, kept_in, rows_found, source_at, source_of}
+use Rattle.sn_engine.specs.Keeping.{is_part, rows_found}
+use Rattle.sn_engine_lockstep.specs.Sources.{kept_in, source_at, source_of}
 use Rattle.sn_engine_lockstep.specs.Windows.{Follows, Measure, Remembers, count_all, measured, parts_from, piece_count, piece_measure, plan_answers, refined_from, window_answers}
 use Rattle.sn_engine_lockstep.proofs.Apart.{levels_known, place_is, rising_index}
 use Rattle.sn_engine_lockstep.proofs.Changes.{all_get}
 use Rattle.sn_engine_lockstep.proofs.Finding.{find_behind, find_front, find_number}
-use Rattle.sn_engine_lockstep.proofs.Seeing.{items_seen, seen_by}
+use Rattle.sn_engine_lockstep.proofs.Seeing.{items_passed, passed_by, seen_by}
 use Rattle.sn_base.proofs.Tests.{and_false_left, and_false_right, by_order}
 use Rattle.sn_refine.proofs.Windows.{no_prefixes}
 
@@ -112,7 +116,7 @@ module _ (queries : List TypedQuery) (windows : Windows) (es : List Entry) (q : 
 
 -- ---- one window
 
-module _ (queries : List TypedQuery) (depth : ℕ) (windows : Windows) (w : ℕ) (tuples : List (List ℕ)) (kept : Source → Set) (is : windows w ≡ Some tuples) (m : Measure) where
+module _ (queries : List TypedQuery) (tables : Tables) (windows : Windows) (w : ℕ) (tuples : List (List ℕ)) (kept : Source → Set) (is : windows w ≡ Some tuples) (m : Measure) where
   abbrev kept_before : ℕ → List ℕ → ℕ → Set
   kept_before q path j = kept (source_at q (Some (slice_index path j)))
 
@@ -140,22 +144,34 @@ module _ (queries : List TypedQuery) (depth : ℕ) (windows : Windows) (w : ℕ)
       ap (option_map (answered (query_at queries q) (slice_index path j) (before (refined_rows (query_at queries q) windows path j) w))) is
       ∙ ap Some (sym (held_answered (query_at queries q) (slice_index path j) (before (refined_rows (query_at queries q) windows path j) w) (kept_before q path j) tuples (right j (omega (arith, lt)))))
 
-  count_right : (q : ℕ) (path : List ℕ) (p : Piece) → IsRight q path → is_among path p.level ≡ true → m (placed q path p) (items_of queries depth (placed q path p) (kept (source_of (placed q path p))) tuples) ≡ piece_measure m queries depth windows w (placed q path p)
+  -- the tuples that come to a level are those that its lane admits
+  passed_right : (q : ℕ) (path : List ℕ) (place : ℕ) → IsRight q path → place < length path
+      → passes_at (query_at queries q) tables.entries windows path place w ≡ Some (passed_by (query_at queries q) tables.entries path (kept_before q path) tuples place)
+  passed_right q path zero right lt = is
+  passed_right q path (suc j) right lt =
+      ap (λ s. cond (is_open tables.entries s) (windows w) (seen_at (query_at queries q) windows path (suc j) w)) (sym (right j (omega (arith, lt))))
+      ∙ by_open (is_open tables.entries (kept_before q path j))
+    where
+      by_open : (b : Bool) → cond b (windows w) (seen_at (query_at queries q) windows path (suc j) w) ≡ Some (cond b tuples (seen_by (query_at queries q) path (kept_before q path) tuples (suc j)))
+      by_open true = is
+      by_open false = seen_right q path (suc j) right lt
+
+  count_right : (q : ℕ) (path : List ℕ) (p : Piece) → IsRight q path → is_among path p.level ≡ true → m (placed q path p) (items_of queries tables (placed q path p) (kept (source_of (placed q path p))) tuples) ≡ piece_measure m queries tables windows w (placed q path p)
   count_right q path p right known =
-      ap (m (placed q path p)) (items_seen queries depth q path p kept tuples)
-      ∙ sym (ap (measured m queries depth (placed q path p)) (seen_right q path (place_in path p.level) right (place_is path p.level known).within))
+      ap (m (placed q path p)) (items_passed queries tables q path p kept tuples)
+      ∙ sym (ap (measured m queries tables.depth (placed q path p)) (passed_right q path (place_in path p.level) right (place_is path p.level known).within))
 
   counts_right : (q : ℕ) (path : List ℕ) (ps : List Piece) → IsRight q path → AllByRecursion (λ (p : Piece). is_among path p.level ≡ true) ps
-      → map (λ x. m x (items_of queries depth x (kept (source_of x)) tuples)) (map (placed q path) ps) ≡ map (piece_measure m queries depth windows w) (map (placed q path) ps)
+      → map (λ x. m x (items_of queries tables x (kept (source_of x)) tuples)) (map (placed q path) ps) ≡ map (piece_measure m queries tables windows w) (map (placed q path) ps)
   counts_right q path [] right known = refl
   counts_right q path (p ∷ ps) right known =
-      ap (λ n. n ∷ map (λ x. m x (items_of queries depth x (kept (source_of x)) tuples)) (map (placed q path) ps)) (count_right q path p right known.0)
-      ∙ ap (λ ns. piece_measure m queries depth windows w (placed q path p) ∷ ns) (counts_right q path ps right known.1)
+      ap (λ n. n ∷ map (λ x. m x (items_of queries tables x (kept (source_of x)) tuples)) (map (placed q path) ps)) (count_right q path p right known.0)
+      ∙ ap (λ ns. piece_measure m queries tables windows w (placed q path p) ∷ ns) (counts_right q path ps right known.1)
 
   -- the entries from a number on
   record AreRight (n : ℕ) (es : List Entry) : Type 0 where
     parts : parts_from queries kept tuples n es ≡ refined_from queries windows w n es
-    counts : map (λ x. m x (items_of queries depth x (kept (source_of x)) tuples)) (pieces_from n es) ≡ map (piece_measure m queries depth windows w) (pieces_from n es)
+    counts : map (λ x. m x (items_of queries tables x (kept (source_of x)) tuples)) (pieces_from n es) ≡ map (piece_measure m queries tables windows w) (pieces_from n es)
 
   entries_right : (n : ℕ) (es : List Entry) → ((i : ℕ) (e : Entry) → slice_get es i ≡ Some e → IsRight (n + i) e.levels) → AllByRecursion (λ (e : Entry). AllByRecursion (λ (p : Piece). is_among e.levels p.level ≡ true) e.pieces) es → AreRight n es
   entries_right n [] right known = record { parts = refl; counts = refl }
@@ -163,13 +179,13 @@ module _ (queries : List TypedQuery) (depth : ℕ) (windows : Windows) (w : ℕ)
       let here : IsRight n e.levels = subst (λ m. IsRight m e.levels) none_more (right 0 e refl) in
       let rest = entries_right (suc n) es (λ i f at. subst (λ m. IsRight m f.levels) (moved i) (right (suc i) f at)) known.1 in
       let own = map (placed n e.levels) e.pieces in
-      let sent : Placed → ℕ = λ x. m x (items_of queries depth x (kept (source_of x)) tuples) in
+      let sent : Placed → ℕ = λ x. m x (items_of queries tables x (kept (source_of x)) tuples) in
       record {
         parts = ap (λ ps. ps ++ parts_from queries kept tuples (suc n) es) (parts_right n e.levels here) ∙ ap (λ ps. refined_parts n (query_at queries n) windows e.levels w ++ ps) rest.parts;
         counts = map-append sent own (pieces_from (suc n) es)
             ∙ ap (λ ns. ns ++ map sent (pieces_from (suc n) es)) (counts_right n e.levels e.pieces here known.0)
-            ∙ ap (λ ns. map (piece_measure m queries depth windows w) own ++ ns) rest.counts
-            ∙ sym (map-append (piece_measure m queries depth windows w) own (pieces_from (suc n) es));
+            ∙ ap (λ ns. map (piece_measure m queries tables windows w) own ++ ns) rest.counts
+            ∙ sym (map-append (piece_measure m queries tables windows w) own (pieces_from (suc n) es));
       }
     where
       none_more : n + 0 ≡ n
@@ -191,11 +207,11 @@ entries_rise (q ∷ queries) [] h = absurd h
 entries_rise (q ∷ queries) (e ∷ es) h = let entry : IsEntryOf q e = h.0 in (entry.path.rising, entries_rise queries es h.1)
 
 -- what is counted of the items that the pieces send in a window that follows, where the answers before it were those along the plan
-right_along : (queries : List TypedQuery) (depth : ℕ) (es : List Entry) (windows : Windows) (last : Option Answers) (w : ℕ) (tuples : List (List ℕ)) (m : Measure) → AreEntriesOf queries es → (is : windows w ≡ Some tuples) → Follows windows last w → Remembers queries es windows last
-    → AreRight queries depth windows w tuples (kept_in queries last w) is m 0 es
-right_along queries depth es windows last w tuples m h is f r =
+right_along : (queries : List TypedQuery) (tables : Tables) (es : List Entry) (windows : Windows) (last : Option Answers) (w : ℕ) (tuples : List (List ℕ)) (m : Measure) → AreEntriesOf queries es → (is : windows w ≡ Some tuples) → Follows windows last w → Remembers queries es windows last
+    → AreRight queries tables windows w tuples (kept_in queries last w) is m 0 es
+right_along queries tables es windows last w tuples m h is f r =
     let rise = entries_rise queries es h in
-    entries_right queries depth windows w tuples (kept_in queries last w) is m 0 es
+    entries_right queries tables windows w tuples (kept_in queries last w) is m 0 es
     (λ i e at j lt. ap (λ n. kept_in queries last w (source_at n (Some (slice_index e.levels j)))) (from i)
     ∙ kept_right queries windows es i e at (all_get (λ (e : Entry). IsRising e.levels) es i e rise at) last w j lt f r
     ∙ ap (λ n. prefixes_of (query_at queries n) (before (refined_rows (query_at queries n) windows e.levels j) w)) (sym (from i)))
@@ -204,19 +220,19 @@ right_along queries depth es windows last w tuples m h is f r =
     from : (i : ℕ) → 0 + i ≡ i
     from i = omega arith
 
-pub measure_right : (queries : List TypedQuery) (depth : ℕ) (es : List Entry) (windows : Windows) (last : Option Answers) (w : ℕ) (tuples : List (List ℕ)) (m : Measure) → AreEntriesOf queries es → windows w ≡ Some tuples → Follows windows last w → Remembers queries es windows last
-    → sum (map (λ x. m x (items_of queries depth x (kept_in queries last w (source_of x)) tuples)) (pieces_from 0 es)) ≡ sum (map (piece_measure m queries depth windows w) (pieces_from 0 es))
-measure_right queries depth es windows last w tuples m h is f r =
-    let right : AreRight queries depth windows w tuples (kept_in queries last w) is m 0 es = right_along queries depth es windows last w tuples m h is f r in
+pub measure_right : (queries : List TypedQuery) (tables : Tables) (es : List Entry) (windows : Windows) (last : Option Answers) (w : ℕ) (tuples : List (List ℕ)) (m : Measure) → AreEntriesOf queries es → windows w ≡ Some tuples → Follows windows last w → Remembers queries es windows last
+    → sum (map (λ x. m x (items_of queries tables x (kept_in queries last w (source_of x)) tuples)) (pieces_from 0 es)) ≡ sum (map (piece_measure m queries tables windows w) (pieces_from 0 es))
+measure_right queries tables es windows last w tuples m h is f r =
+    let right : AreRight queries tables windows w tuples (kept_in queries last w) is m 0 es = right_along queries tables es windows last w tuples m h is f r in
     ap sum right.counts
 
 -- what it gives
-pub window_right : (queries : List TypedQuery) (depth : ℕ) (es : List Entry) (windows : Windows) (last : Option Answers) (w : ℕ) (tuples : List (List ℕ)) → AreEntriesOf queries es → windows w ≡ Some tuples → Follows windows last w → Remembers queries es windows last
-    → window_answers queries depth es (kept_in queries last w) w tuples ≡ plan_answers queries depth es windows w
-window_right queries depth es windows last w tuples h is f r =
-    let right : AreRight queries depth windows w tuples (kept_in queries last w) is count_all 0 es = right_along queries depth es windows last w tuples count_all h is f r in
-    ap (λ n. with n (parts_from queries (kept_in queries last w) tuples 0 es)) (measure_right queries depth es windows last w tuples count_all h is f r)
-    ∙ ap (with (sum (map (piece_count queries depth windows w) (pieces_from 0 es)))) right.parts
+pub window_right : (queries : List TypedQuery) (tables : Tables) (es : List Entry) (windows : Windows) (last : Option Answers) (w : ℕ) (tuples : List (List ℕ)) → AreEntriesOf queries es → windows w ≡ Some tuples → Follows windows last w → Remembers queries es windows last
+    → window_answers queries tables es (kept_in queries last w) w tuples ≡ plan_answers queries tables es windows w
+window_right queries tables es windows last w tuples h is f r =
+    let right : AreRight queries tables windows w tuples (kept_in queries last w) is count_all 0 es = right_along queries tables es windows last w tuples count_all h is f r in
+    ap (λ n. with n (parts_from queries (kept_in queries last w) tuples 0 es)) (measure_right queries tables es windows last w tuples count_all h is f r)
+    ∙ ap (with (sum (map (piece_count queries tables windows w) (pieces_from 0 es)))) right.parts
   where
     with : ℕ → List Part → Answers
     with n parts = record { window = w; emitted = n; parts = parts }

@@ -6,6 +6,7 @@ use Rattle.sn_base.proofs.Lists.{all_weaker, map_both, some_same, none_some, ind
 use Rattle.sn_emit.specs.declared.sender.Sender.{Sender}
 use Rattle.sn_emit.specs.Plans.{AreLanesOf, IsLaneOf, Placed, pieces_from, placed}
 use Rattle.sn_emit.specs.Senders.{sender_next, sender_start}
+use Rattle.sn_emit.specs.declared.tables.Tables.{Tables}
 use Rattle.sn_engine.specs.declared.intake.Intake.{Intake}
 use Rattle.sn_engine.specs.Intakes.{emptied}
 use Rattle.sn_plan_fit.specs.Fits.{Fits, HasShape, OnBranch, PieceFits, PiecesFit}
@@ -70,26 +71,26 @@ begun_unread kept sources before now many h =
     let is : sender_start hb.at (kept hs.at) ≡ s = some_same (sender_start hb.at (kept hs.at)) s (sym (h.begun j hs.at hb.at (omega (arith, lt, many)) hs.is hb.is) ∙ at) in
     subst (λ (r : Sender). r.pipe.prefix.place ≡ 0) is refl)
 
-lane_at_place : (queries : List TypedQuery) (depth : ℕ) (xs : List Placed) (ss : List Sender) (j : ℕ) (x : Placed) (s : Sender) → AreLanesOf queries depth xs ss → slice_get xs j ≡ Some x → slice_get ss j ≡ Some s → IsLaneOf queries depth x s
-lane_at_place queries depth [] ss j x s h p q = absurd (none_some p)
-lane_at_place queries depth (y ∷ xs) [] j x s h p q = absurd h
-lane_at_place queries depth (y ∷ xs) (t ∷ ss) zero x s h p q = subst (λ z. IsLaneOf queries depth z s) (some_same y x p) (subst (IsLaneOf queries depth y) (some_same t s q) h.0)
-lane_at_place queries depth (y ∷ xs) (t ∷ ss) (suc j) x s h p q = lane_at_place queries depth xs ss j x s h.1 p q
+lane_at_place : (queries : List TypedQuery) (tables : Tables) (xs : List Placed) (ss : List Sender) (j : ℕ) (x : Placed) (s : Sender) → AreLanesOf queries tables xs ss → slice_get xs j ≡ Some x → slice_get ss j ≡ Some s → IsLaneOf queries tables x s
+lane_at_place queries tables [] ss j x s h p q = absurd (none_some p)
+lane_at_place queries tables (y ∷ xs) [] j x s h p q = absurd h
+lane_at_place queries tables (y ∷ xs) (t ∷ ss) zero x s h p q = subst (λ z. IsLaneOf queries tables z s) (some_same y x p) (subst (IsLaneOf queries tables y) (some_same t s q) h.0)
+lane_at_place queries tables (y ∷ xs) (t ∷ ss) (suc j) x s h p q = lane_at_place queries tables xs ss j x s h.1 p q
 
-lanes_many : (queries : List TypedQuery) (depth : ℕ) (xs : List Placed) (ss : List Sender) → AreLanesOf queries depth xs ss → length ss ≡ length xs
-lanes_many queries depth [] [] h = refl
-lanes_many queries depth [] (s ∷ ss) h = absurd h
-lanes_many queries depth (x ∷ xs) [] h = absurd h
-lanes_many queries depth (x ∷ xs) (s ∷ ss) h = ap suc (lanes_many queries depth xs ss h.1)
+lanes_many : (queries : List TypedQuery) (tables : Tables) (xs : List Placed) (ss : List Sender) → AreLanesOf queries tables xs ss → length ss ≡ length xs
+lanes_many queries tables [] [] h = refl
+lanes_many queries tables [] (s ∷ ss) h = absurd h
+lanes_many queries tables (x ∷ xs) [] h = absurd h
+lanes_many queries tables (x ∷ xs) (s ∷ ss) h = ap suc (lanes_many queries tables xs ss h.1)
 
 pub map_length : {X Y : Type 0} (f : X → Y) (xs : List X) → length (map f xs) ≡ length xs
 map_length f [] = refl
 map_length f (x ∷ xs) = ap suc (map_length f xs)
 
-pub begun_work : (queries : List TypedQuery) (depth : ℕ) (pieces : List Placed) (kept : Source → Set) (sources : List Source) (before now : List Sender) (intakes : List Intake) → sources ≡ map source_of pieces
-    → Begins kept sources (length sources) before now → AreIdle queries depth pieces before intakes → AreAtWork queries depth pieces kept [] now intakes
-begun_work queries depth pieces kept sources before now intakes are h idle =
-    let many = lanes_many queries depth pieces before idle.lanes in
+pub begun_work : (queries : List TypedQuery) (tables : Tables) (pieces : List Placed) (kept : Source → Set) (sources : List Source) (before now : List Sender) (intakes : List Intake) → sources ≡ map source_of pieces
+    → Begins kept sources (length sources) before now → AreIdle queries tables pieces before intakes → AreAtWork queries tables pieces kept [] now intakes
+begun_work queries tables pieces kept sources before now intakes are h idle =
+    let many = lanes_many queries tables pieces before idle.lanes in
     let count : length sources ≡ length pieces = ap length are ∙ map_length source_of pieces in
     record {
       apart = idle.apart;
@@ -101,7 +102,7 @@ begun_work queries depth pieces kept sources before now intakes are h idle =
           let source : slice_get sources j ≡ Some (source_of x) = ap (λ zs. slice_get zs j) are ∙ get_map source_of pieces j x p in
           record {
             base = hb.at;
-            lane = lane_at_place queries depth pieces before j x hb.at idle.lanes p hb.is;
+            lane = lane_at_place queries tables pieces before j x hb.at idle.lanes p hb.is;
             sender = some_same s (sender_start hb.at (kept (source_of x))) (sym q ∙ h.begun j (source_of x) hb.at (omega (arith, w, count)) source hb.is);
             intake = some_same l (intake_of x) (sym r ∙ ap (λ zs. slice_get zs j) idle.empty ∙ get_map intake_of pieces j x p);
           };
@@ -132,9 +133,9 @@ set_many ss ts i change lt changed =
 
 -- ---- the lanes of the engine, emptied
 
-pub done_emptied : (queries : List TypedQuery) (depth window : ℕ) (kept : Source → Set) (tuples : List (List ℕ)) (pieces : List Placed) → map emptied (map (done queries depth kept tuples window) pieces) ≡ map intake_of pieces
-done_emptied queries depth window kept tuples [] = refl
-done_emptied queries depth window kept tuples (x ∷ xs) = ap (λ ls. intake_of x ∷ ls) (done_emptied queries depth window kept tuples xs)
+pub done_emptied : (queries : List TypedQuery) (tables : Tables) (window : ℕ) (kept : Source → Set) (tuples : List (List ℕ)) (pieces : List Placed) → map emptied (map (done queries tables kept tuples window) pieces) ≡ map intake_of pieces
+done_emptied queries tables window kept tuples [] = refl
+done_emptied queries tables window kept tuples (x ∷ xs) = ap (λ ls. intake_of x ∷ ls) (done_emptied queries tables window kept tuples xs)
 
 -- ---- the sources of a plan
 

@@ -7,6 +7,7 @@ pub mod Apart
 pub mod Finding
 pub mod Seeing
 pub mod Parts
+pub mod Recalling
 pub mod Beginning
 pub mod Along
 pub mod Laws

@@ -23,6 +23,7 @@ use Rattle.sn_engine_lockstep.specs.Sources.{source_of}
 use Rattle.sn_engine_lockstep.specs.Work.{IsAtWork, done, intake_of, name_of, taken}
 use Rattle.sn_base.proofs.Lists.{all_rest}
 use Rattle.sn_emit.proofs.LaneLaw.{same_lane}
+use Rattle.sn_emit.specs.declared.tables.Tables.{Tables}
 
 fold_append : {S X : Type 0} (f : S → X → S) (s : S) (xs ys : List X) → fold f s (xs ++ ys) ≡ fold f (fold f s xs) ys
 fold_append f s [] ys = refl
@@ -47,7 +48,7 @@ given_own : (n : Lane) (o : Option Item) → AllByRecursion (λ f. lane_in f ≡
 given_own n None = tt
 given_own n (Some item) = (refl, tt)
 
-module _ (queries : List TypedQuery) (depth : ℕ) (x : Placed) (kept : Set) (tuples : List (List ℕ)) (s : Sender) (l : Intake) (w : IsAtWork queries depth x kept tuples s l) where
+module _ (queries : List TypedQuery) (tables : Tables) (x : Placed) (kept : Set) (tuples : List (List ℕ)) (s : Sender) (l : Intake) (w : IsAtWork queries tables x kept tuples s l) where
   lane_is : s.lane ≡ name_of x
   lane_is = ap (λ (r : Sender). r.lane) w.sender ∙ same_lane (sender_start w.base kept) tuples ∙ w.lane.lane
 
@@ -55,7 +56,7 @@ module _ (queries : List TypedQuery) (depth : ℕ) (x : Placed) (kept : Set) (tu
   more_own tuple = subst (λ n. AllByRecursion (λ f. lane_in f ≡ n) (option_to_list (option_map (row_frame s.lane) (item_of s.pipe tuple)))) lane_is (given_own s.lane (item_of s.pipe tuple))
 
   -- one tuple more
-  pub work_more : (tuple : List ℕ) → IsAtWork queries depth x kept (tuples ++ tuple ∷ []) (sender_next s tuple) (fold taken l (option_to_list (option_map (row_frame s.lane) (item_of s.pipe tuple))))
+  pub work_more : (tuple : List ℕ) → IsAtWork queries tables x kept (tuples ++ tuple ∷ []) (sender_next s tuple) (fold taken l (option_to_list (option_map (row_frame s.lane) (item_of s.pipe tuple))))
   work_more tuple =
       let start = sender_start w.base kept in
       let last : Sender → List Frame = λ r. option_to_list (option_map (row_frame r.lane) (item_of r.pipe tuple)) in
@@ -81,12 +82,12 @@ rows_own : (n : Lane) (items : List Item) (window : ℕ) → AllByRecursion (λ 
 rows_own n [] window = (refl, tt)
 rows_own n (item ∷ items) window = (refl, rows_own n items window)
 
-module _ (typed_for window depth : ℕ) (queries : List TypedQuery) (x : Placed) (kept : Source → Set) (tuples : List (List ℕ)) (s t : Sender) (l : Intake) (frames : List Frame)
+module _ (typed_for window : ℕ) (tables : Tables) (queries : List TypedQuery) (x : Placed) (kept : Source → Set) (tuples : List (List ℕ)) (s t : Sender) (l : Intake) (frames : List Frame)
     (typed : ∥ IsTyped typed_for queries ∥₁) (can : CanMake queries x) (widths : AllByRecursion HasWidths tuples)
-    (w : IsAtWork queries depth x (kept (source_of x)) tuples s l) (run : ReadsOut window s frames t) where
-  all_frames : packet_frames (sender_start w.base (kept (source_of x))) tuples ++ frames ≡ map (row_frame w.base.lane) (items_of queries depth x (kept (source_of x)) tuples) ++ End w.base.lane window ∷ []
+    (w : IsAtWork queries tables x (kept (source_of x)) tuples s l) (run : ReadsOut window s frames t) where
+  all_frames : packet_frames (sender_start w.base (kept (source_of x))) tuples ++ frames ≡ map (row_frame w.base.lane) (items_of queries tables x (kept (source_of x)) tuples) ++ End w.base.lane window ∷ []
   all_frames =
-      lane_gives typed_for depth window queries x w.base t (kept (source_of x)) tuples frames typed can.query can.branch can.cut w.lane widths
+      lane_gives typed_for tables window queries x w.base t (kept (source_of x)) tuples frames typed can.query can.branch can.cut w.lane widths
       (subst (λ r. ReadsOut window r frames t) w.sender run)
 
   -- the frames that are read out are of the lane
@@ -94,14 +95,14 @@ module _ (typed_for window depth : ℕ) (queries : List TypedQuery) (x : Placed)
   read_own =
       all_rest (λ f. lane_in f ≡ name_of x) (packet_frames (sender_start w.base (kept (source_of x))) tuples) frames
       (subst (AllByRecursion (λ f. lane_in f ≡ name_of x)) (sym all_frames)
-      (subst (λ n. AllByRecursion (λ f. lane_in f ≡ n) (map (row_frame w.base.lane) (items_of queries depth x (kept (source_of x)) tuples) ++ End w.base.lane window ∷ [])) w.lane.lane
-      (rows_own w.base.lane (items_of queries depth x (kept (source_of x)) tuples) window)))
+      (subst (λ n. AllByRecursion (λ f. lane_in f ≡ n) (map (row_frame w.base.lane) (items_of queries tables x (kept (source_of x)) tuples) ++ End w.base.lane window ∷ [])) w.lane.lane
+      (rows_own w.base.lane (items_of queries tables x (kept (source_of x)) tuples) window)))
 
   -- the engine's lane has the items of the piece, and the End
-  pub work_done : fold taken l frames ≡ done queries depth kept tuples window x
+  pub work_done : fold taken l frames ≡ done queries tables kept tuples window x
   work_done =
       let start = sender_start w.base (kept (source_of x)) in
-      let items = items_of queries depth x (kept (source_of x)) tuples in
+      let items = items_of queries tables x (kept (source_of x)) tuples in
       let rows = map (row_frame w.base.lane) items in
       ap (λ m. fold taken m frames) w.intake
       ∙ sym (fold_append taken (intake_of x) (packet_frames start tuples) frames)

@@ -1,29 +1,34 @@
 -- The answers of lanes at the end of a window.
-use Rattle.std.proofs.Common.{◌≡◌, ℕ, zero, suc, ◌+◌, ◌<◌, ◌≤◌, List, [], ◌∷◌, ◌++◌, ◌||◌, ◌==◌, map, filter, length, Bool, true, false, cond, Option, Some, None, slice_get, slice_index, refl, ap, sym, ◌∙◌, subst, arith, append_assoc}
+use Rattle.std.proofs.Common.{◌≡◌, ℕ, zero, suc, ◌+◌, ◌<◌, ◌≤◌, List, [], ◌∷◌, ◌++◌, ◌||◌, ◌==◌, map, filter, length, Bool, true, false, cond, Option, Some, slice_get, slice_index, refl, ap, sym, ◌∙◌, subst, arith, append_assoc}
 use Rattle.std.specs.List.{AllByRecursion, find, range_with_len}
 use Rattle.std.specs.Option.{option_map_or}
 use Rattle.std.proofs.lemmas.List.{map-append}
 use Rattle.std.proofs.lemmas.List.Sums.{sum_by-cons}
 use Rattle.sn_base.proofs.BagLemmas.{bag_same}
-use Rattle.sn_base.proofs.Lists.{all_filter, by_test, filter_map, map_both, nat_same, none_some, not_true, some_same}
+use Rattle.sn_base.proofs.Lists.{by_test, filter_map, map_both, nat_same, none_some, not_true, some_same}
 use Rattle.sn_base.specs.Groups.{Row}
 use Rattle.sn_base.specs.declared.lane.Lane.{Lane}
 use Rattle.sn_emit.specs.Making.{CanMake}
 use Rattle.sn_emit.specs.Plans.{Placed, items_of, pieces_from, placed}
+use Rattle.sn_emit.specs.declared.tables.Tables.{Tables}
 use Rattle.sn_engine.specs.declared.intake.Intake.{Intake}
 use Rattle.sn_engine.specs.Answers.{part_of, parts_of}
+use Rattle.sn_engine.specs.Keeping.{with_bits}
 use Rattle.sn_engine.specs.Intakes.{is_lane, items_at, lane_at, total}
 use Rattle.sn_plan_fit.specs.Fits.{AreEntriesOf, IsEntryOf}
-use Rattle.sn_plan_fit.specs.Paths.{Place, is_among, level_places, piece_place, place_in, places}
+use Rattle.sn_plan_fit.specs.Paths.{Place, is_among, level_before, level_places, piece_place, place_in, places}
 use Rattle.sn_ops.proofs.PacketSteps.{some_branch}
 use Rattle.sn_plan_grammar.specs.declared.plan.Entry.{Entry}
 use Rattle.sn_plan_grammar.specs.declared.plan.Piece.{Piece}
 use Rattle.sn_refine.specs.Refined.{level_rows, part_at}
-use Rattle.sn_refine.specs.Steps.{Set, is_held, parts_in, rows_at}
+use Rattle.sn_refine.specs.Steps.{Set, parts_in, rows_at}
 use Rattle.sn_report.specs.Items.{Item}
-use Rattle.sn_engine_split.specs.Branches.{AreSplit, query_value}
+use Rattle.sn_engine_split.specs.Branches.{query_value}
+use Rattle.sn_engine_split.specs.Opened.{IsWithinLevel, Prefixes}
+use Rattle.sn_engine_split.specs.Wholes.{AreLeft}
+use Rattle.sn_base.specs.Rising.{IsRising}
 use Rattle.sn_base.specs.Sorted.{sorted_rows}
-use Rattle.sn_engine_split.proofs.Queries.{query_split}
+use Rattle.sn_engine_split.proofs.Whole.{query_left}
 use Rattle.sn_types.specs.declared.answers.Part.{Part}
 use Rattle.sn_types.specs.declared.typed_query.TypedBranch.{TypedBranch}
 use Rattle.sn_types.specs.declared.typed_query.TypedQuery.{TypedQuery}
@@ -31,11 +36,11 @@ use Rattle.sn_types.specs.Typed.{HasWidths, IsTyped, query_at}
 use Rattle.sn_engine_lockstep.specs.declared.source.Source.{Source}
 use Rattle.sn_engine_lockstep.specs.Sources.{source_at, source_of}
 use Rattle.sn_engine_lockstep.specs.Windows.{parts_from, sent_by}
-use Rattle.sn_engine_lockstep.specs.Work.{AreApart, done, intake_of, name_of}
-use Rattle.sn_engine_lockstep.proofs.Apart.{index_place, levels_known, place_level}
+use Rattle.sn_engine_lockstep.specs.Work.{AreApart, done, intake_of, left_done, name_of}
+use Rattle.sn_engine_lockstep.proofs.Apart.{index_place, levels_known, place_is, place_level, rising_index}
 use Rattle.sn_engine_lockstep.proofs.Changes.{all_get, own_name}
 use Rattle.sn_engine_lockstep.proofs.Finding.{Mapped, get_behind, get_front, get_map, map_get}
-use Rattle.sn_engine_lockstep.proofs.Seeing.{items_seen, rows_seen, seen_by}
+use Rattle.sn_engine_lockstep.proofs.Seeing.{before_first, before_next, items_tabled, prefixes_seen, rows_seen, seen_by}
 
 -- ---- the lane of a piece is found
 
@@ -110,7 +115,7 @@ map_firsts t f g (x ∷ xs) same =
 module _ (typed_for window : ℕ) (queries : List TypedQuery) (kept : Source → Set) (tuples : List (List ℕ)) (pieces : List Placed)
     (typed : ∥ IsTyped typed_for queries ∥₁) (can : AllByRecursion (CanMake queries) pieces) (apart : AreApart pieces)
     (shared : Bool) (found : Placed → List Item) (Of : ℕ → List ℕ → ℕ → ℕ → List Item → Type 0)
-    (own : (q : ℕ) (path : List ℕ) (p : Piece) → CanMake queries (placed q path p) → Of q path p.level p.branch (found (placed q path p)))
+    (own : (q : ℕ) (path : List ℕ) (p : Piece) → CanMake queries (placed q path p) → IsRising path → is_among path p.level ≡ true → Of q path p.level p.branch (found (placed q path p)))
     (valued : (q : ℕ) (path : List ℕ) (level : ℕ) (left right : List Item) → q < length queries → Of q path level 0 left → (length (query_at queries q).branches ≡ 2 → Of q path level 1 right)
     → sorted_rows (query_value (query_at queries q) level left right)
     ≡ level_rows (query_at queries q) level (Some (seen_by (query_at queries q) path (λ j. kept (source_at q (Some (slice_index path j)))) tuples (place_in path level)))) where
@@ -123,9 +128,9 @@ module _ (typed_for window : ℕ) (queries : List TypedQuery) (kept : Source →
   abbrev kept_before : ℕ → List ℕ → ℕ → Set
   kept_before q path j = kept (source_at q (Some (slice_index path j)))
 
-  of_place : (q : ℕ) (path : List ℕ) (p : Piece) (level b : ℕ) → CanMake queries (placed q path p) → p.level ≡ level → p.branch ≡ b → Of q path level b (found (placed q path p))
-  of_place q path p level b mine same branch =
-      subst (λ l. Of q path l b (found (placed q path p))) same (subst (λ n. Of q path p.level n (found (placed q path p))) branch (own q path p mine))
+  of_place : (q : ℕ) (path : List ℕ) (p : Piece) (level b : ℕ) → CanMake queries (placed q path p) → IsRising path → is_among path p.level ≡ true → p.level ≡ level → p.branch ≡ b → Of q path level b (found (placed q path p))
+  of_place q path p level b mine rising known same branch =
+      subst (λ l. Of q path l b (found (placed q path p))) same (subst (λ n. Of q path p.level n (found (placed q path p))) branch (own q path p mine rising known))
 
   -- the answer at a level
   abbrev answer_at : ℕ → List ℕ → ℕ → Part
@@ -139,6 +144,9 @@ module _ (typed_for window : ℕ) (queries : List TypedQuery) (kept : Source →
 
     mine : (i : ℕ) (p : Piece) → slice_get e.pieces i ≡ Some p → CanMake queries (placed q e.levels p)
     mine i p at = all_get (CanMake queries) pieces (length front + i) (placed q e.levels p) can (stands i p at)
+
+    known_at : (i : ℕ) (p : Piece) → slice_get e.pieces i ≡ Some p → is_among e.levels p.level ≡ true
+    known_at i p at = all_get (λ (p : Piece). is_among e.levels p.level ≡ true) e.pieces i p (levels_known (query_at queries q) e entry) at
 
     found_items : (i : ℕ) (p : Piece) → slice_get e.pieces i ≡ Some p → items_at lanes (name_of (placed q e.levels p)) ≡ found (placed q e.levels p)
     found_items i p at = ap first_of (find_own lane (λ n y. refl) pieces (length front + i) (placed q e.levels p) apart (stands i p at))
@@ -155,17 +163,17 @@ module _ (typed_for window : ℕ) (queries : List TypedQuery) (kept : Source →
         let name : name_of (placed q e.levels p) ≡ lane_at q (place_in e.levels level) 1 = ap (λ n. lane_at q (place_in e.levels n) p.branch) l ∙ ap (lane_at q (place_in e.levels level)) b in
         subst (Of q e.levels level 1)
         (sym (found_items s.place p m.stands) ∙ ap (items_at lanes) name)
-        (of_place q e.levels p level 1 (mine s.place p m.stands) l b)
+        (of_place q e.levels p level 1 (mine s.place p m.stands) entry.path.rising (known_at s.place p m.stands) l b)
 
     first_part : (i : ℕ) (p : Piece) → slice_get e.pieces i ≡ Some p → (p.branch == 0) ≡ true → part_of queries lanes (lane (placed q e.levels p)) ≡ answer_at q e.levels p.level
     first_part i p at first =
         let query = query_at queries q in
-        let known = all_get (λ (p : Piece). is_among e.levels p.level ≡ true) e.pieces i p (levels_known query e entry) at in
+        let known = known_at i p at in
         let place = place_in e.levels p.level in
         let seen = seen_by query e.levels (kept_before q e.levels) tuples place in
         ap (λ (rows : List Row). made rows)
         (valued q e.levels p.level (found (placed q e.levels p)) (items_at lanes (lane_at q place 1)) lt
-        (of_place q e.levels p p.level 0 (mine i p at) refl (nat_same p.branch 0 first)) (second_of_level p.level known)
+        (of_place q e.levels p p.level 0 (mine i p at) entry.path.rising known refl (nat_same p.branch 0 first)) (second_of_level p.level known)
         ∙ ap (λ l. level_rows query l (Some seen)) (sym (place_level e.levels p.level known))
         ∙ sym (rows_seen query e.levels (kept_before q e.levels) tuples place))
       where
@@ -242,36 +250,65 @@ module _ (typed_for window : ℕ) (queries : List TypedQuery) (kept : Source →
 
 -- ---- the lanes of one switch
 
-module _ (typed_for depth window : ℕ) (queries : List TypedQuery) (kept : Source → Set) (tuples : List (List ℕ)) (pieces : List Placed)
+-- the level before is below the level
+pub before_low : (path : List ℕ) (level : ℕ) (members : Set) → IsRising path → is_among path level ≡ true → IsWithinLevel level (with_bits (level_before path level) members)
+before_low path level members rising known = by_place (place_in path level) refl
+  where
+    by_place : (m : ℕ) → place_in path level ≡ m → IsWithinLevel level (with_bits (level_before path level) members)
+    by_place zero e = subst (λ o. IsWithinLevel level (with_bits o members)) (sym (before_first path level e)) tt
+    by_place (suc j) e = subst (λ o. IsWithinLevel level (with_bits o members)) (sym (before_next path level j e)) (below j e)
+      where
+        below : (j : ℕ) → place_in path level ≡ suc j → slice_index path j ≤ level
+        below j e =
+            let at = place_is path level known in
+            let less = rising_index path j (suc j) rising (omega arith) (subst (λ n. n < length path) e at.within) in
+            let same : slice_index path (suc j) ≡ level = ap (slice_index path) (sym e) ∙ at.is in
+            omega (arith, less, same)
+
+module _ (typed_for : ℕ) (tables : Tables) (window : ℕ) (queries : List TypedQuery) (kept : Source → Set) (tuples : List (List ℕ)) (pieces : List Placed)
     (typed : ∥ IsTyped typed_for queries ∥₁) (can : AllByRecursion (CanMake queries) pieces) (apart : AreApart pieces) (widths : AllByRecursion HasWidths tuples) where
-  abbrev seen_at : ℕ → List ℕ → ℕ → List (List ℕ)
-  seen_at q path level = seen_by (query_at queries q) path (λ j. kept (source_at q (Some (slice_index path j)))) tuples (place_in path level)
+  -- the prefixes of the level before
+  abbrev prefixes : ℕ → List ℕ → ℕ → Option Prefixes
+  prefixes q path level = with_bits (level_before path level) (kept (source_at q (level_before path level)))
 
-  pub seen_widths : (q : ℕ) (path : List ℕ) (place : ℕ) → AllByRecursion HasWidths (seen_by (query_at queries q) path (λ j. kept (source_at q (Some (slice_index path j)))) tuples place)
-  seen_widths q path zero = widths
-  seen_widths q path (suc j) = all_filter HasWidths (is_held (query_at queries q).field (slice_index path j) (kept (source_at q (Some (slice_index path j))))) tuples widths
+  -- what is left of the items of a piece, is what is left of those of its branch
+  abbrev Left : ℕ → List ℕ → ℕ → ℕ → List Item → Type 0
+  Left q path level b found = AreLeft queries q b level (prefixes q path level) tuples found
 
-  -- the items of a piece are those of its branch on what its level sees
-  abbrev Split : ℕ → List ℕ → ℕ → ℕ → List Item → Type 0
-  Split q path level b found = AreSplit queries q b level None (seen_at q path level) found
+  left_of : Placed → List Item
+  left_of x = (left_done queries tables kept tuples window x).items
 
-  split_own : (q : ℕ) (path : List ℕ) (p : Piece) → CanMake queries (placed q path p) → Split q path p.level p.branch (items_of queries depth (placed q path p) (kept (source_of (placed q path p))) tuples)
-  split_own q path p mine = record { cut = p.cut; depth = depth; sizes = p.slots; within = mine.cut; same = bag_same (sym (items_seen queries depth q path p kept tuples)) }
+  left_own : (q : ℕ) (path : List ℕ) (p : Piece) → CanMake queries (placed q path p) → IsRising path → is_among path p.level ≡ true → Left q path p.level p.branch (left_of (placed q path p))
+  unfolding left_of
+  left_own q path p mine rising known = record {
+    cut = p.cut;
+    depth = tables.depth;
+    sizes = p.slots;
+    entries = tables.entries;
+    sent = items_of queries tables (placed q path p) (kept (source_of (placed q path p))) tuples;
+    within = mine.cut;
+    low = before_low path p.level (kept (source_of (placed q path p))) rising known;
+    same = bag_same (sym (items_tabled queries tables q path p (kept (source_of (placed q path p))) tuples));
+    is = refl;
+  }
 
-  pub all_parts : (es : List Entry) → AreEntriesOf queries es → pieces ≡ pieces_from 0 es → parts_of queries (map (done queries depth kept tuples window) pieces) ≡ parts_from queries kept tuples 0 es
+  pub all_parts : (es : List Entry) → AreEntriesOf queries es → pieces ≡ pieces_from 0 es → parts_of queries (map (left_done queries tables kept tuples window) pieces) ≡ parts_from queries kept tuples 0 es
+  unfolding left_of
   all_parts es h are =
-      parts_are typed_for window queries kept tuples pieces typed can apart false (λ x. items_of queries depth x (kept (source_of x)) tuples) Split split_own
-      (λ q path level left right lt l r. query_split typed_for queries q level None (seen_at q path level) left right typed lt (seen_widths q path (place_in path level)) l r)
+      parts_are typed_for window queries kept tuples pieces typed can apart false left_of Left left_own
+      (λ q path level left right lt l r.
+      query_left typed_for queries q level (prefixes q path level) tuples left right typed lt widths l r
+      ∙ ap (λ ts. level_rows (query_at queries q) level (Some ts)) (prefixes_seen (query_at queries q) q path kept tuples level))
       es h are
 
-  total_from : (xs : List Placed) → total (map (done queries depth kept tuples window) xs) ≡ sent_by queries depth xs kept tuples
+  total_from : (xs : List Placed) → total (map (done queries tables kept tuples window) xs) ≡ sent_by queries tables xs kept tuples
   total_from [] = refl
   total_from (x ∷ xs) =
-      let lane = done queries depth kept tuples window in
-      let count : Placed → ℕ = λ y. length (items_of queries depth y (kept (source_of y)) tuples) in
-      sum_by-cons (λ (l : Intake). length l.items) (lane x) (map (done queries depth kept tuples window) xs)
+      let lane = done queries tables kept tuples window in
+      let count : Placed → ℕ = λ y. length (items_of queries tables y (kept (source_of y)) tuples) in
+      sum_by-cons (λ (l : Intake). length l.items) (lane x) (map (done queries tables kept tuples window) xs)
       ∙ ap (λ n. count x + n) (total_from xs)
       ∙ sym (sum_by-cons (λ (n : ℕ). n) (count x) (map count xs))
 
-  pub all_sent : total (map (done queries depth kept tuples window) pieces) ≡ sent_by queries depth pieces kept tuples
+  pub all_sent : total (map (done queries tables kept tuples window) pieces) ≡ sent_by queries tables pieces kept tuples
   all_sent = total_from pieces

@@ -1,18 +1,16 @@
 -- serves proofs
 -- Where the prefixes come from that the lanes of a plan admit.
-use Rattle.std.specs.Prelude.{ℕ, ◌+◌, List, [], ◌∷◌, ◌++◌, map, Bool, ◌&&◌, ◌==◌, Option, None, Some, if◌then◌else◌}
-use Rattle.std.specs.List.{find}
-use Rattle.std.specs.Option.{option_map_or}
+use Rattle.std.specs.Prelude.{ℕ, ◌+◌, List, [], ◌∷◌, ◌++◌, map, ◌==◌, Option, None, Some, if◌then◌else◌}
 use Rattle.std.specs.FinSet as set
-use Rattle.sn_base.specs.Groups.{Row}
-use Rattle.sn_emit.specs.Plans.{Placed, level_before}
+use Rattle.sn_emit.specs.Plans.{Placed}
+use Rattle.sn_engine.specs.Keeping.{level_prefixes}
+use Rattle.sn_plan_fit.specs.Paths.{level_before}
 use Rattle.sn_plan_grammar.specs.declared.plan.Entry.{Entry}
 use Rattle.sn_plan_grammar.specs.declared.plan.Piece.{Piece}
-use Rattle.sn_refine.specs.Steps.{Set, prefixes_of}
+use Rattle.sn_refine.specs.Steps.{Set}
 use Rattle.sn_types.specs.declared.answers.Answers.{Answers}
 use Rattle.sn_types.specs.declared.answers.Part.{Part}
 use Rattle.sn_types.specs.declared.typed_query.TypedQuery.{TypedQuery}
-use Rattle.sn_types.specs.Typed.{query_at}
 use Rattle.sn_engine_lockstep.specs.declared.source.Source.{Source}
 
 abbrev pub source_at : ℕ → Option ℕ → Source
@@ -30,18 +28,7 @@ abbrev pub sources_of : ℕ → List Entry → List Source
 sources_of q [] = []
 sources_of q (e ∷ es) = map (source_for q e.levels) e.pieces ++ sources_of (q + 1) es
 
--- the rows of the answer of a query at a level, and none where there is no such answer
-abbrev pub is_part : ℕ → ℕ → Part → Bool
-is_part q level part = (part.query == q) && (part.level == level)
-
-abbrev pub rows_found : List Part → ℕ → ℕ → List Row
-rows_found parts q level = option_map_or (λ (part : Part). part.rows) (find (is_part q level) parts) []
-
 -- the prefixes that these answers have at the level of a source
-abbrev pub level_prefixes : List TypedQuery → List Part → ℕ → Option ℕ → Set
-level_prefixes queries parts q None = set.empty
-level_prefixes queries parts q (Some level) = prefixes_of (query_at queries q) (rows_found parts q level)
-
 abbrev pub prefixes_in : List TypedQuery → List Part → Source → Set
 prefixes_in queries parts source = level_prefixes queries parts source.query source.before
 

@@ -1,22 +1,30 @@
 -- serves proofs
 -- The lanes of a plan at work, in the switch and in the engine.
-use Rattle.std.specs.Prelude.{◌≡◌, ℕ, ◌<◌, ◌≤◌, List, [], ◌∷◌, map, fold, length, false, Some, slice_get}
+use Rattle.std.specs.Prelude.{◌≡◌, ℕ, ◌<◌, ◌≤◌, List, [], ◌∷◌, map, fold, length, false, Option, Some, slice_get, unwrap_or}
 use Rattle.std.specs.List.{AllByRecursion}
 use Rattle.std.specs.Option.{option_map, option_to_list}
+use Rattle.std.specs.FinSet as set
 use Rattle.sn_base.specs.declared.lane.Lane.{Lane}
 use Rattle.sn_emit.specs.declared.sender.Sender.{Sender}
 use Rattle.sn_emit.specs.Plans.{AreLanesOf, IsLaneOf, Placed, items_of, lane_of}
 use Rattle.sn_emit.specs.Runs.{ReadsOut}
 use Rattle.sn_emit.specs.Senders.{packet_frames, row_frame, sender_after, sender_start}
+use Rattle.sn_emit.specs.declared.tables.Tables.{Tables}
 use Rattle.sn_engine.specs.declared.intake.Intake.{Intake}
+use Rattle.sn_engine.specs.Answers.{window_of}
 use Rattle.sn_engine.specs.Intakes.{after_frame, intake_for, is_lane, with_end, with_item}
+use Rattle.sn_engine.specs.Keeping.{all_left, kept_for, with_bits}
+use Rattle.sn_engine_split.specs.Opened.{left_in}
 use Rattle.sn_pipe.specs.Pipes.{item_of}
+use Rattle.sn_plan_fit.specs.Paths.{level_before}
 use Rattle.sn_refine.specs.Steps.{Set}
 use Rattle.sn_report.specs.Items.{Frame}
 use Rattle.sn_report.specs.declared.frame.Frame.TheVariants.{Row, End}
+use Rattle.sn_types.specs.Typed.{query_at}
+use Rattle.sn_types.specs.declared.answers.Answers.{Answers}
 use Rattle.sn_types.specs.declared.typed_query.TypedQuery.{TypedQuery}
 use Rattle.sn_engine_lockstep.specs.declared.source.Source.{Source}
-use Rattle.sn_engine_lockstep.specs.Sources.{source_of}
+use Rattle.sn_engine_lockstep.specs.Sources.{kept_in, source_of}
 
 -- the engine's lane of a piece, of which nothing has come
 abbrev pub intake_of : Placed → Intake
@@ -41,9 +49,9 @@ AreApart [] = Unit {0}
 AreApart (x ∷ xs) = AllByRecursion (λ y. is_lane (name_of y) (intake_of x) ≡ false) xs × AreApart xs
 
 -- the lane of a piece in the switch and in the engine, once these tuples of a window came
-pub record IsAtWork (queries : List TypedQuery) (depth : ℕ) (x : Placed) (kept : Set) (tuples : List (List ℕ)) (s : Sender) (l : Intake) : Type 0 where
+pub record IsAtWork (queries : List TypedQuery) (tables : Tables) (x : Placed) (kept : Set) (tuples : List (List ℕ)) (s : Sender) (l : Intake) : Type 0 where
   pub base : Sender
-  pub lane : IsLaneOf queries depth x base
+  pub lane : IsLaneOf queries tables x base
   pub sender : s ≡ sender_after (sender_start base kept) tuples
   pub intake : l ≡ fold taken (intake_of x) (packet_frames (sender_start base kept) tuples)
 
@@ -56,13 +64,13 @@ pub record Each (P : ℕ → Placed → Sender → Intake → Type 0) (pieces : 
       → slice_get intakes j ≡ Some l → P j x s l
 
 -- all lanes, once these tuples of a window came, where the lanes admit these prefixes
-abbrev pub AreAtWork : List TypedQuery → ℕ → List Placed → (Source → Set) → List (List ℕ) → List Sender → List Intake → Type 0
-AreAtWork queries depth pieces kept tuples senders intakes = Each (λ j x s l. IsAtWork queries depth x (kept (source_of x)) tuples s l) pieces senders intakes
+abbrev pub AreAtWork : List TypedQuery → Tables → List Placed → (Source → Set) → List (List ℕ) → List Sender → List Intake → Type 0
+AreAtWork queries tables pieces kept tuples senders intakes = Each (λ j x s l. IsAtWork queries tables x (kept (source_of x)) tuples s l) pieces senders intakes
 
 -- all lanes between two windows: those in the engine are empty
-pub record AreIdle (queries : List TypedQuery) (depth : ℕ) (pieces : List Placed) (senders : List Sender) (intakes : List Intake) : Type 0 where
+pub record AreIdle (queries : List TypedQuery) (tables : Tables) (pieces : List Placed) (senders : List Sender) (intakes : List Intake) : Type 0 where
   pub apart : AreApart pieces
-  pub lanes : AreLanesOf queries depth pieces senders
+  pub lanes : AreLanesOf queries tables pieces senders
   pub empty : intakes ≡ map intake_of pieces
 
 -- a lane is read out to its end, and the engine takes what it gives
@@ -72,8 +80,29 @@ pub record IsReadInto (window : ℕ) (s t : Sender) (before now : List Intake) :
   pub came : now ≡ fold after_frame before frames
 
 -- the engine's lane of a piece at the end of a window: the items of the piece came, and the End
-abbrev pub done : List TypedQuery → ℕ → (Source → Set) → List (List ℕ) → ℕ → Placed → Intake
-done queries depth kept tuples window x = record (intake_of x) { items = items_of queries depth x (kept (source_of x)) tuples; end = Some window }
+abbrev pub done : List TypedQuery → Tables → (Source → Set) → List (List ℕ) → ℕ → Placed → Intake
+done queries tables kept tuples window x = record (intake_of x) { items = items_of queries tables x (kept (source_of x)) tuples; end = Some window }
+
+-- what is left of it where the items of other prefixes than those of its source are dropped
+abbrev pub left_done : List TypedQuery → Tables → (Source → Set) → List (List ℕ) → ℕ → Placed → Intake
+left_done queries tables kept tuples window x = record (intake_of x) {
+  items = left_in (query_at queries x.query) x.piece.branch (with_bits (level_before x.path x.piece.level) (kept (source_of x)))
+      (items_of queries tables x (kept (source_of x)) tuples);
+  end = Some window;
+}
+
+-- these prefixes, lane by lane, are those of the sources of the pieces
+abbrev pub AreKept : List Placed → (Source → Set) → List Set → Type 0
+AreKept pieces kept sets = (j : ℕ) (x : Placed) → slice_get pieces j ≡ Some x → unwrap_or (slice_get sets j) set.empty ≡ kept (source_of x)
+
+-- what an engine keeps of the window that it closed last is, for each window, what the last answers give the sources of the pieces
+abbrev pub Recalls : List TypedQuery → List Placed → Option Answers → Option ℕ → List Set → Type 0
+Recalls queries pieces last closed sets = (window : ℕ) → AreKept pieces (kept_in queries last window) (kept_for closed sets window)
+
+-- lanes without the items that an engine drops at the close of the window that they have ended, where it closed this window last, and
+-- kept these prefixes of it
+abbrev pub lanes_left : List TypedQuery → Option ℕ → List Set → List Intake → List Intake
+lanes_left queries closed sets lanes = all_left queries (kept_for closed sets (window_of lanes)) lanes
 
 -- no lane was read out in this window
 abbrev pub AreUnread : List Sender → Type 0

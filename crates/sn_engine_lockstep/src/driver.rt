@@ -1,14 +1,16 @@
 //! A plan at work, window by window.
-ghost use Rattle.std.specs.Prelude.{◌≡◌, ◌<◌, ◌≤◌, ◌++◌, ◌∷◌, [], ℕ, List, length, map, IfOk, OnOk};
+ghost use Rattle.std.specs.Prelude.{◌≡◌, ◌<◌, ◌≤◌, ◌++◌, ◌∷◌, [], ℕ, List, None, Some, length, map, IfOk, OnOk};
 ghost use Rattle.std.specs.List.{AllByRecursion, flat_map};
 ghost use Rattle.sn_engine_lockstep.specs.declared.source.Source.{Source};
 ghost use Rattle.sn_engine_lockstep.specs.Early.{early_total};
 ghost use Rattle.sn_engine_lockstep.specs.Sources.{kept_in, source_of, sources_of};
-ghost use Rattle.sn_engine_lockstep.specs.Work.{AreAtWork, AreIdle, AreUnread, done, frames_given};
+ghost use Rattle.sn_engine_lockstep.specs.Work.{AreAtWork, AreIdle, AreKept, AreUnread, Recalls, done, frames_given, lanes_left, left_done};
 ghost use Rattle.sn_emit.specs.Making.{CanMake};
-ghost use Rattle.sn_emit.specs.Plans.{AreLanesOf, AreNewLanes, Placed, pieces_from};
+ghost use Rattle.sn_emit.specs.Plans.{AreLanesOf, AreNewLanes, Placed, pieces_from, tables_of};
 ghost use Rattle.sn_emit.specs.Senders.{frames_left};
-ghost use Rattle.sn_engine.specs.Answers.{parts_of};
+ghost use Rattle.sn_emit.specs.declared.tables.Tables.{Tables};
+ghost use Rattle.sn_engine.specs.Answers.{parts_of, window_of};
+ghost use Rattle.sn_engine.specs.Keeping.{gathered, kept_for};
 ghost use Rattle.sn_engine.specs.Intakes.{emptied, intakes_of, total};
 ghost use Rattle.sn_plan_fit.specs.Fits.{Fits, HasShape};
 ghost use Rattle.sn_refine.specs.Steps.{Set};
@@ -23,6 +25,7 @@ use crate::wire::Wire;
 use sn_base::memory::Memory;
 use sn_base::seq::Seq;
 use sn_emit::lanes::Emitter;
+use sn_emit::tables::Tables;
 use sn_engine::engine::Engine;
 use sn_fields::tuple::Tuple;
 use sn_plan_grammar::plan::Plan;
@@ -50,30 +53,33 @@ impl Driver {
         requires fits { Fits t.now.queries s.now plan.now.entries }
         ensures queries { IfOk result (λ driver. driver.engine.t.queries ≡ t.now.queries) }
         ensures sources { IfOk result (λ driver. driver.sources ≡ sources_of 0 plan.now.entries) }
-        ensures lanes { IfOk result (λ driver. AreNewLanes t.now.queries s.now.chain (pieces_from 0 plan.now.entries) driver.emitter) }
+        ensures lanes { IfOk result (λ driver. AreNewLanes t.now.queries (tables_of s.now) (pieces_from 0 plan.now.entries) driver.emitter) }
         ensures empty { IfOk result (λ driver. driver.engine.lanes.items ≡ intakes_of 0 plan.now.entries) }
+        ensures closed { IfOk result (λ driver. driver.engine.closed ≡ None) }
         ensures many { IfOk result (λ driver. length driver.sources ≡ length driver.emitter) }
         ensures known { IfOk result (λ driver. AllByRecursion (λ source. source.query < length driver.engine.t.queries) driver.sources) }
     {
-        Driver::of(t, s.chain, plan)
+        let tables = Tables::of(s);
+        Driver::of(t, tables, plan)
     }
 
-    /// The lanes and the engine of pieces that can be made, where each stateful operator has `chain` registers. No window was begun.
-    pub fn of(t: &Typed, chain: u32, plan: &Plan) -> Result<Driver, Memory>
-        requires some_depth { 1 ≤ chain }
-        requires most_depth { chain ≤ 4 }
+    /// The lanes and the engine of pieces that can be made, in a switch with this room. No window was begun.
+    pub fn of(t: &Typed, tables: Tables, plan: &Plan) -> Result<Driver, Memory>
+        requires some_depth { 1 ≤ tables.depth }
+        requires most_depth { tables.depth ≤ 4 }
         requires shape { HasShape t.now.queries plan.now.entries }
         requires most { length (pieces_from 0 plan.now.entries) ≤ 64 }
         requires can { AllByRecursion (CanMake t.now.queries) (pieces_from 0 plan.now.entries) }
         ensures queries { IfOk result (λ driver. driver.engine.t.queries ≡ t.now.queries) }
         ensures sources { IfOk result (λ driver. driver.sources ≡ sources_of 0 plan.now.entries) }
-        ensures lanes { IfOk result (λ driver. AreNewLanes t.now.queries chain (pieces_from 0 plan.now.entries) driver.emitter) }
+        ensures lanes { IfOk result (λ driver. AreNewLanes t.now.queries tables (pieces_from 0 plan.now.entries) driver.emitter) }
         ensures empty { IfOk result (λ driver. driver.engine.lanes.items ≡ intakes_of 0 plan.now.entries) }
+        ensures closed { IfOk result (λ driver. driver.engine.closed ≡ None) }
         ensures many { IfOk result (λ driver. length driver.sources ≡ length driver.emitter) }
         ensures known { IfOk result (λ driver. AllByRecursion (λ source. source.query < length driver.engine.t.queries) driver.sources) }
     {
         let sources = sources(t.alloc, plan.entries.as_slice())?;
-        let emitter = Emitter::of(t, chain, plan)?;
+        let emitter = Emitter::of(t, tables, plan)?;
         let engine = Engine::make(t.alloc, t, plan)?;
         Ok(Driver {
             alloc: t.alloc,
@@ -88,15 +94,17 @@ impl Driver {
     pub fn begin(&mut self, last: &Option<Answers>, window: u64) -> Result<(), Memory>
         requires many { length self.old.sources ≡ length self.old.emitter }
         requires known { AllByRecursion (λ source. source.query < length self.old.engine.t.queries) self.old.sources }
-        ensures work { OnOk result ((depth : ℕ) (pieces : List Placed) → self.old.sources ≡ map source_of pieces →
-            AreIdle self.old.engine.t.queries depth pieces self.old.emitter self.old.engine.lanes.items →
-            AreAtWork self.old.engine.t.queries depth pieces
+        ensures work { OnOk result ((tables : Tables) (pieces : List Placed) → self.old.sources ≡ map source_of pieces →
+            AreIdle self.old.engine.t.queries tables pieces self.old.emitter self.old.engine.lanes.items →
+            AreAtWork self.old.engine.t.queries tables pieces
             (kept_in self.old.engine.t.queries last.now window) [] self.new.emitter self.new.engine.lanes.items) }
         ensures unread { OnOk result (AreUnread self.new.emitter) }
-        ensures lanes { OnOk result ((queries : List TypedQuery) (depth : ℕ) (pieces : List Placed) → AreLanesOf queries depth pieces self.old.emitter →
-            AreLanesOf queries depth pieces self.new.emitter) }
+        ensures lanes { OnOk result ((queries : List TypedQuery) (tables : Tables) (pieces : List Placed) → AreLanesOf queries tables pieces self.old.emitter →
+            AreLanesOf queries tables pieces self.new.emitter) }
         ensures count { OnOk result (length self.new.emitter ≡ length self.old.emitter) }
         ensures queries { self.new.engine.t.queries ≡ self.old.engine.t.queries }
+        ensures closed { self.new.engine.closed ≡ self.old.engine.closed }
+        ensures prefixes { self.new.engine.kept ≡ self.old.engine.kept }
         ensures sources { self.new.sources ≡ self.old.sources }
     {
         let engine = &self.engine;
@@ -113,15 +121,17 @@ impl Driver {
     /// Gives a tuple of the window to all lanes. The engine takes what they send, and the wire is told of it.
     pub fn packet<W: Wire>(&mut self, wire: &mut W, tuple: &Tuple) -> Result<(), Memory>
         requires { AreUnread self.old.emitter }
-        ensures work { OnOk result ((queries : List TypedQuery) (depth : ℕ) (pieces : List Placed) (kept : Source → Set) (tuples : List (List ℕ)) →
-            AreAtWork queries depth pieces kept tuples self.old.emitter self.old.engine.lanes.items →
-            AreAtWork queries depth pieces kept (tuples ++ tuple.now ∷ []) self.new.emitter self.new.engine.lanes.items) }
+        ensures work { OnOk result ((queries : List TypedQuery) (tables : Tables) (pieces : List Placed) (kept : Source → Set) (tuples : List (List ℕ)) →
+            AreAtWork queries tables pieces kept tuples self.old.emitter self.old.engine.lanes.items →
+            AreAtWork queries tables pieces kept (tuples ++ tuple.now ∷ []) self.new.emitter self.new.engine.lanes.items) }
         ensures sent { OnOk result (W.told wire.new ≡ W.told wire.old ++ flat_map W.word (flat_map (frames_given tuple.now) self.old.emitter)) }
         ensures unread { OnOk result (AreUnread self.new.emitter) }
-        ensures lanes { OnOk result ((queries : List TypedQuery) (depth : ℕ) (pieces : List Placed) → AreLanesOf queries depth pieces self.old.emitter →
-            AreLanesOf queries depth pieces self.new.emitter) }
+        ensures lanes { OnOk result ((queries : List TypedQuery) (tables : Tables) (pieces : List Placed) → AreLanesOf queries tables pieces self.old.emitter →
+            AreLanesOf queries tables pieces self.new.emitter) }
         ensures count { OnOk result (length self.new.emitter ≡ length self.old.emitter) }
         ensures queries { self.new.engine.t.queries ≡ self.old.engine.t.queries }
+        ensures closed { self.new.engine.closed ≡ self.old.engine.closed }
+        ensures prefixes { self.new.engine.kept ≡ self.old.engine.kept }
         ensures sources { self.new.sources ≡ self.old.sources }
     {
         give_lanes(&mut self.emitter, &mut self.engine, wire, tuple)
@@ -130,16 +140,18 @@ impl Driver {
     /// Reads all lanes out. The engine takes what they send, and the wire is told of it. Then the engine holds all items of the
     /// window.
     pub fn drain<W: Wire>(&mut self, wire: &mut W, window: u64) -> Result<(), Memory>
-        ensures items { OnOk result ((typed_for depth : ℕ) (queries : List TypedQuery) (pieces : List Placed) (kept : Source → Set)
+        ensures items { OnOk result ((typed_for : ℕ) (tables : Tables) (queries : List TypedQuery) (pieces : List Placed) (kept : Source → Set)
             (tuples : List (List ℕ)) →
             ∥ IsTyped typed_for queries ∥₁ → AllByRecursion (CanMake queries) pieces → AllByRecursion HasWidths tuples →
-            AreAtWork queries depth pieces kept tuples self.old.emitter self.old.engine.lanes.items →
-            self.new.engine.lanes.items ≡ map (done queries depth kept tuples window) pieces) }
+            AreAtWork queries tables pieces kept tuples self.old.emitter self.old.engine.lanes.items →
+            self.new.engine.lanes.items ≡ map (done queries tables kept tuples window) pieces) }
         ensures sent { OnOk result (W.told wire.new ≡ W.told wire.old ++ flat_map W.word (flat_map (λ s. frames_left s window) self.old.emitter)) }
-        ensures lanes { OnOk result ((queries : List TypedQuery) (depth : ℕ) (pieces : List Placed) → AreLanesOf queries depth pieces self.old.emitter →
-            AreLanesOf queries depth pieces self.new.emitter) }
+        ensures lanes { OnOk result ((queries : List TypedQuery) (tables : Tables) (pieces : List Placed) → AreLanesOf queries tables pieces self.old.emitter →
+            AreLanesOf queries tables pieces self.new.emitter) }
         ensures count { OnOk result (length self.new.emitter ≡ length self.old.emitter) }
         ensures queries { self.new.engine.t.queries ≡ self.old.engine.t.queries }
+        ensures closed { self.new.engine.closed ≡ self.old.engine.closed }
+        ensures prefixes { self.new.engine.kept ≡ self.old.engine.kept }
         ensures sources { self.new.sources ≡ self.old.sources }
     {
         drain_lanes(&mut self.emitter, &mut self.engine, wire, window)
@@ -158,7 +170,10 @@ impl Driver {
     pub fn finish(&mut self, window: u64) -> Result<Answers, Memory>
         ensures window { IfOk result (λ answers. answers.window ≡ window) }
         ensures emitted { IfOk result (λ answers. answers.emitted ≡ total self.old.engine.lanes.items) }
-        ensures parts { IfOk result (λ answers. answers.parts ≡ parts_of self.old.engine.t.queries self.old.engine.lanes.items) }
+        ensures parts { IfOk result (λ answers. answers.parts ≡ parts_of self.old.engine.t.queries
+            (lanes_left self.old.engine.t.queries self.old.engine.closed self.old.engine.kept self.old.engine.lanes.items)) }
+        ensures closed { OnOk result (self.new.engine.closed ≡ Some (window_of self.old.engine.lanes.items)) }
+        ensures prefixes { IfOk result (λ answers. self.new.engine.kept ≡ gathered self.old.engine.t.queries answers.parts self.old.engine.lanes.items) }
         ensures emptied { OnOk result (self.new.engine.lanes.items ≡ map emptied self.old.engine.lanes.items) }
         ensures lanes { self.new.emitter ≡ self.old.emitter }
         ensures queries { self.new.engine.t.queries ≡ self.old.engine.t.queries }
@@ -175,17 +190,23 @@ impl Driver {
     /// Reads all lanes out, and answers the window. The engine takes what they send, and the wire is told of it.
     pub fn close<W: Wire>(&mut self, wire: &mut W, window: u64) -> Result<Answers, Memory>
         ensures window { IfOk result (λ answers. answers.window ≡ window) }
-        ensures answers { IfOk result (λ answers. (typed_for depth : ℕ) (pieces : List Placed) (kept : Source → Set) (tuples : List (List ℕ)) →
+        ensures answers { IfOk result (λ answers. (typed_for : ℕ) (tables : Tables) (pieces : List Placed) (kept : Source → Set) (tuples : List (List ℕ)) →
             let queries = self.old.engine.t.queries in
             ∥ IsTyped typed_for queries ∥₁ → AllByRecursion (CanMake queries) pieces → AllByRecursion HasWidths tuples →
-            AreAtWork queries depth pieces kept tuples self.old.emitter self.old.engine.lanes.items →
-            (answers.emitted ≡ total (map (done queries depth kept tuples window) pieces)) ×
-            (answers.parts ≡ parts_of queries (map (done queries depth kept tuples window) pieces))) }
-        ensures empty { OnOk result ((typed_for depth : ℕ) (pieces : List Placed) (kept : Source → Set) (tuples : List (List ℕ)) →
+            AreAtWork queries tables pieces kept tuples self.old.emitter self.old.engine.lanes.items →
+            (answers.emitted ≡ total (map (done queries tables kept tuples window) pieces)) ×
+            (AreKept pieces kept (kept_for self.old.engine.closed self.old.engine.kept window) →
+            answers.parts ≡ parts_of queries (map (left_done queries tables kept tuples window) pieces))) }
+        ensures recalls { IfOk result (λ answers. (typed_for : ℕ) (tables : Tables) (pieces : List Placed) (kept : Source → Set) (tuples : List (List ℕ)) →
             let queries = self.old.engine.t.queries in
             ∥ IsTyped typed_for queries ∥₁ → AllByRecursion (CanMake queries) pieces → AllByRecursion HasWidths tuples →
-            AreAtWork queries depth pieces kept tuples self.old.emitter self.old.engine.lanes.items →
-            AreLanesOf queries depth pieces self.old.emitter → AreIdle queries depth pieces self.new.emitter self.new.engine.lanes.items) }
+            AreAtWork queries tables pieces kept tuples self.old.emitter self.old.engine.lanes.items →
+            Recalls queries pieces (Some answers) self.new.engine.closed self.new.engine.kept) }
+        ensures empty { OnOk result ((typed_for : ℕ) (tables : Tables) (pieces : List Placed) (kept : Source → Set) (tuples : List (List ℕ)) →
+            let queries = self.old.engine.t.queries in
+            ∥ IsTyped typed_for queries ∥₁ → AllByRecursion (CanMake queries) pieces → AllByRecursion HasWidths tuples →
+            AreAtWork queries tables pieces kept tuples self.old.emitter self.old.engine.lanes.items →
+            AreLanesOf queries tables pieces self.old.emitter → AreIdle queries tables pieces self.new.emitter self.new.engine.lanes.items) }
         ensures sent { OnOk result (W.told wire.new ≡ W.told wire.old ++ flat_map W.word (flat_map (λ s. frames_left s window) self.old.emitter)) }
         ensures count { OnOk result (length self.new.emitter ≡ length self.old.emitter) }
         ensures queries { OnOk result (self.new.engine.t.queries ≡ self.old.engine.t.queries) }

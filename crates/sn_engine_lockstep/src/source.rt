@@ -1,18 +1,15 @@
 //! Where the prefixes come from that the lanes of a plan admit.
-ghost use Rattle.std.specs.Prelude.{◌≡◌, ◌≤◌, ◌<◌, ◌++◌, length, map, IfOk, OnOk, Some, None};
+ghost use Rattle.std.specs.Prelude.{◌≡◌, ◌≤◌, ◌<◌, ◌++◌, [], length, map, IfOk, OnOk, MatchOption, Some, None};
 ghost use Rattle.std.specs.List.{list_any};
 ghost use Rattle.std.specs.Option.{option_map};
-ghost use Rattle.sn_engine_lockstep.specs.Sources.{kept_in, prefixes_in, rows_found, source_for, sources_of};
-ghost use Rattle.sn_refine.specs.Steps.{prefixes_of};
-ghost use Rattle.sn_types.specs.Typed.{query_at};
+ghost use Rattle.sn_engine_lockstep.specs.Sources.{kept_in, prefixes_in, source_for, sources_of};
 
 use sn_base::members::Members;
 use sn_base::memory::Memory;
 use sn_base::seq::Seq;
-use sn_base::short_row::ShortRow;
-use sn_emit::making::level_before;
+use sn_engine::keep::level_prefixes;
+use sn_plan_fit::level_before;
 use sn_plan_grammar::plan::{Entry, Piece};
-use sn_refine::members::members;
 use sn_types::answers::{Answers, Part};
 use sn_types::typed::Typed;
 use std::alloc::Global;
@@ -58,18 +55,6 @@ pub fn sources(alloc: Global, entries: &[Entry]) -> Result<Seq<Source>, Memory>
     Ok(sources)
 }
 
-/// The rows of the answer of a query at a level, and none where there is no such answer.
-fn rows_found(parts: &[Part], query: u32, level: u32) -> &[ShortRow]
-    ensures { result.now ≡ rows_found parts.now query level }
-{
-    for part in parts {
-        if part.query == query && part.level == level {
-            return part.rows.as_slice();
-        }
-    }
-    &[]
-}
-
 /// The prefixes that these answers have at the level of a source.
 pub fn prefixes_in(
     alloc: Global,
@@ -80,15 +65,7 @@ pub fn prefixes_in(
     requires { source.query < length t.now.queries }
     ensures { IfOk result (λ kept. kept ≡ prefixes_in t.now.queries parts.now source) }
 {
-    match source.before {
-        Some(level) => members(
-            alloc,
-            t,
-            source.query,
-            rows_found(parts, source.query, level),
-        ),
-        None => Ok(Members::new(alloc)),
-    }
+    level_prefixes(alloc, t, parts, source.query, source.before)
 }
 
 /// The prefixes that a lane admits: those of the answers of the window before this one, if that was the last one.

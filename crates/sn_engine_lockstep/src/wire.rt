@@ -1,11 +1,13 @@
 //! Who is told of the frames that lanes send.
-ghost use Rattle.std.specs.Prelude.{◌≡◌, ◌++◌, ℕ, List, OnOk};
+ghost use Rattle.std.specs.Prelude.{◌≡◌, ◌≤◌, ◌++◌, ℕ, List, OnOk};
 ghost use Rattle.sn_emit.specs.Making.{CanEncode};
-ghost use Rattle.sn_report.specs.Items.{Frame as Framed};
+ghost use Rattle.sn_report.specs.Frames.{lane_of, operator_in, spelling};
+ghost use Rattle.sn_report.specs.Items.{Frame as Framed, frame_by};
 
+use sn_base::any_row::AnyRow;
 use sn_base::bytes::push_bytes;
 use sn_base::memory::Memory;
-use sn_base::short_row::ShortRow;
+use sn_emit::given::{AnyFrame, Given};
 use sn_report::encode::{MOST_BYTES, encode};
 use sn_report::frame::Frame;
 
@@ -18,9 +20,22 @@ pub trait Wire {
     ghost word: { Framed → List ℕ };
 
     /// Tells of a frame, after those before.
-    fn sent(&mut self, frame: &Frame<ShortRow>) -> Result<(), Memory>
+    fn sent(&mut self, frame: &Given) -> Result<(), Memory>
         requires { CanEncode frame.now }
         ensures { OnOk result (told self.new ≡ told self.old ++ word frame.now) };
+}
+
+/// Adds the bytes of a frame.
+fn push_frame<R: AnyRow>(text: &mut Vec<u8>, frame: &Frame<R>) -> Result<(), Memory>
+    requires query { (lane_of frame.now).query ≤ 7 }
+    requires level { (lane_of frame.now).level ≤ 3 }
+    requires branch { (lane_of frame.now).branch ≤ 1 }
+    requires operator { operator_in frame.now ≤ 12 }
+    ensures { OnOk result (text.new.items ≡ text.old.items ++ spelling 2 (frame_by R.columns frame.now)) }
+{
+    let mut spelled = [0; MOST_BYTES];
+    let length = encode(frame, &mut spelled);
+    push_bytes(text, &spelled[..length])
 }
 
 /// The bytes of the frames, one after another.
@@ -31,10 +46,11 @@ impl Wire for Vec<u8> {
 
     ghost word = { spelling 2 };
 
-    fn sent(&mut self, frame: &Frame<ShortRow>) -> Result<(), Memory> {
-        let mut spelled = [0; MOST_BYTES];
-        let length = encode(frame, &mut spelled);
-        push_bytes(self, &spelled[..length])
+    fn sent(&mut self, frame: &Given) -> Result<(), Memory> {
+        match frame.kind() {
+            AnyFrame::Short(frame) => push_frame(self, frame),
+            AnyFrame::Wide(frame) => push_frame(self, frame),
+        }
     }
 }
 
@@ -49,7 +65,7 @@ impl Wire for Nobody {
 
     ghost word = { λ frame. [] };
 
-    fn sent(&mut self, _frame: &Frame<ShortRow>) -> Result<(), Memory> {
+    fn sent(&mut self, _frame: &Given) -> Result<(), Memory> {
         Ok(())
     }
 }

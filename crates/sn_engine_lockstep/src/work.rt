@@ -5,25 +5,41 @@ ghost use Rattle.sn_engine_lockstep.specs.Work.{IsReadInto, frames_given};
 ghost use Rattle.sn_emit.specs.Making.{CanEncode};
 ghost use Rattle.sn_emit.specs.Plans.{AreLanesOf, Placed};
 ghost use Rattle.sn_emit.specs.Senders.{frames_left, sender_next};
+ghost use Rattle.sn_emit.specs.declared.tables.Tables.{Tables};
 ghost use Rattle.sn_engine.specs.Intakes.{after_frame};
 ghost use Rattle.sn_types.specs.declared.typed_query.TypedQuery.{TypedQuery};
 
 use crate::wire::Wire;
 use sn_base::memory::Memory;
-use sn_base::short_row::ShortRow;
+use sn_emit::given::{AnyFrame, Given};
 use sn_emit::lanes::Emitter;
 use sn_engine::engine::Engine;
+use sn_engine::fault::TakeFault;
 use sn_fields::tuple::Tuple;
-use sn_report::frame::Frame;
+
+/// The engine takes a frame, whatever kind of rows it has.
+fn take(engine: &mut Engine, frame: &Given) -> Result<(), TakeFault>
+    ensures taken { OnOk result (engine.new.lanes.items ≡ after_frame engine.old.lanes.items frame.now) }
+    ensures queries { engine.new.t.queries ≡ engine.old.t.queries }
+    ensures closed { engine.new.closed ≡ engine.old.closed }
+    ensures prefixes { engine.new.kept ≡ engine.old.kept }
+{
+    match frame.kind() {
+        AnyFrame::Short(frame) => engine.take(frame),
+        AnyFrame::Wide(frame) => engine.take(frame),
+    }
+}
 
 /// The engine takes a frame of a lane, and the wire is told of it.
-fn send<W: Wire>(engine: &mut Engine, wire: &mut W, frame: &Frame<ShortRow>) -> Result<(), Memory>
+fn send<W: Wire>(engine: &mut Engine, wire: &mut W, frame: &Given) -> Result<(), Memory>
     requires { CanEncode frame.now }
     ensures taken { OnOk result (engine.new.lanes.items ≡ after_frame engine.old.lanes.items frame.now) }
     ensures sent { OnOk result (W.told wire.new ≡ W.told wire.old ++ W.word frame.now) }
     ensures queries { engine.new.t.queries ≡ engine.old.t.queries }
+    ensures closed { engine.new.closed ≡ engine.old.closed }
+    ensures prefixes { engine.new.kept ≡ engine.old.kept }
 {
-    match engine.take(frame) {
+    match take(engine, frame) {
         Ok(()) => wire.sent(frame),
         Err(_) => Err(Memory),
     }
@@ -43,9 +59,11 @@ pub(crate) fn give<W: Wire>(
     ensures taken { OnOk result (IfSome (slice_get emitter.old lane)
         (λ s. engine.new.lanes.items ≡ fold after_frame engine.old.lanes.items (frames_given tuple.now s))) }
     ensures sent { OnOk result (IfSome (slice_get emitter.old lane) (λ s. W.told wire.new ≡ W.told wire.old ++ flat_map W.word (frames_given tuple.now s))) }
-    ensures lanes { (queries : List TypedQuery) (depth : ℕ) (pieces : List Placed) → AreLanesOf queries depth pieces emitter.old →
-        AreLanesOf queries depth pieces emitter.new }
+    ensures lanes { (queries : List TypedQuery) (tables : Tables) (pieces : List Placed) → AreLanesOf queries tables pieces emitter.old →
+        AreLanesOf queries tables pieces emitter.new }
     ensures queries { engine.new.t.queries ≡ engine.old.t.queries }
+    ensures closed { engine.new.closed ≡ engine.old.closed }
+    ensures prefixes { engine.new.kept ≡ engine.old.kept }
 {
     match emitter.packet(lane, tuple) {
         Some(frame) => send(engine, wire, &frame),
@@ -67,9 +85,11 @@ pub(crate) fn drain<W: Wire>(
     ensures sent { OnOk result (IfSome (slice_get emitter.old lane) (λ s. W.told wire.new ≡ W.told wire.old ++ flat_map W.word (frames_left s window))) }
     ensures count { length emitter.new ≡ length emitter.old }
     ensures others { (other : ℕ) → other ≢ lane → slice_get emitter.new other ≡ slice_get emitter.old other }
-    ensures lanes { (queries : List TypedQuery) (depth : ℕ) (pieces : List Placed) → AreLanesOf queries depth pieces emitter.old →
-        AreLanesOf queries depth pieces emitter.new }
+    ensures lanes { (queries : List TypedQuery) (tables : Tables) (pieces : List Placed) → AreLanesOf queries tables pieces emitter.old →
+        AreLanesOf queries tables pieces emitter.new }
     ensures queries { engine.new.t.queries ≡ engine.old.t.queries }
+    ensures closed { engine.new.closed ≡ engine.old.closed }
+    ensures prefixes { engine.new.kept ≡ engine.old.kept }
 {
     'frames: loop {
         match emitter.read_out(lane, window) {

@@ -5,6 +5,7 @@ use Rattle.std.proofs.lemmas.List.Sums.{sum_by-cons}
 use Rattle.sn_base.proofs.Lists.{all_append, all_weaker, map_both}
 use Rattle.sn_base.specs.declared.lane.Lane.{Lane}
 use Rattle.sn_emit.specs.Plans.{Placed, items_of, pieces_from}
+use Rattle.sn_emit.specs.declared.tables.Tables.{Tables}
 use Rattle.sn_engine.proofs.Frames.{here, later}
 use Rattle.sn_engine.specs.Intakes.{after_frame, emptied, intakes_of, is_lane, shared, total}
 use Rattle.sn_engine.specs.declared.intake.Intake.{Intake}
@@ -94,31 +95,31 @@ map_same : {X Y : Type 0} (f g : X → Y) → ((x : X) → f x ≡ g x) → (xs 
 map_same f g same [] = refl
 map_same f g same (x ∷ xs) = ap (λ y. y ∷ map f xs) (same x) ∙ ap (λ ys. g x ∷ ys) (map_same f g same xs)
 
-module _ (queries : List TypedQuery) (depth : ℕ) (kept : Source → Set) (window : ℕ) (pieces : List Placed) (apart : AreApart pieces) where
+module _ (queries : List TypedQuery) (tables : Tables) (kept : Source → Set) (window : ℕ) (pieces : List Placed) (apart : AreApart pieces) where
   -- the frames of what a switch has gathered in the window
   abbrev pub frames_in : List (List ℕ) → List Frame
-  frames_in tuples = flat_map (frames_of queries) (map (done queries depth kept tuples window) (map (short_placed queries) pieces))
+  frames_in tuples = flat_map (frames_of queries) (map (done queries tables kept tuples window) (map (short_placed queries) pieces))
 
   abbrev piece_frames : List (List ℕ) → Placed → List Frame
-  piece_frames tuples x = frames_of queries (done queries depth kept tuples window (short_placed queries x))
+  piece_frames tuples x = frames_of queries (done queries tables kept tuples window (short_placed queries x))
 
   abbrev more : (Placed → List Item) → List (List ℕ) → Placed → List Item
-  more found tuples x = found x ++ own_items queries depth kept x tuples
+  more found tuples x = found x ++ own_items queries tables kept x tuples
 
   frames_by_piece : (tuples : List (List ℕ)) → frames_in tuples ≡ flat_map (piece_frames tuples) pieces
   frames_by_piece tuples =
-      flat_map_both (done queries depth kept tuples window) (frames_of queries) (map (short_placed queries) pieces)
-      ∙ flat_map_both (short_placed queries) (λ x. frames_of queries (done queries depth kept tuples window x)) pieces
+      flat_map_both (done queries tables kept tuples window) (frames_of queries) (map (short_placed queries) pieces)
+      ∙ flat_map_both (short_placed queries) (λ x. frames_of queries (done queries tables kept tuples window x)) pieces
 
   one_gathered : (found : Placed → List Item) (tuples : List (List ℕ)) → fold after_frame (map (holding found) pieces) (frames_in tuples) ≡ map (holding (more found tuples)) pieces
   one_gathered found tuples =
       ap (fold after_frame (map (holding found) pieces)) (frames_by_piece tuples)
-      ∙ each_takes (piece_frames tuples) (λ x. rows_own (name_of x) _ (items_of queries depth (short_placed queries x) (kept (source_of x)) tuples)) (holding found) (λ n x. refl) pieces apart
+      ∙ each_takes (piece_frames tuples) (λ x. rows_own (name_of x) _ (items_of queries tables (short_placed queries x) (kept (source_of x)) tuples)) (holding found) (λ n x. refl) pieces apart
       ∙ map_same (λ x. fold taken (holding found x) (piece_frames tuples x)) (holding (more found tuples))
-      (λ x. rows_taken (holding found x) (name_of x) _ (items_of queries depth (short_placed queries x) (kept (source_of x)) tuples)) pieces
+      (λ x. rows_taken (holding found x) (name_of x) _ (items_of queries tables (short_placed queries x) (kept (source_of x)) tuples)) pieces
 
   -- of all switches, one after another
-  all_gathered_after : (found : Placed → List Item) (captures : List (List (List ℕ))) → fold after_frame (map (holding found) pieces) (flat_map frames_in captures) ≡ map (holding (λ x. found x ++ gathered queries depth kept captures x)) pieces
+  all_gathered_after : (found : Placed → List Item) (captures : List (List (List ℕ))) → fold after_frame (map (holding found) pieces) (flat_map frames_in captures) ≡ map (holding (λ x. found x ++ gathered queries tables kept captures x)) pieces
   all_gathered_after found [] = map_same (holding found) (holding (λ x. found x ++ [])) (λ x. ap (λ (is : List Item). with_items x is) (sym (append-nil (found x)))) pieces
     where
       with_items : Placed → List Item → Intake
@@ -127,13 +128,13 @@ module _ (queries : List TypedQuery) (depth : ℕ) (kept : Source → Set) (wind
       fold_append after_frame (map (holding found) pieces) (frames_in tuples) (flat_map frames_in captures)
       ∙ ap (λ ls. fold after_frame ls (flat_map frames_in captures)) (one_gathered found tuples)
       ∙ all_gathered_after (more found tuples) captures
-      ∙ map_same (holding (λ x. more found tuples x ++ gathered queries depth kept captures x)) (holding (λ x. found x ++ gathered queries depth kept (tuples ∷ captures) x))
-      (λ x. ap (λ (is : List Item). with_items x is) (append_assoc (found x) (own_items queries depth kept x tuples) (gathered queries depth kept captures x))) pieces
+      ∙ map_same (holding (λ x. more found tuples x ++ gathered queries tables kept captures x)) (holding (λ x. found x ++ gathered queries tables kept (tuples ∷ captures) x))
+      (λ x. ap (λ (is : List Item). with_items x is) (append_assoc (found x) (own_items queries tables kept x tuples) (gathered queries tables kept captures x))) pieces
     where
       with_items : Placed → List Item → Intake
       with_items x is = record (intake_of x) { shared = true; items = is }
 
-  pub all_gathered : (captures : List (List (List ℕ))) → fold after_frame (map (holding (λ x. [])) pieces) (flat_map frames_in captures) ≡ map (holding (gathered queries depth kept captures)) pieces
+  pub all_gathered : (captures : List (List (List ℕ))) → fold after_frame (map (holding (λ x. [])) pieces) (flat_map frames_in captures) ≡ map (holding (gathered queries tables kept captures)) pieces
   all_gathered captures = all_gathered_after (λ x. []) captures
 
   -- ---- the Ends
@@ -155,12 +156,12 @@ nothing_held es = ap (map shared) (intakes_are 0 es) ∙ map_both intake_of shar
 pub ended_emptied : (window : ℕ) (found : Placed → List Item) (xs : List Placed) → map emptied (map (ended window found) xs) ≡ map (holding (λ x. [])) xs
 ended_emptied window found xs = map_both (ended window found) emptied xs
 
-pub sent_in_all : (queries : List TypedQuery) (depth window : ℕ) (kept : Source → Set) (captures : List (List (List ℕ))) (xs : List Placed) → total (map (ended window (gathered queries depth kept captures)) xs) ≡ shared_sent queries depth xs kept captures
-sent_in_all queries depth window kept captures [] = refl
-sent_in_all queries depth window kept captures (x ∷ xs) =
-    let lane = ended window (gathered queries depth kept captures) in
-    let count : Placed → ℕ = λ y. length (shared_items queries depth y (kept (source_of y)) captures) in
+pub sent_in_all : (queries : List TypedQuery) (tables : Tables) (window : ℕ) (kept : Source → Set) (captures : List (List (List ℕ))) (xs : List Placed) → total (map (ended window (gathered queries tables kept captures)) xs) ≡ shared_sent queries tables xs kept captures
+sent_in_all queries tables window kept captures [] = refl
+sent_in_all queries tables window kept captures (x ∷ xs) =
+    let lane = ended window (gathered queries tables kept captures) in
+    let count : Placed → ℕ = λ y. length (shared_items queries tables y (kept (source_of y)) captures) in
     sum_by-cons (λ (l : Intake). length l.items) (lane x) (map lane xs)
-    ∙ ap (λ n. n + total (map lane xs)) (all_sent queries depth kept x captures)
-    ∙ ap (λ n. count x + n) (sent_in_all queries depth window kept captures xs)
+    ∙ ap (λ n. n + total (map lane xs)) (all_sent queries tables kept x captures)
+    ∙ ap (λ n. count x + n) (sent_in_all queries tables window kept captures xs)
     ∙ sym (sum_by-cons (λ (n : ℕ). n) (count x) (map count xs))

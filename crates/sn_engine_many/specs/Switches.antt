@@ -3,6 +3,7 @@
 use Rattle.std.specs.Prelude.{◌≡◌, ℕ, zero, suc, ◌<◌, List, [], ◌∷◌, ◌++◌, map, length}
 use Rattle.std.specs.List.{AllByRecursion}
 use Rattle.sn_emit.specs.Plans.{AreLanesOf, Placed, pieces_from}
+use Rattle.sn_emit.specs.declared.tables.Tables.{Tables}
 use Rattle.sn_engine_lockstep.specs.Sources.{source_of}
 use Rattle.sn_engine_lockstep.specs.Work.{AreAtWork, AreIdle, AreUnread}
 use Rattle.sn_engine_lockstep.specs.declared.driver.Driver.{Driver}
@@ -25,27 +26,28 @@ pub record CanTake (d : Driver) : Type 0 where
   pub unread : AreUnread d.emitter
 
 -- it runs these pieces, and is between two windows
-pub record IsResting (queries : List TypedQuery) (depth : ℕ) (pieces : List Placed) (d : Driver) : Type 0 where
+pub record IsResting (queries : List TypedQuery) (tables : Tables) (pieces : List Placed) (d : Driver) : Type 0 where
   pub queries_are : d.engine.t.queries ≡ queries
   pub sources : d.sources ≡ map source_of pieces
-  pub idle : AreIdle queries depth pieces d.emitter d.engine.lanes.items
+  pub idle : AreIdle queries tables pieces d.emitter d.engine.lanes.items
 
 -- it runs these pieces, and had these tuples in the window
-pub record IsWorking (queries : List TypedQuery) (depth : ℕ) (pieces : List Placed) (kept : Source → Set) (tuples : List (List ℕ)) (d : Driver) : Type 0 where
+pub record IsWorking (queries : List TypedQuery) (tables : Tables) (pieces : List Placed) (kept : Source → Set) (tuples : List (List ℕ))
+    (d : Driver) : Type 0 where
   pub queries_are : d.engine.t.queries ≡ queries
   pub sources : d.sources ≡ map source_of pieces
-  pub lanes : AreLanesOf queries depth pieces d.emitter
-  pub work : AreAtWork queries depth pieces kept tuples d.emitter d.engine.lanes.items
+  pub lanes : AreLanesOf queries tables pieces d.emitter
+  pub work : AreAtWork queries tables pieces kept tuples d.emitter d.engine.lanes.items
 
 -- ---- all switches
 
 -- each had its own tuples in the window
-abbrev pub AreWorking : List TypedQuery → ℕ → List Placed → (Source → Set) → List (List (List ℕ)) → List Driver → Type 0
-AreWorking queries depth pieces kept [] [] = Unit {0}
-AreWorking queries depth pieces kept [] (d ∷ ds) = ⊥
-AreWorking queries depth pieces kept (tuples ∷ captures) [] = ⊥
-AreWorking queries depth pieces kept (tuples ∷ captures) (d ∷ ds) =
-    IsWorking queries depth pieces kept tuples d × AreWorking queries depth pieces kept captures ds
+abbrev pub AreWorking : List TypedQuery → Tables → List Placed → (Source → Set) → List (List (List ℕ)) → List Driver → Type 0
+AreWorking queries tables pieces kept [] [] = Unit {0}
+AreWorking queries tables pieces kept [] (d ∷ ds) = ⊥
+AreWorking queries tables pieces kept (tuples ∷ captures) [] = ⊥
+AreWorking queries tables pieces kept (tuples ∷ captures) (d ∷ ds) =
+    IsWorking queries tables pieces kept tuples d × AreWorking queries tables pieces kept captures ds
 
 -- no tuple came to any switch
 abbrev pub no_tuples : List Driver → List (List (List ℕ))

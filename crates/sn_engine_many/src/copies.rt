@@ -12,7 +12,7 @@ fn copy_part(alloc: Global, part: &Part) -> Result<Part, Memory>
     Ok(Part {
         query: part.query,
         level: part.level,
-        rows: Seq::from_slice(alloc, part.rows.as_slice())?,
+        rows: part.rows.copy(alloc)?,
     })
 }
 

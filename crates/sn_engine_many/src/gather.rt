@@ -1,10 +1,14 @@
 //! What the switches have gathered goes to the one engine.
-ghost use Rattle.std.specs.Prelude.{◌≡◌, ◌<◌, ◌⊎◌, ◌↔◌, IfOk, IfSome, IsNone, None, OnOk, fold, length, map, true};
+ghost use Rattle.std.specs.Prelude.{◌≡◌, ◌<◌, ◌⊎◌, ◌↔◌, IfOk, IfSome, IsNone, None, OnOk, Some, fold, length, map, true};
 ghost use Rattle.std.specs.List.{flat_map, list_all, list_any};
-ghost use Rattle.sn_engine.specs.Answers.{parts_of};
+ghost use Rattle.sn_engine.specs.Answers.{parts_of, window_of};
 ghost use Rattle.sn_engine.specs.Intakes.{AreIntakes, IsIntake, after_frame, emptied, has_ended, lane_at, total};
+ghost use Rattle.sn_engine.specs.Keeping.{gathered};
 ghost use Rattle.sn_engine.specs.Taking.{take_fault};
+ghost use Rattle.sn_engine_lockstep.specs.Work.{lanes_left};
 ghost use Rattle.sn_engine_many.specs.Turns.{end_of, frames_of, lane_tag, turn};
+ghost use Rattle.sn_report.specs.Items.{frame_by, item_by};
+ghost use Rattle.sn_report.specs.declared.frame.Frame.TheVariants as Frame;
 ghost use Rattle.sn_types.specs.Typed.{query_at};
 
 use crate::fronts::{front, held_tag};
@@ -13,6 +17,8 @@ use sn_base::memory::Memory;
 use sn_base::short_row::ShortRow;
 use sn_engine::engine::Engine;
 use sn_engine::intake::Intake;
+use sn_engine::items::AnyItems;
+use sn_engine::lane_row::LaneRow;
 use sn_report::frame::{Frame, Item, Tag};
 use sn_types::answers::Answers;
 use sn_types::typed::Typed;
@@ -27,8 +33,8 @@ fn lane_tag(t: &Typed, x: &Intake) -> Option<Tag>
 }
 
 /// An item that stands after the operator of this tag has this tag.
-fn turn(tag: Option<Tag>, item: &Item<ShortRow>) -> Item<ShortRow>
-    ensures { result ≡ turn tag item.now }
+fn turn<R: LaneRow>(tag: Option<Tag>, item: &Item<R>) -> Item<R>
+    ensures { item_by R.columns result ≡ turn tag (item_by R.columns item.now) }
 {
     let after = match (tag, item.tag) {
         (Some(Tag::At(held)), Tag::At(number)) | (Some(Tag::Partial(held)), Tag::At(number)) => {
@@ -61,10 +67,12 @@ fn name_of(x: &Intake) -> Option<Lane>
 }
 
 /// The engine takes a frame.
-fn take(engine: &mut Engine, frame: &Frame<ShortRow>) -> Result<(), Memory>
-    ensures no_fault { OnOk result (take_fault engine.old.t.queries engine.old.lanes.items engine.old.closed frame.now ≡ None) }
-    ensures taken { OnOk result (engine.new.lanes.items ≡ after_frame engine.old.lanes.items frame.now) }
+fn take<R: LaneRow>(engine: &mut Engine, frame: &Frame<R>) -> Result<(), Memory>
+    ensures no_fault { OnOk result (take_fault engine.old.t.queries engine.old.lanes.items engine.old.closed (frame_by R.columns frame.now) ≡ None) }
+    ensures taken { OnOk result (engine.new.lanes.items ≡ after_frame engine.old.lanes.items (frame_by R.columns frame.now)) }
     ensures queries { engine.new.t.queries ≡ engine.old.t.queries }
+    ensures closed { engine.new.closed ≡ engine.old.closed }
+    ensures prefixes { engine.new.kept ≡ engine.old.kept }
 {
     match engine.take(frame) {
         Ok(()) => Ok(()),
@@ -72,20 +80,41 @@ fn take(engine: &mut Engine, frame: &Frame<ShortRow>) -> Result<(), Memory>
     }
 }
 
+/// The engine takes items of a lane, each with the tag that it has among several switches.
+fn gather_items<R: LaneRow>(
+    engine: &mut Engine,
+    lane: Lane,
+    tag: Option<Tag>,
+    items: &[Item<R>],
+) -> Result<(), Memory>
+    ensures taken { OnOk result (engine.new.lanes.items
+        ≡ fold after_frame engine.old.lanes.items (map (λ item. Frame.Row lane (turn tag (item_by R.columns item))) items.now)) }
+    ensures queries { engine.new.t.queries ≡ engine.old.t.queries }
+    ensures closed { engine.new.closed ≡ engine.old.closed }
+    ensures prefixes { engine.new.kept ≡ engine.old.kept }
+{
+    for item in items {
+        take(engine, &Frame::Row(lane, turn(tag, item)))?;
+    }
+    Ok(())
+}
+
 /// The engine takes the items of a lane of a switch.
 fn gather_lane(engine: &mut Engine, t: &Typed, x: &Intake) -> Result<(), Memory>
     requires { IsIntake t.now.queries x.now }
     ensures taken { OnOk result (engine.new.lanes.items ≡ fold after_frame engine.old.lanes.items (frames_of t.now.queries x.now)) }
     ensures queries { engine.new.t.queries ≡ engine.old.t.queries }
+    ensures closed { engine.new.closed ≡ engine.old.closed }
+    ensures prefixes { engine.new.kept ≡ engine.old.kept }
 {
     let Some(lane) = name_of(x) else {
         return Err(Memory);
     };
     let tag = lane_tag(t, x);
-    for item in x.items.as_slice() {
-        take(engine, &Frame::Row(lane, turn(tag, item)))?;
+    match x.items.kind() {
+        AnyItems::Short(items) => gather_items(engine, lane, tag, items.as_slice()),
+        AnyItems::Wide(items) => gather_items(engine, lane, tag, items.as_slice()),
     }
-    Ok(())
 }
 
 /// The engine takes the items of all lanes of a switch, each with its tag among several switches.
@@ -93,6 +122,8 @@ pub(crate) fn gather(engine: &mut Engine, t: &Typed, lanes: &[Intake]) -> Result
     requires { AreIntakes t.now.queries lanes.now }
     ensures taken { OnOk result (engine.new.lanes.items ≡ fold after_frame engine.old.lanes.items (flat_map (frames_of t.now.queries) lanes.now)) }
     ensures queries { engine.new.t.queries ≡ engine.old.t.queries }
+    ensures closed { engine.new.closed ≡ engine.old.closed }
+    ensures prefixes { engine.new.kept ≡ engine.old.kept }
 {
     for x in lanes {
         gather_lane(engine, t, x)?;
@@ -105,11 +136,14 @@ fn end_lane(engine: &mut Engine, x: &Intake, window: u64) -> Result<(), Memory>
     ensures taken { OnOk result (engine.new.lanes.items ≡ after_frame engine.old.lanes.items (end_of window x.now)) }
     ensures ended { OnOk result (list_any (has_ended window) engine.new.lanes.items ≡ true) }
     ensures queries { engine.new.t.queries ≡ engine.old.t.queries }
+    ensures closed { engine.new.closed ≡ engine.old.closed }
+    ensures prefixes { engine.new.kept ≡ engine.old.kept }
 {
     let Some(lane) = name_of(x) else {
         return Err(Memory);
     };
-    take(engine, &Frame::End(lane, window))?;
+    let end: Frame<ShortRow> = Frame::End(lane, window);
+    take(engine, &end)?;
     Ok(())
 }
 
@@ -118,6 +152,8 @@ pub(crate) fn end_lanes(engine: &mut Engine, lanes: &[Intake], window: u64) -> R
     ensures taken { OnOk result (engine.new.lanes.items ≡ fold after_frame engine.old.lanes.items (map (end_of window) lanes.now)) }
     ensures ended { OnOk result (list_any (has_ended window) engine.new.lanes.items ≡ true) }
     ensures queries { engine.new.t.queries ≡ engine.old.t.queries }
+    ensures closed { engine.new.closed ≡ engine.old.closed }
+    ensures prefixes { engine.new.kept ≡ engine.old.kept }
 {
     if lanes.is_empty() {
         return Err(Memory);
@@ -128,11 +164,15 @@ pub(crate) fn end_lanes(engine: &mut Engine, lanes: &[Intake], window: u64) -> R
     Ok(())
 }
 
-/// The engine answers the window that all lanes have ended.
+/// The engine answers the window that all lanes have ended: of the items that are left, once it has dropped those of other prefixes than
+/// it keeps of the window before.
 pub(crate) fn close(engine: &mut Engine) -> Result<Answers, Memory>
     ensures ended { IfOk result (λ answers. list_all (has_ended answers.window) engine.old.lanes.items ≡ true) }
     ensures emitted { IfOk result (λ answers. answers.emitted ≡ total engine.old.lanes.items) }
-    ensures parts { IfOk result (λ answers. answers.parts ≡ parts_of engine.old.t.queries engine.old.lanes.items) }
+    ensures parts { IfOk result (λ answers. answers.parts ≡ parts_of engine.old.t.queries
+        (lanes_left engine.old.t.queries engine.old.closed engine.old.kept engine.old.lanes.items)) }
+    ensures closed { OnOk result (engine.new.closed ≡ Some (window_of engine.old.lanes.items)) }
+    ensures prefixes { IfOk result (λ answers. engine.new.kept ≡ gathered engine.old.t.queries answers.parts engine.old.lanes.items) }
     ensures emptied { OnOk result (engine.new.lanes.items ≡ map emptied engine.old.lanes.items) }
     ensures queries { engine.new.t.queries ≡ engine.old.t.queries }
 {

@@ -2,7 +2,8 @@
 ghost use Rattle.std.specs.Prelude.{◌≡◌, ◌<◌, ◌≤◌, ℕ, List, IfOk, IsErr, OnOk, OnErr, Some, None, false, length};
 ghost use Rattle.std.specs.List.{AllByRecursion};
 ghost use Rattle.sn_emit.specs.Making.{CanMake};
-ghost use Rattle.sn_emit.specs.Plans.{pieces_from};
+ghost use Rattle.sn_emit.specs.Plans.{pieces_from, tables_of};
+ghost use Rattle.sn_emit.specs.declared.tables.Tables.{Tables};
 ghost use Rattle.sn_engine_lockstep.specs.Sources.{kept_in};
 ghost use Rattle.sn_engine_lockstep.specs.Windows.{parts_from};
 ghost use Rattle.sn_engine_lockstep.specs.declared.source.Source.{Source};
@@ -24,6 +25,7 @@ use crate::phase::Phase;
 use crate::short::short_plan;
 use crate::switches::{begin_all, drain_all, give_one};
 use sn_base::memory::Memory;
+use sn_emit::tables::Tables;
 use sn_engine::engine::Engine;
 use sn_engine_lockstep::driver::Driver;
 use sn_fields::tuple::Tuple;
@@ -46,39 +48,39 @@ pub struct Many {
     pub switches: Vec<Driver>,
     /// Takes what all switches have gathered, when a window is closed.
     pub engine: Engine,
-    /// The answers of the window that was closed last.
+    /// The answers of the window that was closed last. The engine keeps their prefixes.
     pub last: Option<Answers>,
     ghost ready: { AreReady phase switches.items } by { are_ready_prop phase switches.items },
 }
 
 /// A switch that runs these pieces. No window was begun.
-fn switch_of(t: &Typed, chain: u32, short: &Plan) -> Result<Driver, Memory>
-    requires some_depth { 1 ≤ chain }
-    requires most_depth { chain ≤ 4 }
+fn switch_of(t: &Typed, tables: Tables, short: &Plan) -> Result<Driver, Memory>
+    requires some_depth { 1 ≤ tables.depth }
+    requires most_depth { tables.depth ≤ 4 }
     requires shape { HasShape t.now.queries short.now.entries }
     requires most { length (pieces_from 0 short.now.entries) ≤ 64 }
     requires can { AllByRecursion (CanMake t.now.queries) (pieces_from 0 short.now.entries) }
     ensures can { IfOk result CanBegin }
-    ensures resting { IfOk result (IsResting t.now.queries chain (pieces_from 0 short.now.entries)) }
+    ensures resting { IfOk result (IsResting t.now.queries tables (pieces_from 0 short.now.entries)) }
 {
-    let switch = Driver::of(t, chain, short)?;
+    let switch = Driver::of(t, tables, short)?;
     Ok(switch)
 }
 
 /// As many switches as are asked for, each with these pieces.
-fn switches_of(t: &Typed, chain: u32, short: &Plan, count: u32) -> Result<Vec<Driver>, Memory>
-    requires some_depth { 1 ≤ chain }
-    requires most_depth { chain ≤ 4 }
+fn switches_of(t: &Typed, tables: Tables, short: &Plan, count: u32) -> Result<Vec<Driver>, Memory>
+    requires some_depth { 1 ≤ tables.depth }
+    requires most_depth { tables.depth ≤ 4 }
     requires shape { HasShape t.now.queries short.now.entries }
     requires most { length (pieces_from 0 short.now.entries) ≤ 64 }
     requires can { AllByRecursion (CanMake t.now.queries) (pieces_from 0 short.now.entries) }
     ensures can { IfOk result (λ switches. AllByRecursion CanBegin switches.items) }
-    ensures resting { IfOk result (λ switches. AllByRecursion (IsResting t.now.queries chain (pieces_from 0 short.now.entries)) switches.items) }
+    ensures resting { IfOk result (λ switches. AllByRecursion (IsResting t.now.queries tables (pieces_from 0 short.now.entries)) switches.items) }
     ensures count { IfOk result (λ switches. length switches.items ≡ count) }
 {
     let mut switches = Vec::new(t.alloc);
     for _ in 0..count {
-        let switch = switch_of(t, chain, short)?;
+        let switch = switch_of(t, tables, short)?;
         switches.push(switch)?;
     }
     Ok(switches)
@@ -88,18 +90,19 @@ fn switches_of(t: &Typed, chain: u32, short: &Plan, count: u32) -> Result<Vec<Dr
 fn answer(switches: &mut [Driver], engine: &mut Engine, window: u64) -> Result<Answers, Memory>
     requires { AllByRecursion CanBegin switches.old }
     ensures window { IfOk result (λ answers. answers.window ≡ window) }
-    ensures answers { IfOk result (λ answers. (typed_for depth : ℕ) (queries : List TypedQuery) (entries : List Entry)
+    ensures answers { IfOk result (λ answers. (typed_for : ℕ) (tables : Tables) (queries : List TypedQuery) (entries : List Entry)
         (kept : Source → Set) (captures : List (List (List ℕ))) →
         ∥ IsTyped typed_for queries ∥₁ → AreEntriesOf queries entries → AllByRecursion (CanMake queries) (pieces_from 0 entries) →
         AllByRecursion HasWidths (together captures) → engine.old.t.queries ≡ queries →
-        AreBegun queries depth entries kept captures switches.old engine.old.lanes.items →
-        (answers.emitted ≡ shared_sent queries depth (pieces_from 0 entries) kept captures) ×
+        AreBegun queries tables entries kept window captures switches.old engine.old →
+        (answers.emitted ≡ shared_sent queries tables (pieces_from 0 entries) kept captures) ×
         (answers.parts ≡ parts_from queries kept (together captures) 0 entries)) }
-    ensures between { OnOk result ((typed_for depth : ℕ) (queries : List TypedQuery) (entries : List Entry)
+    ensures between { IfOk result (λ answers. (typed_for : ℕ) (tables : Tables) (queries : List TypedQuery) (entries : List Entry)
         (kept : Source → Set) (captures : List (List (List ℕ))) →
         ∥ IsTyped typed_for queries ∥₁ → AreEntriesOf queries entries → AllByRecursion (CanMake queries) (pieces_from 0 entries) →
-        AllByRecursion HasWidths (together captures) → AreBegun queries depth entries kept captures switches.old engine.old.lanes.items →
-        AreBetween queries depth entries switches.new engine.new.lanes.items) }
+        AllByRecursion HasWidths (together captures) → engine.old.t.queries ≡ queries →
+        AreBegun queries tables entries kept window captures switches.old engine.old →
+        AreBetween queries tables entries (Some answers) switches.new engine.new) }
     ensures can { OnOk result (AllByRecursion CanBegin switches.new) }
     ensures count { length switches.new ≡ length switches.old }
     ensures queries { engine.new.t.queries ≡ engine.old.t.queries }
@@ -120,13 +123,14 @@ impl Many {
         requires switch { IsSwitch s.now }
         requires fits { Fits t.now.queries s.now plan.now.entries }
         ensures queries { IfOk result (λ many. many.engine.t.queries ≡ t.now.queries) }
-        ensures between { IfOk result (λ many. AreBetween t.now.queries s.now.chain plan.now.entries many.switches.items many.engine.lanes.items) }
+        ensures between { IfOk result (λ many. AreBetween t.now.queries (tables_of s.now) plan.now.entries None many.switches.items many.engine) }
         ensures count { IfOk result (λ many. length many.switches.items ≡ switches) }
         ensures phase { IfOk result (λ many. many.phase ≡ Phase.Between) }
         ensures last { IfOk result (λ many. many.last ≡ None) }
     {
+        let tables = Tables::of(s);
         let short = short_plan(t, plan)?;
-        let switches = switches_of(t, s.chain, &short, switches)?;
+        let switches = switches_of(t, tables, &short, switches)?;
         let engine = Engine::make_many(t.alloc, t, plan)?;
         Ok(Many {
             alloc: t.alloc,
@@ -142,10 +146,10 @@ impl Many {
     pub fn begin(&mut self, window: u64) -> Result<(), Memory>
         requires { is_begun self.old.phase ≡ false }
         ensures begun { OnOk result (self.new.phase ≡ Phase.Begun window) }
-        ensures work { OnOk result ((queries : List TypedQuery) (depth : ℕ) (entries : List Entry) →
-            AreBetween queries depth entries self.old.switches.items self.old.engine.lanes.items →
-            AreBegun queries depth entries (kept_in queries self.old.last window) (no_tuples self.old.switches.items)
-            self.new.switches.items self.new.engine.lanes.items) }
+        ensures work { OnOk result ((queries : List TypedQuery) (tables : Tables) (entries : List Entry) →
+            AreBetween queries tables entries self.old.last self.old.switches.items self.old.engine →
+            AreBegun queries tables entries (kept_in queries self.old.last window) window (no_tuples self.old.switches.items)
+            self.new.switches.items self.new.engine) }
         ensures spent { self.old.phase ≡ Phase.Spent → IsErr result }
         ensures failed { OnErr result (self.new.phase ≡ Phase.Spent) }
         ensures last { self.new.last ≡ self.old.last }
@@ -168,9 +172,10 @@ impl Many {
     pub fn packet(&mut self, switch: u32, tuple: &Tuple) -> Result<(), Memory>
         requires begun { is_between self.old.phase ≡ false }
         requires switch { switch < length self.old.switches.items }
-        ensures work { OnOk result ((queries : List TypedQuery) (depth : ℕ) (entries : List Entry) (kept : Source → Set) (captures : List (List (List ℕ))) →
-            AreBegun queries depth entries kept captures self.old.switches.items self.old.engine.lanes.items →
-            AreBegun queries depth entries kept (given_to switch tuple.now captures) self.new.switches.items self.new.engine.lanes.items) }
+        ensures work { OnOk result ((queries : List TypedQuery) (tables : Tables) (entries : List Entry) (kept : Source → Set) (window : ℕ)
+            (captures : List (List (List ℕ))) →
+            AreBegun queries tables entries kept window captures self.old.switches.items self.old.engine →
+            AreBegun queries tables entries kept window (given_to switch tuple.now captures) self.new.switches.items self.new.engine) }
         ensures phase { OnOk result (self.new.phase ≡ self.old.phase) }
         ensures spent { self.old.phase ≡ Phase.Spent → IsErr result }
         ensures failed { OnErr result (self.new.phase ≡ Phase.Spent) }
@@ -191,23 +196,26 @@ impl Many {
     }
 
     /// Reads out all switches in order, gives each lane one End, and answers the window: its answers are those of the plan to the
-    /// tuples of all switches together, and the number of items is that of all switches.
+    /// tuples of all switches together, and the number of items is that of all switches. Where a table stays open, items of other
+    /// prefixes come too: they are counted, and then dropped.
     pub fn close_window(&mut self) -> Result<Answers, Memory>
         requires { is_between self.old.phase ≡ false }
         ensures window { IfOk result (λ answers. self.old.phase ≡ Phase.Begun answers.window) }
-        ensures answers { IfOk result (λ answers. (typed_for depth : ℕ) (entries : List Entry) (kept : Source → Set) (captures : List (List (List ℕ))) →
+        ensures answers { IfOk result (λ answers. (typed_for : ℕ) (tables : Tables) (entries : List Entry) (kept : Source → Set)
+            (captures : List (List (List ℕ))) →
             let queries = self.old.engine.t.queries in
             ∥ IsTyped typed_for queries ∥₁ → AreEntriesOf queries entries → AllByRecursion (CanMake queries) (pieces_from 0 entries) →
             AllByRecursion HasWidths (together captures) →
-            AreBegun queries depth entries kept captures self.old.switches.items self.old.engine.lanes.items →
-            (answers.emitted ≡ shared_sent queries depth (pieces_from 0 entries) kept captures) ×
+            AreBegun queries tables entries kept answers.window captures self.old.switches.items self.old.engine →
+            (answers.emitted ≡ shared_sent queries tables (pieces_from 0 entries) kept captures) ×
             (answers.parts ≡ parts_from queries kept (together captures) 0 entries)) }
-        ensures between { OnOk result ((typed_for depth : ℕ) (queries : List TypedQuery) (entries : List Entry)
-            (kept : Source → Set) (captures : List (List (List ℕ))) →
+        ensures between { IfOk result (λ answers. (typed_for : ℕ) (tables : Tables) (entries : List Entry) (kept : Source → Set)
+            (captures : List (List (List ℕ))) →
+            let queries = self.old.engine.t.queries in
             ∥ IsTyped typed_for queries ∥₁ → AreEntriesOf queries entries → AllByRecursion (CanMake queries) (pieces_from 0 entries) →
             AllByRecursion HasWidths (together captures) →
-            AreBegun queries depth entries kept captures self.old.switches.items self.old.engine.lanes.items →
-            AreBetween queries depth entries self.new.switches.items self.new.engine.lanes.items) }
+            AreBegun queries tables entries kept answers.window captures self.old.switches.items self.old.engine →
+            AreBetween queries tables entries (Some answers) self.new.switches.items self.new.engine) }
         ensures phase { OnOk result (self.new.phase ≡ Phase.Between) }
         ensures last { IfOk result (λ answers. self.new.last ≡ Some answers) }
         ensures spent { self.old.phase ≡ Phase.Spent → IsErr result }

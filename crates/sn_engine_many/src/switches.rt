@@ -3,6 +3,7 @@ ghost use Rattle.std.specs.Prelude.{◌≡◌, ◌++◌, ◌∷◌, [], ℕ, Lis
 ghost use Rattle.std.specs.List.{AllByRecursion, flat_map};
 ghost use Rattle.sn_emit.specs.Making.{CanMake};
 ghost use Rattle.sn_emit.specs.Plans.{Placed};
+ghost use Rattle.sn_emit.specs.declared.tables.Tables.{Tables};
 ghost use Rattle.sn_engine.specs.Intakes.{after_frame};
 ghost use Rattle.sn_engine_lockstep.specs.Sources.{kept_in};
 ghost use Rattle.sn_engine_lockstep.specs.Work.{done};
@@ -25,8 +26,8 @@ use sn_types::answers::Answers;
 fn begin_one(switch: &mut Driver, last: &Option<Answers>, window: u64) -> Result<(), Memory>
     requires { CanBegin switch.old }
     ensures can { OnOk result (CanTake switch.new) }
-    ensures work { OnOk result ((queries : List TypedQuery) (depth : ℕ) (pieces : List Placed) → IsResting queries depth pieces switch.old →
-        IsWorking queries depth pieces (kept_in queries last.now window) [] switch.new) }
+    ensures work { OnOk result ((queries : List TypedQuery) (tables : Tables) (pieces : List Placed) → IsResting queries tables pieces switch.old →
+        IsWorking queries tables pieces (kept_in queries last.now window) [] switch.new) }
 {
     switch.begin(last, window)?;
     Ok(())
@@ -40,8 +41,9 @@ pub(crate) fn begin_all(
 ) -> Result<(), Memory>
     requires { AllByRecursion CanBegin switches.old }
     ensures can { OnOk result (AllByRecursion CanTake switches.new) }
-    ensures work { OnOk result ((queries : List TypedQuery) (depth : ℕ) (pieces : List Placed) → AllByRecursion (IsResting queries depth pieces) switches.old →
-        AreWorking queries depth pieces (kept_in queries last.now window) (no_tuples switches.old) switches.new) }
+    ensures work { OnOk result ((queries : List TypedQuery) (tables : Tables) (pieces : List Placed) →
+        AllByRecursion (IsResting queries tables pieces) switches.old →
+        AreWorking queries tables pieces (kept_in queries last.now window) (no_tuples switches.old) switches.new) }
     ensures count { length switches.new ≡ length switches.old }
 {
     if let Some((first, rest)) = switches.split_first_mut() {
@@ -55,8 +57,8 @@ pub(crate) fn begin_all(
 pub(crate) fn give_one(switch: &mut Driver, tuple: &Tuple) -> Result<(), Memory>
     requires { CanTake switch.old }
     ensures can { OnOk result (CanTake switch.new) }
-    ensures work { OnOk result ((queries : List TypedQuery) (depth : ℕ) (pieces : List Placed) (kept : Source → Set) (tuples : List (List ℕ)) →
-        IsWorking queries depth pieces kept tuples switch.old → IsWorking queries depth pieces kept (tuples ++ tuple.now ∷ []) switch.new) }
+    ensures work { OnOk result ((queries : List TypedQuery) (tables : Tables) (pieces : List Placed) (kept : Source → Set) (tuples : List (List ℕ)) →
+        IsWorking queries tables pieces kept tuples switch.old → IsWorking queries tables pieces kept (tuples ++ tuple.now ∷ []) switch.new) }
 {
     switch.packet(&mut Nobody, tuple)?;
     Ok(())
@@ -66,13 +68,16 @@ pub(crate) fn give_one(switch: &mut Driver, tuple: &Tuple) -> Result<(), Memory>
 fn drain_one(switch: &mut Driver, engine: &mut Engine, window: u64) -> Result<(), Memory>
     requires { CanBegin switch.old }
     ensures can { OnOk result (CanBegin switch.new) }
-    ensures work { OnOk result ((typed_for depth : ℕ) (queries : List TypedQuery) (pieces : List Placed) (kept : Source → Set) (tuples : List (List ℕ)) →
+    ensures work { OnOk result ((typed_for : ℕ) (tables : Tables) (queries : List TypedQuery) (pieces : List Placed) (kept : Source → Set)
+        (tuples : List (List ℕ)) →
         ∥ IsTyped typed_for queries ∥₁ → AllByRecursion (CanMake queries) pieces → AllByRecursion HasWidths tuples →
-        IsWorking queries depth pieces kept tuples switch.old →
-        IsResting queries depth pieces switch.new ×
+        IsWorking queries tables pieces kept tuples switch.old →
+        IsResting queries tables pieces switch.new ×
         (engine.new.lanes.items ≡ fold after_frame engine.old.lanes.items
-        (flat_map (frames_of queries) (map (done queries depth kept tuples window) pieces)))) }
+        (flat_map (frames_of queries) (map (done queries tables kept tuples window) pieces)))) }
     ensures queries { engine.new.t.queries ≡ engine.old.t.queries }
+    ensures closed { engine.new.closed ≡ engine.old.closed }
+    ensures prefixes { engine.new.kept ≡ engine.old.kept }
 {
     switch.drain(&mut Nobody, window)?;
     let gathered = &switch.engine;
@@ -89,15 +94,17 @@ pub(crate) fn drain_all(
 ) -> Result<(), Memory>
     requires { AllByRecursion CanBegin switches.old }
     ensures can { OnOk result (AllByRecursion CanBegin switches.new) }
-    ensures work { OnOk result ((typed_for depth : ℕ) (queries : List TypedQuery) (pieces : List Placed)
+    ensures work { OnOk result ((typed_for : ℕ) (tables : Tables) (queries : List TypedQuery) (pieces : List Placed)
         (kept : Source → Set) (captures : List (List (List ℕ))) →
         ∥ IsTyped typed_for queries ∥₁ → AllByRecursion (CanMake queries) pieces → AllByRecursion (AllByRecursion HasWidths) captures →
-        AreWorking queries depth pieces kept captures switches.old →
-        AllByRecursion (IsResting queries depth pieces) switches.new ×
+        AreWorking queries tables pieces kept captures switches.old →
+        AllByRecursion (IsResting queries tables pieces) switches.new ×
         (engine.new.lanes.items ≡ fold after_frame engine.old.lanes.items
-        (flat_map (λ tuples. flat_map (frames_of queries) (map (done queries depth kept tuples window) pieces)) captures))) }
+        (flat_map (λ tuples. flat_map (frames_of queries) (map (done queries tables kept tuples window) pieces)) captures))) }
     ensures count { length switches.new ≡ length switches.old }
     ensures queries { engine.new.t.queries ≡ engine.old.t.queries }
+    ensures closed { engine.new.closed ≡ engine.old.closed }
+    ensures prefixes { engine.new.kept ≡ engine.old.kept }
 {
     if let Some((first, rest)) = switches.split_first_mut() {
         drain_one(first, engine, window)?;

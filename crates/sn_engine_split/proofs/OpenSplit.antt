@@ -12,9 +12,9 @@ use Rattle.std.specs.FinSet as set
 use Rattle.sn_base.specs.Bags.{SameBag}
 use Rattle.sn_base.specs.Groups.{Row}
 use Rattle.sn_base.specs.Mask.{masked}
-use Rattle.sn_base.specs.Operators.{through}
+use Rattle.sn_base.specs.Operators.{Op as Acting, through}
 use Rattle.sn_base.specs.declared.column.Column.{Column}
-use Rattle.sn_base.proofs.BagLemmas.{bag_same, bag_then}
+use Rattle.sn_base.proofs.BagLemmas.{bag_filter, bag_same, bag_then}
 use Rattle.sn_base.proofs.FoldedLemmas.{same_row_exact}
 use Rattle.sn_base.proofs.Lists.{all_filter, by_test, filter_map, filter_within, find_is, nat_same, nat_self, none_some, not_true, or_left, or_right, some_same}
 use Rattle.sn_fields.specs.declared.field.Field.{Field}
@@ -47,7 +47,8 @@ use Rattle.sn_pipe_items.proofs.OrderLemmas.{items_bag}
 use Rattle.sn_engine_split.specs.Branches.{branch_items}
 use Rattle.sn_engine_split.proofs.Cuts.{cut_within}
 use Rattle.sn_engine_split.proofs.Typed.{cut_of, rows_had}
-use Rattle.sn_pipe_items.proofs.LeftLaw.{Carries, split_left}
+use Rattle.sn_pipe_items.proofs.LeftLaw.{Carries, end_of, split_left, through_left, value_left}
+use Rattle.sn_pipe_items.proofs.ValueBag.{ItemsHad}
 use Rattle.sn_types.proofs.CarriedPlaces.{at_name, here, later}
 use Rattle.sn_engine_split.proofs.Carry.{carry, constant, number_found}
 use Rattle.sn_types.proofs.Following.{AllHold, all_hold_prop, along}
@@ -197,6 +198,25 @@ rows_pass query b level entries ps tuples h low =
 
 abbrev branch_on : ℕ → TypedQuery → ℕ → List Row → List Row
 branch_on level query b rows = through (map (op_at level) (branch_of query b).ops) rows
+
+-- of any items whose value is the branch on the tuples that were let in: the value of those that are left is the branch on the tuples with
+-- these prefixes
+pub open_value : (window q b level : ℕ) (queries : List TypedQuery) (entries : Option ℕ) (ps : Option Prefixes) (tuples : List (List ℕ)) (found : List Item) → ∥ IsTyped window queries ∥₁ → q < length queries → b < length (query_at queries q).branches
+    → IsWithinLevel level ps → ItemsHad 0 (map (op_at level) (branch_at queries q b).ops) found
+    → SameBag (value (map (op_at level) (branch_at queries q b).ops) found) (branch_rows (query_at queries q) b level None (let_in (query_at queries q) (tabled entries ps) tuples))
+    → SameBag (value (map (op_at level) (branch_at queries q b).ops) (left_in (query_at queries q) b ps found)) (branch_rows (query_at queries q) b level None (let_in (query_at queries q) ps tuples))
+open_value window q b level queries entries ps tuples found t lt within low had bag =
+    let query : TypedQuery = query_at queries q in
+    let ops : List Acting = map (op_at level) (branch_of query b).ops in
+    let keeps : ℕ → Row → Bool = keeps_in query.field (branch_of query b) ps in
+    let rows : List Row = packet_rows query b level None (let_in query (tabled entries ps) tuples) in
+    let follows : (f : Field) → query.field ≡ Some f → Followed f (branch_of query b) = λ f is. followed window queries q b f t lt within is in
+    let carries = carries_where level (branch_of query b) query.field ps follows in
+    bag_then
+    (bag_same (value_left keeps ops carries found had))
+    (bag_then
+    (bag_filter (keeps (end_of 0 ops)) (value ops found) (through ops rows) bag)
+    (bag_same (through_left keeps ops carries rows ∙ ap (branch_on level query b) (rows_pass query b level entries ps tuples follows low))))
 
 pub open_split : (window q b level cut depth : ℕ) (sizes : List ℕ) (queries : List TypedQuery) (entries : Option ℕ) (ps : Option Prefixes) (tuples : List (List ℕ)) (found : List Item) → ∥ IsTyped window queries ∥₁ → q < length queries → b < length (query_at queries q).branches
     → AllByRecursion HasWidths tuples → cut ≤ (branch_at queries q b).max_cut → IsWithinLevel level ps → SameBag (branch_items (query_at queries q) b level None cut depth sizes (let_in (query_at queries q) (tabled entries ps) tuples)) found

@@ -5,7 +5,7 @@ use borrow.Author.Tests.{leb-true, leb-false}
 use Rattle.byteorder.specs.Endian.{big_from}
 use Rattle.sn_base.specs.declared.link.Link.{Link}
 use Rattle.sn_base.specs.declared.link.Link.TheVariants.{Ethernet, RawIp, Cooked, Cooked2}
-use Rattle.sn_fields.specs.Headers.{number_at, has_bytes, has_tag, tags, link_length, has_ethernet, ether_type, ip_place, ip_words, is_ip, behind_ip, is_first, carries}
+use Rattle.sn_fields.specs.Headers.{number_at, has_bytes, has_tag, tags, link_length, has_ethernet, ether_type, ip_place, ip_words, is_ip, is_ip6, behind_ip, is_first, carries, carries_6, has_ip6, transport_place}
 use Rattle.sn_fields.specs.Tuples.{tuple}
 use Rattle.sn_base.proofs.Lists.{by_test}
 
@@ -123,6 +123,33 @@ carries_front bytes place protocol count near few =
     let stand = has_front bytes (behind_ip bytes place + count) (omega arith) in
     rw (first, byte, end, stand) refl
 
+six_front : (type : ℕ) (bytes : List ℕ) (place : ℕ) → place ≤ 28 → is_ip6 type (take 128 bytes) place ≡ is_ip6 type bytes place
+unfolding is_ip6
+six_front type bytes place near =
+    let first = byte_front bytes place (omega arith) in
+    let stand = has_front bytes (place + 40) (omega arith) in
+    rw (first, stand) refl
+
+carries_six_front : (bytes : List ℕ) (place protocol count : ℕ) → place ≤ 28 → count ≤ 20 → carries_6 (take 128 bytes) place protocol count ≡ carries_6 bytes place protocol count
+unfolding carries_6
+carries_six_front bytes place protocol count near few =
+    let byte = byte_front bytes (place + 6) (omega arith) in
+    let stand = has_front bytes (place + 40 + count) (omega arith) in
+    rw (byte, stand) refl
+
+place_most_behind : (six : Bool) (p q : ℕ) → p ≤ 28 → q ≤ 88 → cond six (p + 40) q ≤ 88
+place_most_behind true p q near far = omega (arith, near)
+place_most_behind false p q near far = far
+
+transport_front : (link : Link) (bytes : List ℕ) → transport_place link (take 128 bytes) ≡ transport_place link bytes
+transport_front link bytes =
+    let near = place_most link bytes in
+    let type = type_front link bytes in
+    let place = place_front link bytes in
+    let six = six_front (ether_type link bytes) bytes (ip_place link bytes) near in
+    let behind = behind_front bytes (ip_place link bytes) near in
+    rw (type, place, six, behind) refl
+
 pub tuple_front : (link : Link) (wire : ℕ) (bytes : List ℕ) → tuple link wire (take 128 bytes) ≡ tuple link wire bytes
 unfolding tuple
 tuple_front link wire bytes =
@@ -147,12 +174,23 @@ tuple_front link wire bytes =
     let udp = carries_front bytes p 17 8 near (omega arith) in
     let icmp = carries_front bytes p 1 4 near (omega arith) in
     let behind = behind_front bytes p near in
-    let q_0 = number_front 2 bytes q (omega arith) in
-    let q_2 = number_front 2 bytes (q + 2) (omega arith) in
-    let q_4 = number_front 2 bytes (q + 4) (omega arith) in
-    let q_4_4 = number_front 4 bytes (q + 4) (omega arith) in
-    let q_8 = number_front 4 bytes (q + 8) (omega arith) in
-    let q_13 = byte_front bytes (q + 13) (omega arith) in
-    let q_byte = byte_front bytes q (omega arith) in
-    let q_byte_1 = byte_front bytes (q + 1) (omega arith) in
+    let six = six_front (ether_type link bytes) bytes p near in
+    let tcp_6 = carries_six_front bytes p 6 20 near (omega arith) in
+    let udp_6 = carries_six_front bytes p 17 8 near (omega arith) in
+    let six_4 = number_front 2 bytes (p + 4) (omega arith) in
+    let six_6 = byte_front bytes (p + 6) (omega arith) in
+    let six_7 = byte_front bytes (p + 7) (omega arith) in
+    let six_8 = number_front 16 bytes (p + 8) (omega arith) in
+    let six_24 = number_front 16 bytes (p + 24) (omega arith) in
+    let t = transport_place link bytes in
+    let far : t ≤ 88 = place_most_behind (has_ip6 link bytes) p q near most in
+    let there = transport_front link bytes in
+    let t_0 = number_front 2 bytes t (omega (arith, far)) in
+    let t_2 = number_front 2 bytes (t + 2) (omega (arith, far)) in
+    let t_4 = number_front 2 bytes (t + 4) (omega (arith, far)) in
+    let t_4_4 = number_front 4 bytes (t + 4) (omega (arith, far)) in
+    let t_8 = number_front 4 bytes (t + 8) (omega (arith, far)) in
+    let t_13 = byte_front bytes (t + 13) (omega (arith, far)) in
+    let t_byte = byte_front bytes t (omega (arith, far)) in
+    let t_byte_1 = byte_front bytes (t + 1) (omega (arith, far)) in
     cc

@@ -85,12 +85,15 @@ module _ (link : Link) (wire : ℕ) (bytes : List ℕ) (few : wire < 2 ^ 32) (ar
   station_below : (present : Bool) (place : ℕ) → where_present present (number_at 6 bytes place) < 2 ^ 48
   station_below present place = present_below present (number_at 6 bytes place) (2 ^ 48) (number_below 6 bytes place are)
 
+  address_below : (present : Bool) (place : ℕ) → where_present present (number_at 16 bytes place) < 2 ^ 128
+  address_below present place = present_below present (number_at 16 bytes place) (2 ^ 128) (number_below 16 bytes place are)
+
   field_below : (field : Field) → field_of link wire bytes field < 2 ^ width_of field
   unfolding row_of
   field_below PacketLength = few
   field_below EthernetType = type_below link bytes are
   field_below VlanId = present_below _ (number_at 2 bytes 14 % 4096) (2 ^ 12) (mod-lt (number_at 2 bytes 14) (omega arith))
-  field_below _ = search (valid_below, byte_below, short_below, long_below, station_below)
+  field_below _ = search (valid_below, byte_below, short_below, long_below, station_below, address_below)
 
   -- each number of the tuple has the width of its field
   pub tuple_below : (field : Field) → slice_index (tuple link wire bytes) (number_of field) < 2 ^ width_of field

@@ -10,8 +10,8 @@ unfolding row_of
 width_least PacketLength = omega arith
 width_least _ = omega arith
 
--- and 64 at most
-pub width_most : (field : Field) → width_of field ≤ 64
+-- and 128 at most
+pub width_most : (field : Field) → width_of field ≤ 128
 unfolding row_of
 width_most PacketLength = omega arith
 width_most _ = omega arith

@@ -82,16 +82,32 @@ unfoldable pub carries : List ℕ → ℕ → ℕ → ℕ → Bool
 carries bytes place protocol count =
     is_first bytes place && (slice_index bytes (place + 9) == protocol) && has_bytes bytes (behind_ip bytes place + count)
 
--- TCP (RFC 9293), UDP (RFC 768) and ICMP (RFC 792)
+-- after a type, a header of IPv6 stands at a place (RFC 8200, section 3): its 40 bytes, and version 6
+unfoldable pub is_ip6 : ℕ → List ℕ → ℕ → Bool
+is_ip6 type bytes place = (type == 0x86dd) && has_bytes bytes (place + 40) && (slice_index bytes place / 16 == 6)
+
+abbrev pub has_ip6 : Link → List ℕ → Bool
+has_ip6 link bytes = is_ip6 (ether_type link bytes) bytes (ip_place link bytes)
+
+-- this many bytes of a protocol stand right after a header of IPv6 at a place: it is the next header
+unfoldable pub carries_6 : List ℕ → ℕ → ℕ → ℕ → Bool
+carries_6 bytes place protocol count = (slice_index bytes (place + 6) == protocol) && has_bytes bytes (place + 40 + count)
+
+-- this many bytes of a protocol stand right after a header of IPv4 or of IPv6
+abbrev pub has_transport : Link → List ℕ → ℕ → ℕ → Bool
+has_transport link bytes protocol count =
+    (has_ip link bytes && carries bytes (ip_place link bytes) protocol count) || (has_ip6 link bytes && carries_6 bytes (ip_place link bytes) protocol count)
+
+-- TCP (RFC 9293) and UDP (RFC 768), and after IPv4 alone ICMP (RFC 792)
 abbrev pub has_tcp : Link → List ℕ → Bool
-has_tcp link bytes = has_ip link bytes && carries bytes (ip_place link bytes) 6 20
+has_tcp link bytes = has_transport link bytes 6 20
 
 abbrev pub has_udp : Link → List ℕ → Bool
-has_udp link bytes = has_ip link bytes && carries bytes (ip_place link bytes) 17 8
+has_udp link bytes = has_transport link bytes 17 8
 
 abbrev pub has_icmp : Link → List ℕ → Bool
 has_icmp link bytes = has_ip link bytes && carries bytes (ip_place link bytes) 1 4
 
 -- where their header stands
 abbrev pub transport_place : Link → List ℕ → ℕ
-transport_place link bytes = behind_ip bytes (ip_place link bytes)
+transport_place link bytes = if has_ip6 link bytes then ip_place link bytes + 40 else behind_ip bytes (ip_place link bytes)

@@ -7,8 +7,9 @@ use Rattle.sn_fields.specs.declared.field.Field.TheVariants.{PacketLength, Ether
 use Rattle.sn_fields.specs.declared.field.Field.TheVariants.{IpTimeToLive, IpProtocol, IpSource, IpDestination, TcpValid, TcpSourcePort, TcpDestinationPort}
 use Rattle.sn_fields.specs.declared.field.Field.TheVariants.{TcpSequence, TcpAcknowledgment, TcpFlags, UdpValid, UdpSourcePort, UdpDestinationPort, UdpLength}
 use Rattle.sn_fields.specs.declared.field.Field.TheVariants.{IcmpValid, IcmpType, IcmpCode}
+use Rattle.sn_fields.specs.declared.field.Field.TheVariants.{Ip6Valid, Ip6PayloadLength, Ip6NextHeader, Ip6HopLimit, Ip6Source, Ip6Destination}
 use Rattle.sn_fields.specs.Fields.{fields}
-use Rattle.sn_fields.specs.Headers.{number_at, has_ethernet, tags, ether_type, ip_place, has_ip, transport_place, has_tcp, has_udp, has_icmp}
+use Rattle.sn_fields.specs.Headers.{number_at, has_ethernet, tags, ether_type, ip_place, has_ip, has_ip6, transport_place, has_tcp, has_udp, has_icmp}
 
 -- a number where its header is present
 abbrev pub where_present : Bool → ℕ → ℕ
@@ -51,6 +52,13 @@ field_of link wire bytes UdpLength = where_present (has_udp link bytes) (number_
 field_of link wire bytes IcmpValid = where_present (has_icmp link bytes) 1
 field_of link wire bytes IcmpType = where_present (has_icmp link bytes) (slice_index bytes (transport_place link bytes))
 field_of link wire bytes IcmpCode = where_present (has_icmp link bytes) (slice_index bytes (transport_place link bytes + 1))
+-- IPv6 (RFC 8200, section 3)
+field_of link wire bytes Ip6Valid = where_present (has_ip6 link bytes) 1
+field_of link wire bytes Ip6PayloadLength = where_present (has_ip6 link bytes) (number_at 2 bytes (ip_place link bytes + 4))
+field_of link wire bytes Ip6NextHeader = where_present (has_ip6 link bytes) (slice_index bytes (ip_place link bytes + 6))
+field_of link wire bytes Ip6HopLimit = where_present (has_ip6 link bytes) (slice_index bytes (ip_place link bytes + 7))
+field_of link wire bytes Ip6Source = where_present (has_ip6 link bytes) (number_at 16 bytes (ip_place link bytes + 8))
+field_of link wire bytes Ip6Destination = where_present (has_ip6 link bytes) (number_at 16 bytes (ip_place link bytes + 24))
 
 -- the tuple of a packet: the numbers of all fields, by field number
 unfoldable pub tuple : Link → ℕ → List ℕ → List ℕ

@@ -1,8 +1,8 @@
 //! The table of the fields.
-ghost use Rattle.std.specs.Prelude.{◌≡◌, ◌≢◌, ◌<◌, ◌↔◌, Some, IfSome, IsNone, find, map, nat_eq};
+ghost use Rattle.std.specs.Prelude.{◌≡◌, ◌≢◌, ◌<◌, ◌↔◌, Some, IfSome, IsNone, find, length, map, nat_eq};
 ghost use Rattle.std.specs.Cmp.Lexicographic.{pointwise};
 ghost use Rattle.sn_fields.specs.declared.field.Field.{Field};
-ghost use Rattle.sn_fields.specs.Fields.{number_of, name_of, with_name, width_of, is_address};
+ghost use Rattle.sn_fields.specs.Fields.{rows, number_of, name_of, with_name, width_of, is_address};
 
 /// A field of packets. A field whose header isn't present in a packet is 0 there.
 #[derive(Clone, Copy, Debug, PartialEq, Eq)]
@@ -55,6 +55,18 @@ pub enum Field {
     IcmpType,
     /// The code of ICMP.
     IcmpCode,
+    /// 1 where a header of IPv6 is present (RFC 8200).
+    Ip6Valid,
+    /// The payload length of IPv6.
+    Ip6PayloadLength,
+    /// The next header of IPv6.
+    Ip6NextHeader,
+    /// The hop limit of IPv6.
+    Ip6HopLimit,
+    /// The source address of IPv6.
+    Ip6Source,
+    /// The destination address of IPv6.
+    Ip6Destination,
 }
 
 /// What the numbers of a field are.
@@ -71,7 +83,7 @@ pub type FieldRow = (Field, &'static [u8], u32, Meaning);
 
 /// The table of the fields, in the order of the variants, which are their numbers. Each number of a field is below 2 to
 /// its width. Definitions and proofs read this table too.
-pub const FIELDS: [FieldRow; 24] = [
+pub const FIELDS: [FieldRow; 30] = [
     (Field::PacketLength, b"pkt.len", 32, Meaning::Number),
     (Field::EthernetDestination, b"eth.dst", 48, Meaning::Number),
     (Field::EthernetSource, b"eth.src", 48, Meaning::Number),
@@ -96,13 +108,27 @@ pub const FIELDS: [FieldRow; 24] = [
     (Field::IcmpValid, b"icmp.valid", 1, Meaning::Number),
     (Field::IcmpType, b"icmp.type", 8, Meaning::Number),
     (Field::IcmpCode, b"icmp.code", 8, Meaning::Number),
+    (Field::Ip6Valid, b"ip6.valid", 1, Meaning::Number),
+    (Field::Ip6PayloadLength, b"ip6.plen", 16, Meaning::Number),
+    (Field::Ip6NextHeader, b"ip6.next", 8, Meaning::Number),
+    (Field::Ip6HopLimit, b"ip6.hops", 8, Meaning::Number),
+    (Field::Ip6Source, b"ip6.src", 128, Meaning::Address),
+    (Field::Ip6Destination, b"ip6.dst", 128, Meaning::Address),
 ];
+
+/// The rows of the table. It stands apart for the proof of `width`, which looks at the widths alone.
+fn table() -> &'static [FieldRow]
+    ensures count { length result.now ≡ 30 }
+    ensures widths { map (λ row. row.2) result.now ≡ map (λ row. row.width) rows }
+{
+    &FIELDS
+}
 
 impl Field {
     /// The number of the field: its place in the table, from 0.
     pub fn number(self) -> usize
         ensures number { result ≡ number_of self }
-        ensures below { result < 24 }
+        ensures below { result < 30 }
     {
         self as usize
     }
@@ -116,11 +142,10 @@ impl Field {
     }
 
     /// The width of the field in bits.
-    #[tactic(auto, unfolding(crate::specs::Fields::row_of))]
     pub fn width(self) -> u32
         ensures { result ≡ width_of self }
     {
-        FIELDS[self.number()].2
+        table()[self.number()].2
     }
 
     /// Whether the numbers of the field are addresses of the network layer.

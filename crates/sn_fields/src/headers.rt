@@ -1,35 +1,29 @@
 //! A walk over the headers of a packet, once, from the link header to the transport.
-ghost use Rattle.std.specs.Prelude.{◌≡◌, ◌≤◌, ◌<◌, ◌+◌, ◌*◌, ◌/◌, ◌%◌, ◌^◌, ◌&&◌, nat_le, nat_lt, length, slice_index, if◌then◌else◌, false};
+ghost use Rattle.std.specs.Prelude.{◌≡◌, ◌≤◌, ◌<◌, ◌+◌, ◌*◌, ◌/◌, ◌%◌, ◌^◌, nat_le, nat_lt, length, slice_index};
 ghost use Rattle.std.specs.Bool.{OnTrue};
 ghost use Rattle.sn_base.specs.declared.link.Link.TheVariants.{Ethernet};
-ghost use Rattle.sn_fields.specs.Headers.{number_at, has_tag, tags, type_of_version, is_ip, behind_ip};
+ghost use Rattle.sn_fields.specs.Headers.{number_at, has_tag, tags, type_of_version, is_ip, is_ip6, behind_ip};
 ghost use Rattle.sn_fields.specs.Tuples.{where_present};
-ghost use Rattle.sn_fields.specs.Parts.{IsLinkPart, IsIpPart, part_carries, IsTcp, IsUdp, IsIcmp};
+ghost use Rattle.sn_fields.specs.Parts.{IsLinkPart, IsIpPart, IsIp6, carried_of, of_ip, no_ip, no_ip6, no_ip_part};
 
-use crate::numbers::{u16_at, u32_at, u48_at};
+use crate::held::Held48;
+use crate::numbers::{u16_at, u32_at, u48_at, u128_at};
 use sn_base::link::Link;
 
 /// The types of Ethernet that are told apart (IEEE 802 numbers): IPv4, IPv6, and the two of tags.
 const IPV4: u16 = 0x0800;
 
-const IPV6: u16 = 0x86dd;
+pub const IPV6: u16 = 0x86dd;
 
 const CUSTOMER_TAG: u16 = 0x8100;
 
 const SERVICE_TAG: u16 = 0x88a8;
 
-/// The protocols of IPv4 that are read (Assigned Internet Protocol Numbers).
-const ICMP: u8 = 1;
-
-const TCP: u8 = 6;
-
-const UDP: u8 = 17;
-
 /// What the link header says.
 #[derive(Clone, Copy)]
 pub struct LinkHeader {
-    pub destination: u64,
-    pub source: u64,
+    pub destination: Held48,
+    pub source: Held48,
     pub kind: u16,
     pub vlan: u16,
 }
@@ -62,32 +56,59 @@ pub struct IpPart {
     pub end: usize,
 }
 
-/// A header of TCP.
+/// A header of IPv6.
 #[derive(Clone, Copy)]
-pub struct TcpHeader {
-    pub sequence: u32,
-    pub acknowledgment: u32,
-    pub source: u16,
-    pub destination: u16,
-    pub flags: u8,
-    pub valid: bool,
-}
-
-/// A header of UDP.
-#[derive(Clone, Copy)]
-pub struct UdpHeader {
-    pub source: u16,
-    pub destination: u16,
+pub struct Ip6Header {
+    pub source: u128,
+    pub destination: u128,
     pub length: u16,
+    pub next: u8,
+    pub hops: u8,
     pub valid: bool,
 }
 
-/// A header of ICMP.
+/// What a header of the network layer carries.
 #[derive(Clone, Copy)]
-pub struct IcmpHeader {
-    pub kind: u8,
-    pub code: u8,
-    pub valid: bool,
+pub struct Carried {
+    /// Whether there is such a header, and it is that of a first fragment.
+    pub first: bool,
+    pub protocol: u8,
+    /// Where the header after it stands.
+    pub end: usize,
+}
+
+impl IpHeader {
+    /// No header.
+    #[inline(always)]
+    pub fn absent() -> IpHeader
+        ensures { result ≡ no_ip }
+    {
+        IpHeader {
+            source: 0,
+            destination: 0,
+            length: 0,
+            ttl: 0,
+            protocol: 0,
+            valid: false,
+        }
+    }
+}
+
+impl Ip6Header {
+    /// No header.
+    #[inline(always)]
+    pub fn absent() -> Ip6Header
+        ensures { result ≡ no_ip6 }
+    {
+        Ip6Header {
+            source: 0,
+            destination: 0,
+            length: 0,
+            next: 0,
+            hops: 0,
+            valid: false,
+        }
+    }
 }
 
 /// Whether a tag stands at a place (IEEE 802.1Q): its type, and the 4 bytes after it.
@@ -119,8 +140,8 @@ fn bare(kind: u16, end: usize) -> LinkPart
 {
     LinkPart {
         header: LinkHeader {
-            destination: 0,
-            source: 0,
+            destination: Held48::of(0),
+            source: Held48::of(0),
             kind,
             vlan: 0,
         },
@@ -152,8 +173,8 @@ fn ethernet(bytes: &[u8]) -> LinkPart
     }
     LinkPart {
         header: LinkHeader {
-            destination: u48_at(bytes, 0),
-            source: u48_at(bytes, 6),
+            destination: Held48::of(u48_at(bytes, 0)),
+            source: Held48::of(u48_at(bytes, 6)),
             kind: u16_at(bytes, 12 + 4 * tags),
             vlan: vlan(bytes, tags),
         },
@@ -238,96 +259,71 @@ pub fn ip_part(kind: u16, bytes: &[u8], place: usize) -> IpPart
 }
 
 /// The part of a packet without a header of IPv4.
-fn no_ip() -> IpPart
-    ensures { result ≡ record {
-      header = record { source = 0; destination = 0; length = 0; ttl = 0; protocol = 0; valid = false };
-      first = false;
-      end = 0;
-    } }
+pub fn no_ip() -> IpPart
+    ensures { result ≡ no_ip_part }
 {
     IpPart {
-        header: IpHeader {
-            source: 0,
-            destination: 0,
-            length: 0,
-            ttl: 0,
-            protocol: 0,
-            valid: false,
-        },
+        header: IpHeader::absent(),
         first: false,
         end: 0,
     }
 }
 
-/// Whether this many bytes of a protocol stand right after a header of IPv4.
-fn carries(ip: &IpPart, bytes: &[u8], protocol: u8, count: usize) -> bool
-    requires { ip.now.end ≤ length bytes.now }
-    ensures { result ≡ part_carries ip.now bytes.now protocol count }
+/// Whether a header of IPv6 stands at a place after a type (RFC 8200, section 3).
+#[tactic(auto, unfolding(crate::specs::Headers::is_ip6))]
+fn is_ip6(kind: u16, bytes: &[u8], place: usize) -> bool
+    requires { place ≤ 22 }
+    ensures ip6 { result ≡ is_ip6 kind bytes.now place }
+    ensures captured { OnTrue result (place + 40 ≤ length bytes.now) }
 {
-    ip.first && ip.header.protocol == protocol && bytes.len() - ip.end >= count
+    kind == IPV6 && bytes.len() >= place + 40 && bytes[place] / 16 == 6
 }
 
-/// The header of TCP (RFC 9293, section 3.1). Its options aren't needed.
-pub fn tcp_header(ip: &IpPart, bytes: &[u8]) -> TcpHeader
-    requires { ip.now.end ≤ length bytes.now }
-    ensures { IsTcp (part_carries ip.now bytes.now 6 20) bytes.now ip.now.end result }
+/// The header of IPv6 that stands at a place after a type, if one does.
+pub fn ip6_header(kind: u16, bytes: &[u8], place: usize) -> Ip6Header
+    requires { place ≤ 22 }
+    ensures header { IsIp6 kind bytes.now place result }
+    ensures captured { OnTrue result.valid (place + 40 ≤ length bytes.now) }
 {
-    if !carries(ip, bytes, TCP, 20) {
-        return TcpHeader {
-            sequence: 0,
-            acknowledgment: 0,
-            source: 0,
-            destination: 0,
-            flags: 0,
-            valid: false,
-        };
+    if !is_ip6(kind, bytes, place) {
+        return Ip6Header::absent();
     }
-    TcpHeader {
-        sequence: u32_at(bytes, ip.end + 4),
-        acknowledgment: u32_at(bytes, ip.end + 8),
-        source: u16_at(bytes, ip.end),
-        destination: u16_at(bytes, ip.end + 2),
-        flags: bytes[ip.end + 13],
+    Ip6Header {
+        source: u128_at(bytes, place + 8),
+        destination: u128_at(bytes, place + 24),
+        length: u16_at(bytes, place + 4),
+        next: bytes[place + 6],
+        hops: bytes[place + 7],
         valid: true,
     }
 }
 
-/// The header of UDP (RFC 768).
-pub fn udp_header(ip: &IpPart, bytes: &[u8]) -> UdpHeader
-    requires { ip.now.end ≤ length bytes.now }
-    ensures { IsUdp (part_carries ip.now bytes.now 17 8) bytes.now ip.now.end result }
+/// What a header of IPv4 carries.
+pub fn of_ip(ip: &IpPart) -> Carried
+    ensures { result ≡ of_ip ip.now }
 {
-    if !carries(ip, bytes, UDP, 8) {
-        return UdpHeader {
-            source: 0,
-            destination: 0,
-            length: 0,
-            valid: false,
-        };
-    }
-    UdpHeader {
-        source: u16_at(bytes, ip.end),
-        destination: u16_at(bytes, ip.end + 2),
-        length: u16_at(bytes, ip.end + 4),
-        valid: true,
+    Carried {
+        first: ip.first,
+        protocol: ip.header.protocol,
+        end: ip.end,
     }
 }
 
-/// The header of ICMP (RFC 792).
-pub fn icmp_header(ip: &IpPart, bytes: &[u8]) -> IcmpHeader
-    requires { ip.now.end ≤ length bytes.now }
-    ensures { IsIcmp (part_carries ip.now bytes.now 1 4) bytes.now ip.now.end result }
+/// What the header of the network layer carries: that of IPv6 at a place, where one is present, and else that of IPv4.
+pub fn what_is_carried(ip: &IpPart, header: &Ip6Header, bytes: &[u8], place: usize) -> Carried
+    requires near { place ≤ 22 }
+    requires ip { ip.now.end ≤ length bytes.now }
+    requires captured { OnTrue header.now.valid (place + 40 ≤ length bytes.now) }
+    ensures carried { result ≡ carried_of ip.now header.now place }
+    ensures within { result.end ≤ length bytes.now }
 {
-    if !carries(ip, bytes, ICMP, 4) {
-        return IcmpHeader {
-            kind: 0,
-            code: 0,
-            valid: false,
-        };
-    }
-    IcmpHeader {
-        kind: bytes[ip.end],
-        code: bytes[ip.end + 1],
-        valid: true,
+    if header.valid {
+        Carried {
+            first: true,
+            protocol: header.next,
+            end: place + 40,
+        }
+    } else {
+        of_ip(ip)
     }
 }

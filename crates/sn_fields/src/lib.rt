@@ -3,5 +3,8 @@
 
 pub mod field;
 mod headers;
+mod held;
+mod layers;
 mod numbers;
+mod transport;
 pub mod tuple;

@@ -34,3 +34,13 @@ pub fn u48_at(bytes: &[u8], place: usize) -> u64
     let (_, number) = bytes.split_at(place);
     BigEndian::read_u48(number)
 }
+
+/// The number of 128 bits at a place.
+#[tactic(auto, unfolding(crate::specs::Headers::number_at))]
+pub fn u128_at(bytes: &[u8], place: usize) -> u128
+    requires { place + 16 ≤ length bytes.now }
+    ensures { result ≡ number_at 16 bytes.now place }
+{
+    let (_, number) = bytes.split_at(place);
+    BigEndian::read_u128(number)
+}

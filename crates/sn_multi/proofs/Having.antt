@@ -1,10 +1,10 @@
 -- The items of several switches are had by the engine's operators, so their order is free.
-use Rattle.std.proofs.Common.{◌≡◌, ℕ, suc, ◌≤◌, ◌<◌, List, [], ◌∷◌, ◌++◌, map, filter, take, drop, length, Bool, true, false, not, refl, ap, sym, ◌∙◌, subst, arith}
-use Rattle.std.specs.List.{AllByRecursion, flat_map, list_any}
-use Rattle.std.proofs.lemmas.List.{length-append, map-append, take-append-drop}
+use Rattle.std.proofs.Common.{◌≡◌, ℕ, suc, List, [], ◌∷◌, ◌++◌, map, filter, take, drop, length, Bool, not, refl, ap, sym, ◌∙◌, subst, arith}
+use Rattle.std.specs.List.{AllByRecursion}
+use Rattle.std.proofs.lemmas.List.{length-append, take-append-drop}
 use Rattle.sn_base.specs.AnyFold.{any_has}
 use Rattle.sn_base.specs.Bags.{SameBag}
-use Rattle.sn_base.specs.Groups.{Row, once, same_row}
+use Rattle.sn_base.specs.Groups.{Row, same_row}
 use Rattle.sn_base.specs.Operators.{Grouping, Op, Had, key_of, pair_of, parted, row_for, through}
 use Rattle.sn_base.specs.Operators.Op.{Filter, Map, Distinct, Reduce}
 use Rattle.sn_base.proofs.Lists.{all_append, all_filter, all_front, all_map, all_rest, nat_self}
@@ -21,9 +21,9 @@ use Rattle.sn_pipe_items.specs.Value.{is_at, is_partial, rows_with, value}
 use Rattle.sn_pipe_items.proofs.Homes.{all_members, member}
 use Rattle.sn_pipe_items.proofs.ItemLemmas.{rows_all, rows_behind, rows_none}
 use Rattle.sn_pipe_items.proofs.ItemsHadLemmas.{had_none}
+use Rattle.sn_pipe_items.proofs.LeftLaw.{items_had_bag}
 use Rattle.sn_pipe_items.proofs.ValueBag.{IsHeld, ItemsHad, PartialHad, value_bag}
 use Rattle.sn_report.specs.Items.{Item}
-use Rattle.sn_report.specs.declared.frame.Tag.{Tag}
 use Rattle.sn_report.specs.declared.frame.Tag.TheVariants.{At, Partial}
 use Rattle.sn_multi.specs.Switches.{all_items, beyond, beyond_keys, firsts, switch_items}
 use Rattle.sn_multi.proofs.Merging.{from, merged, none_one, rows_both, rows_in}
@@ -121,12 +121,19 @@ module _ (depth : ℕ) (size : ℕ → ℕ) where
         items = had_both 0 ops one others own.items rest.items;
       }
 
+  sent_had : (cut : ℕ) (ops : List Op) (flows : List (List Row)) → AllOf ops (rows_in flows) → OneHad 0 ops (all_items depth size cut ops flows)
+  sent_had cut ops flows had =
+      let whole : take cut ops ++ drop cut ops ≡ ops = take-append-drop cut ops in
+      subst (λ (os : List Op). OneHad 0 os (all_items depth size cut ops flows)) whole
+      (all_had (take cut ops) (drop cut ops) flows (subst (λ (os : List Op). AllOf os (rows_in flows)) (sym whole) had))
+
+  -- what all send is had, in whatever order the items come
+  pub any_had : (cut : ℕ) (ops : List Op) (flows : List (List Row)) (found : List Item) → AllOf ops (rows_in flows) → SameBag (all_items depth size cut ops flows) found → ItemsHad 0 ops found
+  any_had cut ops flows found had bag = items_had_bag 0 ops (all_items depth size cut ops flows) found bag (sent_had cut ops flows had).items
+
   -- in whatever order the items come
   pub merged_any : (cut : ℕ) (ops : List Op) (flows : List (List Row)) (found : List Item) → AllOf ops (rows_in flows) → SameBag (all_items depth size cut ops flows) found → SameBag (value ops found) (through ops (rows_in flows))
   merged_any cut ops flows found had bag =
-      let front = take cut ops in
-      let back = drop cut ops in
-      let whole : front ++ back ≡ ops = take-append-drop cut ops in
       let sent = all_items depth size cut ops flows in
-      let all : OneHad 0 ops sent = subst (λ (os : List Op). OneHad 0 os sent) whole (all_had front back flows (subst (λ (os : List Op). AllOf os (rows_in flows)) (sym whole) had)) in
+      let all = sent_had cut ops flows had in
       bag_then (bag_back (value ops sent) (value ops found) (value_bag ops sent found bag all.rows all.items)) (merged depth size cut ops flows had)

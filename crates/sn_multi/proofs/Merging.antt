@@ -1,6 +1,6 @@
 -- The engine's value of the items of several switches.
-use Rattle.std.proofs.Common.{◌≡◌, ℕ, suc, ◌≤◌, ◌<◌, List, [], ◌∷◌, ◌++◌, map, filter, take, drop, Bool, true, false, not, ◌||◌, cond, refl, ap, sym, ◌∙◌, subst, append-nil, append_assoc, arith}
-use Rattle.std.specs.List.{AllByRecursion, flat_map, list_any}
+use Rattle.std.proofs.Common.{◌≡◌, ℕ, suc, ◌≤◌, List, [], ◌∷◌, ◌++◌, map, filter, take, drop, Bool, false, not, ◌||◌, refl, ap, sym, ◌∙◌, subst, append-nil, append_assoc, arith}
+use Rattle.std.specs.List.{flat_map, list_any}
 use Rattle.std.specs.Cmp.Lexicographic.{nat_list_eq_equiv}
 use Rattle.std.proofs.lemmas.List.{map-append, take-append-drop}
 use Rattle.std.proofs.lemmas.List.Elements.{filter-append}
@@ -9,14 +9,14 @@ use Rattle.sn_base.specs.AnyFold.{any_has}
 use Rattle.sn_base.specs.Bags.{SameBag}
 use Rattle.sn_base.specs.Bags.SameBag.{stays}
 use Rattle.sn_base.specs.Groups.{Row, once, same_row}
-use Rattle.sn_base.specs.Operators.{Grouping, Op, Had, apply, grouped, key_of, pair_of, parted, through}
+use Rattle.sn_base.specs.Operators.{Grouping, Op, apply, grouped, key_of, pair_of, parted, through}
 use Rattle.sn_base.specs.Operators.Op.{Filter, Map, Distinct, Reduce}
-use Rattle.sn_base.proofs.Lists.{all_append, all_filter, all_front, all_map, all_rest, by_test, filter_map, filter_same, nat_self, or_false}
+use Rattle.sn_base.proofs.Lists.{all_append, all_filter, all_front, all_rest, filter_map, filter_same, nat_self}
 use Rattle.sn_base.proofs.Tests.{nat_apart}
 use Rattle.sn_base.proofs.BagLemmas.{bag_after, bag_any, bag_back, bag_before, bag_parted, bag_same, bag_swapped, bag_then}
 use Rattle.sn_base.proofs.OnceLemmas.{any_once, apart_bag, once_apart}
 use Rattle.sn_base.proofs.FoldedLemmas.{same_row_exact}
-use Rattle.sn_base.proofs.GroupLemmas.{AllHad, grouped_bag, keys, keys_of, parted_rows, partial_joined, total_had, with_of}
+use Rattle.sn_base.proofs.GroupLemmas.{AllHad, grouped_bag, keys_of, parted_rows, partial_joined, total_had, with_of}
 use Rattle.sn_base.proofs.OperatorLemmas.{AllOf, had_after, pairs_had, through_bag}
 use Rattle.sn_chain.specs.Chain.{has_home}
 use Rattle.sn_chain.specs.Homes.{homes_by_place}

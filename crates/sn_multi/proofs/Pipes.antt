@@ -1,14 +1,14 @@
 -- A pipe that ends right after its first stateful operator sends what a switch of several sends, but for the tags.
-use Rattle.std.proofs.Common.{◌≡◌, ℕ, suc, List, [], ◌∷◌, ◌++◌, map, filter, take, Bool, true, false, cond, refl, ap, sym, ◌∙◌, subst, arith}
+use Rattle.std.proofs.Common.{◌≡◌, ℕ, suc, List, [], ◌∷◌, ◌++◌, map, filter, take, false, cond, refl, ap, sym, ◌∙◌, subst, arith}
 use Rattle.std.proofs.lemmas.List.{map-append}
 use Rattle.sn_base.proofs.BagLemmas.{bag_back, bag_map, bag_same, bag_then}
 use Rattle.sn_base.specs.Bags.{SameBag}
-use Rattle.sn_base.specs.Groups.{Row, once, same_row}
-use Rattle.sn_base.specs.Operators.{Op, key_of}
+use Rattle.sn_base.specs.Groups.{Row}
+use Rattle.sn_base.specs.Operators.{Op}
 use Rattle.sn_base.specs.Operators.Op.{Filter, Map, Distinct, Reduce}
 use Rattle.sn_pipe_items.specs.Items.{held, items, tagged}
 use Rattle.sn_pipe_items.specs.Value.{is_at}
-use Rattle.sn_pipe_items.proofs.Bagged.{bagged, items_from, over_distinct, over_reduce, resides, some_row}
+use Rattle.sn_pipe_items.proofs.Bagged.{bagged, items_from, over_distinct, over_reduce}
 use Rattle.sn_pipe_items.proofs.Cuts.{IsCut}
 use Rattle.sn_base.proofs.Lists.{nat_self}
 use Rattle.sn_base.proofs.Tests.{nat_apart}

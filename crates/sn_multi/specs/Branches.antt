@@ -1,8 +1,9 @@
 -- to be believed
 -- The items of the branches of typed queries in several switches.
-use Rattle.std.specs.Prelude.{ℕ, List, map, Option}
+use Rattle.std.specs.Prelude.{◌≡◌, ℕ, List, map, Option, None}
 use Rattle.std.specs.List.{flat_map}
 use Rattle.sn_base.specs.Bags.{SameBag}
+use Rattle.sn_engine_split.specs.Opened.{IsWithinLevel, Prefixes, left_in, let_in, tabled}
 use Rattle.sn_ops.specs.Packets.{packet_rows}
 use Rattle.sn_ops.specs.declared.packets.Kept.{Kept}
 use Rattle.sn_report.specs.Items.{Item}
@@ -28,3 +29,17 @@ pub record AreOfSwitches (queries : List TypedQuery) (q b level : ℕ) (kept : O
   pub depth : ℕ
   pub sizes : List ℕ
   pub same : SameBag (many_items (query_at queries q) b level kept cut depth sizes captures) found
+
+-- These are left of the items of a branch at a level in these switches, in whatever order they came: of some cut, chains and sizes, and
+-- where each switch has a table of some number of entries for these prefixes, open or not.
+pub record AreLeftOfSwitches (queries : List TypedQuery) (q b level : ℕ) (ps : Option Prefixes) (captures : List (List (List ℕ)))
+    (found : List Item) : Type 0 where
+  pub cut : ℕ
+  pub depth : ℕ
+  pub sizes : List ℕ
+  pub entries : Option ℕ
+  pub sent : List Item
+  pub low : IsWithinLevel level ps
+  pub same : SameBag
+      (many_items (query_at queries q) b level None cut depth sizes (map (let_in (query_at queries q) (tabled entries ps)) captures)) sent
+  pub is : found ≡ left_in (query_at queries q) b ps sent

@@ -1,5 +1,5 @@
 //! What the engine makes of the items of several switches.
-ghost use Rattle.std.specs.Prelude.{◌≡◌, ◌<◌, ℕ, List, Option, length};
+ghost use Rattle.std.specs.Prelude.{◌≡◌, ◌<◌, ℕ, List, Option, None, length};
 ghost use Rattle.std.specs.List.{AllByRecursion, flat_map};
 ghost use Rattle.sn_base.specs.Bags.{SameBag};
 ghost use Rattle.sn_base.specs.Groups.{Row};
@@ -9,9 +9,10 @@ ghost use Rattle.sn_base.specs.Sorted.{sorted_rows};
 ghost use Rattle.sn_ops.specs.Plain.{query_rows};
 ghost use Rattle.sn_ops.specs.declared.packets.Kept.{Kept};
 ghost use Rattle.sn_engine_split.specs.Branches.{query_value};
+ghost use Rattle.sn_engine_split.specs.Opened.{Prefixes, let_in};
 ghost use Rattle.sn_types.specs.Typed.{HasWidths, IsTyped, query_at};
 ghost use Rattle.sn_types.specs.declared.typed_query.TypedQuery.{TypedQuery};
-ghost use Rattle.sn_multi.specs.Branches.{AreOfSwitches, together};
+ghost use Rattle.sn_multi.specs.Branches.{AreLeftOfSwitches, AreOfSwitches, together};
 ghost use Rattle.sn_pipe_items.specs.Value.{value};
 ghost use Rattle.sn_report.specs.Items.{Item};
 ghost use Rattle.sn_multi.specs.Switches.{all_items};
@@ -33,4 +34,16 @@ pub fn many_switches_answer_queries()
         AreOfSwitches queries q 0 level kept captures left →
         (length (query_at queries q).branches ≡ 2 → AreOfSwitches queries q 1 level kept captures right) →
         sorted_rows (query_value (query_at queries q) level left right) ≡ sorted_rows (query_rows (query_at queries q) level kept (together captures)) }
+{}
+
+/// For every query, level, set of prefixes and captures, where the tables of the switches may stay open: the value of the items that
+/// are left, once those of other prefixes are dropped, has the rows of the unsplit query on the tuples of all captures with these
+/// prefixes, in whatever order the items come. Sorted, it is the same list.
+pub fn open_tables_of_many_switches_change_no_answer()
+    ensures { (window q level : ℕ) (queries : List TypedQuery) (ps : Option Prefixes) (captures : List (List (List ℕ))) (left right : List Item) →
+        ∥ IsTyped window queries ∥₁ → q < length queries → AllByRecursion HasWidths (together captures) →
+        AreLeftOfSwitches queries q 0 level ps captures left →
+        (length (query_at queries q).branches ≡ 2 → AreLeftOfSwitches queries q 1 level ps captures right) →
+        sorted_rows (query_value (query_at queries q) level left right)
+        ≡ sorted_rows (query_rows (query_at queries q) level None (let_in (query_at queries q) ps (together captures))) }
 {}

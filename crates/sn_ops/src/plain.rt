@@ -5,7 +5,8 @@ ghost use Rattle.sn_base.specs.Columns.{IsOf};
 ghost use Rattle.sn_base.specs.Operators.{through};
 ghost use Rattle.sn_ops.specs.Packets.{OfALevel};
 ghost use Rattle.sn_ops.specs.Joins.{joined};
-ghost use Rattle.sn_ops.specs.Plain.{branch_rows, query_rows};
+ghost use Rattle.sn_ops.specs.Plain.{branch_rows};
+ghost use Rattle.sn_types.specs.Kinds.{AreBelow};
 ghost use Rattle.sn_types.specs.Typed.{branch_of, branch_at, query_at, end_columns, final_columns};
 ghost use Rattle.sn_types.specs.Values.{op_at};
 
@@ -36,6 +37,7 @@ pub fn branch_rows<R: AnyRow>(
     requires branch { b < length (query_at t.now.queries q).branches }
     requires level { list_any (nat_eq level) (query_at t.now.queries q).levels ≡ true }
     requires kept { OfALevel (query_at t.now.queries q) kept }
+    requires below { AreBelow R.Number.limit (branch_at t.now.queries q b).fields }
     ensures rows { IfOk result (λ rows. rows ≡ branch_rows (query_at t.now.queries q) b level kept.entry tuples.now) }
     ensures columns { IfOk result (λ rows. AllByRecursion (IsOf (end_columns (branch_at t.now.queries q b))) rows) }
 {
@@ -79,30 +81,4 @@ pub fn join_branches<R: AnyRow>(
         t.query(q).posts.as_slice(),
         level,
     )
-}
-
-/// The whole unsplit query on the tuples of a window: its branch, or its two branches joined and taken through the
-/// operators after the join. Without `kept` it sees all tuples; with it, those alone whose refinement field, masked to
-/// `kept.bits`, is a member.
-pub fn plain<R: AnyRow>(
-    alloc: Global,
-    t: &Typed,
-    q: u32,
-    level: u32,
-    kept: Option<Kept>,
-    tuples: &[Tuple],
-) -> Result<RowSeq<R>, Memory>
-    requires query { q < length t.now.queries }
-    requires level { list_any (nat_eq level) (query_at t.now.queries q).levels ≡ true }
-    requires kept { OfALevel (query_at t.now.queries q) kept }
-    ensures rows { IfOk result (λ rows. rows ≡ query_rows (query_at t.now.queries q) level kept.entry tuples.now) }
-    ensures columns { IfOk result (λ rows. AllByRecursion (IsOf (final_columns (query_at t.now.queries q))) rows) }
-{
-    if t.branches(q) == 2 {
-        let left = branch_rows(alloc, t, q, 0, level, kept, tuples)?;
-        let right = branch_rows(alloc, t, q, 1, level, kept, tuples)?;
-        join_branches(alloc, t, q, level, &left, &right)
-    } else {
-        branch_rows(alloc, t, q, 0, level, kept, tuples)
-    }
 }

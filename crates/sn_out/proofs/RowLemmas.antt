@@ -20,20 +20,19 @@ as_many_fields (c ∷ cs) [] h = absurd h
 as_many_fields (c ∷ cs) (x ∷ xs) h = ap suc (as_many_fields cs xs h.1)
 
 -- after the fields of a row's numbers the rest of eight is empty
-eight_of : (fields longer all : List (List ℕ)) (columns : List Column) (row numbers : List ℕ) →
-    IsOf columns row → numbers ≡ row → longer ≡ fields ++ number_fields columns numbers →
-    all ≡ longer ++ replicate (8 - length numbers) [] → all ≡ fields ++ eight_fields (number_fields columns row)
-eight_of fields longer all columns row numbers h same front e =
-    e ∙ ap (λ xs. xs ++ replicate (8 - length numbers) []) front
-    ∙ ap (λ ns. fields ++ number_fields columns ns ++ replicate (8 - length ns) []) same
-    ∙ append_assoc fields (number_fields columns row) (replicate (8 - length row) [])
-    ∙ ap (λ n. fields ++ (number_fields columns row ++ replicate (8 - n) [])) (sym (as_many_fields columns row h))
+eight_of : (fields longer all : List (List ℕ)) (columns : List Column) (row : List ℕ) (count : ℕ) →
+    IsOf columns row → count ≡ length row → longer ≡ fields ++ number_fields columns row →
+    all ≡ longer ++ replicate (8 - count) [] → all ≡ fields ++ eight_fields (number_fields columns row)
+eight_of fields longer all columns row count h same front e =
+    e ∙ ap (λ xs. xs ++ replicate (8 - count) []) front
+    ∙ append_assoc fields (number_fields columns row) (replicate (8 - count) [])
+    ∙ ap (λ n. fields ++ (number_fields columns row ++ replicate (8 - n) [])) (same ∙ sym (as_many_fields columns row h))
 
-pub filled_up : {E : Type 0} (result : Result (List (List ℕ)) E) (fields longer : List (List ℕ)) (columns : List Column) (row numbers : List ℕ) →
-    IsOf columns row → numbers ≡ row → longer ≡ fields ++ number_fields columns numbers →
-    IfOk result (λ all. all ≡ longer ++ replicate (8 - length numbers) []) → IfOk result (λ all. all ≡ fields ++ eight_fields (number_fields columns row))
-filled_up (Ok all) fields longer columns row numbers h same front e = eight_of fields longer all columns row numbers h same front e
-filled_up (Err e) fields longer columns row numbers h same front k = k
+pub filled_up : {E : Type 0} (result : Result (List (List ℕ)) E) (fields longer : List (List ℕ)) (columns : List Column) (row : List ℕ) (count : ℕ) →
+    IsOf columns row → count ≡ length row → longer ≡ fields ++ number_fields columns row →
+    IfOk result (λ all. all ≡ longer ++ replicate (8 - count) []) → IfOk result (λ all. all ≡ fields ++ eight_fields (number_fields columns row))
+filled_up (Ok all) fields longer columns row count h same front e = eight_of fields longer all columns row count h same front e
+filled_up (Err e) fields longer columns row count h same front k = k
 
 -- a number without bits from a place on is below that power of two
 pub below_power : (number width : ℕ) → number / 2 ^ width ≡ 0 → number < 2 ^ width

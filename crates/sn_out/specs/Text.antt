@@ -1,6 +1,6 @@
 -- to be believed
 -- The text of printed answers.
-use Rattle.std.specs.Prelude.{ℕ, ◌/◌, ◌%◌, ◌^◌, ◌<◌, List, [], ◌∷◌, ◌++◌, length, Bool, Option, None, Some, codes, if◌then◌else◌}
+use Rattle.std.specs.Prelude.{ℕ, ◌+◌, ◌/◌, ◌%◌, ◌^◌, ◌<◌, List, [], ◌∷◌, ◌++◌, length, Bool, ◌==◌, nat_lt, Option, None, Some, codes, if◌then◌else◌}
 use Rattle.std.specs.List.{flat_map, AllByRecursion}
 use Rattle.std.specs.Fmt.{decimal}
 use Rattle.sn_base.specs.declared.column.Column.{Column}
@@ -78,9 +78,31 @@ never_words = codes "never"
 abbrev pub dotted : ℕ → List ℕ
 dotted number = decimal (number / 2 ^ 24 % 256) ++ 46 ∷ decimal (number / 2 ^ 16 % 256) ++ 46 ∷ decimal (number / 2 ^ 8 % 256) ++ 46 ∷ decimal (number % 256)
 
--- a number of a column: dotted where the column is one of addresses, else decimal
+-- the hexadecimal digit of a number below 16, in lower case: 48 is the byte of 0, and 87 + 10 that of a
+abbrev pub hex_digit : ℕ → ℕ
+hex_digit number = if nat_lt number 10 then 48 + number else 87 + number
+
+-- a group of 16 bits of an address: four hexadecimal digits
+unfoldable pub group_text : ℕ → List ℕ
+group_text group = hex_digit (group / 2 ^ 12 % 16) ∷ hex_digit (group / 2 ^ 8 % 16) ∷ hex_digit (group / 2 ^ 4 % 16) ∷ hex_digit (group % 16) ∷ []
+
+-- the four groups of 64 bits, the highest first, with colons between them
+abbrev pub half_text : ℕ → List ℕ
+half_text half =
+    group_text (half / 2 ^ 48 % 2 ^ 16) ++ 58 ∷ group_text (half / 2 ^ 32 % 2 ^ 16)
+    ++ 58 ∷ group_text (half / 2 ^ 16 % 2 ^ 16) ++ 58 ∷ group_text (half % 2 ^ 16)
+
+-- an address of 128 bits: its eight groups of 16 bits, the highest first, with colons between them
+abbrev pub grouped : ℕ → List ℕ
+grouped number = half_text (number / 2 ^ 64) ++ 58 ∷ half_text (number % 2 ^ 64)
+
+-- an address of this width
+abbrev pub address_text : ℕ → ℕ → List ℕ
+address_text width number = if width == 128 then grouped number else dotted number
+
+-- a number of a column: in groups or dotted where the column is one of addresses, else decimal
 abbrev pub number_text : Column → ℕ → List ℕ
-number_text column number = if column.address then dotted number else decimal number
+number_text column number = if column.address then address_text column.width number else decimal number
 
 -- one space, and a number of a column
 abbrev pub spaced_text : Column → ℕ → List ℕ

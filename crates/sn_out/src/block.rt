@@ -5,7 +5,7 @@ ghost use Rattle.sn_out.specs.Text.{IsPartOf, window_words, query_words, level_w
 ghost use Rattle.sn_out.specs.Text.{block_text};
 
 use crate::pieces::{push_emitted, push_number};
-use crate::rows::push_rows;
+use crate::rows::push_answer;
 use sn_base::bytes::push_bytes;
 use sn_base::memory::Memory;
 use sn_base::name::Name;
@@ -79,9 +79,8 @@ fn push_part(text: &mut Vec<u8>, t: &Typed, part: &Part) -> Result<(), Memory>
     requires { IsPartOf t.now.queries part.now }
     ensures { OnOk result (text.new.items ≡ text.old.items ++ part_text t.now.queries part.now) }
 {
-    let rows = part.rows.as_slice();
-    push_query_line(text, &t.name(part.query), part.level, rows.len())?;
-    push_rows(text, t.final_schema(part.query).as_slice(), rows)
+    push_query_line(text, &t.name(part.query), part.level, part.rows.len())?;
+    push_answer(text, t.final_schema(part.query).as_slice(), &part.rows)
 }
 
 fn push_parts(text: &mut Vec<u8>, t: &Typed, parts: &[Part]) -> Result<(), Memory>

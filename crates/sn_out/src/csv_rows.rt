@@ -8,13 +8,13 @@ ghost use Rattle.sn_out.specs.Text.{IsPartOf};
 ghost use Rattle.sn_out.specs.Records.{eight_fields, heading_line, number_fields, part_records, record_fields, record_text, window_records};
 
 use crate::fields::{Fields, with_empty_fields, with_number, with_values};
+use sn_base::any_row::AnyRow;
 use sn_base::bytes::push_bytes;
 use sn_base::column::Column;
 use sn_base::memory::Memory;
 use sn_base::name::Name;
 use sn_base::seq::Seq;
-use sn_base::short_row::ShortRow;
-use sn_types::answers::{Answers, Part};
+use sn_types::answers::{Answers, EitherRows, Part};
 use sn_types::typed::Typed;
 use std::alloc::Global;
 
@@ -40,35 +40,56 @@ fn start_fields(alloc: Global, window: u64, name: &Name, level: u32) -> Result<F
 }
 
 #[tactic(auto, using(crate::proofs::RowLemmas::as_many_numbers))]
-fn with_columns(
+fn with_columns<R: AnyRow>(
     alloc: Global,
     fields: Fields,
     columns: &[Column],
-    row: &ShortRow,
+    row: &R,
 ) -> Result<Fields, Memory>
-    requires { IsOf columns.now row.now }
-    ensures { IfOk result (λ longer. longer ≡ fields ++ eight_fields (number_fields columns.now row.now)) }
+    requires { IsOf columns.now (R.columns row.now) }
+    ensures { IfOk result (λ longer. longer ≡ fields ++ eight_fields (number_fields columns.now (R.columns row.now))) }
 {
-    let numbers = row.as_slice();
-    let longer = with_values(alloc, fields, columns, numbers)?;
-    with_empty_fields(longer, COLUMNS - numbers.len())
+    let longer = with_values(alloc, fields, columns, row)?;
+    with_empty_fields(longer, COLUMNS - row.len())
 }
 
-fn push_record(
+/// Adds the record of a row of either kind.
+fn push_record<R: AnyRow>(
     alloc: Global,
     text: &mut Vec<u8>,
     t: &Typed,
     window: u64,
     part: &Part,
-    row: &ShortRow,
+    row: &R,
 ) -> Result<(), Memory>
     requires query { part.now.query < length t.now.queries }
-    requires row { IsOf (final_columns (query_at t.now.queries part.now.query)) row.now }
-    ensures { OnOk result (text.new.items ≡ text.old.items ++ record_text window (query_at t.now.queries part.now.query) part.now.level row.now) }
+    requires row { IsOf (final_columns (query_at t.now.queries part.now.query)) (R.columns row.now) }
+    ensures { OnOk result (text.new.items ≡ text.old.items
+        ++ record_text window (query_at t.now.queries part.now.query) part.now.level (R.columns row.now)) }
 {
     let start = start_fields(alloc, window, &t.name(part.query), part.level)?;
     let fields = with_columns(alloc, start, t.final_schema(part.query).as_slice(), row)?;
     push_bytes(text, &fields.text(alloc)?)
+}
+
+/// Adds the records of rows of either kind.
+fn push_records<R: AnyRow>(
+    alloc: Global,
+    text: &mut Vec<u8>,
+    t: &Typed,
+    window: u64,
+    part: &Part,
+    rows: &[R],
+) -> Result<(), Memory>
+    requires query { part.now.query < length t.now.queries }
+    requires rows { AllByRecursion (λ row. IsOf (final_columns (query_at t.now.queries part.now.query)) (R.columns row)) rows.now }
+    ensures { OnOk result (text.new.items ≡ text.old.items
+        ++ flat_map (λ row. record_text window (query_at t.now.queries part.now.query) part.now.level (R.columns row)) rows.now) }
+{
+    for row in rows {
+        push_record(alloc, text, t, window, part, row)?;
+    }
+    Ok(())
 }
 
 fn push_part_records(
@@ -81,10 +102,10 @@ fn push_part_records(
     requires { IsPartOf t.now.queries part.now }
     ensures { OnOk result (text.new.items ≡ text.old.items ++ part_records window t.now.queries part.now) }
 {
-    for row in part.rows.as_slice() {
-        push_record(alloc, text, t, window, part, row)?;
+    match part.rows.either() {
+        EitherRows::Short(rows) => push_records(alloc, text, t, window, part, rows.as_slice()),
+        EitherRows::Wide(rows) => push_records(alloc, text, t, window, part, rows.as_slice()),
     }
-    Ok(())
 }
 
 /// The records of a window as comma-separated values, without the heading: a record of eleven fields for each row, the

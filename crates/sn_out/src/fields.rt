@@ -9,8 +9,10 @@ ghost use Rattle.sn_out.specs.Records.{number_fields};
 use crate::pieces::push_number;
 use crate::rows::push_value;
 use csv::{ByteRecord, WriterBuilder};
+use sn_base::any_row::AnyRow;
 use sn_base::column::Column;
 use sn_base::memory::Memory;
+use sn_base::number::Number;
 use std::alloc::Global;
 use std::marker::Model;
 
@@ -85,27 +87,32 @@ pub fn with_number(alloc: Global, fields: Fields, number: u64) -> Result<Fields,
     fields.with(&text)
 }
 
-fn with_value(alloc: Global, fields: Fields, column: &Column, number: u64) -> Result<Fields, Memory>
-    ensures { IfOk result (λ longer. longer ≡ fields ++ number_text column.now number ∷ []) }
+fn with_value<N: Number>(
+    alloc: Global,
+    fields: Fields,
+    column: &Column,
+    number: N,
+) -> Result<Fields, Memory>
+    ensures { IfOk result (λ longer. longer ≡ fields ++ number_text column.now (N.value number) ∷ []) }
 {
     let mut text = Vec::new(alloc);
     push_value(&mut text, column, number)?;
     fields.with(&text)
 }
 
-/// These fields and one for each number of a row.
-pub fn with_values(
+/// These fields and one for each number of a row of either kind.
+pub fn with_values<R: AnyRow>(
     alloc: Global,
     fields: Fields,
     columns: &[Column],
-    numbers: &[u64],
+    row: &R,
 ) -> Result<Fields, Memory>
-    requires { length columns.now ≡ length numbers.now }
-    ensures { IfOk result (λ longer. longer ≡ fields ++ number_fields columns.now numbers.now) }
+    requires { length columns.now ≡ length (R.columns row.now) }
+    ensures { IfOk result (λ longer. longer ≡ fields ++ number_fields columns.now (R.columns row.now)) }
 {
     let mut longer = fields;
-    for place in 0..numbers.len() {
-        longer = with_value(alloc, longer, &columns[place], numbers[place])?;
+    for place in 0..row.len() {
+        longer = with_value(alloc, longer, &columns[place], row.column(place as u32))?;
     }
     Ok(longer)
 }

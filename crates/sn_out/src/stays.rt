@@ -139,7 +139,7 @@ fn push_printed(text: &mut Vec<u8>, printed: Option<u64>) -> Result<(), Memory>
 pub fn push_stay_line(
     text: &mut Vec<u8>,
     column: &Column,
-    address: u64,
+    address: u128,
     first: u64,
     last: u64,
     printed: Option<u64>,

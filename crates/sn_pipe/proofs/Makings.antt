@@ -3,7 +3,7 @@ use Rattle.std.proofs.Common.{◌≡◌, ℕ, Bool, true, false, cond, suc, ◌+
 use Rattle.std.proofs.lemmas.List.{length-map, length-take, map-append, take_more, take-append-drop, take_all}
 use Rattle.sn_types.specs.declared.typed_op.TOp.{TOp}
 use Rattle.sn_types.specs.declared.typed_op.TOp.TheVariants as ops
-use Rattle.sn_pipe.specs.declared.stage.Stage.{Stage}
+use Rattle.sn_pipe.specs.AnyStage.{Stage}
 use Rattle.sn_pipe.specs.declared.stage.Stage.TheVariants.{Filter, Map, Distinct, Reduce}
 use Rattle.sn_types.specs.Cuts.{is_stateful, size_at, stateful}
 use Rattle.sn_pipe.specs.Making.{AreStagesOf, IsStageOf}

@@ -27,7 +27,8 @@ use Rattle.sn_types.specs.Values.{op_at, value_of}
 use Rattle.sn_types.proofs.Facts.{branch_source_of}
 use Rattle.sn_types.proofs.RowsAfter.{packet_of}
 use Rattle.sn_types.proofs.TypedRows.{of_fields}
-use Rattle.sn_pipe.specs.declared.stage.Stage.{Stage}
+use Rattle.sn_pipe.specs.AnyStage.{Stage}
+use Rattle.sn_pipe.specs.declared.gate.Gate.{Gate}
 use Rattle.sn_pipe.specs.declared.stage.Stage.TheVariants.{Filter, Map, Distinct, Reduce}
 use Rattle.sn_types.specs.Cuts.{size_at, stateful}
 use Rattle.sn_pipe.specs.Pipes.{IsNewPipe, PipeState, after_packets, at_start, packets_give, lets_in, row_in, rows_in, rows_let_in}
@@ -133,7 +134,7 @@ front_prop (ops.Map exprs ∷ os) = front_prop os
 front_prop (ops.Distinct ∷ os) = front_prop os
 front_prop (ops.Reduce r ∷ os) = only_prop os
 
-module _ (window : ℕ) (queries : List TypedQuery) (q b level cut depth : ℕ) (coarser : Option ℕ) (sizes : List ℕ) (pipe : PipeState) (kept : set.FinSet nat_cmp) (tuples : List (List ℕ))
+module _ (window : ℕ) (queries : List TypedQuery) (q b level cut depth : ℕ) (coarser : Option Gate) (sizes : List ℕ) (pipe : PipeState) (kept : set.FinSet nat_cmp) (tuples : List (List ℕ))
     (t : ∥ IsTyped window queries ∥₁) (lt : q < length queries) (within : b < length (query_at queries q).branches) where
   abbrev branch_ops : List TOp
   branch_ops = (branch_at queries q b).ops

@@ -2,7 +2,7 @@
 -- How the stages of a pipe are made of operators.
 use Rattle.std.specs.Prelude.{◌≡◌, ℕ, List, map}
 use Rattle.sn_types.specs.declared.typed_op.TOp.{TOp}
-use Rattle.sn_pipe.specs.declared.stage.Stage.{Stage}
+use Rattle.sn_pipe.specs.AnyStage.{Stage}
 use Rattle.sn_pipe.specs.Stages.{cleared, top_of}
 use Rattle.sn_pipe.specs.Windows.{HasRegisters, HaveSizes}
 

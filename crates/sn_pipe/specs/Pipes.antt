@@ -7,32 +7,47 @@ use Rattle.std.specs.Ordering.{nat_cmp}
 use Rattle.std.specs.FinSet as set
 use Rattle.sn_base.specs.Groups.{Row}
 use Rattle.sn_fields.specs.declared.field.Field.{Field}
-use Rattle.sn_ops.specs.Packets.{is_member}
+use Rattle.sn_engine_split.specs.Opened as opened
+use Rattle.sn_engine_split.specs.Opened.{Prefixes, let_in, tabled}
 use Rattle.sn_report.specs.Items.{Item}
 use Rattle.sn_types.specs.declared.typed_op.TOp.{TOp}
 use Rattle.sn_types.specs.declared.typed_query.TypedQuery.{TypedQuery}
 use Rattle.sn_types.specs.Typed.{branch_of, packet_row}
-use Rattle.sn_pipe.specs.declared.stage.Stage.{Stage}
+use Rattle.sn_pipe.specs.AnyStage.{Stage}
+use Rattle.sn_pipe.specs.declared.gate.Gate.{Gate}
 use Rattle.sn_pipe.specs.declared.stage.Stage.TheVariants.{Filter, Map, Distinct, Reduce}
 use Rattle.sn_types.specs.Cuts.{size_at}
 use Rattle.sn_pipe.specs.Making.{AreStagesOf}
 use Rattle.sn_pipe.specs.Prefixes.{PrefixState}
-use Rattle.std.specs.Option.{option_to_list}
+use Rattle.std.specs.Option.{option_map, option_to_list}
 use Rattle.sn_pipe.specs.Stages.{cleared, item_from, stages_after, top_of}
 
--- the query and the number of the branch; the level before on the path, if there is one, and its prefixes; the prefix
+-- the query and the number of the branch; the table of the level before on the path, if there is one, and its prefixes; the prefix
 pub record PipeState : Type 0 where
   pub query : TypedQuery
   pub branch : ℕ
-  pub coarser : Option ℕ
+  pub coarser : Option Gate
   pub members : set.FinSet nat_cmp
   pub prefix : PrefixState
 
--- a tuple is admitted: where a level before is given, its refinement field masked to that level is in the set
-abbrev pub is_let_in : Option Field → Option ℕ → set.FinSet nat_cmp → List ℕ → Bool
-is_let_in field None members tuple = true
-is_let_in None (Some bits) members tuple = false
-is_let_in (Some field) (Some bits) members tuple = is_member field members bits tuple
+-- the level of a table
+abbrev pub bits_of : Option Gate → Option ℕ
+bits_of coarser = option_map (λ gate. gate.bits) coarser
+
+-- prefixes of these bits, where there are some
+abbrev pub asking : Option ℕ → set.FinSet nat_cmp → Option Prefixes
+asking None members = None
+asking (Some bits) members = Some (bits, members)
+
+-- The prefixes by which tuples are admitted in a window: those of the level before, where one is given and its table doesn't stay
+-- open.
+abbrev pub passing : Option Gate → set.FinSet nat_cmp → Option Prefixes
+passing None members = None
+passing (Some gate) members = tabled gate.entries (Some (gate.bits, members))
+
+-- a tuple is admitted
+abbrev pub is_let_in : Option Field → Option Gate → set.FinSet nat_cmp → List ℕ → Bool
+is_let_in field coarser members tuple = opened.lets_in field (passing coarser members) tuple
 
 abbrev pub lets_in : PipeState → List ℕ → Bool
 lets_in p tuple = is_let_in p.query.field p.coarser p.members tuple
@@ -63,16 +78,16 @@ IsCoarser query None = Unit {0}
 IsCoarser query (Some bits) = IsSome query.field × (list_any (nat_eq bits) query.levels ≡ true)
 
 -- a prefix of this branch at one of the query's levels
-pub record IsPipe (query : TypedQuery) (branch : ℕ) (coarser : Option ℕ) (prefix : PrefixState) : Type 0 where
+pub record IsPipe (query : TypedQuery) (branch : ℕ) (coarser : Option Gate) (prefix : PrefixState) : Type 0 where
   pub cut : ℕ
   pub within : branch < length query.branches
   pub level : list_any (nat_eq prefix.level) query.levels ≡ true
-  pub before : IsCoarser query coarser
+  pub before : IsCoarser query (bits_of coarser)
   pub operators : map top_of prefix.stages ≡ take cut (branch_of query branch).ops
   pub folds : FoldsAgree prefix.stages
 
 -- a pipe as it is made: with these operators at this level, empty registers and an empty prefix set
-pub record IsNewPipe (query : TypedQuery) (branch level : ℕ) (coarser : Option ℕ) (ops : List TOp) (depth : ℕ) (sizes : List ℕ)
+pub record IsNewPipe (query : TypedQuery) (branch level : ℕ) (coarser : Option Gate) (ops : List TOp) (depth : ℕ) (sizes : List ℕ)
     (pipe : PipeState) : Type 0 where
   pub same_query : pipe.query ≡ query
   pub same_branch : pipe.branch ≡ branch
@@ -103,7 +118,7 @@ packets_give p (tuple ∷ tuples) = option_to_list (item_of p tuple) ++ packets_
 abbrev pub at_start : PipeState → set.FinSet nat_cmp → PipeState
 at_start p kept = record p { members = kept; prefix = record p.prefix { stages = map cleared p.prefix.stages; place = 0 } }
 
--- the tuples are admitted that a pipe with these prefixes admits
-abbrev pub rows_let_in : TypedQuery → ℕ → ℕ → Option ℕ → set.FinSet nat_cmp → List (List ℕ) → List Row
+-- the packet rows of the tuples that a pipe with these prefixes admits
+abbrev pub rows_let_in : TypedQuery → ℕ → ℕ → Option Gate → set.FinSet nat_cmp → List (List ℕ) → List Row
 rows_let_in query b level coarser members tuples =
-    map (packet_row query.field level (branch_of query b).fields) (filter (is_let_in query.field coarser members) tuples)
+    map (packet_row query.field level (branch_of query b).fields) (let_in query (passing coarser members) tuples)

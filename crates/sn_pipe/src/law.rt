@@ -4,7 +4,7 @@ ghost use Rattle.std.specs.Prelude.{◌≡◌, ℕ, ◌<◌, ◌≤◌, ◌++◌
 ghost use Rattle.std.specs.FinSet as set;
 ghost use Rattle.std.specs.List.{AllByRecursion};
 ghost use Rattle.std.specs.Ordering.{nat_cmp};
-ghost use Rattle.sn_pipe.specs.Pipes.{IsNewPipe, PipeState, after_packet, after_packets, at_start, packets_give, rows_in, rows_let_in};
+ghost use Rattle.sn_pipe.specs.Pipes.{IsNewPipe, PipeState, after_packet, after_packets, at_start, packets_give, passing, rows_in, rows_let_in};
 ghost use Rattle.sn_types.specs.Cuts.{size_at};
 ghost use Rattle.sn_pipe.specs.Prefixes.{left_in};
 ghost use Rattle.sn_ops.specs.Packets.{packet_rows};
@@ -15,7 +15,9 @@ ghost use Rattle.sn_types.specs.Values.{op_at};
 ghost use Rattle.sn_types.specs.declared.typed_query.TypedQuery.{TypedQuery};
 ghost use Rattle.sn_base.specs.Groups.{Row};
 ghost use Rattle.sn_base.specs.Operators.{Had};
-ghost use Rattle.sn_pipe.specs.declared.stage.Stage.{Stage};
+ghost use Rattle.sn_engine_split.specs.Opened.{is_open, let_in};
+ghost use Rattle.sn_pipe.specs.AnyStage.{Stage};
+ghost use Rattle.sn_pipe.specs.declared.gate.Gate.{Gate};
 ghost use Rattle.sn_pipe.specs.Stages.{cleared, item_from, ops_of, stages_behind};
 ghost use Rattle.sn_pipe.specs.Windows.{HaveSizes, IsPrefix, given, left_from};
 ghost use Rattle.sn_pipe_items.specs.Items.{at_packet, items, sent};
@@ -49,8 +51,8 @@ pub fn windows_give_the_items()
 /// gives for them, one after another, and then what `read_out_next` gives, are the items of the branch's prefix in their
 /// order.
 pub fn new_pipes_give_the_items()
-    ensures { (window q b level cut depth : ℕ) (queries : List TypedQuery) (coarser : Option ℕ) (sizes : List ℕ) (pipe : PipeState) (kept : set.FinSet nat_cmp)
-        (tuples : List (List ℕ)) →
+    ensures { (window q b level cut depth : ℕ) (queries : List TypedQuery) (coarser : Option Gate) (sizes : List ℕ) (pipe : PipeState)
+        (kept : set.FinSet nat_cmp) (tuples : List (List ℕ)) →
         let query = query_at queries q in
         let ops = (branch_at queries q b).ops in
         ∥ IsTyped window queries ∥₁ → q < length queries → b < length query.branches → cut ≤ (branch_at queries q b).max_cut →
@@ -68,13 +70,19 @@ pub fn windows_start_afresh()
     ensures window { (pipe : PipeState) (kept later : set.FinSet nat_cmp) → at_start (at_start pipe kept) later ≡ at_start pipe later }
 {}
 
-/// The rows that a pipe admits are the packet rows of the kept tuples: of all, where no level stands before it, and else
-/// of those whose refinement field is a prefix of the set.
+/// The rows that a pipe admits are the packet rows of the tuples that pass: of those whose refinement field is a prefix of
+/// the set, where a level stands before it and its table has an entry for each prefix, and else of all. With as many prefixes as
+/// entries the table isn't open yet.
 pub fn pipes_let_in_the_kept()
     ensures all { (query : TypedQuery) (b level : ℕ) (members : set.FinSet nat_cmp) (tuples : List (List ℕ)) →
         rows_let_in query b level None members tuples ≡ packet_rows query b level None tuples }
-    ensures kept { (query : TypedQuery) (b level : ℕ) (kept : Kept) (tuples : List (List ℕ)) →
-        rows_let_in query b level (Some kept.bits) kept.members.now tuples ≡ packet_rows query b level (Some kept) tuples }
+    ensures kept { (query : TypedQuery) (b level : ℕ) (gate : Gate) (kept : Kept) (tuples : List (List ℕ)) →
+        gate.bits ≡ kept.bits → is_open gate.entries kept.members.now ≡ false →
+        rows_let_in query b level (Some gate) kept.members.now tuples ≡ packet_rows query b level (Some kept) tuples }
+    ensures opened { (query : TypedQuery) (b level : ℕ) (gate : Gate) (members : set.FinSet nat_cmp) (tuples : List (List ℕ)) →
+        is_open gate.entries members ≡ true → rows_let_in query b level (Some gate) members tuples ≡ packet_rows query b level None tuples }
+    ensures passing { (query : TypedQuery) (b level : ℕ) (coarser : Option Gate) (members : set.FinSet nat_cmp) (tuples : List (List ℕ)) →
+        rows_let_in query b level coarser members tuples ≡ packet_rows query b level None (let_in query (passing coarser members) tuples) }
 {}
 
 /// The items of the prefix of a branch have the columns of their tags, and tags of that prefix: an engine that knows the

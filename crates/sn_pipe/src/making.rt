@@ -4,7 +4,8 @@ ghost use Rattle.sn_types.specs.Cuts.{size_at, stateful};
 ghost use Rattle.sn_pipe.specs.Making.{AreStagesOf, IsStageOf};
 ghost use Rattle.sn_chain.specs.Limits.{largest_register};
 
-use crate::stage::Stage;
+use crate::stage::{Stage, StageOf};
+use sn_base::any_row::AnyRow;
 use sn_base::fold::Or;
 use sn_base::memory::Memory;
 use sn_base::seq::Seq;
@@ -15,7 +16,12 @@ use sn_types::typed_op::TOp;
 use std::alloc::Global;
 
 /// The stage of an operator, with empty registers: `depth` of them with `slots` slots each, where it has some.
-fn stage_of(alloc: Global, op: &TOp, depth: u32, slots: u32) -> Result<Stage, Memory>
+fn stage_of<R: AnyRow>(
+    alloc: Global,
+    op: &TOp,
+    depth: u32,
+    slots: u32,
+) -> Result<StageOf<R>, Memory>
     requires some_depth { 1 ≤ depth }
     requires most_depth { depth ≤ 4 }
     requires some_slots { 1 ≤ slots }
@@ -52,12 +58,12 @@ fn size_in(sizes: &[u32], place: usize) -> u32
 
 /// The stages of operators, with empty registers: `depth` of them with as many slots each as its size for each
 /// operator that has some. All memory that they ever need is taken here.
-pub(crate) fn stages_of(
+pub(crate) fn stages_of<R: AnyRow>(
     alloc: Global,
     ops: &[TOp],
     depth: u32,
     sizes: &[u32],
-) -> Result<Seq<Stage>, Memory>
+) -> Result<Seq<StageOf<R>>, Memory>
     requires some_depth { 1 ≤ depth }
     requires most_depth { depth ≤ 4 }
     requires sizes { All (λ size. (1 ≤ size) × (size ≤ largest_register)) sizes.now }

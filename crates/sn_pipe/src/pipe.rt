@@ -1,45 +1,51 @@
 //! One pipe of a switch.
 ghost use Rattle.std.specs.Prelude.{◌≡◌, ◌<◌, ◌≤◌, All, IfOk, IfSome, drop, length, map, nat_eq, slice_get, take, true};
 ghost use Rattle.std.specs.List.{list_any};
+ghost use Rattle.std.specs.Option.{option_map};
 ghost use Rattle.sn_report.specs.Frames.{operator_of};
+ghost use Rattle.sn_report.specs.Items.{item_by};
 ghost use Rattle.sn_types.specs.Cuts.{stateful};
 ghost use Rattle.sn_pipe.specs.Passing.{CanBeRead};
-ghost use Rattle.sn_pipe.specs.Pipes.{IsCoarser, IsNewPipe, after_tuple, is_let_in, item_of};
+ghost use Rattle.sn_pipe.specs.Pipes.{IsCoarser, IsNewPipe, after_tuple, bits_of, item_of};
 ghost use Rattle.sn_pipe.specs.Prefixes.{left_in};
 ghost use Rattle.sn_pipe.specs.Stages.{cleared};
+ghost use Rattle.sn_types.specs.Kinds.{AreBelow};
 ghost use Rattle.sn_types.specs.Typed.{branch_at, query_at};
 ghost use Rattle.sn_chain.specs.Limits.{largest_register};
 
+use crate::gate::{Gate, asks, lets_in};
 use crate::prefix::Prefix;
+use sn_base::any_row::AnyRow;
 use sn_base::members::Members;
 use sn_base::memory::Memory;
-use sn_base::short_row::ShortRow;
 use sn_fields::tuple::Tuple;
-use sn_ops::packets::{Kept, is_kept};
 use sn_report::frame::Item;
 use sn_types::typed::Typed;
 use sn_types::typed_op::TOp;
 use std::alloc::Global;
 use std::marker::Model;
 
-/// The prefix of a branch at a level, for the tuples that a coarser level admits.
+/// The prefix of a branch at a level, for the tuples that a coarser level admits, over rows of a kind.
 #[derive(Drop)]
-pub struct Pipe {
+pub struct Pipe<R: AnyRow> {
     t: Typed,
     q: u32,
     b: u32,
-    coarser: Option<u32>,
+    coarser: Option<Gate>,
     members: Members,
-    prefix: Prefix,
+    /// The bits of the prefix that each tuple of this window is asked for, if it is asked.
+    asks: Option<u32>,
+    prefix: Prefix<R>,
 }
 
-impl Model for Pipe {
-    ghost use Rattle.std.specs.Prelude.{◌<◌, length};
+impl<R: AnyRow> Model for Pipe<R> {
+    ghost use Rattle.std.specs.Prelude.{◌≡◌, ◌<◌, length};
     ghost use Rattle.std.specs.Coded.{codes, coded_ℕ};
     ghost use Rattle.std.specs.FinSet as set;
     ghost use Rattle.std.specs.Ordering.{nat_cmp};
-    ghost use Rattle.sn_pipe.specs.Pipes.{IsPipe, PipeState};
-    ghost use Rattle.sn_types.specs.Typed.{query_at};
+    ghost use Rattle.sn_pipe.specs.Pipes.{IsPipe, PipeState, asking, passing};
+    ghost use Rattle.sn_types.specs.Kinds.{AreBelow};
+    ghost use Rattle.sn_types.specs.Typed.{branch_at, query_at};
 
     ghost Value = { PipeState };
 
@@ -47,18 +53,8 @@ impl Model for Pipe {
 
     ghost view = { λ a. record { query = query_at a.t.queries a.q; branch = a.b; coarser = a.coarser; members = a.members; prefix = a.prefix } };
 
-    ghost invariant = { λ a. (a.q < length a.t.queries) × IsPipe (query_at a.t.queries a.q) a.b a.coarser a.prefix };
-}
-
-fn lets_in(t: &Typed, q: u32, coarser: Option<u32>, members: &Members, tuple: &Tuple) -> bool
-    requires query { q < length t.now.queries }
-    requires coarser { IsCoarser (query_at t.now.queries q) coarser }
-    ensures { result ≡ is_let_in (query_at t.now.queries q).field coarser members.now tuple.now }
-{
-    match coarser {
-        Some(bits) => is_kept(t, q, Some(Kept { members, bits }), tuple),
-        None => true,
-    }
+    ghost invariant = { λ a. (a.q < length a.t.queries) × IsPipe (query_at a.t.queries a.q) a.b a.coarser a.prefix ×
+        AreBelow R.Number.limit (branch_at a.t.queries a.q a.b).fields × (asking a.asks a.members ≡ passing a.coarser a.members) };
 }
 
 /// The first n operators of a branch.
@@ -74,26 +70,27 @@ fn front(t: &Typed, q: u32, b: u32, cut: u32) -> &[TOp]
     front
 }
 
-impl Pipe {
+impl<R: AnyRow> Pipe<R> {
     /// The first `cut` operators of a branch at a level. Each stateful one of them has `chain` registers, with as many
     /// slots each as `slots` has for it. With a level before it on the path, `coarser`, the pipe admits only the tuples
-    /// whose refinement field masked to that level is in its prefix set, which is empty at first. All memory that the pipe
-    /// ever needs is taken here.
+    /// whose refinement field masked to that level is in its prefix set, which is empty at first; but all of them in a window
+    /// whose set has more prefixes than the table has entries. All memory that the pipe ever needs is taken here.
     pub fn make(
         alloc: Global,
         t: &Typed,
         q: u32,
         b: u32,
         level: u32,
-        coarser: Option<u32>,
+        coarser: Option<Gate>,
         cut: u32,
         chain: u32,
         slots: &[u32],
-    ) -> Result<Pipe, Memory>
+    ) -> Result<Pipe<R>, Memory>
         requires query { q < length t.now.queries }
         requires branch { b < length (query_at t.now.queries q).branches }
         requires level { list_any (nat_eq level) (query_at t.now.queries q).levels ≡ true }
-        requires coarser { IsCoarser (query_at t.now.queries q) coarser }
+        requires coarser { IsCoarser (query_at t.now.queries q) (bits_of coarser) }
+        requires below { AreBelow R.Number.limit (branch_at t.now.queries q b).fields }
         requires cut { cut ≤ (branch_at t.now.queries q b).max_cut }
         requires some_depth { 1 ≤ chain }
         requires most_depth { chain ≤ 4 }
@@ -102,12 +99,14 @@ impl Pipe {
         ensures { IfOk result (λ pipe. IsNewPipe (query_at t.now.queries q) b level coarser (take cut (branch_at t.now.queries q b).ops) chain slots.now pipe) }
     {
         let prefix = Prefix::make(alloc, level, front(t, q, b, cut), chain, slots)?;
+        let members = Members::new(alloc);
         Ok(Pipe {
             t: t.copy()?,
             q,
             b,
             coarser,
-            members: Members::new(alloc),
+            asks: asks(coarser, &members),
+            members,
             prefix,
         })
     }
@@ -115,13 +114,13 @@ impl Pipe {
     /// Takes a tuple, before any read-out. `Some` exactly where the tuple gives an item: its row at the operator where
     /// its key overflows, or after a prefix without a reduce. Takes no memory.
     #[inline(always)]
-    pub fn packet(&mut self, tuple: &Tuple) -> Option<Item<ShortRow>>
+    pub fn packet(&mut self, tuple: &Tuple) -> Option<Item<R>>
         requires { self.old.prefix.place ≡ 0 }
-        ensures item { result ≡ item_of self.old tuple.now }
+        ensures item { option_map (item_by R.columns) result ≡ item_of self.old tuple.now }
         ensures after { self.new ≡ record self.old { prefix = record self.old.prefix { stages = after_tuple self.old tuple.now } } }
         ensures operator { IfSome result (λ item. operator_of item.tag ≤ 12) }
     {
-        if !lets_in(&self.t, self.q, self.coarser, &self.members, tuple) {
+        if !lets_in(&self.t, self.q, self.asks, &self.members, tuple) {
             return None;
         }
         let packet = self.t.packet(self.q, self.b, self.prefix.level(), tuple);
@@ -129,8 +128,8 @@ impl Pipe {
     }
 
     /// The next item that is read out. `None` exactly where none is left. Takes no memory.
-    pub fn read_out_next(&mut self) -> Option<Item<ShortRow>>
-        ensures item { result ≡ slice_get (left_in self.old.prefix) 0 }
+    pub fn read_out_next(&mut self) -> Option<Item<R>>
+        ensures item { option_map (item_by R.columns) result ≡ slice_get (left_in self.old.prefix) 0 }
         ensures left { left_in self.new.prefix ≡ drop 1 (left_in self.old.prefix) }
         ensures rest { self.new ≡ record self.old { prefix = record self.old.prefix { place = self.new.prefix.place } } }
         ensures operator { IfSome result (λ item. operator_of item.tag ≤ 12) }
@@ -139,10 +138,11 @@ impl Pipe {
     }
 
     /// Empties all registers, and holds these prefixes of the window before. A pipe without a level before it holds them
-    /// too, and asks for none. Takes no memory.
+    /// too, and asks for none, as does one whose table has fewer entries than these. Takes no memory.
     pub fn next_window(&mut self, kept: Members)
         ensures { self.new ≡ record self.old { members = kept; prefix = record self.old.prefix { stages = map cleared self.old.prefix.stages; place = 0 } } }
     {
+        self.asks = asks(self.coarser, &kept);
         self.members = kept;
         self.prefix.clear();
     }

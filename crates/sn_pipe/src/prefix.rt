@@ -1,6 +1,8 @@
 //! A prefix of a branch with its registers.
 ghost use Rattle.std.specs.Prelude.{◌≡◌, ◌≤◌, All, IfOk, IfSome, drop, length, map, slice_get};
+ghost use Rattle.std.specs.Option.{option_map};
 ghost use Rattle.sn_report.specs.Frames.{operator_of};
+ghost use Rattle.sn_report.specs.Items.{item_by};
 ghost use Rattle.sn_types.specs.Cuts.{size_at, stateful};
 ghost use Rattle.sn_pipe.specs.Making.{AreStagesOf};
 ghost use Rattle.sn_pipe.specs.Passing.{CanBeRead, CanPass};
@@ -10,27 +12,27 @@ ghost use Rattle.sn_chain.specs.Limits.{largest_register};
 
 use crate::making::stages_of;
 use crate::reading::next_item;
-use crate::stage::Stage;
+use crate::stage::StageOf;
 use crate::stages::clear;
 use crate::start::start;
+use sn_base::any_row::AnyRow;
 use sn_base::memory::Memory;
-use sn_base::short_row::ShortRow;
 use sn_report::frame::{Item, Tag};
 use sn_types::packet::PacketRow;
 use sn_types::typed_op::TOp;
 use std::alloc::Global;
 use std::marker::Model;
 
-/// The operators of a prefix with their registers, at a level.
+/// The operators of a prefix with their registers, at a level, for rows of a kind.
 #[derive(Drop)]
-pub struct Prefix {
+pub struct Prefix<R: AnyRow> {
     level: u32,
-    stages: Vec<Stage>,
+    stages: Vec<StageOf<R>>,
     /// The place of the reduce with which its read-out goes on.
     place: u32,
 }
 
-impl Model for Prefix {
+impl<R: AnyRow> Model for Prefix<R> {
     ghost use Rattle.std.specs.Prelude.{◌≤◌, length};
     ghost use Rattle.sn_pipe.specs.Passing.{CanRead};
     ghost use Rattle.sn_pipe.specs.Prefixes.{PrefixState};
@@ -42,7 +44,7 @@ impl Model for Prefix {
     ghost invariant = { λ a. (length a.stages.items ≤ 12) × CanRead a.stages.items };
 }
 
-impl Prefix {
+impl<R: AnyRow> Prefix<R> {
     /// These operators at a level, with empty registers: for each stateful operator `depth` of them, with as many slots
     /// each as the list has for it. All memory that the prefix ever needs is taken here.
     pub fn make(
@@ -51,7 +53,7 @@ impl Prefix {
         ops: &[TOp],
         depth: u32,
         sizes: &[u32],
-    ) -> Result<Prefix, Memory>
+    ) -> Result<Prefix<R>, Memory>
         requires some_depth { 1 ≤ depth }
         requires most_depth { depth ≤ 4 }
         requires sizes { All (λ size. (1 ≤ size) × (size ≤ largest_register)) sizes.now }
@@ -78,14 +80,14 @@ impl Prefix {
     }
 
     /// Takes a packet row, before any read-out. The answer is the item that it gives. Takes no memory.
-    pub fn take(&mut self, packet: &PacketRow<'_, u64>) -> Option<Item<ShortRow>>
+    pub fn take(&mut self, packet: &PacketRow<'_, R::Number>) -> Option<Item<R>>
         requires unread { self.old.place ≡ 0 }
         requires can { CanPass self.old.level self.old.stages packet.now }
-        ensures item { result ≡ item_from self.old.level 0 self.old.stages packet.now }
+        ensures item { option_map (item_by R.columns) result ≡ item_from self.old.level 0 self.old.stages packet.now }
         ensures after { self.new ≡ record self.old { stages = stages_after self.old.level self.old.stages packet.now } }
         ensures operator { IfSome result (λ item. operator_of item.tag ≤ 12) }
     {
-        let mut row = ShortRow::empty();
+        let mut row = R::empty();
         match start(&mut self.stages, self.level, 0, packet, &mut row) {
             Some(place) => Some(Item {
                 tag: Tag::At(place),
@@ -96,8 +98,8 @@ impl Prefix {
     }
 
     /// The next item that is read out. `None` exactly where none is left. Takes no memory.
-    pub fn read_out_next(&mut self) -> Option<Item<ShortRow>>
-        ensures item { result ≡ slice_get (left_in self.old) 0 }
+    pub fn read_out_next(&mut self) -> Option<Item<R>>
+        ensures item { option_map (item_by R.columns) result ≡ slice_get (left_in self.old) 0 }
         ensures left { left_in self.new ≡ drop 1 (left_in self.old) }
         ensures level { self.new.level ≡ self.old.level }
         ensures stages { self.new.stages ≡ self.old.stages }

@@ -2,22 +2,24 @@
 ghost use Rattle.std.specs.Prelude.{◌≡◌, ◌+◌, ◌≤◌, ◌<◌, ◌++◌, ◌∷◌, IfSome, drop, filter, length, slice_get};
 ghost use Rattle.sn_chain.specs.Registers.{cell};
 ghost use Rattle.sn_report.specs.Frames.{operator_of};
+ghost use Rattle.sn_report.specs.Items.{item_by};
 ghost use Rattle.std.specs.Option.{option_map, option_to_list};
 ghost use Rattle.sn_pipe.specs.Passing.{CanRead, CanTest, HoldKeys};
 ghost use Rattle.sn_pipe.specs.Windows.{goes_up, held_row, item_up, left_from, passes, rows_left, tag_up};
 
-use crate::stage::Stage;
+use crate::stage::{Stage, StageOf};
 use sn_base::any_fold::AnyFold;
-use sn_base::short_row::ShortRow;
+use sn_base::any_row::AnyRow;
+use sn_base::number::Number;
 use sn_chain::chain::Chain;
 use sn_report::frame::{Item, Tag};
 use sn_types::evaluate;
 use sn_types::typed_op::TReduce;
 
 /// Whether a row passes these stages, all of which are filters.
-fn passes(stages: &[Stage], level: u32, row: &ShortRow) -> bool
-    requires { CanTest (length row.now) stages.now }
-    ensures { result ≡ passes level stages.now row.now }
+fn passes<R: AnyRow>(stages: &[StageOf<R>], level: u32, row: &R) -> bool
+    requires { CanTest (length (R.columns row.now)) stages.now }
+    ensures { result ≡ passes level stages.now (R.columns row.now) }
 {
     match stages.split_first() {
         None => true,
@@ -29,15 +31,15 @@ fn passes(stages: &[Stage], level: u32, row: &ShortRow) -> bool
 }
 
 /// Whether a held row goes up: as it is where the distinct overflowed, and else where it passes the filters.
-fn goes_up(behind: &[Stage], level: u32, spilled: bool, row: &ShortRow) -> bool
-    requires { CanTest (length row.now) behind.now }
-    ensures { result ≡ goes_up level spilled behind.now row.now }
+fn goes_up<R: AnyRow>(behind: &[StageOf<R>], level: u32, spilled: bool, row: &R) -> bool
+    requires { CanTest (length (R.columns row.now)) behind.now }
+    ensures { result ≡ goes_up level spilled behind.now (R.columns row.now) }
 {
     spilled || passes(behind, level, row)
 }
 
 /// With which tag held rows of the reduce of number `first` go up.
-fn tag_up(first: u8, spilled: bool, behind: &[Stage]) -> Tag
+fn tag_up<R: AnyRow>(first: u8, spilled: bool, behind: &[StageOf<R>]) -> Tag
     requires { first + length behind.now < 12 }
     ensures tag { result ≡ tag_up first spilled behind.now }
     ensures operator { operator_of result ≤ 12 }
@@ -50,23 +52,21 @@ fn tag_up(first: u8, spilled: bool, behind: &[Stage]) -> Tag
 }
 
 /// A key that is held, as a row: its columns, and the fold of its values.
-fn held_row(held: (ShortRow, u64)) -> ShortRow
-    requires { length held.0 < 8 }
-    ensures { result ≡ held_row held }
+pub fn held_row<R: AnyRow>(held: (R, u64)) -> R
+    requires { length (R.columns held.0) < 8 }
+    ensures { R.columns result ≡ held_row (R.columns held.0, held.1) }
 {
-    let (key, value) = held;
-    let Some(row) = key.with(value) else {
-        unreachable!();
-    };
+    let (mut row, value) = held;
+    row.push(R::Number::of_word(value));
     row
 }
 
 /// The row of the key that is held at a place, if one is.
-fn row_at(chain: &Chain<AnyFold, ShortRow>, at: u32, columns: usize) -> Option<ShortRow>
+fn row_at<R: AnyRow>(chain: &Chain<AnyFold, R>, at: u32, columns: usize) -> Option<R>
     requires few { columns < 8 }
     requires keys { HoldKeys columns chain.now.cells }
-    ensures row { result ≡ option_map held_row (cell chain.now.cells at) }
-    ensures columns { IfSome result (λ row. length row ≡ columns + 1) }
+    ensures row { option_map R.columns result ≡ option_map held_row (cell chain.now.cells at) }
+    ensures columns { IfSome result (λ row. length (R.columns row) ≡ columns + 1) }
 {
     match chain.get(at) {
         Some(held) => Some(held_row(held)),
@@ -75,19 +75,19 @@ fn row_at(chain: &Chain<AnyFold, ShortRow>, at: u32, columns: usize) -> Option<S
 }
 
 /// The row at a place, if it goes up.
-fn up_at(
-    chain: &Chain<AnyFold, ShortRow>,
-    behind: &[Stage],
+fn up_at<R: AnyRow>(
+    chain: &Chain<AnyFold, R>,
+    behind: &[StageOf<R>],
     level: u32,
     spilled: bool,
     at: u32,
     columns: usize,
-) -> Option<ShortRow>
+) -> Option<R>
     requires few { columns < 8 }
     requires keys { HoldKeys columns chain.now.cells }
     requires test { CanTest (columns + 1) behind.now }
     requires within { at < length chain.now.cells }
-    ensures { filter (goes_up level spilled behind.now) (rows_left chain.now at) ≡ option_to_list result ++
+    ensures { filter (goes_up level spilled behind.now) (rows_left chain.now at) ≡ option_to_list (option_map R.columns result) ++
         filter (goes_up level spilled behind.now) (rows_left chain.now (at + 1)) }
 {
     let row = row_at(chain, at, columns)?;
@@ -99,18 +99,18 @@ fn up_at(
 }
 
 /// The first row from a place on that goes up, and the place after it.
-fn first_up(
-    chain: &Chain<AnyFold, ShortRow>,
-    behind: &[Stage],
+fn first_up<R: AnyRow>(
+    chain: &Chain<AnyFold, R>,
+    behind: &[StageOf<R>],
     level: u32,
     spilled: bool,
     place: u32,
     columns: usize,
-) -> (Option<ShortRow>, u32)
+) -> (Option<R>, u32)
     requires few { columns < 8 }
     requires keys { HoldKeys columns chain.now.cells }
     requires test { CanTest (columns + 1) behind.now }
-    ensures row { result.0 ≡ slice_get (filter (goes_up level spilled behind.now) (rows_left chain.now place)) 0 }
+    ensures row { option_map R.columns result.0 ≡ slice_get (filter (goes_up level spilled behind.now) (rows_left chain.now place)) 0 }
     ensures left { filter (goes_up level spilled behind.now) (rows_left chain.now result.1) ≡
         drop 1 (filter (goes_up level spilled behind.now) (rows_left chain.now place)) }
 {
@@ -125,16 +125,16 @@ fn first_up(
 
 /// The next item that is read out of stages, the first of which has number `first`, from a place of the reduce on;
 /// and the place after it.
-pub(crate) fn next_item(
-    stages: &[Stage],
+pub(crate) fn next_item<R: AnyRow>(
+    stages: &[StageOf<R>],
     level: u32,
     first: u8,
     spilled: bool,
     place: u32,
-) -> (Option<Item<ShortRow>>, u32)
+) -> (Option<Item<R>>, u32)
     requires few { first + length stages.now ≤ 12 }
     requires can { CanRead stages.now }
-    ensures item { result.0 ≡ slice_get (left_from level first spilled place stages.now) 0 }
+    ensures item { option_map (item_by R.columns) result.0 ≡ slice_get (left_from level first spilled place stages.now) 0 }
     ensures left { left_from level first spilled result.1 stages.now ≡ drop 1 (left_from level first spilled place stages.now) }
     ensures operator { IfSome result.0 (λ item. operator_of item.tag ≤ 12) }
 {
@@ -153,20 +153,20 @@ pub(crate) fn next_item(
 }
 
 /// The next item that is read out of a reduce of number `first`, from a place on, and the place after it.
-fn next_held(
+fn next_held<R: AnyRow>(
     r: &TReduce,
-    chain: &Chain<AnyFold, ShortRow>,
-    behind: &[Stage],
+    chain: &Chain<AnyFold, R>,
+    behind: &[StageOf<R>],
     level: u32,
     first: u8,
     spilled: bool,
     place: u32,
-) -> (Option<Item<ShortRow>>, u32)
+) -> (Option<Item<R>>, u32)
     requires few { first + length behind.now < 12 }
     requires columns { length r.now.keys < 8 }
     requires keys { HoldKeys (length r.now.keys) chain.now.cells }
     requires test { CanTest (length r.now.keys + 1) behind.now }
-    ensures item { result.0 ≡ slice_get (left_from level first spilled place (Stage.Reduce r.now chain.now ∷ behind.now)) 0 }
+    ensures item { option_map (item_by R.columns) result.0 ≡ slice_get (left_from level first spilled place (Stage.Reduce r.now chain.now ∷ behind.now)) 0 }
     ensures left { left_from level first spilled result.1 (Stage.Reduce r.now chain.now ∷ behind.now) ≡
         drop 1 (left_from level first spilled place (Stage.Reduce r.now chain.now ∷ behind.now)) }
     ensures operator { IfSome result.0 (λ item. operator_of item.tag ≤ 12) }
@@ -176,8 +176,8 @@ fn next_held(
     (with_tag(tag_up(first, spilled, behind), row), after)
 }
 
-fn with_tag(tag: Tag, row: Option<ShortRow>) -> Option<Item<ShortRow>>
-    ensures item { result ≡ option_map (item_up tag) row }
+fn with_tag<R: AnyRow>(tag: Tag, row: Option<R>) -> Option<Item<R>>
+    ensures item { option_map (item_by R.columns) result ≡ option_map (item_up tag) (option_map R.columns row) }
     ensures operator { operator_of tag ≤ 12 → IfSome result (λ item. operator_of item.tag ≤ 12) }
 {
     match row {

@@ -5,28 +5,33 @@ ghost use Rattle.sn_pipe.specs.Passing.{CanTake, as_other, gone_as, has_overflow
 ghost use Rattle.sn_pipe.specs.Stages.{after_row, cleared, flows, is_new, is_over, overflows};
 
 use sn_base::any_fold::AnyFold;
+use sn_base::any_row::AnyRow;
 use sn_base::columns::Columns;
 use sn_base::fold::Or;
+use sn_base::number::Number;
 use sn_base::seq::Seq;
-use sn_base::short_row::ShortRow;
 use sn_chain::chain::Chain;
 use sn_chain::offer::Offer;
 use sn_types::evaluate::{columns_into, map_into, passes};
 use sn_types::packet::PacketRow;
 use sn_types::typed_op::{TCond, TExpr, TReduce};
 
-/// An operator, with the registers that it has.
+/// An operator, with the registers that it has. Contracts see any chain of registers as what it holds, so that stages over
+/// rows of either kind are the same to them.
 #[derive(Drop)]
-pub enum Stage {
+pub enum Stage<D, C> {
     /// Passes on the rows for which all conditions hold.
     Filter(Seq<TCond>),
     /// Makes each row the row of these values.
     Map(Seq<TExpr>),
     /// Passes on a row that its registers don't hold yet. The flag says whether a row overflowed in this window.
-    Distinct(Chain<Or, ShortRow>, bool),
+    Distinct(D, bool),
     /// Folds the values of each key in its registers.
-    Reduce(TReduce, Chain<AnyFold, ShortRow>),
+    Reduce(TReduce, C),
 }
+
+/// The stages of a pipe over rows of a kind.
+pub type StageOf<R> = Stage<Chain<Or, R>, Chain<AnyFold, R>>;
 
 /// What became of a row at a stage.
 #[derive(Clone, Copy)]
@@ -95,13 +100,13 @@ fn as_other(passed: Passed) -> Passage
     }
 }
 
-impl Stage {
+impl<R: AnyRow> Stage<Chain<Or, R>, Chain<AnyFold, R>> {
     /// Takes a row that comes to it. Where it flows on, `row` is then the row that does; else it stays as it came.
-    pub(crate) fn pass(&mut self, level: u32, row: &mut ShortRow) -> Passed
-        requires { CanTake self.old row.old }
-        ensures passed { result ≡ passed_as (overflows self.old row.old) (flows level self.old row.old) }
-        ensures row { row.new ≡ unwrap_or (flows level self.old row.old) row.old }
-        ensures after { self.new ≡ after_row self.old row.old }
+    pub(crate) fn pass(&mut self, level: u32, row: &mut R) -> Passed
+        requires { CanTake self.old (R.columns row.old) }
+        ensures passed { result ≡ passed_as (overflows self.old (R.columns row.old)) (flows level self.old (R.columns row.old)) }
+        ensures row { R.columns row.new ≡ unwrap_or (flows level self.old (R.columns row.old)) (R.columns row.old) }
+        ensures after { self.new ≡ after_row self.old (R.columns row.old) }
     {
         match self {
             Stage::Filter(conds) => on_if(passes(conds.as_slice(), level, row)),
@@ -116,9 +121,9 @@ impl Stage {
                 first_only(answer)
             }
             Stage::Reduce(r, chain) => {
-                let mut key = ShortRow::empty();
+                let mut key = R::empty();
                 columns_into(row, r.keys.as_slice(), &mut key);
-                folded(chain.offer(&key, row.as_slice()[r.value as usize]))
+                folded(chain.offer(&key, row.column(r.value).word()))
             }
         }
     }
@@ -128,12 +133,12 @@ impl Stage {
     pub(crate) fn begin(
         &mut self,
         level: u32,
-        packet: &PacketRow<'_, u64>,
-        row: &mut ShortRow,
+        packet: &PacketRow<'_, R::Number>,
+        row: &mut R,
     ) -> Passage
         requires { CanTake self.old packet.now }
         ensures over { has_overflowed result ≡ overflows self.old packet.now }
-        ensures gone { gone_as result packet.now row.new ≡ flows level self.old packet.now }
+        ensures gone { gone_as result packet.now (R.columns row.new) ≡ flows level self.old packet.now }
         ensures after { self.new ≡ after_row self.old packet.now }
     {
         match self {
@@ -149,9 +154,9 @@ impl Stage {
                 as_other(first_only(answer))
             }
             Stage::Reduce(r, chain) => {
-                let mut key = ShortRow::empty();
+                let mut key = R::empty();
                 columns_into(packet, r.keys.as_slice(), &mut key);
-                as_other(folded(chain.offer(&key, packet.column(r.value))))
+                as_other(folded(chain.offer(&key, packet.column(r.value).word())))
             }
         }
     }

@@ -4,16 +4,21 @@ ghost use Rattle.std.specs.Option.{option_map};
 ghost use Rattle.sn_pipe.specs.Passing.{CanPass};
 ghost use Rattle.sn_pipe.specs.Stages.{cleared, item_at, item_from, stages_after};
 
-use crate::stage::{Passed, Stage};
-use sn_base::short_row::ShortRow;
+use crate::stage::{Passed, StageOf};
+use sn_base::any_row::AnyRow;
 
 /// Takes a row through stages, the first of which has number `first`; `row` changes on the way. Where it gives an item, the answer
 /// is the number of the operator at which it leaves, and `row` is the item's row.
-pub(crate) fn pass(stages: &mut [Stage], level: u32, first: u8, row: &mut ShortRow) -> Option<u8>
+pub(crate) fn pass<R: AnyRow>(
+    stages: &mut [StageOf<R>],
+    level: u32,
+    first: u8,
+    row: &mut R,
+) -> Option<u8>
     requires few { first + length stages.old ≤ 12 }
-    requires can { CanPass level stages.old row.old }
-    ensures item { option_map (λ i. item_at i row.new) result ≡ item_from level first stages.old row.old }
-    ensures stages { stages.new ≡ stages_after level stages.old row.old }
+    requires can { CanPass level stages.old (R.columns row.old) }
+    ensures item { option_map (λ i. item_at i (R.columns row.new)) result ≡ item_from level first stages.old (R.columns row.old) }
+    ensures stages { stages.new ≡ stages_after level stages.old (R.columns row.old) }
     ensures operator { IfSome result (λ i. i ≤ 12) }
 {
     let Some((stage, behind)) = stages.split_first_mut() else {
@@ -27,7 +32,7 @@ pub(crate) fn pass(stages: &mut [Stage], level: u32, first: u8, row: &mut ShortR
 }
 
 /// Empties all registers.
-pub(crate) fn clear(stages: &mut [Stage])
+pub(crate) fn clear<R: AnyRow>(stages: &mut [StageOf<R>])
     ensures { stages.new ≡ map cleared stages.old }
 {
     for stage in stages.iter_mut() {

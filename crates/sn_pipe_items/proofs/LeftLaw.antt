@@ -170,7 +170,7 @@ partial_bag (Map f) ops xs ys b h = tt
 partial_bag Distinct ops xs ys b h = tt
 partial_bag (Reduce g) ops xs ys b h = all_bag (IsHeld g ops) xs ys b h
 
-items_had_bag : (i : ℕ) (ops : List Op) (xs ys : List Item) → SameBag xs ys → ItemsHad i ops xs → ItemsHad i ops ys
+pub items_had_bag : (i : ℕ) (ops : List Op) (xs ys : List Item) → SameBag xs ys → ItemsHad i ops xs → ItemsHad i ops ys
 items_had_bag i [] xs ys b h = tt
 items_had_bag i (op ∷ ops) xs ys b h = (
   partial_bag op ops (rows_with (is_partial i) xs) (rows_with (is_partial i) ys) (rows_bag (is_partial i) xs ys b) h.0,

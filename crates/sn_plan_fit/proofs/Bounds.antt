@@ -163,9 +163,9 @@ mul_most : (a b c d : ℕ) → a ≤ c → b ≤ d → a * b ≤ c * d
 mul_most a b c d h k = let e = mul-le-mul_left a k in let f = mul-le-mul_left d h in omega (arith, e, f)
 
 abbrev IsLight : Register → Type 0
-IsLight r = r.bits ≤ 65536 * 577
+IsLight r = r.bits ≤ 65536 * 1089
 
-chain_light : (bits : ℕ) (stages : List ℕ) → bits ≤ 65536 * 577 → AllByRecursion IsLight (map (in_stage bits) stages)
+chain_light : (bits : ℕ) (stages : List ℕ) → bits ≤ 65536 * 1089 → AllByRecursion IsLight (map (in_stage bits) stages)
 chain_light bits [] h = tt
 chain_light bits (s ∷ ss) h = (h, chain_light bits ss h)
 
@@ -178,16 +178,16 @@ later_sizes zero sizes h = h
 later_sizes (suc k) [] h = tt
 later_sizes (suc k) (n ∷ ns) h = later_sizes k ns h.1
 
-registers_light : (d : ℕ) (schemas : List (List Column)) (n k : ℕ) (ops : List TOp) (sizes written : List ℕ) → ((i : ℕ) → slot_bits (schema_at schemas (n + i)) (operator_at ops i) ≤ 577)
+registers_light : (d : ℕ) (schemas : List (List Column)) (n k : ℕ) (ops : List TOp) (sizes written : List ℕ) → ((i : ℕ) → slot_bits (schema_at schemas (n + i)) (operator_at ops i) ≤ 1089)
     → AllByRecursion (λ z. z ≤ 65536) sizes → AllByRecursion IsLight (op_registers d schemas n (take k ops) sizes written)
 registers_light d schemas n zero ops sizes written h z = tt
 registers_light d schemas n (suc k) [] sizes written h z = tt
 registers_light d schemas n (suc k) (op ∷ ops) sizes written h z =
-    let here : slot_bits (schema_at schemas n) op ≤ 577 = subst (λ (m : ℕ). slot_bits (schema_at schemas m) op ≤ 577) (omega arith) (h 0) in
+    let here : slot_bits (schema_at schemas n) op ≤ 1089 = subst (λ (m : ℕ). slot_bits (schema_at schemas m) op ≤ 1089) (omega arith) (h 0) in
     let bits : ℕ = register_bits (slice_index sizes 0) (schema_at schemas n) op in
     all_append IsLight (map (in_stage bits) (take (taken op d) written)) (op_registers d schemas (n + 1) (take k ops) (drop (taken op 1) sizes) (drop (taken op d) written))
-    (chain_light bits (take (taken op d) written) (mul_most (slice_index sizes 0) (slot_bits (schema_at schemas n) op) 65536 577 (first_size sizes z) here))
-    (registers_light d schemas (n + 1) k ops (drop (taken op 1) sizes) (drop (taken op d) written) (λ i. subst (λ (m : ℕ). slot_bits (schema_at schemas m) (operator_at ops i) ≤ 577) (omega arith) (h (suc i))) (later_sizes (taken op 1) sizes z))
+    (chain_light bits (take (taken op d) written) (mul_most (slice_index sizes 0) (slot_bits (schema_at schemas n) op) 65536 1089 (first_size sizes z) here))
+    (registers_light d schemas (n + 1) k ops (drop (taken op 1) sizes) (drop (taken op d) written) (λ i. subst (λ (m : ℕ). slot_bits (schema_at schemas m) (operator_at ops i) ≤ 1089) (omega arith) (h (suc i))) (later_sizes (taken op 1) sizes z))
 
 -- ---- a stage
 
@@ -207,8 +207,8 @@ standing_light stage (r ∷ rs) h = by_stage (r.stage == stage) (standing_light 
     by_stage true k = (h.0, k)
     by_stage false k = k
 
-bits_most : (stage : ℕ) (rs : List Register) → AllByRecursion IsLight rs → bits_in stage rs ≤ 65536 * 577 * count_in stage rs
-bits_most stage rs h = sum_most (λ (r : Register). r.bits) (65536 * 577) (standing_in stage rs) (standing_light stage rs h)
+bits_most : (stage : ℕ) (rs : List Register) → AllByRecursion IsLight rs → bits_in stage rs ≤ 65536 * 1089 * count_in stage rs
+bits_most stage rs h = sum_most (λ (r : Register). r.bits) (65536 * 1089) (standing_in stage rs) (standing_light stage rs h)
 
 -- ---- one piece
 
@@ -216,16 +216,16 @@ bits_most stage rs h = sum_most (λ (r : Register). r.bits) (65536 * 577) (stand
 record IsLittle (registers : List Register) (metadata : ℕ) : Type 0 where
   few : length registers ≤ 48
   light : AllByRecursion IsLight registers
-  narrow : metadata ≤ 512
+  narrow : metadata ≤ 1024
 
-metadata_most : (schemas : List (List Column)) → ((i : ℕ) → row_width (schema_at schemas i) ≤ 512) → (mapped : Bool) (n : ℕ) (ops : List TOp) → metadata schemas mapped n ops ≤ 512
+metadata_most : (schemas : List (List Column)) → ((i : ℕ) → row_width (schema_at schemas i) ≤ 1024) → (mapped : Bool) (n : ℕ) (ops : List TOp) → metadata schemas mapped n ops ≤ 1024
 metadata_most schemas h mapped n [] = omega arith
 metadata_most schemas h mapped n (op ∷ ops) =
     let rest = metadata_most schemas h (mapped || is_map_op op) (n + 1) ops in
     let here = width_most (mapped || is_map_op op) in
     omega (arith, rest, here)
   where
-    width_most : (b : Bool) → width_if b (schema_at schemas (n + 1)) ≤ 512
+    width_most : (b : Bool) → width_if b (schema_at schemas (n + 1)) ≤ 1024
     width_most true = h (n + 1)
     width_most false = omega arith
 
@@ -246,7 +246,7 @@ piece_little s path b p w bounds f =
     let is = f.stages in
     record {
       few = omega (arith, length_most, is, most);
-      light = registers_light s.chain b.schemas 0 p.cut b.ops p.slots p.stages (λ i. subst (λ (m : ℕ). slot_bits (schema_at b.schemas m) (operator_at b.ops i) ≤ 577) (omega arith) (bounds.narrow.slots i))
+      light = registers_light s.chain b.schemas 0 p.cut b.ops p.slots p.stages (λ i. subst (λ (m : ℕ). slot_bits (schema_at b.schemas m) (operator_at b.ops i) ≤ 1089) (omega arith) (bounds.narrow.slots i))
           (all_weaker (λ (n : ℕ). is_among s.slots n ≡ true) (λ n. n ≤ 65536) (λ n e. size_listed s.slots n w.slots.range e) p.slots f.listed);
       narrow = metadata_most b.schemas bounds.narrow.rows false 0 (prefix_of b p);
     }
@@ -267,7 +267,7 @@ of_branch (b ∷ bs) (suc i) h = of_branch bs i h.1
 record AreLittle (pieces : ℕ) (registers : List Register) (metadata : ℕ) : Type 0 where
   few : length registers ≤ 48 * pieces
   light : AllByRecursion IsLight registers
-  narrow : metadata ≤ 512 * pieces
+  narrow : metadata ≤ 1024 * pieces
 
 entry_little : (s : Switch) (path : List ℕ) (q : TypedQuery) (ps : List Piece) → IsSwitch s → QueryBounds q → AllByRecursion (λ p. OnBranch (λ b. PieceFits s path b p) (piece_branch q p)) ps
     → AreLittle (length ps) (entry_registers s.chain q ps) (entry_metadata q ps)

@@ -3,6 +3,7 @@ pub mod Caps
 pub mod Ends
 pub mod Entries
 pub mod FitLaws
+pub mod LevelPlaces
 pub mod LoadLaws
 pub mod PiecesFit
 pub mod Placings

@@ -1,4 +1,4 @@
--- Rows of typed queries have at most eight columns of at most 64 bits.
+-- Rows of typed queries have at most eight columns of at most 128 bits.
 use Rattle.std.proofs.Common.{◌≡◌, ℕ, zero, suc, ◌+◌, ◌*◌, ◌≤◌, List, [], ◌∷◌, ◌++◌, map, length, Bool, true, false, cond, nat_le, Some, unwrap_or, refl, arith}
 use Rattle.std.specs.List.{AllByRecursion, find, sum_by}
 use Rattle.std.proofs.lemmas.List.Sums.{sum_by-cons}
@@ -27,7 +27,7 @@ use Rattle.sn_types.specs.Typing.{typed_op, typed_reduce, typed_ops, schemas_alo
 use Rattle.sn_plan_fit.specs.Registers.{row_width, width_at, fold_width, key_bits, value_bits}
 
 abbrev pub AreNarrow : List Column → Type 0
-AreNarrow columns = AllByRecursion (λ c. c.width ≤ 64) columns
+AreNarrow columns = AllByRecursion (λ c. c.width ≤ 128) columns
 
 pub record IsNarrow (columns : List Column) : Type 0 where
   pub widths : AreNarrow columns
@@ -35,18 +35,18 @@ pub record IsNarrow (columns : List Column) : Type 0 where
 
 -- ---- columns
 
-found_narrow : (t : Column → Bool) (d : Column) (columns : List Column) → d.width ≤ 64 → AreNarrow columns → (unwrap_or (find t columns) d).width ≤ 64
+found_narrow : (t : Column → Bool) (d : Column) (columns : List Column) → d.width ≤ 128 → AreNarrow columns → (unwrap_or (find t columns) d).width ≤ 128
 found_narrow t d [] h a = h
 found_narrow t d (c ∷ cs) h a = by_test (t c) (found_narrow t d cs h a.1)
   where
-    by_test : (b : Bool) → (unwrap_or (find t cs) d).width ≤ 64 → (unwrap_or (cond b (Some c) (find t cs)) d).width ≤ 64
+    by_test : (b : Bool) → (unwrap_or (find t cs) d).width ≤ 128 → (unwrap_or (cond b (Some c) (find t cs)) d).width ≤ 128
     by_test true rest = a.0
     by_test false rest = rest
 
-named_narrow : (columns : List Column) (name : Name) → AreNarrow columns → (column_named columns name).width ≤ 64
+named_narrow : (columns : List Column) (name : Name) → AreNarrow columns → (column_named columns name).width ≤ 128
 named_narrow columns name a = found_narrow (λ c. same_name c.name name) (record { name = name; width = 1; address = false }) columns (omega arith) a
 
-expr_narrow : (columns : List Column) (e : Expr) → AreNarrow columns → IsBranchExpr e → expr_width columns e ≤ 64
+expr_narrow : (columns : List Column) (e : Expr) → AreNarrow columns → IsBranchExpr e → expr_width columns e ≤ 128
 expr_narrow columns (expr.Const n) a h = omega arith
 expr_narrow columns (expr.Copy x) a h = named_narrow columns x a
 expr_narrow columns (expr.Mask x bits) a h = named_narrow columns x a
@@ -62,8 +62,8 @@ keys_narrow : (columns : List Column) (keys : List Name) → AreNarrow columns �
 keys_narrow columns [] a = tt
 keys_narrow columns (k ∷ ks) a = (named_narrow columns k a, keys_narrow columns ks a)
 
-folded_narrow : (w : FoldWord) (own column : ℕ) → FoldWidth w own → column ≤ 64 → folded_width w own column ≤ 64
-folded_narrow word.Sum own column h l = h.to_most
+folded_narrow : (w : FoldWord) (own column : ℕ) → FoldWidth w own → column ≤ 128 → folded_width w own column ≤ 128
+folded_narrow word.Sum own column h l = let most = h.to_most in omega (arith, most)
 folded_narrow word.Max own column h l = l
 folded_narrow word.Min own column h l = l
 folded_narrow word.Or own column h l = l
@@ -81,12 +81,12 @@ after_narrow columns (what.Map cols) n h = cut_narrow (map (mapped_column column
 after_narrow columns what.Distinct n h = n
 after_narrow columns (what.Reduce r) n h =
     cut_narrow (map (column_named columns) r.keys ++ folded_column columns r ∷ [])
-    (all_append (λ (c : Column). c.width ≤ 64) (map (column_named columns) r.keys) (folded_column columns r ∷ []) (keys_narrow columns r.keys n.widths)
+    (all_append (λ (c : Column). c.width ≤ 128) (map (column_named columns) r.keys) (folded_column columns r ∷ []) (keys_narrow columns r.keys n.widths)
     (folded_narrow r.fold r.width (column_named columns r.value).width h.width (named_narrow columns r.value n.widths), tt))
 
 fields_narrow : (fs : List Field) → AreNarrow (map field_column fs)
 fields_narrow [] = tt
-fields_narrow (f ∷ fs) = (width_most f, fields_narrow fs)
+fields_narrow (f ∷ fs) = let most = width_most f in (omega (arith, most), fields_narrow fs)
 
 pub packet_narrow : (ops : List Op) → IsNarrow (packet_columns ops)
 packet_narrow ops = cut_narrow (map field_column (packet_fields ops)) (fields_narrow (packet_fields ops))
@@ -100,15 +100,15 @@ sum_most f most (x ∷ xs) h =
     let is = sum_by-cons f x xs in
     omega (arith, rest, is, h.0)
 
-pub row_narrow : (columns : List Column) → IsNarrow columns → row_width columns ≤ 512
-row_narrow columns n = let k = sum_most (λ (c : Column). c.width) 64 columns n.widths in omega (arith, k, n.few)
+pub row_narrow : (columns : List Column) → IsNarrow columns → row_width columns ≤ 1024
+row_narrow columns n = let k = sum_most (λ (c : Column). c.width) 128 columns n.widths in omega (arith, k, n.few)
 
-place_narrow : (columns : List Column) (place : ℕ) → AreNarrow columns → width_at columns place ≤ 64
+place_narrow : (columns : List Column) (place : ℕ) → AreNarrow columns → width_at columns place ≤ 128
 place_narrow [] place a = omega arith
 place_narrow (c ∷ cs) zero a = a.0
 place_narrow (c ∷ cs) (suc place) a = place_narrow cs place a.1
 
-places_narrow : (columns : List Column) (places : List ℕ) → AreNarrow columns → AllByRecursion (λ p. width_at columns p ≤ 64) places
+places_narrow : (columns : List Column) (places : List ℕ) → AreNarrow columns → AllByRecursion (λ p. width_at columns p ≤ 128) places
 places_narrow columns [] a = tt
 places_narrow columns (p ∷ ps) a = (place_narrow columns p a, places_narrow columns ps a)
 
@@ -122,28 +122,28 @@ fold_narrow (folds.Or f) = f.in_range.1
 abbrev pub slot_bits : List Column → TOp → ℕ
 slot_bits columns op = key_bits columns op + value_bits op + 1
 
-slot_narrow : (columns : List Column) (w : What) → IsNarrow columns → BranchOp w → slot_bits columns (typed_op columns w) ≤ 577
+slot_narrow : (columns : List Column) (w : What) → IsNarrow columns → BranchOp w → slot_bits columns (typed_op columns w) ≤ 1089
 slot_narrow columns (what.Filter conds) n h = omega arith
 slot_narrow columns (what.Map cols) n h = omega arith
 slot_narrow columns what.Distinct n h = let k = row_narrow columns n in omega (arith, k)
 slot_narrow columns (what.Reduce r) n h =
-    let k = sum_most (width_at columns) 64 (map (place_of columns) r.keys) (places_narrow columns (map (place_of columns) r.keys) n.widths) in
+    let k = sum_most (width_at columns) 128 (map (place_of columns) r.keys) (places_narrow columns (map (place_of columns) r.keys) n.widths) in
     let is = length-map r.keys (place_of columns) in
     let v = fold_narrow (typed_reduce columns r).fold in
     omega (arith, k, is, v, h.count.to_most)
 
 -- a branch of which each row and each slot is narrow
 pub record IsNarrowBranch (schemas : List (List Column)) (ops : List TOp) : Type 0 where
-  pub rows : (i : ℕ) → row_width (schema_at schemas i) ≤ 512
-  pub slots : (i : ℕ) → slot_bits (schema_at schemas i) (operator_at ops i) ≤ 577
+  pub rows : (i : ℕ) → row_width (schema_at schemas i) ≤ 1024
+  pub slots : (i : ℕ) → slot_bits (schema_at schemas i) (operator_at ops i) ≤ 1089
 
-rows_along : (columns : List Column) (ops : List Op) → IsNarrow columns → AllByRecursion (λ op. BranchOp op.what) ops → (i : ℕ) → row_width (schema_at (schemas_along columns ops) i) ≤ 512
+rows_along : (columns : List Column) (ops : List Op) → IsNarrow columns → AllByRecursion (λ op. BranchOp op.what) ops → (i : ℕ) → row_width (schema_at (schemas_along columns ops) i) ≤ 1024
 rows_along columns [] n h zero = row_narrow columns n
 rows_along columns [] n h (suc i) = omega arith
 rows_along columns (op ∷ ops) n h zero = row_narrow columns n
 rows_along columns (op ∷ ops) n h (suc i) = rows_along (columns_after columns op.what) ops (after_narrow columns op.what n h.0) h.1 i
 
-slots_along : (columns : List Column) (ops : List Op) → IsNarrow columns → AllByRecursion (λ op. BranchOp op.what) ops → (i : ℕ) → slot_bits (schema_at (schemas_along columns ops) i) (operator_at (typed_ops columns ops) i) ≤ 577
+slots_along : (columns : List Column) (ops : List Op) → IsNarrow columns → AllByRecursion (λ op. BranchOp op.what) ops → (i : ℕ) → slot_bits (schema_at (schemas_along columns ops) i) (operator_at (typed_ops columns ops) i) ≤ 1089
 slots_along columns [] n h zero = let k = row_narrow columns n in omega (arith, k)
 slots_along columns [] n h (suc i) = omega arith
 slots_along columns (op ∷ ops) n h zero = slot_narrow columns op.what n h.0

@@ -1,6 +1,7 @@
 -- to be believed
 -- Paths of queries and the pieces along them.
-use Rattle.std.specs.Prelude.{ℕ, ◌+◌, List, [], ◌∷◌, Bool, true, false, ◌&&◌, ◌==◌, nat_lt, nat_eq, Option, Some, None, position, unwrap_or, if◌then◌else◌}
+use Rattle.std.specs.Prelude.{ℕ, ◌+◌, ◌-◌, List, [], ◌∷◌, Bool, true, false, ◌&&◌, ◌==◌, nat_lt, nat_eq, Option, Some, None, position, slice_index, unwrap_or}
+use Rattle.std.specs.Prelude.{if◌then◌else◌}
 use Rattle.std.specs.List.{list_all, list_any, flat_map}
 use Rattle.sn_plan_grammar.specs.declared.plan.Entry.{Entry}
 use Rattle.sn_plan_grammar.specs.declared.plan.Piece.{Piece}
@@ -45,6 +46,10 @@ is_path levels path = rises path && list_all (is_among levels) path && same_leve
 -- the place of a level in a path, from 0
 abbrev pub place_in : List ℕ → ℕ → ℕ
 place_in path level = unwrap_or (position (λ other. level == other) path) 0
+
+-- the level before a level on a path
+abbrev pub level_before : List ℕ → ℕ → Option ℕ
+level_before path level = if place_in path level == 0 then None else Some (slice_index path (place_in path level - 1))
 
 -- ---- the pieces
 

@@ -11,5 +11,5 @@ pub mod piece;
 mod whole;
 pub mod width;
 
-pub use path::place_in;
+pub use path::{level_before, place_in};
 pub use whole::{fits, shape};

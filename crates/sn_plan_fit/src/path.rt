@@ -3,7 +3,8 @@ ghost use Rattle.std.specs.Prelude.{◌≡◌, ◌==◌, ◌≤◌, ◌<◌, Lis
 ghost use Rattle.std.specs.List.{list_all};
 ghost use Rattle.sn_plan_fit.specs.Checks.{told};
 ghost use Rattle.sn_plan_fit.specs.declared.misfit.MisfitKind.TheVariants as MisfitKind;
-ghost use Rattle.sn_plan_fit.specs.Paths.{rises, is_among, last_of, same_level, is_path, place_in, Place, level_places, places, are_at, is_entry, path_misfit};
+ghost use Rattle.sn_plan_fit.specs.Paths.{rises, is_among, last_of, same_level, is_path, place_in, level_before, Place, level_places, places, are_at};
+ghost use Rattle.sn_plan_fit.specs.Paths.{is_entry, path_misfit};
 
 use crate::misfit::{Misfit, MisfitKind};
 use sn_plan_grammar::plan::{Entry, Piece};
@@ -58,6 +59,19 @@ pub fn place_in(path: &[u32], level: u32) -> u32
     match position_in(path, level) {
         Some(place) => place as u32,
         None => 0,
+    }
+}
+
+/// The level before a level on a path. `None` exactly where it is the first.
+pub fn level_before(path: &[u32], level: u32) -> Option<u32>
+    requires { length path.now ≤ 8 }
+    ensures { result ≡ level_before path.now level }
+{
+    let place = place_in(path, level) as usize;
+    if place == 0 {
+        None
+    } else {
+        Some(path[place - 1])
     }
 }
 

@@ -2,7 +2,6 @@
 ghost use Rattle.std.specs.Prelude.{◌≡◌, ◌<◌, ◌≤◌, map, take, length, nat_eq, true, filter, Some, None, [], IsSome, IfOk, OnOk, OnErr};
 ghost use Rattle.std.specs.List.{list_any};
 ghost use Rattle.std.specs.FinSet as set;
-ghost use Rattle.sn_base.specs.Sorted.{sorted_rows};
 ghost use Rattle.sn_refine.specs.Refined.{level_rows};
 ghost use Rattle.sn_refine.specs.Steps.{IsPathOf, follows, prefixes_of, kept_at, is_held, rows_at, parts_in, kept_of};
 ghost use Rattle.sn_types.specs.Typed.{query_at};
@@ -12,12 +11,10 @@ use crate::members::members;
 use sn_base::members::Members;
 use sn_base::memory::Memory;
 use sn_base::seq::Seq;
-use sn_base::short_row::ShortRow;
 use sn_fields::tuple::Tuple;
+use sn_ops::lists::plain_list;
 use sn_ops::packets::Kept;
-use sn_ops::plain::plain;
-use sn_ops::short::into_short_rows;
-use sn_types::answers::Part;
+use sn_types::answers::{AnswerRows, Part};
 use sn_types::typed::Typed;
 use std::alloc::Global;
 
@@ -45,15 +42,6 @@ fn follows(last: Option<u64>, w: u64) -> bool
     }
 }
 
-/// Rows in order.
-pub fn sorted(rows: Seq<ShortRow>) -> Result<Seq<ShortRow>, Memory>
-    ensures { IfOk result (λ sorted. sorted ≡ sorted_rows rows) }
-{
-    let mut rows = rows.into_vec();
-    rows.sort()?;
-    Ok(Seq::from_vec(rows))
-}
-
 /// The answers at a level to all tuples.
 pub fn first_rows(
     alloc: Global,
@@ -61,13 +49,13 @@ pub fn first_rows(
     q: u32,
     level: u32,
     tuples: &[Tuple],
-) -> Result<Seq<ShortRow>, Memory>
+) -> Result<AnswerRows, Memory>
     requires query { q < length t.now.queries }
     requires level { list_any (nat_eq level) (query_at t.now.queries q).levels ≡ true }
     ensures { IfOk result (λ rows. rows ≡ level_rows (query_at t.now.queries q) level (Some tuples.now)) }
 {
-    let rows = plain(alloc, t, q, level, None, tuples)?;
-    sorted(into_short_rows(rows))
+    let rows = plain_list(alloc, t, q, level, None, tuples)?;
+    AnswerRows::sorted(rows)
 }
 
 /// The answers at a level to the tuples with one of these prefixes.
@@ -78,7 +66,7 @@ fn next_rows(
     level: u32,
     kept: Kept,
     tuples: &[Tuple],
-) -> Result<Seq<ShortRow>, Memory>
+) -> Result<AnswerRows, Memory>
     requires query { q < length t.now.queries }
     requires level { list_any (nat_eq level) (query_at t.now.queries q).levels ≡ true }
     requires refined { IsSome (query_at t.now.queries q).field }
@@ -86,8 +74,8 @@ fn next_rows(
     ensures { let query = query_at t.now.queries q in IfOk result
         (λ rows. rows ≡ level_rows query level (Some (filter (is_held query.field kept.entry.bits kept.entry.members.now) tuples.now))) }
 {
-    let rows = plain(alloc, t, q, level, Some(kept), tuples)?;
-    sorted(into_short_rows(rows))
+    let rows = plain_list(alloc, t, q, level, Some(kept), tuples)?;
+    AnswerRows::sorted(rows)
 }
 
 /// The prefixes that each of these answers holds.
@@ -97,7 +85,7 @@ fn prefixes_of(alloc: Global, t: &Typed, q: u32, parts: &[Part]) -> Result<Seq<M
 {
     let mut sets = Seq::new(alloc);
     for part in parts {
-        sets.push(members(alloc, t, q, part.rows.as_slice())?)?;
+        sets.push(members(alloc, t, q, &part.rows)?)?;
     }
     Ok(sets)
 }
@@ -145,7 +133,7 @@ impl Refined {
         place: usize,
         none: &Members,
         tuples: &[Tuple],
-    ) -> Result<Seq<ShortRow>, Memory>
+    ) -> Result<AnswerRows, Memory>
         requires path { IsPathOf t.now.queries self.now.query self.now.path }
         requires above { IsAbove self.now.last w }
         requires place { place < length self.now.path }

@@ -7,6 +7,7 @@ use Rattle.sn_plan_grammar.specs.declared.plan.Entry.{Entry}
 use Rattle.sn_refine.specs.Steps.{windows_of}
 use Rattle.sn_types.specs.declared.typed_query.TypedQuery.{TypedQuery}
 use Rattle.sn_windows.specs.Rising.{Window}
+use Rattle.sn_emit.specs.declared.tables.Tables.{Tables}
 
 -- a plan, and the windows one after another that are answered along it
 pub record Span (P : Type 0) : Type 0 where
@@ -29,12 +30,12 @@ abbrev pub then_from : {P F : Type 0} → Span P → (P → Spans P F) → Resul
 then_from first rest (Ok next) = record { spans = first ∷ (rest next).spans; refused = (rest next).refused }
 then_from first rest (Err fault) = only first (Some fault)
 
--- Queries on a switch with chains of this depth, the entries of a plan, what is planned on a window, and how many items of a
+-- Queries on a switch with this room, the entries of a plan, what is planned on a window, and how many items of a
 -- window may leave the switch before their cut.
-module _ {P F : Type 0} (queries : List TypedQuery) (depth : ℕ) (entries_of : P → List Entry) (planned : Window → Result P F) (most : ℕ) where
+module _ {P F : Type 0} (queries : List TypedQuery) (tables : Tables) (entries_of : P → List Entry) (planned : Window → Result P F) (most : ℕ) where
   -- of the last of these windows of an epoch, which has this number, more left it so: no window before the epoch's first counts
   abbrev pub is_over : P → List Window → ℕ → Bool
-  is_over plan windows number = nat_lt most (plan_early queries depth (entries_of plan) (windows_of windows) number)
+  is_over plan windows number = nat_lt most (plan_early queries tables (entries_of plan) (windows_of windows) number)
 
   -- The epochs of windows, where those before them in the first epoch are these. An epoch goes on up to the first window that
   -- is over, and if another follows that, the next begins with it, along what is planned on the one that was over.

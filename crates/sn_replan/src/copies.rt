@@ -9,7 +9,7 @@ use std::alloc::Global;
 fn copy_part(alloc: Global, part: &Part) -> Result<Part, Memory>
     ensures { IfOk result (λ copied. copied ≡ part.now) }
 {
-    let rows = Seq::from_slice(alloc, part.rows.as_slice())?;
+    let rows = part.rows.copy(alloc)?;
     Ok(Part {
         query: part.query,
         level: part.level,

@@ -1,6 +1,8 @@
 //! Windows under one plan.
 ghost use Rattle.std.specs.Prelude.{◌≡◌, length};
 ghost use Rattle.sn_engine_lockstep.specs.Known.{AreKnown, are_known_prop};
+ghost use Rattle.sn_emit.specs.declared.tables.Tables.{Tables};
+ghost use Rattle.sn_emit.specs.Plans.{tables_of};
 
 use crate::copies::copy_answers;
 use crate::give::give;
@@ -49,7 +51,7 @@ impl Epoch {
     pub(crate) fn make(t: &Typed, s: &Switch, plan: &Plan) -> Result<Epoch, Memory>
         requires switch { IsSwitch s.now }
         requires fits { Fits t.now.queries s.now plan.now.entries }
-        ensures rests { IfOk result (λ epoch. Rests t.now.queries s.now.chain plan.now.entries [] epoch.driver epoch.last) }
+        ensures rests { IfOk result (λ epoch. Rests t.now.queries (tables_of s.now) plan.now.entries [] epoch.driver epoch.last) }
         ensures last { IfOk result (λ epoch. epoch.last ≡ None) }
     {
         let driver = Driver::make(t, s, plan)?;
@@ -64,16 +66,16 @@ impl Epoch {
         tuples: &[Tuple],
     ) -> Result<(Epoch, Closed), Memory>
         requires { IsAbove (window_of self.last) w }
-        ensures answers { IfOk result (λ both. (queries : List TypedQuery) (depth : ℕ) (entries : List Entry) (windows : List Window) →
-            Rests queries depth entries windows self.driver self.last →
-            both.1.answers ≡ plan_answers queries depth entries (windows_of (windows ++ (w, tuples.now) ∷ [])) w) }
-        ensures early { IfOk result (λ both. (queries : List TypedQuery) (depth : ℕ) (entries : List Entry) (windows : List Window) →
-            Rests queries depth entries windows self.driver self.last →
-            both.1.early ≡ plan_early queries depth entries (windows_of (windows ++ (w, tuples.now) ∷ [])) w) }
+        ensures answers { IfOk result (λ both. (queries : List TypedQuery) (tables : Tables) (entries : List Entry) (windows : List Window) →
+            Rests queries tables entries windows self.driver self.last →
+            both.1.answers ≡ plan_answers queries tables entries (windows_of (windows ++ (w, tuples.now) ∷ [])) w) }
+        ensures early { IfOk result (λ both. (queries : List TypedQuery) (tables : Tables) (entries : List Entry) (windows : List Window) →
+            Rests queries tables entries windows self.driver self.last →
+            both.1.early ≡ plan_early queries tables entries (windows_of (windows ++ (w, tuples.now) ∷ [])) w) }
         ensures over { IfOk result (λ both. both.1.over ≡ nat_lt most both.1.early) }
-        ensures rests { IfOk result (λ both. (queries : List TypedQuery) (depth : ℕ) (entries : List Entry) (windows : List Window) →
-            Rests queries depth entries windows self.driver self.last →
-            Rests queries depth entries (windows ++ (w, tuples.now) ∷ []) both.0.driver both.0.last) }
+        ensures rests { IfOk result (λ both. (queries : List TypedQuery) (tables : Tables) (entries : List Entry) (windows : List Window) →
+            Rests queries tables entries windows self.driver self.last →
+            Rests queries tables entries (windows ++ (w, tuples.now) ∷ []) both.0.driver both.0.last) }
         ensures last { IfOk result (λ both. window_of both.0.last ≡ Some w) }
     {
         let last = self.last;

@@ -29,13 +29,15 @@ impl Epochs {
     ghost use Rattle.sn_switch.specs.Texts.{IsSwitch};
     ghost use Rattle.sn_types.specs.declared.typed_query.TypedQuery.{TypedQuery};
     ghost use Rattle.sn_windows.specs.Rising.{IsAbove, Window};
+    ghost use Rattle.sn_emit.specs.declared.tables.Tables.{Tables};
+    ghost use Rattle.sn_emit.specs.Plans.{tables_of};
 
     /// The first epoch, along a plan that fits, before its first window. A window is over where more than `most` of its items
     /// leave the switch before the cut of their piece.
     pub fn make(t: &Typed, s: &Switch, plan: &Plan, most: u64) -> Result<Epochs, Memory>
         requires switch { IsSwitch s.now }
         requires fits { Fits t.now.queries s.now plan.now.entries }
-        ensures runs { IfOk result (λ epochs. Runs t.now.queries s.now.chain plan.now.entries [] epochs) }
+        ensures runs { IfOk result (λ epochs. Runs t.now.queries (tables_of s.now) plan.now.entries [] epochs) }
         ensures last { IfOk result (λ epochs. last_window epochs ≡ None) }
         ensures most { IfOk result (λ epochs. epochs.most ≡ most) }
     {
@@ -50,15 +52,15 @@ impl Epochs {
     /// answers it too.
     pub fn window(&mut self, w: u64, tuples: &[Tuple]) -> Result<Closed, Memory>
         requires { IsAbove (last_window self.old) w }
-        ensures answers { IfOk result (λ closed. (queries : List TypedQuery) (depth : ℕ) (entries : List Entry) (windows : List Window) →
-            Runs queries depth entries windows self.old →
-            closed.answers ≡ plan_answers queries depth entries (windows_of (windows ++ (w, tuples.now) ∷ [])) w) }
-        ensures early { IfOk result (λ closed. (queries : List TypedQuery) (depth : ℕ) (entries : List Entry) (windows : List Window) →
-            Runs queries depth entries windows self.old →
-            closed.early ≡ plan_early queries depth entries (windows_of (windows ++ (w, tuples.now) ∷ [])) w) }
+        ensures answers { IfOk result (λ closed. (queries : List TypedQuery) (tables : Tables) (entries : List Entry) (windows : List Window) →
+            Runs queries tables entries windows self.old →
+            closed.answers ≡ plan_answers queries tables entries (windows_of (windows ++ (w, tuples.now) ∷ [])) w) }
+        ensures early { IfOk result (λ closed. (queries : List TypedQuery) (tables : Tables) (entries : List Entry) (windows : List Window) →
+            Runs queries tables entries windows self.old →
+            closed.early ≡ plan_early queries tables entries (windows_of (windows ++ (w, tuples.now) ∷ [])) w) }
         ensures over { IfOk result (λ closed. closed.over ≡ nat_lt self.old.most closed.early) }
-        ensures runs { OnOk result ((queries : List TypedQuery) (depth : ℕ) (entries : List Entry) (windows : List Window) →
-            Runs queries depth entries windows self.old → Runs queries depth entries (windows ++ (w, tuples.now) ∷ []) self.new) }
+        ensures runs { OnOk result ((queries : List TypedQuery) (tables : Tables) (entries : List Entry) (windows : List Window) →
+            Runs queries tables entries windows self.old → Runs queries tables entries (windows ++ (w, tuples.now) ∷ []) self.new) }
         ensures last { OnOk result (last_window self.new ≡ Some w) }
         ensures dead { OnErr result (self.new.epoch ≡ None) }
         ensures alive { OnOk result (IsSome self.old.epoch) }
@@ -78,7 +80,7 @@ impl Epochs {
     pub fn renew(&mut self, t: &Typed, s: &Switch, plan: &Plan) -> Result<(), Memory>
         requires switch { IsSwitch s.now }
         requires fits { Fits t.now.queries s.now plan.now.entries }
-        ensures runs { OnOk result (Runs t.now.queries s.now.chain plan.now.entries [] self.new) }
+        ensures runs { OnOk result (Runs t.now.queries (tables_of s.now) plan.now.entries [] self.new) }
         ensures last { OnOk result (last_window self.new ≡ None) }
         ensures dead { OnErr result (self.new.epoch ≡ None) }
         ensures alive { OnOk result (IsSome self.old.epoch) }

@@ -1,6 +1,6 @@
 -- to be believed
 -- Which texts stand for which switches, and what the fault of another is.
-use Rattle.std.specs.Prelude.{◌≡◌, ◌≢◌, ℕ, List, [], ◌∷◌, Result, Ok, Err}
+use Rattle.std.specs.Prelude.{◌≡◌, ◌≢◌, ◌⊎◌, ℕ, List, [], ◌∷◌, true, Option, None, Some, Result, Ok, Err}
 use Rattle.std.specs.List.{filter}
 use Rattle.sn_text_rules.specs.declared.Flaw.{Flaw}
 use Rattle.sn_text_rules.specs.declared.Flaw.TheVariants as flaws
@@ -13,12 +13,17 @@ use Rattle.sn_text.specs.declared.stop.Stop.TheVariants as stops
 use Rattle.sn_switch_grammar.specs.declared.item.Setting.{Setting}
 use Rattle.sn_switch_grammar.specs.declared.item.Setting.TheVariants as settings
 use Rattle.sn_switch_grammar.specs.declared.item.Item.{Item}
-use Rattle.sn_switch_grammar.specs.Settings.{sets}
-use Rattle.sn_switch_grammar.specs.Grammar.{switch_rule}
+use Rattle.sn_switch_grammar.specs.Settings.{is_required, sets}
+use Rattle.sn_switch_grammar.specs.Grammar.{lone, switch_rule}
 use Rattle.sn_switch_grammar.specs.Wholes.{numbers_in, first_of, IsIn, IsSizes}
 use Rattle.sn_switch.specs.declared.switch.Switch.{Switch}
 use Rattle.sn_switch.specs.declared.fault.SwitchFault.{SwitchFault}
 use Rattle.sn_switch.specs.declared.fault.SwitchFault.TheVariants as faults
+
+-- a limit, if there is one, is in a range
+abbrev pub IsLimit : ℕ → ℕ → Option ℕ → Type 0
+IsLimit low high None = Unit {0}
+IsLimit low high (Some n) = IsIn low high n
 
 -- a switch that a text can stand for
 pub record IsSwitch (s : Switch) : Type 0 where
@@ -28,8 +33,10 @@ pub record IsSwitch (s : Switch) : Type 0 where
   pub meta : IsIn 0 65535 s.meta
   pub chain : IsIn 1 4 s.chain
   pub slots : IsSizes s.slots
+  pub entries : IsLimit 1 4194304 s.entries
+  pub weight : IsIn 0 65536 s.weight
 
--- the numbers that a switch has for a setting
+-- the numbers that a switch has for one of the first six settings
 abbrev pub numbers_of : Switch → Setting → List ℕ
 numbers_of s settings.Stages = s.stages ∷ []
 numbers_of s settings.Actions = s.actions ∷ []
@@ -37,6 +44,8 @@ numbers_of s settings.Bits = s.bits ∷ []
 numbers_of s settings.Meta = s.meta ∷ []
 numbers_of s settings.Chain = s.chain ∷ []
 numbers_of s settings.Slots = s.slots
+numbers_of s settings.Entries = []
+numbers_of s settings.Weight = []
 
 -- the switch whose numbers are those of the first items
 abbrev pub switch_in : List Item → Switch
@@ -47,11 +56,24 @@ switch_in items = record {
   meta = first_of (numbers_in settings.Meta items);
   chain = first_of (numbers_in settings.Chain items);
   slots = numbers_in settings.Slots items;
+  entries = lone (numbers_in settings.Entries items);
+  weight = first_of (numbers_in settings.Weight items);
 }
 
--- of each setting there is one item, with the switch's numbers
-abbrev pub IsOf : List Item → Switch → Type 0
-IsOf items s = (k : Setting) → filter (sets k) items ≡ record { setting = k; numbers = numbers_of s k } ∷ []
+-- the one item of a setting has these numbers
+abbrev pub Sets : List Item → Setting → List ℕ → Type 0
+Sets items k ns = filter (sets k) items ≡ record { setting = k; numbers = ns } ∷ []
+
+abbrev pub SetsEntries : List Item → Option ℕ → Type 0
+SetsEntries items None = filter (sets settings.Entries) items ≡ []
+SetsEntries items (Some n) = Sets items settings.Entries (n ∷ [])
+
+-- Of each of the first six settings there is one item, with the switch's numbers. Without an item there is no limit of entries, and
+-- the weight is 0.
+pub record IsOf (items : List Item) (s : Switch) : Type 0 where
+  pub each : (k : Setting) → is_required k ≡ true → Sets items k (numbers_of s k)
+  pub entries : SetsEntries items s.entries
+  pub weight : Sets items settings.Weight (s.weight ∷ []) ⊎ ((filter (sets settings.Weight) items ≡ []) × (s.weight ≡ 0))
 
 -- The tokens are those of items that the grammar accepts, and the switch is what they set.
 pub record StandsFor (ts : List Tok) (s : Switch) : Type 0 where

@@ -147,5 +147,7 @@ pub(crate) fn numbers<'a>(
         Setting::Meta => one_number(alloc, at, 0, 65535),
         Setting::Chain => one_number(alloc, at, 1, 4),
         Setting::Slots => sizes(alloc, at),
+        Setting::Entries => one_number(alloc, at, 1, 4194304),
+        Setting::Weight => one_number(alloc, at, 0, 65536),
     }
 }

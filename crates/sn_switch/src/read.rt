@@ -31,7 +31,7 @@ fn item<'a>(alloc: Global, taken: &[Item], at: Lexer<'a>) -> Result<(Item, Lexer
     Ok((Item { setting, numbers }, rest))
 }
 
-/// The items of a switch text, each setting once.
+/// The items of a switch text, each setting at most once.
 struct SwitchItems;
 
 impl Items for SwitchItems {
@@ -70,7 +70,7 @@ fn items<'a>(alloc: Global, at: Lexer<'a>) -> Result<(Seq<Item>, Lexer<'a>), Sto
     further(alloc, &SwitchItems, Seq::new(alloc), at)
 }
 
-/// Whether each setting has its item.
+/// Whether each of the settings that every text has has its item.
 fn is_whole(items: &[Item]) -> bool
     ensures { result ≡ is_whole items.now }
 {

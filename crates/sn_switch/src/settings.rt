@@ -25,6 +25,8 @@ fn order_of(setting: Setting) -> u8
         Setting::Meta => 3,
         Setting::Chain => 4,
         Setting::Slots => 5,
+        Setting::Entries => 6,
+        Setting::Weight => 7,
     }
 }
 
@@ -62,6 +64,10 @@ fn setting_of(word: &[u8]) -> Option<Setting>
         Some(Setting::Chain)
     } else if is_same(word, b"slots") {
         Some(Setting::Slots)
+    } else if is_same(word, b"entries") {
+        Some(Setting::Entries)
+    } else if is_same(word, b"weight") {
+        Some(Setting::Weight)
     } else {
         None
     }

@@ -17,4 +17,8 @@ pub struct Switch {
     pub chain: u32,
     /// The sizes that a register may have, in slots: one to four, rising, each 1 to [`sn_chain::chain::LARGEST_REGISTER`].
     pub slots: Seq<u32>,
+    /// Prefixes that the table of a piece may hold at most, 1 to 4194304. `None` is no limit.
+    pub entries: Option<u32>,
+    /// What an entry of such a table costs, in items, 0 to 65536.
+    pub weight: u32,
 }

@@ -5,7 +5,7 @@ ghost use Rattle.sn_text_rules.specs.Rules.{kept};
 ghost use Rattle.sn_text.specs.Cutting.{tokens_of};
 ghost use Rattle.sn_text.specs.Lexing.{left};
 ghost use Rattle.sn_switch_grammar.specs.Settings.{sets};
-ghost use Rattle.sn_switch_grammar.specs.Grammar.{switch_rule};
+ghost use Rattle.sn_switch_grammar.specs.Grammar.{lone, switch_rule};
 ghost use Rattle.sn_switch_grammar.specs.Wholes.{numbers_in, first_of, IsIn};
 ghost use Rattle.sn_switch.specs.declared.switch.Switch.{Switch};
 ghost use Rattle.sn_switch.specs.Texts.{IsSwitch, switch_in, StandsFor, IsFault, IsValue, fault_of, Answers};
@@ -42,13 +42,23 @@ fn numbers_in<'a>(items: &'a [Item], setting: Setting) -> &'a [u64]
     }
 }
 
-/// The one number of a setting.
+/// The one number of a setting, and 0 without its item.
 fn number_in(items: &[Item], setting: Setting) -> u64
     ensures { result ≡ first_of (numbers_in setting items.now) }
 {
     match numbers_in(items, setting) {
         [] => 0,
         [number, ..] => *number,
+    }
+}
+
+/// The one number of a setting, if there is one.
+fn limit_in(items: &[Item], setting: Setting) -> Option<u64>
+    ensures { result ≡ lone (numbers_in setting items.now) }
+{
+    match numbers_in(items, setting) {
+        [number] => Some(*number),
+        _ => None,
     }
 }
 
@@ -78,6 +88,8 @@ fn switch_of(alloc: Global, items: &[Item]) -> Result<Switch, Memory>
         meta: number_in(items, Setting::Meta) as u32,
         chain: number_in(items, Setting::Chain) as u32,
         slots,
+        entries: limit_in(items, Setting::Entries).map(|n| n as u32),
+        weight: number_in(items, Setting::Weight) as u32,
     })
 }
 
@@ -114,7 +126,8 @@ fn answer(stop: Stop<'_>) -> SwitchFault
 /// The switch that the text stands for, or the first fault of the text.
 ///
 /// A text has each of the six items `stages N;`, `actions N;`, `bits N;`, `meta N;`, `chain N;` and `slots N, ..;`
-/// once, in any order, within the ranges that [`Switch`] names. It has at most 2^30 bytes.
+/// once, and `entries N;` and `weight N;` at most once, in any order, within the ranges that [`Switch`] names. It has at most 2^30
+/// bytes.
 ///
 /// # Errors
 /// `Memory` where memory runs out, and else what is wrong with the first token with which no such text goes on.

@@ -42,6 +42,8 @@ numbers_bounded settings.Bits = one_bounded 1 4294967296
 numbers_bounded settings.Meta = one_bounded 0 65535
 numbers_bounded settings.Chain = one_bounded 1 4
 numbers_bounded settings.Slots = commas_bounded 4 size_listed past_is size_bounded
+numbers_bounded settings.Entries = one_bounded 1 4194304
+numbers_bounded settings.Weight = one_bounded 0 65536
 
 item_bounded : (seen : List Item) → Bounded flaws (item_rule seen)
 unfolding item_rule

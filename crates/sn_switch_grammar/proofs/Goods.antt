@@ -35,6 +35,8 @@ word_undone settings.Bits = refl
 word_undone settings.Meta = refl
 word_undone settings.Chain = refl
 word_undone settings.Slots = refl
+word_undone settings.Entries = refl
+word_undone settings.Weight = refl
 
 abbrev some_setting : Setting → Option Setting
 some_setting k = Some k
@@ -42,19 +44,21 @@ some_setting k = Some k
 abbrev no_setting : Option Setting
 no_setting = None
 
-word_is : (a b d e f g : Bool) (w : List ℕ) (k : Setting) → (a ≡ true → w ≡ codes "stages") → (b ≡ true → w ≡ codes "actions") → (d ≡ true → w ≡ codes "bits") → (e ≡ true → w ≡ codes "meta") → (f ≡ true → w ≡ codes "chain") → (g ≡ true → w ≡ codes "slots")
-    → cond a (some_setting settings.Stages) (cond b (some_setting settings.Actions) (cond d (some_setting settings.Bits) (cond e (some_setting settings.Meta) (cond f (some_setting settings.Chain) (cond g (some_setting settings.Slots) no_setting))))) ≡ Some k → w ≡ text_of k
-word_is true b d e f g w k h1 h2 h3 h4 h5 h6 r = let x : settings.Stages ≡ k = cc in h1 refl ∙ ap text_of x
-word_is false true d e f g w k h1 h2 h3 h4 h5 h6 r = let x : settings.Actions ≡ k = cc in h2 refl ∙ ap text_of x
-word_is false false true e f g w k h1 h2 h3 h4 h5 h6 r = let x : settings.Bits ≡ k = cc in h3 refl ∙ ap text_of x
-word_is false false false true f g w k h1 h2 h3 h4 h5 h6 r = let x : settings.Meta ≡ k = cc in h4 refl ∙ ap text_of x
-word_is false false false false true g w k h1 h2 h3 h4 h5 h6 r = let x : settings.Chain ≡ k = cc in h5 refl ∙ ap text_of x
-word_is false false false false false true w k h1 h2 h3 h4 h5 h6 r = let x : settings.Slots ≡ k = cc in h6 refl ∙ ap text_of x
-word_is false false false false false false w k h1 h2 h3 h4 h5 h6 r = absurd cc
+word_is : (a b d e f g i j : Bool) (w : List ℕ) (k : Setting) → (a ≡ true → w ≡ codes "stages") → (b ≡ true → w ≡ codes "actions") → (d ≡ true → w ≡ codes "bits") → (e ≡ true → w ≡ codes "meta") → (f ≡ true → w ≡ codes "chain") → (g ≡ true → w ≡ codes "slots") → (i ≡ true → w ≡ codes "entries") → (j ≡ true → w ≡ codes "weight")
+    → cond a (some_setting settings.Stages) (cond b (some_setting settings.Actions) (cond d (some_setting settings.Bits) (cond e (some_setting settings.Meta) (cond f (some_setting settings.Chain) (cond g (some_setting settings.Slots) (cond i (some_setting settings.Entries) (cond j (some_setting settings.Weight) no_setting))))))) ≡ Some k → w ≡ text_of k
+word_is true b d e f g i j w k h1 h2 h3 h4 h5 h6 h7 h8 r = let x : settings.Stages ≡ k = cc in h1 refl ∙ ap text_of x
+word_is false true d e f g i j w k h1 h2 h3 h4 h5 h6 h7 h8 r = let x : settings.Actions ≡ k = cc in h2 refl ∙ ap text_of x
+word_is false false true e f g i j w k h1 h2 h3 h4 h5 h6 h7 h8 r = let x : settings.Bits ≡ k = cc in h3 refl ∙ ap text_of x
+word_is false false false true f g i j w k h1 h2 h3 h4 h5 h6 h7 h8 r = let x : settings.Meta ≡ k = cc in h4 refl ∙ ap text_of x
+word_is false false false false true g i j w k h1 h2 h3 h4 h5 h6 h7 h8 r = let x : settings.Chain ≡ k = cc in h5 refl ∙ ap text_of x
+word_is false false false false false true i j w k h1 h2 h3 h4 h5 h6 h7 h8 r = let x : settings.Slots ≡ k = cc in h6 refl ∙ ap text_of x
+word_is false false false false false false true j w k h1 h2 h3 h4 h5 h6 h7 h8 r = let x : settings.Entries ≡ k = cc in h7 refl ∙ ap text_of x
+word_is false false false false false false false true w k h1 h2 h3 h4 h5 h6 h7 h8 r = let x : settings.Weight ≡ k = cc in h8 refl ∙ ap text_of x
+word_is false false false false false false false false w k h1 h2 h3 h4 h5 h6 h7 h8 r = absurd cc
 
 word_only : (x : Lexeme) (k : Setting) → setting_in x ≡ Some k → x ≡ word_of k
-word_only (word w) k e = ap word (word_is (same w (codes "stages")) (same w (codes "actions")) (same w (codes "bits")) (same w (codes "meta")) (same w (codes "chain")) (same w (codes "slots")) w k
-    (λ h. same_text w (codes "stages") (sym h)) (λ h. same_text w (codes "actions") (sym h)) (λ h. same_text w (codes "bits") (sym h)) (λ h. same_text w (codes "meta") (sym h)) (λ h. same_text w (codes "chain") (sym h)) (λ h. same_text w (codes "slots") (sym h)) e)
+word_only (word w) k e = ap word (word_is (same w (codes "stages")) (same w (codes "actions")) (same w (codes "bits")) (same w (codes "meta")) (same w (codes "chain")) (same w (codes "slots")) (same w (codes "entries")) (same w (codes "weight")) w k
+    (λ h. same_text w (codes "stages") (sym h)) (λ h. same_text w (codes "actions") (sym h)) (λ h. same_text w (codes "bits") (sym h)) (λ h. same_text w (codes "meta") (sym h)) (λ h. same_text w (codes "chain") (sym h)) (λ h. same_text w (codes "slots") (sym h)) (λ h. same_text w (codes "entries") (sym h)) (λ h. same_text w (codes "weight") (sym h)) e)
 word_only (number n) k e = absurd cc
 word_only (symbol j) k e = absurd cc
 word_only finish k e = absurd cc
@@ -147,6 +151,8 @@ ended_good settings.Bits = before_sign 2 (one_number_good 1 4294967296) (λ t us
 ended_good settings.Meta = before_sign 2 (one_number_good 0 65535) (λ t us e. refl)
 ended_good settings.Chain = before_sign 2 (one_number_good 1 4) (λ t us e. refl)
 ended_good settings.Slots = before_sign 2 sizes_good sizes_end
+ended_good settings.Entries = before_sign 2 (one_number_good 1 4194304) (λ t us e. refl)
+ended_good settings.Weight = before_sign 2 (one_number_good 0 65536) (λ t us e. refl)
 
 -- ---- items
 

@@ -90,6 +90,8 @@ ended_able settings.Bits = before_able (one_number_good 1 4294967296) (one_numbe
 ended_able settings.Meta = before_able (one_number_good 0 65535) (one_number_able 0 65535 (omega arith)) (sign_able 2)
 ended_able settings.Chain = before_able (one_number_good 1 4) (one_number_able 1 4 (omega arith)) (sign_able 2)
 ended_able settings.Slots = before_able sizes_good sizes_able (sign_able 2)
+ended_able settings.Entries = before_able (one_number_good 1 4194304) (one_number_able 1 4194304 (omega arith)) (sign_able 2)
+ended_able settings.Weight = before_able (one_number_good 0 65536) (one_number_able 0 65536 (omega arith)) (sign_able 2)
 
 item_keeps : (seen : List Item) → Kept (item_rule seen)
 unfolding item_rule

@@ -1,10 +1,10 @@
 -- What the laws of the items say of a whole text: each setting has one item, within its limits.
 use Rattle.std.proofs.Common.{◌≡◌, ℕ, zero, suc, ◌+◌, ◌≤◌, ◌<◌, Bool, true, false, cond, List, [], ◌∷◌, ◌++◌, length, Option, Some, None, refl, sym, ap, subst, ◌∙◌, arith, inl, inr, length-append}
-use Rattle.std.specs.Prelude.{nat_le, ◌&&◌, ◌||◌}
+use Rattle.std.specs.Prelude.{nat_le, ◌&&◌, ◌||◌, ◌⊎◌}
 use Rattle.std.specs.List.{AllByRecursion, list_all, filter}
 use Rattle.std.proofs.lemmas.Bool.{eqb-true, eq-eqb, leb-true}
 use Rattle.std.proofs.lemmas.List.Folds.{list_any-append}
-use Rattle.sn_base.proofs.Lists.{and_parts, or_right}
+use Rattle.sn_base.proofs.Lists.{and_parts, or_none, or_right}
 use Rattle.sn_text_rules.specs.declared.Flaw.{Flaw}
 use Rattle.sn_text_rules.specs.declared.Flaw.TheVariants.{Range, Twice, Missing}
 use Rattle.sn_text_rules.specs.Rules.{kept, closed, fit_from}
@@ -13,7 +13,7 @@ use Rattle.sn_text_rules.proofs.Common.{either_way}
 use Rattle.sn_switch_grammar.specs.declared.item.Setting.{Setting}
 use Rattle.sn_switch_grammar.specs.declared.item.Setting.TheVariants as settings
 use Rattle.sn_switch_grammar.specs.declared.item.Item.{Item}
-use Rattle.sn_switch_grammar.specs.Settings.{place, is, sets, has}
+use Rattle.sn_switch_grammar.specs.Settings.{place, is, is_required, sets, has}
 use Rattle.sn_switch_grammar.specs.Grammar.{within, one_number, below, size_test, past_size, size_rule, sizes, numbers, item_rule, items_rule, is_whole, switch_rule}
 use Rattle.sn_switch_grammar.specs.Wholes.{numbers_in, first_of, IsIn, IsSizes}
 use Rattle.sn_base.specs.Rising.{IsRising}
@@ -26,7 +26,9 @@ setting_at (suc zero) = settings.Actions
 setting_at (suc (suc zero)) = settings.Bits
 setting_at (suc (suc (suc zero))) = settings.Meta
 setting_at (suc (suc (suc (suc zero)))) = settings.Chain
-setting_at (suc (suc (suc (suc (suc n))))) = settings.Slots
+setting_at (suc (suc (suc (suc (suc zero))))) = settings.Slots
+setting_at (suc (suc (suc (suc (suc (suc zero)))))) = settings.Entries
+setting_at (suc (suc (suc (suc (suc (suc (suc n))))))) = settings.Weight
 
 at_place : (k : Setting) → setting_at (place k) ≡ k
 unfolding setting_at
@@ -36,6 +38,8 @@ at_place settings.Bits = refl
 at_place settings.Meta = refl
 at_place settings.Chain = refl
 at_place settings.Slots = refl
+at_place settings.Entries = refl
+at_place settings.Weight = refl
 
 pub same_setting : (k j : Setting) → is k j ≡ true → j ≡ k
 same_setting k j e = sym (at_place j) ∙ ap setting_at (sym (eqb-true (place k) (place j) e)) ∙ at_place k
@@ -138,19 +142,41 @@ all_there true true true false f g h = absurd cc
 all_there true true true true false g h = absurd cc
 all_there true true true true true false h = absurd cc
 
-pub each_one : (items : List Item) → switch_rule.fits kept items → (k : Setting) → IsOne k items
-each_one items f k =
+-- where there is none of a setting
+pub record IsNone (k : Setting) (items : List Item) : Type 0 where
+  pub none : filter (sets k) items ≡ []
+  pub nothing : numbers_in k items ≡ []
+
+none_there : (k : Setting) (items : List Item) → has k items ≡ false → IsNone k items
+none_there k [] h = record { none = refl; nothing = refl }
+none_there k (a ∷ items) h =
+    let parts = or_none (sets k a) (has k items) h in
+    let rest = none_there k items parts.1 in
+    record { none = rw parts.0 rest.none; nothing = rw parts.0 rest.nothing }
+
+-- of each of the first six there is one
+pub each_one : (items : List Item) → switch_rule.fits kept items → (k : Setting) → is_required k ≡ true → IsOne k items
+each_one items f k required =
     let p = parts_fit items f in
     let h = all_there (has settings.Stages items) (has settings.Actions items) (has settings.Bits items) (has settings.Meta items) (has settings.Chain items) (has settings.Slots items) p.1 in
-    one_left k [] items p.0 (there_is k h.0 h.1 h.2 h.3 h.4 h.5)
+    one_left k [] items p.0 (there_is k required h.0 h.1 h.2 h.3 h.4 h.5)
   where
-    there_is : (k : Setting) → has settings.Stages items ≡ true → has settings.Actions items ≡ true → has settings.Bits items ≡ true → has settings.Meta items ≡ true → has settings.Chain items ≡ true → has settings.Slots items ≡ true → has k items ≡ true
-    there_is settings.Stages a b d e f g = a
-    there_is settings.Actions a b d e f g = b
-    there_is settings.Bits a b d e f g = d
-    there_is settings.Meta a b d e f g = e
-    there_is settings.Chain a b d e f g = f
-    there_is settings.Slots a b d e f g = g
+    there_is : (k : Setting) → is_required k ≡ true → has settings.Stages items ≡ true → has settings.Actions items ≡ true → has settings.Bits items ≡ true → has settings.Meta items ≡ true → has settings.Chain items ≡ true → has settings.Slots items ≡ true → has k items ≡ true
+    there_is settings.Stages r a b d e f g = a
+    there_is settings.Actions r a b d e f g = b
+    there_is settings.Bits r a b d e f g = d
+    there_is settings.Meta r a b d e f g = e
+    there_is settings.Chain r a b d e f g = f
+    there_is settings.Slots r a b d e f g = g
+    there_is settings.Entries r a b d e f g = absurd cc
+    there_is settings.Weight r a b d e f g = absurd cc
+
+-- of each setting there is one at most
+pub one_or_none : (items : List Item) → switch_rule.fits kept items → (k : Setting) → IsOne k items ⊎ IsNone k items
+one_or_none items f k = elim (either_way (has k items)) [
+  | inl e ↦ inl (one_left k [] items (parts_fit items f).0 e)
+  | inr e ↦ inr (none_there k items e)
+]
 
 -- ---- limits
 

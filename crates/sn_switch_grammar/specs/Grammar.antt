@@ -66,6 +66,8 @@ numbers settings.Bits = one_number 1 4294967296
 numbers settings.Meta = one_number 0 65535
 numbers settings.Chain = one_number 1 4
 numbers settings.Slots = sizes
+numbers settings.Entries = one_number 1 4194304
+numbers settings.Weight = one_number 0 65536
 
 -- ---- items
 
@@ -75,7 +77,7 @@ to_item x = record { setting = x.0; numbers = x.1 }
 abbrev pub from_item : Item → Setting × List ℕ
 from_item item = (item.setting, item.numbers)
 
--- item = ( "stages" | "actions" | "bits" | "meta" | "chain" ) NUM ";" | "slots" NUM { "," NUM } ";"
+-- item = ( "stages" | "actions" | "bits" | "meta" | "chain" | "entries" | "weight" ) NUM ";" | "slots" NUM { "," NUM } ";"
 unfoldable pub item_rule : List Item → Rule Item
 item_rule seen = renamed to_item from_item (pair_on (setting_rule seen) (λ k. numbers k ◂ sign SEMICOLON) anything)
 
@@ -92,7 +94,7 @@ abbrev pub is_whole : List Item → Bool
 is_whole items = has settings.Stages items && has settings.Actions items && has settings.Bits items && has settings.Meta items && has settings.Chain items
     && has settings.Slots items
 
--- at the end each setting has had its item
+-- at the end each of the first six settings has had its item
 abbrev pub complete : List Item → Unit {0} → Option Flaw
 complete items u = if is_whole items then None else Some Missing
 
@@ -103,6 +105,6 @@ end_rule items = leaf end_face end_in (complete items)
 unfoldable pub items_rule : Rule (List Item)
 items_rule = many begins never item_rule
 
--- file = { item }, each of the six once, in any order
+-- file = { item }, each of the first six once and the other two at most once, in any order
 unfoldable pub switch_rule : Rule (List Item)
 switch_rule = renamed first with_second (pair_on items_rule end_rule anything)

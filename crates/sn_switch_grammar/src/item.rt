@@ -11,6 +11,8 @@ pub enum Setting {
     Meta,
     Chain,
     Slots,
+    Entries,
+    Weight,
 }
 
 /// One item: what it sets, and to which numbers. Each has one number, but for the sizes.

@@ -11,7 +11,7 @@ use sn_fields::tuple::tuple_of;
 
 /// The destination port of a packet of Ethernet, 0 where it has no TCP header.
 #[tactic(auto, unfolding(sn_fields::specs::Fields::row_of))]
-pub fn tcp_port(wire: u32, bytes: &[u8]) -> u64
+pub fn tcp_port(wire: u32, bytes: &[u8]) -> u128
     ensures value { result ≡ field_of Link.Ethernet wire bytes.now Field.TcpDestinationPort }
     ensures small { result < 2 ^ 16 }
 {
@@ -19,7 +19,7 @@ pub fn tcp_port(wire: u32, bytes: &[u8]) -> u64
 }
 
 /// The number that a packet has for a field by its name, as `ip.src`. `None` where no field has this name.
-pub fn number_named(link: Link, wire: u32, bytes: &[u8], name: &[u8]) -> Option<u64>
+pub fn number_named(link: Link, wire: u32, bytes: &[u8], name: &[u8]) -> Option<u128>
     ensures { result ≡ option_map (field_of link wire bytes.now) (with_name name.now) }
 {
     match field_named(name) {

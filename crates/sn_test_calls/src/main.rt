@@ -15,7 +15,7 @@ use std::fs;
 use std::process::ExitCode;
 
 /// The files of the calls.
-const FILES: [&str; 2] = ["calls", "many.calls"];
+const FILES: [&str; 4] = ["calls", "many.calls", "wide.calls", "tables.calls"];
 
 /// Makes each call of a list, and tells those that answer otherwise as they come.
 fn make_calls(rt: &HostRuntime, bytes: &[u8], tally: &mut Tally) -> Result<(), Trouble> {

@@ -3,10 +3,6 @@
 #![tactic(auto)]
 
 #[cfg(test)]
-mod captures;
-#[cfg(test)]
-mod fields;
-#[cfg(test)]
 mod files;
 #[cfg(test)]
 mod generated;

@@ -111,14 +111,15 @@ const COOKED2_TCP: [u8; 60] = [
 #[derive(Clone, Copy)]
 struct Wanted {
     wire: u32,
-    link: [u64; 5],
-    ip: [u64; 6],
-    tcp: [u64; 6],
-    udp: [u64; 4],
-    icmp: [u64; 3],
+    link: [u128; 5],
+    ip: [u128; 6],
+    tcp: [u128; 6],
+    udp: [u128; 4],
+    icmp: [u128; 3],
+    ip6: [u128; 6],
 }
 
-fn expect_fields(rt: &impl Abort, tuple: &Tuple, rows: &[FieldRow], numbers: &[u64]) {
+fn expect_fields(rt: &impl Abort, tuple: &Tuple, rows: &[FieldRow], numbers: &[u128]) {
     for (row, number) in rows.iter().zip(numbers) {
         assert_eq!(rt; tuple.get(row.0), *number);
     }
@@ -129,7 +130,8 @@ fn expect_numbers(rt: &impl Abort, tuple: &Tuple, wanted: &Wanted) {
     expect_fields(rt, tuple, &FIELDS[5..11], &wanted.ip);
     expect_fields(rt, tuple, &FIELDS[11..17], &wanted.tcp);
     expect_fields(rt, tuple, &FIELDS[17..21], &wanted.udp);
-    expect_fields(rt, tuple, &FIELDS[21..], &wanted.icmp);
+    expect_fields(rt, tuple, &FIELDS[21..24], &wanted.icmp);
+    expect_fields(rt, tuple, &FIELDS[24..], &wanted.ip6);
 }
 
 /// Packets of each kind, with their link types and the numbers that are wanted.
@@ -144,6 +146,7 @@ const PACKETS: [(Link, &[u8], Wanted); 13] = [
             tcp: [1, 51514, 443, 2309737967, 0, 2],
             udp: [0, 0, 0, 0],
             icmp: [0, 0, 0],
+            ip6: [0, 0, 0, 0, 0, 0],
         },
     ),
     (
@@ -156,6 +159,7 @@ const PACKETS: [(Link, &[u8], Wanted); 13] = [
             tcp: [0, 0, 0, 0, 0, 0],
             udp: [1, 5353, 53, 12],
             icmp: [0, 0, 0],
+            ip6: [0, 0, 0, 0, 0, 0],
         },
     ),
     (
@@ -168,6 +172,7 @@ const PACKETS: [(Link, &[u8], Wanted); 13] = [
             tcp: [1, 51514, 443, 2309737967, 305419896, 24],
             udp: [0, 0, 0, 0],
             icmp: [0, 0, 0],
+            ip6: [0, 0, 0, 0, 0, 0],
         },
     ),
     (
@@ -180,6 +185,7 @@ const PACKETS: [(Link, &[u8], Wanted); 13] = [
             tcp: [0, 0, 0, 0, 0, 0],
             udp: [0, 0, 0, 0],
             icmp: [1, 8, 0],
+            ip6: [0, 0, 0, 0, 0, 0],
         },
     ),
     (
@@ -192,6 +198,7 @@ const PACKETS: [(Link, &[u8], Wanted); 13] = [
             tcp: [0, 0, 0, 0, 0, 0],
             udp: [0, 0, 0, 0],
             icmp: [0, 0, 0],
+            ip6: [0, 0, 0, 0, 0, 0],
         },
     ),
     (
@@ -204,6 +211,7 @@ const PACKETS: [(Link, &[u8], Wanted); 13] = [
             tcp: [0, 0, 0, 0, 0, 0],
             udp: [1, 4000, 4001, 2000],
             icmp: [0, 0, 0],
+            ip6: [0, 0, 0, 0, 0, 0],
         },
     ),
     (
@@ -216,6 +224,7 @@ const PACKETS: [(Link, &[u8], Wanted); 13] = [
             tcp: [0, 0, 0, 0, 0, 0],
             udp: [0, 0, 0, 0],
             icmp: [0, 0, 0],
+            ip6: [0, 0, 0, 0, 0, 0],
         },
     ),
     (
@@ -228,6 +237,7 @@ const PACKETS: [(Link, &[u8], Wanted); 13] = [
             tcp: [0, 0, 0, 0, 0, 0],
             udp: [0, 0, 0, 0],
             icmp: [1, 3, 1],
+            ip6: [0, 0, 0, 0, 0, 0],
         },
     ),
     (
@@ -240,6 +250,7 @@ const PACKETS: [(Link, &[u8], Wanted); 13] = [
             tcp: [0, 0, 0, 0, 0, 0],
             udp: [0, 0, 0, 0],
             icmp: [0, 0, 0],
+            ip6: [0, 0, 0, 0, 0, 0],
         },
     ),
     (
@@ -249,9 +260,17 @@ const PACKETS: [(Link, &[u8], Wanted); 13] = [
             wire: 74,
             link: [74, 2200601370672, 2200611503052, 34525, 0],
             ip: [0, 0, 0, 0, 0, 0],
-            tcp: [0, 0, 0, 0, 0, 0],
+            tcp: [1, 51514, 443, 2309737967, 305419896, 24],
             udp: [0, 0, 0, 0],
             icmp: [0, 0, 0],
+            ip6: [
+                1,
+                20,
+                6,
+                64,
+                0x2001_0db8_0000_0000_0000_0000_0000_0001,
+                0x2001_0db8_0000_0000_0000_0000_0000_0009,
+            ],
         },
     ),
     (
@@ -264,6 +283,7 @@ const PACKETS: [(Link, &[u8], Wanted); 13] = [
             tcp: [1, 51514, 443, 2309737967, 305419896, 24],
             udp: [0, 0, 0, 0],
             icmp: [0, 0, 0],
+            ip6: [0, 0, 0, 0, 0, 0],
         },
     ),
     (
@@ -276,6 +296,7 @@ const PACKETS: [(Link, &[u8], Wanted); 13] = [
             tcp: [0, 0, 0, 0, 0, 0],
             udp: [1, 5353, 53, 12],
             icmp: [0, 0, 0],
+            ip6: [0, 0, 0, 0, 0, 0],
         },
     ),
     (
@@ -288,6 +309,7 @@ const PACKETS: [(Link, &[u8], Wanted); 13] = [
             tcp: [1, 51514, 443, 2309737967, 305419896, 24],
             udp: [0, 0, 0, 0],
             icmp: [0, 0, 0],
+            ip6: [0, 0, 0, 0, 0, 0],
         },
     ),
 ];

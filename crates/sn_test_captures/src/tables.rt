@@ -24,6 +24,16 @@ fn row(columns: &[u64]) -> ShortRow
     }
 }
 
+fn wide_row(columns: &[u128]) -> Row
+    requires { length columns.now ≤ 8 }
+    ensures { result ≡ columns.now }
+{
+    match Row::new(columns) {
+        Some(row) => row,
+        None => unreachable!(),
+    }
+}
+
 /// Adds to a key's sum. Sums stay below 2^64.
 fn sum<R: AnyRow>(table: &mut Table<R>, key: &R, value: u64) -> Result<(), Memory>
     requires { AllByRecursion (λ e. e.1 < 2 ^ 64) table.old.entries }
@@ -48,8 +58,8 @@ fn sum_at(
 }
 
 /// Whether the table has these entries and no others, in this order.
-fn has(table: &Table<ShortRow>, entries: &[(ShortRow, u64)]) -> bool {
-    let mut key = ShortRow::empty();
+fn has<R: AnyRow>(table: &Table<R>, entries: &[(R, u64)]) -> bool {
+    let mut key = R::empty();
     for (place, (want, value)) in entries.iter().enumerate() {
         if table.get_into(place, &mut key) != Some(*value) || key != *want {
             return false;
@@ -167,25 +177,23 @@ fn adds_at_three_places(rt: HostRuntime) -> Result<(), Fail> {
 #[test]
 fn holds_wide_columns(rt: HostRuntime) -> Result<(), Fail> {
     let mut table = Table::new(rt.alloc(), Seed::new(14));
-    let (one, other) = (Row::new(&[u128::MAX]), Row::new(&[1 << 64]));
-    let (one, other) = (one.ok_or("no row")?, other.ok_or("no row")?);
+    let (one, other) = (wide_row(&[u128::MAX]), wide_row(&[1 << 64]));
     sum(&mut table, &one, 1)?;
     sum(&mut table, &other, 2)?;
     sum(&mut table, &one, 4)?;
     assert!(rt; table.is_narrow());
-    assert_eq!(rt; number_of(&other, 1), Some(1 << 64));
-    let pair = Row::new(&[1, 1 << 64]).ok_or("no row")?;
-    assert_eq!(rt; number_of(&pair, 2), None);
+    let pair = wide_row(&[1, 1 << 64]);
     sum(&mut table, &pair, 8)?;
     sum(&mut table, &other, 16)?;
     assert!(rt; !table.is_narrow());
-    let mut key = Row::empty();
-    for (place, want, value) in [(0, one, 5), (1, other, 18), (2, pair, 8)] {
-        assert_eq!(rt; table.get_into(place, &mut key), Some(value));
-        assert_eq!(rt; key, want);
-    }
-    assert_eq!(rt; table.len(), 3);
+    assert!(rt; has(&table, &[(one, 5), (other, 18), (pair, 8)]));
     Ok(())
+}
+
+#[test]
+fn packs_one_wide_column(rt: HostRuntime) {
+    assert_eq!(rt; number_of(&wide_row(&[1 << 64]), 1), Some(1 << 64));
+    assert_eq!(rt; number_of(&wide_row(&[1, 1 << 64]), 2), None);
 }
 
 #[test]

@@ -1,7 +1,7 @@
 //! Calls of the commands that answer captures, as a user makes them.
 //!
 //! The rows are worked by hand.
-use sn_test_inputs::bench::{Form, expect};
+use crate::bench::{Form, expect};
 use std::test::Fail;
 
 /// `plain` and `run`, in blocks and as comma-separated values.

@@ -1,7 +1,7 @@
 //! Plans with trees: the plan that is searched, and what `check` says of a plan and its tree.
 //!
 //! There are five packets to 10.0.0.9 in one window, from 1, 1, 1, 2 and 2, and room for a register of one of two queries.
-use sn_test_inputs::bench::{Form, expect};
+use crate::bench::{Form, expect};
 use std::test::Fail;
 
 /// The plan that costs least, with its tree, and budgets that are spent.

@@ -1,5 +1,5 @@
 //! Commands: their words, the order of their work, and reports that are finished.
-use sn_test_inputs::bench::{Form, expect};
+use crate::bench::{Form, expect};
 use std::test::Fail;
 
 /// Words that spell no command, files that aren't there, and which refusal comes first.

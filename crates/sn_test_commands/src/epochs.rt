@@ -2,7 +2,7 @@
 //!
 //! The rows are worked by hand. A slot holds the first key that comes to it, and packets of another key go up too early.
 //! Of two slots 10.0.0.1 has the one and 10.0.0.2 the other, by the last bit.
-use sn_test_inputs::bench::{Form, expect};
+use crate::bench::{Form, expect};
 use std::test::Fail;
 
 /// Counts by destination, with room for one key or two. The first plan is made for one key, and in window 0 two packets

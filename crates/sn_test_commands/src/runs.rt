@@ -1,7 +1,7 @@
 //! Plans at work: how many items a switch sends, and what the engine makes of them, window by window.
 //!
 //! The rows are worked by hand from what a chain of registers holds.
-use sn_test_inputs::bench::{Form, expect};
+use crate::bench::{Form, expect};
 use std::test::Fail;
 
 /// Counts of items by cut, size and chain.

@@ -1,7 +1,7 @@
 //! What refinement sees, and when.
 //!
 //! The rows are worked by hand.
-use sn_test_inputs::bench::{Form, expect};
+use crate::bench::{Form, expect};
 use std::test::Fail;
 
 /// Stays of 10.0.0.9, of which two packets come in a window.

@@ -1,9 +1,9 @@
 //! Calls that a table of texts can't tell: writes that fail, bytes that are no text, large texts, files that give
 //! one byte at a call, and files that are read from front to back.
+use crate::call::call;
 use sn_base::seq::Seq;
 use sn_io::mem_inputs::MemInputs;
 use sn_io::mem_sink::MemSink;
-use sn_test_inputs::call::call;
 use sn_test_inputs::forward::Forward;
 use sn_test_inputs::packets::{HEADER, push_syns};
 use sn_test_inputs::slow::Slow;

@@ -31,7 +31,7 @@ fn strangers_are_refused_first(rt: HostRuntime) -> Result<(), Fail> {
     };
     let other = Frame::Row(lane(1, 0), item);
     assert_eq!(rt; engine.take(&other), Err(TakeFault::Stranger));
-    let other = Frame::End(lane(1, 0), 0);
+    let other: Frame<ShortRow> = Frame::End(lane(1, 0), 0);
     assert_eq!(rt; engine.take(&other), Err(TakeFault::Stranger));
     let short = row(&[1]);
     for tag in [

@@ -13,6 +13,7 @@ use sn_base::members::Members;
 use sn_base::memory::Memory;
 use sn_base::seq::Seq;
 use sn_base::short_row::ShortRow;
+use sn_emit::given::{AnyFrame, Given};
 use sn_emit::lanes::Emitter;
 use sn_fields::tuple::Tuple;
 use sn_report::encode::{MOST_BYTES, encode};
@@ -25,6 +26,10 @@ const KINDS: &[u8] = b"window 1000000 query q { packets | map ip.dst as d | dist
 
 /// A switch whose chains have two registers.
 const CHAINED: &[u8] = b"stages 4; actions 2; bits 1000; meta 1000; chain 2; slots 1;";
+
+/// A switch whose tables hold one prefix.
+const ONE_PREFIX: &[u8] =
+    b"stages 5; actions 2; bits 1000; meta 1000; chain 1; slots 1; entries 1;";
 
 /// One slot in each of two registers.
 const TWO_REGISTERS: &[u8] = b"plan query q path 0; piece 0 0 cut 2 slots 1 stages 1, 2;";
@@ -63,12 +68,16 @@ struct Told {
 }
 
 impl Told {
-    fn push(&mut self, frame: Frame<ShortRow>) -> Result<(), Memory>
-        requires { CanEncode frame }
+    /// `Memory` also for a frame over wide rows, which no lane of these tests gives.
+    fn push(&mut self, given: Given) -> Result<(), Memory>
+        requires { CanEncode given }
     {
+        let AnyFrame::Short(frame) = given.kind() else {
+            return Err(Memory);
+        };
         let mut bytes = [0; MOST_BYTES];
-        let len = encode(&frame, &mut bytes);
-        self.frames.push(frame)?;
+        let len = encode(frame, &mut bytes);
+        self.frames.push(*frame)?;
         for byte in bytes.iter().take(len) {
             self.bytes.push(*byte)?;
         }
@@ -213,5 +222,32 @@ fn admits_nothing_at_first(rt: HostRuntime) -> Result<(), Fail> {
     let told = window(rt.alloc(), &mut emitter, 1, &[syn(1, 9)], 0)?;
     assert_eq!(rt; told.frames.as_slice(), &[Frame::End(lane(0, 1), 0)][..]);
     assert_eq!(rt; emitter.emitted(), 0);
+    Ok(())
+}
+
+/// Whether level 32 sends the packet to 10.0.0.9, where level 8 answered these prefixes and a table holds one.
+fn sends_with(rt: &HostRuntime, prefixes: &[u64]) -> Result<bool, Memory> {
+    let Some(mut emitter) = emitter(rt, REFINED, ONE_PREFIX, TWO_LEVELS) else {
+        return Ok(false);
+    };
+    if emitter.lanes() != 2 {
+        return Ok(false);
+    }
+    let mut kept = Members::new(rt.alloc());
+    for prefix in prefixes {
+        kept.add(u128::from(*prefix))?;
+    }
+    begin(&mut emitter, 1, kept);
+    let told = window(rt.alloc(), &mut emitter, 1, &[syn(1, 9)], 1)?;
+    Ok(told.frames.as_slice().len() == 2 && emitter.emitted() == 1)
+}
+
+#[test]
+fn an_open_table_admits_every_packet(rt: HostRuntime) -> Result<(), Fail> {
+    assert!(rt; !sends_with(&rt, &[])?);
+    assert!(rt; sends_with(&rt, &[NET])?);
+    assert!(rt; !sends_with(&rt, &[2 * NET])?);
+    assert!(rt; !sends_with(&rt, &[2 * NET, 2 * NET])?);
+    assert!(rt; sends_with(&rt, &[2 * NET, 3 * NET])?);
     Ok(())
 }

@@ -6,7 +6,7 @@ use crate::texts::{
     COUNTS, FIVE, NET, ONE_SLOT, REFINED, SPREAD, TWO_LEVELS, TWO_SLOTS, fitting_of, row, rows, syn,
 };
 use sn_base::memory::Memory;
-use sn_base::short_row::ShortRow;
+use sn_emit::given::{AnyFrame, Given};
 use sn_engine_lockstep::driver::Driver;
 use sn_engine_lockstep::wire::Wire;
 use sn_fields::tuple::Tuple;
@@ -28,10 +28,14 @@ impl Wire for Sent {
 
     ghost word = { λ frame. [] };
 
-    fn sent(&mut self, frame: &Frame<ShortRow>) -> Result<(), Memory> {
-        match frame {
-            Frame::Row(_, _) => self.rows = self.rows.saturating_add(1),
-            Frame::End(_, _) => self.ends = self.ends.saturating_add(1),
+    fn sent(&mut self, frame: &Given) -> Result<(), Memory> {
+        match frame.kind() {
+            AnyFrame::Short(Frame::Row(_, _)) | AnyFrame::Wide(Frame::Row(_, _)) => {
+                self.rows = self.rows.saturating_add(1)
+            }
+            AnyFrame::Short(Frame::End(_, _)) | AnyFrame::Wide(Frame::End(_, _)) => {
+                self.ends = self.ends.saturating_add(1)
+            }
         }
         Ok(())
     }

@@ -5,14 +5,14 @@ ghost use Rattle.sn_refine.specs.Steps.{IsPathOf};
 ghost use Rattle.sn_types.specs.Typed.{query_at};
 ghost use Rattle.sn_windows.specs.Rising.{IsAbove};
 
-use crate::texts::{NET, REFINED, queries, row, syn};
+use crate::texts::{NET, REFINED, queries, row, short_rows, syn};
 use sn_base::memory::Memory;
 use sn_base::seq::Seq;
 use sn_base::short_row::ShortRow;
 use sn_fields::tuple::Tuple;
 use sn_refine::members::members;
 use sn_refine::refined::Refined;
-use sn_types::answers::Part;
+use sn_types::answers::{AnswerRows, EitherRows, Part};
 use sn_types::typed::Typed;
 use std::alloc::Global;
 use std::test::Fail;
@@ -68,7 +68,7 @@ fn answers(
 
 fn rows(parts: &Seq<Part>, place: usize) -> &[ShortRow] {
     match parts.as_slice().get(place) {
-        Some(part) => part.rows.as_slice(),
+        Some(part) => short_rows(part),
         None => &[],
     }
 }
@@ -105,7 +105,9 @@ fn a_gap_empties_the_finer_levels(rt: HostRuntime) -> Result<(), Fail> {
 fn members_are_the_refinement_column(rt: HostRuntime) -> Result<(), Fail> {
     let t = queries(rt.alloc(), REFINED).ok_or("no queries")?;
     assert_eq!(rt; t.queries(), 1);
-    let found = members(rt.alloc(), &t, 0, &[row(&[NET, 2]), row(&[2 * NET, 2])])?;
+    let rows = Seq::from_slice(rt.alloc(), &[row(&[NET, 2]), row(&[2 * NET, 2])])?;
+    let answers = AnswerRows::of(EitherRows::Short(rows));
+    let found = members(rt.alloc(), &t, 0, &answers)?;
     assert!(rt; found.has(u128::from(NET)));
     assert!(rt; found.has(u128::from(2 * NET)));
     assert!(rt; !found.has(u128::from(NET + 9)));

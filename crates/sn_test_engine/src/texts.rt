@@ -11,7 +11,7 @@ use sn_plan_fit::fits;
 use sn_plan_grammar::plan::Plan;
 use sn_report::frame::{Frame, Item, Tag};
 use sn_switch::switch::Switch;
-use sn_types::answers::Answers;
+use sn_types::answers::{Answers, EitherRows, Part};
 use sn_types::typed::Typed;
 use sn_types_read::read::read;
 use std::alloc::Global;
@@ -92,8 +92,16 @@ pub(crate) fn sent(tag: Tag, row: ShortRow) -> Frame<ShortRow> {
 /// The rows of an answer by its number.
 pub(crate) fn rows(answers: &Answers, part: usize) -> &[ShortRow] {
     match answers.parts.as_slice().get(part) {
-        Some(part) => part.rows.as_slice(),
+        Some(part) => short_rows(part),
         None => &[],
+    }
+}
+
+/// The rows of an answer, which are short, and none of one whose rows aren't.
+pub(crate) fn short_rows(part: &Part) -> &[ShortRow] {
+    match part.rows.either() {
+        EitherRows::Short(rows) => rows.as_slice(),
+        EitherRows::Wide(_) => &[],
     }
 }
 

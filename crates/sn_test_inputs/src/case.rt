@@ -7,9 +7,11 @@
 //! - `header: `, `link: `: the capture's header, or its link type, in hexadecimal digits;
 //! - `record: `: bytes behind the header; `frame: `: a record with these bytes, at one second;
 //! - `syn: `: records of SYNs, each by its microseconds after one second, s and d of 10.0.0.s and 10.0.0.d, and its length;
+//! - `six: `: records of SYNs over IPv6, each by its microseconds after one second, s, d and n of 2001:db8::s and
+//!   2001:db8:0:n::d;
 //! - `train: `: records of SYNs of the training capture, which else is the other one;
 //! - `reports: `: bytes of report frames.
-use crate::packets::{HEADER, push_frame, push_hex, push_syns};
+use crate::packets::{HEADER, push_frame, push_hex, push_sixes, push_syns};
 use std::alloc::Global;
 use std::test::Fail;
 
@@ -80,6 +82,7 @@ impl Case {
             }
             Some(("record", bytes)) => push_hex(&mut self.records, bytes),
             Some(("syn", packets)) => push_syns(&mut self.records, packets),
+            Some(("six", packets)) => push_sixes(&mut self.records, packets),
             Some(("train", packets)) => push_syns(&mut self.trained, packets),
             Some(("frame", bytes)) => push_frame(alloc, &mut self.records, bytes),
             Some(("reports", bytes)) => push_hex(&mut self.reports, bytes),

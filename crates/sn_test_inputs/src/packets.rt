@@ -14,6 +14,14 @@ const SYN: [u8; 54] = [
     4, 0, 0, 0x50, 0, 0, 0, 0, 0, 0, 0, 0, 0x50, 2, 0, 0, 0, 0, 0, 0,
 ];
 
+/// A TCP SYN from port 1024 to port 80, from 2001:db8:: to 2001:db8::.
+const SYN_6: [u8; 74] = [
+    2, 0, 0, 0, 0, 2, 2, 0, 0, 0, 0, 1, 0x86, 0xdd, //
+    0x60, 0, 0, 0, 0, 0x14, 6, 0x40, 0x20, 1, 0x0d, 0xb8, 0, 0, 0, 0, 0, 0, 0, 0, 0, 0, 0, 0, //
+    0x20, 1, 0x0d, 0xb8, 0, 0, 0, 0, 0, 0, 0, 0, 0, 0, 0, 0, //
+    4, 0, 0, 0x50, 0, 0, 0, 0, 0, 0, 0, 0, 0x50, 2, 0, 0, 0, 0, 0, 0,
+];
+
 /// The number of a hexadecimal digit, and `None` of any other byte.
 fn digit(byte: u8) -> Option<u8> {
     match byte {
@@ -52,9 +60,9 @@ pub fn push_record(into: &mut Vec<u8>, after: u32, wire: u32, bytes: &[u8]) -> R
     Ok(())
 }
 
-/// The first four numbers of a text, where those that it lacks are 0, 0, 0 and 40.
-fn numbers(text: &str) -> Result<[u32; 4], Fail> {
-    let mut numbers = [0, 0, 0, 40];
+/// The first four numbers of a text, where those that it lacks are 0, 0, 0 and the last one given.
+fn numbers(text: &str, last: u32) -> Result<[u32; 4], Fail> {
+    let mut numbers = [0, 0, 0, last];
     for (number, word) in numbers.iter_mut().zip(text.split_whitespace()) {
         *number = word.parse::<u32>()?;
     }
@@ -64,7 +72,7 @@ fn numbers(text: &str) -> Result<[u32; 4], Fail> {
 /// Adds the record of a SYN, as four numbers say: microseconds after one second, from 10.0.0.s, to 10.0.0.d, and the
 /// length of its IPv4 packet.
 pub fn push_syn(into: &mut Vec<u8>, text: &str) -> Result<(), Fail> {
-    let [after, source, destination, length] = numbers(text)?;
+    let [after, source, destination, length] = numbers(text, 40)?;
     let mut frame = SYN;
     let [_, _, high, low] = length.to_be_bytes();
     frame[16] = high;
@@ -80,6 +88,28 @@ pub fn push_syn(into: &mut Vec<u8>, text: &str) -> Result<(), Fail> {
 pub fn push_syns(into: &mut Vec<u8>, text: &str) -> Result<(), Fail> {
     for packet in text.split(',') {
         push_syn(into, packet)?;
+    }
+    Ok(())
+}
+
+/// Adds the record of a SYN over IPv6, as four numbers say: microseconds after one second, from 2001:db8::s, to
+/// 2001:db8:0:n::d, in the order s, d, n, each below 256.
+pub fn push_six(into: &mut Vec<u8>, text: &str) -> Result<(), Fail> {
+    let [after, source, destination, network] = numbers(text, 0)?;
+    let mut frame = SYN_6;
+    let [_, _, _, low] = source.to_be_bytes();
+    frame[37] = low;
+    let [_, _, _, low] = network.to_be_bytes();
+    frame[45] = low;
+    let [_, _, _, low] = destination.to_be_bytes();
+    frame[53] = low;
+    push_record(into, after, 74, &frame)
+}
+
+/// Adds the records of SYNs over IPv6, with commas between them.
+pub fn push_sixes(into: &mut Vec<u8>, text: &str) -> Result<(), Fail> {
+    for packet in text.split(',') {
+        push_six(into, packet)?;
     }
     Ok(())
 }

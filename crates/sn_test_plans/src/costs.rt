@@ -9,10 +9,26 @@ use sn_fields::tuple::Tuple;
 use sn_plan_choices::costs::CostTable;
 use std::alloc::Global;
 
-/// The table of so many queries.
+/// A query of which two destinations may have different prefixes.
+const CLOSE: &[u8] =
+    b"window 1000000 query q { refine ip.dst: 28, 32; packets | map ip.dst as d, 1 as n | reduce d: sum(n) width 16 | filter n > 1; }";
+
+/// A switch on which a prefix costs three items.
+const DEAR: &[u8] = b"stages 4; actions 2; bits 1000; meta 1000; chain 1; slots 1; weight 3;";
+
+/// A switch whose tables hold one prefix.
+const ONE: &[u8] =
+    b"stages 4; actions 2; bits 1000; meta 1000; chain 1; slots 1; entries 1; weight 3;";
+
+/// A switch whose tables hold two.
+const BOTH: &[u8] =
+    b"stages 4; actions 2; bits 1000; meta 1000; chain 1; slots 1; entries 2; weight 3;";
+
+/// The table of the given number of queries on a switch.
 fn trained(
     alloc: Global,
     text: &[u8],
+    limits: &[u8],
     count: u32,
     tuples: &[Tuple],
     numbers: &[u64],
@@ -23,7 +39,7 @@ fn trained(
     ensures { IfSome result (λ table. HasPlaces table count) }
 {
     let t = queries(alloc, text)?;
-    let s = switch(alloc, SMALL)?;
+    let s = switch(alloc, limits)?;
     if t.queries() != count {
         return None;
     }
@@ -47,7 +63,7 @@ fn has(table: &CostTable, q: u32, prefix: u32, counts: &[u64]) -> bool
 #[test]
 fn levels_see_what_was_answered_before(rt: HostRuntime) {
     let tuples = [syn(1, 9), syn(1, 9), syn(1, 9), syn(1, 9)];
-    let Some(table) = trained(rt.alloc(), REFINED, 1, &tuples, &[0, 0, 1, 1]) else {
+    let Some(table) = trained(rt.alloc(), REFINED, SMALL, 1, &tuples, &[0, 0, 1, 1]) else {
         return assert!(rt; false);
     };
     assert!(rt; has(&table, 0, 1, &[4, 4, 2, 2]));
@@ -58,7 +74,7 @@ fn levels_see_what_was_answered_before(rt: HostRuntime) {
 #[test]
 fn a_gap_empties_the_finer_level(rt: HostRuntime) {
     let tuples = [syn(1, 9), syn(1, 9), syn(1, 9), syn(1, 9)];
-    let Some(table) = trained(rt.alloc(), REFINED, 1, &tuples, &[0, 0, 2, 2]) else {
+    let Some(table) = trained(rt.alloc(), REFINED, SMALL, 1, &tuples, &[0, 0, 2, 2]) else {
         return assert!(rt; false);
     };
     assert!(rt; has(&table, 0, 2, &[4, 4, 2, 2]));
@@ -68,9 +84,54 @@ fn a_gap_empties_the_finer_level(rt: HostRuntime) {
 #[test]
 fn each_query_has_entries_of_its_own(rt: HostRuntime) {
     let tuples = [syn(1, 9), syn(1, 9), syn(1, 9), syn(2, 9), syn(2, 9)];
-    let Some(table) = trained(rt.alloc(), TWO, 2, &tuples, &[0, 0, 0, 0, 0]) else {
+    let Some(table) = trained(rt.alloc(), TWO, SMALL, 2, &tuples, &[0, 0, 0, 0, 0]) else {
         return assert!(rt; false);
     };
     assert!(rt; has(&table, 0, 1, &[5, 5, 1]));
     assert!(rt; has(&table, 1, 1, &[5, 5, 3]));
+}
+
+#[test]
+fn installed_prefixes_cost_their_weight(rt: HostRuntime) {
+    let tuples = [syn(1, 9), syn(1, 9), syn(1, 9), syn(1, 9)];
+    let Some(table) = trained(rt.alloc(), REFINED, DEAR, 1, &tuples, &[0, 0, 1, 1]) else {
+        return assert!(rt; false);
+    };
+    assert!(rt; has(&table, 0, 1, &[4, 4, 2, 2]));
+    assert!(rt; has(&table, 0, 2, &[4, 4, 2, 2]));
+    assert!(rt; has(&table, 0, 3, &[5, 5, 4, 4]));
+}
+
+/// Windows of two destinations each, of which the first in each is the same.
+fn apart() -> [Tuple; 8] {
+    [
+        syn(1, 9),
+        syn(1, 9),
+        syn(1, 20),
+        syn(1, 20),
+        syn(1, 9),
+        syn(1, 9),
+        syn(1, 40),
+        syn(1, 40),
+    ]
+}
+
+#[test]
+fn an_open_table_admits_all_tuples_and_costs_nothing(rt: HostRuntime) {
+    let numbers = [0, 0, 0, 0, 1, 1, 1, 1];
+    let Some(table) = trained(rt.alloc(), CLOSE, ONE, 1, &apart(), &numbers) else {
+        return assert!(rt; false);
+    };
+    assert!(rt; has(&table, 0, 1, &[8]));
+    assert!(rt; has(&table, 0, 3, &[4]));
+}
+
+#[test]
+fn a_table_with_room_admits_its_prefixes_alone(rt: HostRuntime) {
+    let numbers = [0, 0, 0, 0, 1, 1, 1, 1];
+    let Some(table) = trained(rt.alloc(), CLOSE, BOTH, 1, &apart(), &numbers) else {
+        return assert!(rt; false);
+    };
+    assert!(rt; has(&table, 0, 1, &[8]));
+    assert!(rt; has(&table, 0, 3, &[8]));
 }

@@ -1,14 +1,42 @@
 //! The counts of worked captures.
-ghost use Rattle.std.specs.Prelude.{◌≤◌};
+ghost use Rattle.std.specs.Prelude.{◌≤◌, ◌<◌, length};
+ghost use Rattle.sn_types.specs.Kinds.{AreBelow};
+ghost use Rattle.sn_types.specs.Typed.{branch_at, query_at};
 
-use crate::texts::{DEEP, queries, syn};
+use crate::texts::{DEEP, queries, syn, syn6};
+use sn_base::any_row::AnyRow;
 use sn_base::memory::Memory;
+use sn_base::row::Row;
+use sn_base::row_seq::RowSeq;
 use sn_base::seq::Seq;
+use sn_base::short_row::ShortRow;
 use sn_cost_counts::branch::counts_of;
 use sn_fields::tuple::Tuple;
 use sn_ops::packets::packet_rows;
+use sn_types::typed::Typed;
 use std::alloc::Global;
 use std::test::Fail;
+
+/// The counts of the first branch of the first query, with rows of a kind, in chains of registers with one slot each.
+fn counts_over<R: AnyRow>(
+    alloc: Global,
+    t: &Typed,
+    chain: u32,
+    tuples: &[Tuple],
+) -> Result<Seq<u64>, Memory>
+    requires query { 0 < length t.now.queries }
+    requires branch { 0 < length (query_at t.now.queries 0).branches }
+    requires below { AreBelow R.Number.limit (branch_at t.now.queries 0 0).fields }
+    requires some { 1 ≤ chain }
+    requires most { chain ≤ 4 }
+{
+    let level = t.finest_level(0);
+    let rows: RowSeq<R> = packet_rows(alloc, t, 0, 0, level, None, tuples)?;
+    if rows.len() > 1000 {
+        return Err(Memory);
+    }
+    counts_of(alloc, t, 0, 0, level, chain, &[1], rows)
+}
 
 /// The counts of the one query of a text, in chains of registers with one slot each.
 fn counts(alloc: Global, text: &[u8], chain: u32, tuples: &[Tuple]) -> Result<Seq<u64>, Memory>
@@ -21,12 +49,11 @@ fn counts(alloc: Global, text: &[u8], chain: u32, tuples: &[Tuple]) -> Result<Se
     if t.queries() == 0 || t.branches(0) == 0 {
         return Err(Memory);
     }
-    let level = t.finest_level(0);
-    let rows = packet_rows(alloc, &t, 0, 0, level, None, tuples)?;
-    if rows.len() > 1000 {
-        return Err(Memory);
+    if t.is_wide(0, 0) {
+        counts_over::<Row>(alloc, &t, chain, tuples)
+    } else {
+        counts_over::<ShortRow>(alloc, &t, chain, tuples)
     }
-    counts_of(alloc, &t, 0, 0, level, chain, &[1], rows)
 }
 
 /// Destinations by packets.
@@ -36,6 +63,10 @@ const DESTINATIONS: &[u8] =
 /// Sources by packets.
 const SOURCES: &[u8] =
     b"window 1000000 query q { packets | map ip.src as s, 1 as n | reduce s: sum(n) width 8; }";
+
+/// Sources of 128 bits by packets.
+const WIDE_SOURCES: &[u8] =
+    b"window 1000000 query q { packets | map ip6.src as s, 1 as n | reduce s: sum(n) width 8; }";
 
 /// Destinations.
 const KINDS: &[u8] = b"window 1000000 query q { packets | map ip.dst as d | distinct; }";
@@ -47,6 +78,17 @@ fn counts_each_cut(rt: HostRuntime) -> Result<(), Fail> {
     assert_eq!(rt; one.as_slice(), [5, 5, 1].as_slice());
     let two = counts(rt.alloc(), SOURCES, 1, &tuples)?;
     assert_eq!(rt; two.as_slice(), [5, 5, 3].as_slice());
+    Ok(())
+}
+
+#[test]
+fn counts_each_cut_of_a_wide_branch(rt: HostRuntime) -> Result<(), Fail> {
+    let tuples = [syn6(1), syn6(1), syn6(1), syn6(2), syn6(2)];
+    let one = counts(rt.alloc(), WIDE_SOURCES, 1, &tuples)?;
+    assert_eq!(rt; one.as_slice(), [5, 5, 3].as_slice());
+    let same = [syn6(7), syn6(7), syn6(7)];
+    let held = counts(rt.alloc(), WIDE_SOURCES, 1, &same)?;
+    assert_eq!(rt; held.as_slice(), [3, 3, 1].as_slice());
     Ok(())
 }
 

@@ -11,25 +11,17 @@ mod costs;
 #[cfg(test)]
 mod counts;
 #[cfg(test)]
-mod fits;
-#[cfg(test)]
 mod found;
 #[cfg(test)]
 mod misfits;
 #[cfg(test)]
 mod options;
 #[cfg(test)]
-mod plans;
-#[cfg(test)]
 mod read;
-#[cfg(test)]
-mod searched;
 #[cfg(test)]
 mod texts;
 #[cfg(test)]
 mod tree_texts;
-#[cfg(test)]
-mod trees;
 #[cfg(test)]
 mod two;
 pub mod two_queries;

@@ -17,6 +17,7 @@ fn reads_a_switch(rt: HostRuntime) -> Result<(), Fail> {
             );
             assert_eq!(rt; (switch.meta, switch.chain), (4096, 2));
             assert_eq!(rt; switch.slots.as_slice(), [256, 1024, 4096].as_slice());
+            assert_eq!(rt; (switch.entries, switch.weight), (None, 0));
         }
     }
     Ok(())
@@ -27,6 +28,16 @@ fn switch_fault(rt: &HostRuntime, text: &[u8]) -> Option<SwitchFault> {
         return None;
     }
     sn_switch::parse(rt.alloc(), text).err()
+}
+
+#[test]
+fn reads_a_switch_with_entries_and_a_weight(rt: HostRuntime) {
+    let text =
+        b"weight 65536; slots 256; chain 2; bits 8388608; entries 4194304; meta 4096; actions 8; stages 16;";
+    match sn_switch::parse(rt.alloc(), text) {
+        Err(_) => assert!(rt; false),
+        Ok(switch) => assert_eq!(rt; (switch.entries, switch.weight), (Some(4194304), 65536)),
+    }
 }
 
 #[test]
@@ -47,7 +58,11 @@ fn names_the_first_fault_of_a_switch(rt: HostRuntime) {
         (b"slots 1, 2, 3, 4,\n5;", SwitchFault::Range { line: 2 }),
         (b"slots 1, 2, 3, 4,\nx;", SwitchFault::Expected { line: 2 }),
         (b"slots 2,\n1;", SwitchFault::Range { line: 2 }),
-        (b"entries 4;", SwitchFault::Expected { line: 1 }),
+        (b"entries 4;", SwitchFault::Missing { line: 1 }),
+        (b"entry 4;", SwitchFault::Expected { line: 1 }),
+        (b"entries 0;", SwitchFault::Range { line: 1 }),
+        (b"weight 65537;", SwitchFault::Range { line: 1 }),
+        (b"weight 0;\nweight 0;", SwitchFault::Twice { line: 2 }),
     ] {
         assert_eq!(rt; switch_fault(&rt, text), Some(want));
     }

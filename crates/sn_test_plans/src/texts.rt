@@ -57,6 +57,22 @@ pub(crate) fn syn(source: u8, destination: u8) -> Tuple {
     tuple_of(Link::Ethernet, 54, &bytes)
 }
 
+/// A TCP SYN from 2001:db8:: to 2001:db8::.
+const SYN6: [u8; 74] = [
+    2, 0, 0, 0, 0, 2, 2, 0, 0, 0, 0, 1, 0x86, 0xdd, //
+    0x60, 0, 0, 0, 0, 20, 6, 64, //
+    0x20, 1, 0xd, 0xb8, 0, 0, 0, 0, 0, 0, 0, 0, 0, 0, 0, 0, //
+    0x20, 1, 0xd, 0xb8, 0, 0, 0, 0, 0, 0, 0, 0, 0, 0, 0, 0, //
+    4, 0, 0, 0x50, 0, 0, 0, 0, 0, 0, 0, 0, 0x50, 2, 0, 0, 0, 0, 0, 0,
+];
+
+/// The tuple of a SYN from 2001:db8:0:n:: to 2001:db8::. Sources differ in their higher halves alone.
+pub(crate) fn syn6(network: u8) -> Tuple {
+    let mut bytes = SYN6;
+    bytes[29] = network;
+    tuple_of(Link::Ethernet, 74, &bytes)
+}
+
 pub(crate) fn queries(alloc: Global, text: &[u8]) -> Option<Typed> {
     if text.len() > 1000 {
         return None;

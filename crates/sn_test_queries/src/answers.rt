@@ -7,11 +7,12 @@ use crate::checked::typed;
 use crate::operators::row;
 use sn_base::link::Link;
 use sn_base::members::Members;
+use sn_base::row_list::RowList;
 use sn_base::row_seq::RowSeq;
 use sn_base::short_row::ShortRow;
 use sn_fields::tuple::{Tuple, tuple_of};
+use sn_ops::lists::{branch_list, plain_list};
 use sn_ops::packets::{Kept, packet_rows};
-use sn_ops::plain::{branch_rows, plain};
 use sn_types::typed::Typed;
 use std::test::Fail;
 
@@ -57,6 +58,14 @@ fn five() -> [Tuple; 5] {
     [syn(1, 1), syn(1, 2), syn(1, 1), syn(1, 2), syn(1, 3)]
 }
 
+/// The rows of a list, if they are short.
+fn short(list: RowList) -> Option<RowSeq<ShortRow>> {
+    match list {
+        RowList::Short(rows) => Some(rows),
+        RowList::Wide(_) => None,
+    }
+}
+
 #[test]
 fn counts_by_destination(rt: HostRuntime) -> Result<(), Fail> {
     let alloc = rt.alloc();
@@ -64,10 +73,11 @@ fn counts_by_destination(rt: HostRuntime) -> Result<(), Fail> {
     assert_eq!(rt; t.queries(), 1);
     assert_eq!(rt; t.branches(0), 1);
     assert!(rt; has_level(&t, 0, 0));
+    assert!(rt; !t.is_wide(0, 0));
     let packets: RowSeq<ShortRow> = packet_rows(alloc, &t, 0, 0, 0, None, &five())?;
     assert_eq!(rt; packets.as_slice().len(), 5);
     assert_eq!(rt; packets.as_slice()[4], row(&[NET + 3]));
-    let counts: RowSeq<ShortRow> = branch_rows(alloc, &t, 0, 0, 0, None, &five())?;
+    let counts = short(branch_list(alloc, &t, 0, 0, 0, None, &five())?).ok_or("wide")?;
     assert_eq!(rt;
         counts.as_slice(),
         [row(&[NET + 1, 2]), row(&[NET + 2, 2]), row(&[NET + 3, 1])].as_slice()
@@ -83,7 +93,7 @@ fn answers_a_refined_query(rt: HostRuntime) -> Result<(), Fail> {
     assert!(rt; t.refine_field(0).is_some());
     assert!(rt; has_level(&t, 0, 8));
     assert!(rt; has_level(&t, 0, 32));
-    let first: RowSeq<ShortRow> = plain(alloc, &t, 0, 8, None, &five())?;
+    let first = short(plain_list(alloc, &t, 0, 8, None, &five())?).ok_or("wide")?;
     assert_eq!(rt; first.as_slice(), [row(&[NET, 5])].as_slice());
     let mut members = Members::new(alloc);
     members.add(u128::from(NET))?;
@@ -91,14 +101,14 @@ fn answers_a_refined_query(rt: HostRuntime) -> Result<(), Fail> {
         members: &members,
         bits: 8,
     };
-    let second: RowSeq<ShortRow> = plain(alloc, &t, 0, 32, Some(kept), &five())?;
+    let second = short(plain_list(alloc, &t, 0, 32, Some(kept), &five())?).ok_or("wide")?;
     assert_eq!(rt; second.as_slice().len(), 3);
     let none = Members::new(alloc);
     let kept = Kept {
         members: &none,
         bits: 8,
     };
-    let third: RowSeq<ShortRow> = plain(alloc, &t, 0, 32, Some(kept), &five())?;
+    let third = short(plain_list(alloc, &t, 0, 32, Some(kept), &five())?).ok_or("wide")?;
     assert_eq!(rt; third.as_slice().len(), 0);
     Ok(())
 }
@@ -110,7 +120,7 @@ fn joins_two_branches(rt: HostRuntime) -> Result<(), Fail> {
     assert_eq!(rt; t.queries(), 1);
     assert!(rt; has_level(&t, 0, 0));
     let tuples = [syn(1, 1), syn(2, 1), syn(2, 1), syn(1, 2)];
-    let rows: RowSeq<ShortRow> = plain(alloc, &t, 0, 0, None, &tuples)?;
+    let rows = short(plain_list(alloc, &t, 0, 0, None, &tuples)?).ok_or("wide")?;
     assert_eq!(rt;
         rows.as_slice(),
         [

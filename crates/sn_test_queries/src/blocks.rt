@@ -13,7 +13,7 @@ use sn_out::block::block;
 use sn_out::csv_rows::{csv_rows, heading};
 use sn_out::lines::{damage, total};
 use sn_pcap::packet::Ending;
-use sn_types::answers::{Answers, Part};
+use sn_types::answers::{AnswerRows, Answers, EitherRows, Part};
 use sn_types::typed::Typed;
 use std::alloc::Global;
 use std::test::Fail;
@@ -46,10 +46,19 @@ fn are_of(columns: &[Column], rows: &[ShortRow]) -> bool
     }
 }
 
+fn are_short_of(columns: &[Column], rows: &AnswerRows) -> bool
+    ensures { OnTrue result (AllByRecursion (IsOf columns.now) rows.now) }
+{
+    match rows.either() {
+        EitherRows::Short(rows) => are_of(columns, rows.as_slice()),
+        EitherRows::Wide(_) => false,
+    }
+}
+
 fn is_part_of(t: &Typed, part: &Part) -> bool
     ensures { OnTrue result (IsPartOf t.now.queries part.now) }
 {
-    part.query < t.queries() && are_of(t.final_schema(part.query).as_slice(), part.rows.as_slice())
+    part.query < t.queries() && are_short_of(t.final_schema(part.query).as_slice(), &part.rows)
 }
 
 fn are_parts_of(t: &Typed, parts: &[Part]) -> bool
@@ -79,7 +88,7 @@ fn part(alloc: Global, level: u32, numbers: &[&[u64]]) -> Option<Part> {
     Some(Part {
         query: 0,
         level,
-        rows,
+        rows: AnswerRows::of(EitherRows::Short(rows)),
     })
 }
 

@@ -15,12 +15,4 @@ mod operators;
 #[cfg(test)]
 mod printed;
 #[cfg(test)]
-mod queries;
-#[cfg(test)]
 mod refused;
-#[cfg(test)]
-mod tokens;
-#[cfg(test)]
-mod types;
-#[cfg(test)]
-mod values;

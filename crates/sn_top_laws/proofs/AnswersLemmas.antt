@@ -1,27 +1,30 @@
 -- The answers to what `emit` wrote are those along the plan.
-use Rattle.std.proofs.Common.{◌≡◌, ℕ, ◌+◌, ◌<◌, List, [], ◌∷◌, ◌++◌, map, length, sum, sum_by, true, Option, Some, None, Ok, refl, ap, sym, ◌∙◌, subst, append_assoc}
+use Rattle.std.proofs.Common.{◌≡◌, ℕ, ◌<◌, List, [], ◌∷◌, ◌++◌, map, length, sum, sum_by, true, Option, Some, None, Ok, refl, ap, sym, ◌∙◌, subst, append_assoc}
 use Rattle.std.specs.List.{AllByRecursion, flat_map}
 use Rattle.std.proofs.lemmas.Bool.{lt-ltb}
 use Rattle.std.proofs.lemmas.Grind.{flat_map-append}
 use Rattle.std.proofs.lemmas.List.{length-map}
 use Rattle.std.proofs.lemmas.List.Folds.{flat_map-map}
-use Rattle.std.proofs.lemmas.List.Sums.{sum_by-cons}
 use Rattle.sn_base.proofs.Lists.{all_map, all_weaker, map_both}
 use Rattle.sn_windows.specs.Rising.{AreRising, IsAbove, Window}
+use Rattle.sn_engine_lockstep.specs.declared.source.Source.{Source}
 use Rattle.sn_engine_lockstep.specs.Sources.{kept_in, source_of}
 use Rattle.sn_engine_lockstep.specs.Windows.{answers_from}
+use Rattle.sn_engine_lockstep.specs.Work.{Recalls}
 use Rattle.sn_engine_lockstep.proofs.Apart.{pieces_apart}
 use Rattle.sn_engine_lockstep.proofs.Laws.{all_windows, plan_made, intakes_are}
+use Rattle.sn_engine_lockstep.proofs.Recalling.{recalls_none}
 use Rattle.sn_emit.specs.Making.{CanMake}
 use Rattle.sn_emit.specs.Plans.{Placed, pieces_from}
 use Rattle.sn_engine.specs.declared.intake.Intake.{Intake}
 use Rattle.sn_engine.specs.Intakes.{intakes_of}
+use Rattle.sn_engine.specs.Keeping.{gathered}
 use Rattle.sn_engine.specs.Taking.{is_above}
-use Rattle.sn_engine.proofs.Firsts.{sum_cons}
 use Rattle.sn_command_finish.specs.Reported.{Reported}
-use Rattle.sn_command_finish.specs.Whole.{HaveNames, IsWindow, Rise, Sent, answered_text, answers_to, block_of, frames_in}
+use Rattle.sn_command_finish.specs.Whole.{HaveNames, IsWindow, Rise, Sent, answered_text, answers_from as reports_answered, blocks_of, frames_in}
 use Rattle.sn_command_finish.proofs.WholeLemmas.{windows_answered}
 use Rattle.sn_plan_fit.specs.Fits.{AreEntriesOf, Fits}
+use Rattle.sn_refine.specs.Steps.{Set}
 use Rattle.sn_report.specs.Framed.{IsWritten, Written, bytes_in, bytes_of}
 use Rattle.sn_io.specs.Counts.{ByName}
 use Rattle.sn_out.specs.Text.{block_text, total_line}
@@ -42,7 +45,7 @@ use Rattle.sn_command_emit.specs.Sent.{frames_block, kept_of, window_frames}
 use Rattle.sn_command_emit.proofs.KeptLemmas.{all_let_in}
 use Rattle.sn_top_laws.specs.Real.{IsReal}
 use Rattle.sn_top_laws.proofs.NameLemmas.{all_at, all_flat, each_among, have_names}
-use Rattle.sn_top_laws.proofs.WindowLemmas.{answers_are, are_frames, is_window, sent_of}
+use Rattle.sn_top_laws.proofs.WindowLemmas.{answers_are, are_frames, is_window, kept_next, sent_of}
 use Rattle.sn_command_live.proofs.ReachLemmas.{sums_are as sum_is}
 
 -- ---- sums
@@ -103,44 +106,50 @@ module _ (typed_for : ℕ) (p : Planned) (t : ∥ IsTyped typed_for p.queries �
       each_among (λ (w : Window). AllByRecursion (IsFrame 2) (window_frames p windows w.0 w.1)) windows
       (λ b w a e. are_frames typed_for p t entries can windows w.0 w.1 (real_at b w a e).1 (kept_in p.queries (last_of p b) w.0) (kept_at b w a e) (real_at b w a e).0)
 
-  abbrev answers_in : Window → Answers
-  answers_in w = answers_to p.queries lanes (sent_of p windows w)
-
-  along : (b a : List Window) → b ++ a ≡ windows → map answers_in a ≡ answers_from p.queries p.depth p.entries (last_of p b) a
-  along b [] e = refl
-  along b (w ∷ a) e =
+  -- window by window, an engine that keeps what the lanes admit answers as the driver does
+  along : (b a : List Window) (closed : Option ℕ) (sets : List Set) → b ++ a ≡ windows → Recalls p.queries pieces (last_of p b) closed sets
+      → reports_answered p.queries lanes closed sets (map (sent_of p windows) a) ≡ answers_from p.queries p.tables p.entries (last_of p b) a
+  along b [] closed sets e recalls = refl
+  along b (w ∷ a) closed sets e recalls =
       let now : Answers = next_answers p b w.0 w.1 in
-      ap (λ (x : Answers). x ∷ map answers_in a) (answers_are typed_for p t entries can windows w.0 w.1 (real_at b w a e).1 (kept_in p.queries (last_of p b) w.0) (kept_at b w a e))
+      let admitted : Source → Set = kept_in p.queries (last_of p b) w.0 in
+      let later : List Sent = map (sent_of p windows) a in
+      let more : last_of p (b ++ w ∷ []) ≡ Some now = last_more p b w.0 w.1 in
+      let sets_next : List Set = gathered p.queries now.parts lanes in
+      let kept_on : Recalls p.queries pieces (Some now) (Some w.0) sets_next =
+      subst (λ (ls : List Intake). Recalls p.queries pieces (Some now) (Some w.0) (gathered p.queries now.parts ls)) (sym (intakes_are 0 p.entries)) (kept_next p.queries p.tables admitted w.1 w.0 now pieces refl) in
+      ap (λ (x : Answers). x ∷ reports_answered p.queries lanes (Some w.0) (gathered p.queries x.parts lanes) later)
+      (answers_are typed_for p t entries can windows w.0 w.1 (real_at b w a e).1 admitted (kept_at b w a e) closed sets (recalls w.0))
       ∙ ap (λ (xs : List Answers). now ∷ xs)
-      (along (b ++ w ∷ []) a (append_assoc b (w ∷ []) a ∙ e) ∙ ap (λ (last : Option Answers). answers_from p.queries p.depth p.entries last a) (last_more p b w.0 w.1))
-
-  right : map answers_in windows ≡ map (λ w. answers_at p windows w.0) windows
-  right = along [] windows refl ∙ all_windows p.queries p.depth p.entries windows entries rising
+      (along (b ++ w ∷ []) a (Some w.0) sets_next (append_assoc b (w ∷ []) a ∙ e) (subst (λ (last : Option Answers). Recalls p.queries pieces last (Some w.0) sets_next) (sym more) kept_on)
+      ∙ ap (λ (last : Option Answers). answers_from p.queries p.tables p.entries last a) more)
 
   abbrev sents : List Sent
   sents = map (sent_of p windows) windows
 
-  blocks_are : flat_map (block_of p.queries lanes) sents ≡ flat_map (λ w. plan_block p windows w.0 w.1) windows
+  abbrev found : List Answers
+  found = reports_answered p.queries lanes None [] sents
+
+  right : found ≡ map (λ w. answers_at p windows w.0) windows
+  right = along [] windows None [] refl (recalls_none p.queries pieces None [] refl) ∙ all_windows p.queries p.tables p.entries windows entries rising
+
+  blocks_are : blocks_of p.queries found ≡ flat_map (λ w. plan_block p windows w.0 w.1) windows
   blocks_are =
       let block : Answers → List ℕ = λ a. block_text p.queries a true in
-      flat_map-map (block_of p.queries lanes) (sent_of p windows) windows
-      ∙ sym (flat_map-map block answers_in windows)
-      ∙ ap (flat_map block) right
-      ∙ flat_map-map block (λ w. answers_at p windows w.0) windows
+      ap (flat_map block) right ∙ flat_map-map block (λ w. answers_at p windows w.0) windows
 
-  sums_are : sum_by (λ sent. (answers_to p.queries lanes sent).emitted) sents ≡ emitted_in p windows
+  sums_are : sum_by (λ (a : Answers). a.emitted) found ≡ emitted_in p windows
   sums_are =
       let sent_in : Answers → ℕ = λ a. a.emitted in
-      sum_is (λ sent. (answers_to p.queries lanes sent).emitted) sents
-      ∙ ap sum (map_both (sent_of p windows) (λ sent. (answers_to p.queries lanes sent).emitted) windows)
-      ∙ ap sum (sym (map_both answers_in sent_in windows))
-      ∙ ap (λ (xs : List Answers). sum (map sent_in xs)) right
+      ap (sum_by sent_in) right
+      ∙ sum_is sent_in (map (λ w. answers_at p windows w.0) windows)
       ∙ ap sum (map_both (λ w. answers_at p windows w.0) sent_in windows)
 
   text_is : answered_text p.queries lanes sents ≡ flat_map (λ w. plan_block p windows w.0 w.1) windows ++ total_line (length windows) (Some (emitted_in p windows))
   text_is =
-      ap (λ (ts : List ℕ). ts ++ total_line (length sents) (Some (sum_by (λ sent. (answers_to p.queries lanes sent).emitted) sents))) blocks_are
-      ∙ ap (λ n. flat_map (λ w. plan_block p windows w.0 w.1) windows ++ total_line n (Some (sum_by (λ sent. (answers_to p.queries lanes sent).emitted) sents))) (length-map windows (sent_of p windows))
+      let sent : ℕ = sum_by (λ (a : Answers). a.emitted) found in
+      ap (λ (ts : List ℕ). ts ++ total_line (length sents) (Some sent)) blocks_are
+      ∙ ap (λ n. flat_map (λ w. plan_block p windows w.0 w.1) windows ++ total_line n (Some sent)) (length-map windows (sent_of p windows))
       ∙ ap (λ n. flat_map (λ w. plan_block p windows w.0 w.1) windows ++ total_line (length windows) (Some n)) sums_are
 
   bytes_are : bytes_of (map as_sent (frames_in sents)) ≡ flat_map (λ w. frames_block p windows w.0 w.1) windows

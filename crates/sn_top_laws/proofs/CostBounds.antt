@@ -1,22 +1,28 @@
 -- What plans cost over training windows are numbers of 64 bits, and so are the bounds of their trees.
-use Rattle.std.proofs.Common.{◌≡◌, ℕ, zero, suc, ◌*◌, ◌-◌, ◌^◌, ◌≤◌, ◌<◌, Bool, true, false, cond, List, [], ◌∷◌, filter, length, map, Option, None, Some, slice_index, refl, arith, inl, inr}
-use Rattle.std.specs.Prelude.{◌==◌, min, nat_eq}
+use Rattle.std.proofs.Common.{◌≡◌, ℕ, zero, suc, ◌+◌, ◌*◌, ◌-◌, ◌^◌, ◌≤◌, ◌<◌, Bool, true, false, cond, List, [], ◌∷◌, filter, length, map, Option, None, Some, slice_index, mul-le-mul_left, refl, sym, subst, arith, inl, inr}
+use Rattle.std.specs.Prelude.{◌==◌, min, nat_eq, nat_lt}
 use Rattle.std.specs.List.{AllByRecursion, sum_by}
 use Rattle.std.specs.Option.{option_map}
+use Rattle.std.proofs.lemmas.Bool.{ltb-false, ltb-true}
 use Rattle.std.proofs.lemmas.List.{length-map}
 use Rattle.std.proofs.lemmas.List.Sums.{sum_by-cons}
-use Rattle.sn_base.proofs.Lists.{all_append, filter_short as fewer}
+use Rattle.sn_base.proofs.Lists.{all_append, by_test, filter_short as fewer}
 use Rattle.sn_base.specs.Groups.{Row}
-use Rattle.sn_cost.specs.Entries.{front_of, records, sent_in, sent_of, trained}
+use Rattle.sn_cost.specs.Entries.{cost_in, entry_count, front_of, records, sent_in, sent_of, trained}
+use Rattle.sn_cost.specs.Training.{NeverFall}
+use Rattle.sn_cost.proofs.Bounded.{entry_most}
 use Rattle.sn_cost.proofs.Growing.{packets_few}
 use Rattle.sn_cost_laws.specs.Space.{trained_entry, trained_plans}
 use Rattle.sn_ops.specs.Packets.{packet_rows}
 use Rattle.sn_plan_choices.specs.Options.{Setting, option_at}
 use Rattle.sn_plan_space.specs.Readable.{AreReadable}
 use Rattle.sn_plan_space.proofs.Bounds.{lower_fits}
+use Rattle.sn_engine_split.specs.Opened.{is_open}
+use Rattle.sn_refine.specs.Passes.{passes_at, prefixes_before}
 use Rattle.sn_refine.specs.Refined.{Windows, answered, before, is_in, column_of, refined_rows, seen_at}
 use Rattle.sn_refine.specs.Steps.{windows_of}
 use Rattle.sn_switch.specs.declared.switch.Switch.{Switch}
+use Rattle.sn_switch.specs.Texts.{IsSwitch}
 use Rattle.sn_tree_space.specs.declared.node.Node.{Node}
 use Rattle.sn_tree_space.specs.Space.{IsOneOf, IsPartial, Space, children}
 use Rattle.sn_tree_space.specs.Trees.{CoverAll, Covers, bound, broken, chosen, each, expand, none}
@@ -24,7 +30,7 @@ use Rattle.sn_tree_space.proofs.Partials.{child_partial}
 use Rattle.sn_tree_text.specs.Printing.{IsSmall}
 use Rattle.sn_types.specs.declared.typed_query.TypedQuery.{TypedQuery}
 use Rattle.sn_types.specs.Cuts.{size_at}
-use Rattle.sn_types.specs.Typed.{branch_at, branch_of, query_at}
+use Rattle.sn_types.specs.Typed.{IsTyped, blank_query, branch_at, branch_of, query_at}
 use Rattle.sn_types.specs.Values.{op_at}
 use Rattle.sn_windows.specs.Windows as numbered
 use Rattle.sn_top_laws.proofs.ItemCounts.{items_few, most, once_fewer}
@@ -84,6 +90,14 @@ seen_few : (query : TypedQuery) (windows : Windows) (front : List ℕ) (j w : �
 seen_few query windows front zero w h = h
 seen_few query windows front (suc j) w h = answered_few query (slice_index front j) (before (refined_rows query windows front j) w) (windows w) h
 
+passes_few : (query : TypedQuery) (entries : Option ℕ) (windows : Windows) (front : List ℕ) (j w : ℕ) → Few (windows w) → Few (passes_at query entries windows front j w)
+passes_few query entries windows front zero w h = h
+passes_few query entries windows front (suc j) w h = by_room (is_open entries (prefixes_before query windows front j w)) (seen_few query windows front (suc j) w h)
+  where
+    by_room : (b : Bool) → Few (seen_at query windows front (suc j) w) → Few (cond b (windows w) (seen_at query windows front (suc j) w))
+    by_room true k = h
+    by_room false k = k
+
 sent_few : (query : TypedQuery) (b level depth : ℕ) (o : Setting) (seen : Option (List (List ℕ))) → length (branch_of query b).ops ≤ 12 → Few seen → sent_of query b level depth o seen ≤ 14 * most
 sent_few query b level depth o None ops h = omega arith
 sent_few query b level depth o (Some tuples) ops h =
@@ -101,20 +115,47 @@ sum_few : (f : Window → ℕ) (given : List Window) → ((g : Window) → f g �
 sum_few f [] h = omega arith
 sum_few f (g ∷ gs) h = let one = sum_by-cons f g gs in let a = h g in let rest = sum_few f gs h in omega (arith, one, a, rest)
 
-module _ (s : Switch) (queries : List TypedQuery) (ops : HaveFewOps queries) (numbers : List ℕ) (tuples : List (List ℕ)) (few : length tuples ≤ most) where
+-- after the last query there is a blank one
+blank_behind : (queries : List TypedQuery) (q : ℕ) → length queries ≤ q → query_at queries q ≡ blank_query
+blank_behind [] q le = refl
+blank_behind (x ∷ xs) zero le = absurd (omega (arith, le))
+blank_behind (x ∷ xs) (suc q) le = blank_behind xs q (omega (arith, le))
+
+module _ (s : Switch) (switch : IsSwitch s) (window : ℕ) (queries : List TypedQuery) (typed : ∥ IsTyped window queries ∥₁) (ops : HaveFewOps queries) (numbers : List ℕ) (tuples : List (List ℕ)) (few : length tuples ≤ most)
+    (alike : length numbers ≡ length tuples) (never : NeverFall numbers) where
   abbrev given : List Window
   given = trained numbers tuples
 
+  -- without a query nothing is installed
+  no_more : (n : ℕ) → n ≤ 14 * most → n + s.weight * 0 ≤ 14 * most
+  no_more n le = omega (arith, le)
+
+  none_installed : (prefix b : ℕ) (o : Setting) → ((w : ℕ) → sent_in blank_query s.entries (windows_of given) [] b s.chain o w ≤ 14 * most) → entry_count s.chain s.entries s.weight blank_query given prefix b o ≤ length given * (14 * most)
+  none_installed prefix b o sends =
+      sum_few (λ (g : Window). cost_in blank_query s.entries s.weight (windows_of given) [] b s.chain o g.0) given
+      (λ g. no_more (sent_in blank_query s.entries (windows_of given) [] b s.chain o g.0) (sends g.0))
+
   pub entry_small : (q prefix b x : ℕ) → trained_entry s queries given q prefix b x ≤ 2 ^ 56
   entry_small q prefix b x =
-      let query : TypedQuery = query_at queries q in
       let o : Setting = option_at s (branch_at queries q b) x in
-      let front : List ℕ = front_of prefix query.levels in
-      let each = sum_few (λ (g : Window). sent_in query (windows_of given) front b s.chain o g.0) given
-      (λ g. sent_few query b (slice_index front (length front - 1)) s.chain o (seen_at query (windows_of given) front (length front - 1) g.0) (ops q b)
-      (seen_few query (windows_of given) front (length front - 1) g.0 (given_few given (trained_few numbers tuples few) g.0))) in
       let count = windows_few numbers tuples few in
-      omega (arith, each, count)
+      by_test (nat_lt q (length queries))
+      (λ is.
+      let most_cost = entry_most s.chain s.entries s.weight window q queries numbers tuples prefix b (14 * most) o typed (ltb-true q (length queries) is) alike never (sends q prefix b o) in
+      let heavy : s.weight * length tuples ≤ s.weight * most = mul-le-mul_left s.weight few in
+      let light = switch.weight.1 in
+      omega (arith, most_cost, heavy, light, count))
+      (λ isnt.
+      let blank = blank_behind queries q (ltb-false q (length queries) isnt) in
+      let most_sent = subst (λ (y : TypedQuery). ((w : ℕ) → sent_in y s.entries (windows_of given) (front_of prefix y.levels) b s.chain o w ≤ 14 * most) → entry_count s.chain s.entries s.weight y given prefix b o ≤ length given * (14 * most)) (sym blank) (none_installed prefix b o) (sends q prefix b o) in
+      omega (arith, most_sent, count))
+    where
+      sends : (q prefix b : ℕ) (o : Setting) (w : ℕ) → sent_in (query_at queries q) s.entries (windows_of given) (front_of prefix (query_at queries q).levels) b s.chain o w ≤ 14 * most
+      sends q prefix b o w =
+          let query : TypedQuery = query_at queries q in
+          let front : List ℕ = front_of prefix query.levels in
+          sent_few query b (slice_index front (length front - 1)) s.chain o (passes_at query s.entries (windows_of given) front (length front - 1) w) (ops q b)
+          (passes_few query s.entries (windows_of given) front (length front - 1) w (given_few given (trained_few numbers tuples few) w))
 
   -- ---- bounds of partial plans, and trees of them
 

@@ -13,7 +13,7 @@ use Rattle.sn_types.specs.Cuts.{cut_behind_distinct, filters_ahead, greatest_cut
 use Rattle.sn_types.specs.Typed.{IsTyped, branch_at, query_at}
 use Rattle.sn_types.proofs.Facts.{branch_source_of}
 use Rattle.sn_engine_split.proofs.Typed.{cut_of}
-use Rattle.sn_pipe.proofs.Fronts.{filters_short, behind_short, cut_short}
+use Rattle.sn_pipe.proofs.Fronts.{cut_short}
 
 -- ---- the same, read from the front: after a reduce, after a distinct, and from the start
 

@@ -2,7 +2,7 @@
 use Rattle.std.proofs.Common.{◌≡◌, ℕ, zero, suc, ◌+◌, ◌<◌, ◌/◌, ◌%◌, Bool, true, false, cond, not, ◌&&◌, ◌==◌, List, [], ◌∷◌, ◌++◌, refl, ap, sym, ◌∙◌, append_assoc, append-nil, arith}
 use Rattle.std.specs.Fmt.{decimal, digit_glyph, digits, digits_onto}
 use Rattle.std.specs.List.{flat_map, list_all}
-use Rattle.std.proofs.lemmas.Bool.{false≢true, lt-ltb, ne_eqb}
+use Rattle.std.proofs.lemmas.Bool.{lt-ltb, ne_eqb}
 use Rattle.sn_base.proofs.Lists.{by_test, and_parts}
 use Rattle.sn_top_laws.specs.Events.{is_event, lines_in, unless_event, without_events}
 use Rattle.sn_text_rules.proofs.Choices.{is_no}
@@ -12,9 +12,9 @@ use Rattle.sn_text_rules.proofs.Choices.{is_no}
 abbrev pub no_feed : ℕ → Bool
 no_feed c = not (c == 10)
 
--- `e`, with which a line of an event begins
+-- `v`, the second letter of a line of an event; its first one is a hexadecimal digit too
 abbrev pub no_start : ℕ → Bool
-no_start c = not (101 == c)
+no_start c = not (118 == c)
 
 pub all_both : (test : ℕ → Bool) (xs ys : List ℕ) → list_all test xs ≡ true → list_all test ys ≡ true → list_all test (xs ++ ys) ≡ true
 all_both test [] ys e f = f
@@ -44,13 +44,14 @@ pub digit_feeds : (d : ℕ) → d < 10 → no_feed (48 + d) ≡ true
 digit_feeds d few = ap not (ne_eqb (48 + d) 10 (λ e. omega arith))
 
 pub digit_starts : (d : ℕ) → d < 10 → no_start (48 + d) ≡ true
-digit_starts d few = ap not (ne_eqb 101 (48 + d) (λ e. omega arith))
+digit_starts d few = ap not (ne_eqb 118 (48 + d) (λ e. omega arith))
 
 -- ---- one line
 
 abbrev pub starts_plain : List ℕ → Bool
 starts_plain [] = true
-starts_plain (c ∷ cs) = no_start c
+starts_plain (c ∷ []) = true
+starts_plain (c ∷ d ∷ ds) = no_start d
 
 lines_line : (xs rest : List ℕ) → list_all no_feed xs ≡ true → lines_in (xs ++ 10 ∷ rest) ≡ (xs ++ 10 ∷ []) ∷ lines_in rest
 lines_line [] rest e = refl
@@ -58,9 +59,14 @@ lines_line (c ∷ xs) rest e =
     let k = and_parts (no_feed c) (list_all no_feed xs) e in
     rw (is_no (c == 10) k.0, lines_line xs rest k.1) refl
 
+none_after : (b : Bool) → (b && false) ≡ false
+none_after true = refl
+none_after false = refl
+
 not_event : (xs : List ℕ) → starts_plain xs ≡ true → is_event (xs ++ 10 ∷ []) ≡ false
 not_event [] e = refl
-not_event (c ∷ xs) e = rw (is_no (101 == c) e) refl
+not_event (c ∷ []) e = none_after (101 == c)
+not_event (c ∷ d ∷ ds) e = rw (is_no (118 == d) e) (none_after (101 == c))
 
 -- ---- parts of texts
 

@@ -13,7 +13,7 @@ use Rattle.sn_command_capture.specs.Capture.{before_last, block_in, blocks_in, e
 use Rattle.sn_command_capture.specs.Gathering.{all_of}
 use Rattle.sn_command_capture.specs.Wording.{Wording}
 use Rattle.sn_core.specs.declared.supply.Supply.TheVariants.{End}
-use Rattle.sn_core_trace.specs.Turns.{up_to_close, watch_on}
+use Rattle.sn_core_drive.specs.Turns.{up_to_close, watch_on}
 use Rattle.sn_command_finish.specs.Taken.{followed, goes_on}
 use Rattle.sn_command_live.specs.Live.{Certifies, Live, Searched, Searches, TracedLive, trained_windows}
 use Rattle.sn_command_live.proofs.LiveLemmas.{one_live_run}

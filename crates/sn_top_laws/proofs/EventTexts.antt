@@ -1,5 +1,5 @@
 -- Answers, plans and trees have no lines of events, and what happens in a machine has no others.
-use Rattle.std.proofs.Common.{◌≡◌, ℕ, ◌/◌, ◌%◌, ◌^◌, Bool, true, false, cond, List, [], ◌∷◌, ◌++◌, length, Option, Some, None, refl, subst, append_assoc}
+use Rattle.std.proofs.Common.{◌≡◌, ℕ, ◌+◌, ◌/◌, ◌%◌, ◌^◌, ◌<◌, ◌≢◌, Bool, true, false, not, ◌&&◌, ◌==◌, nat_lt, cond, List, [], ◌∷◌, ◌++◌, length, Option, Some, None, refl, ap, subst, append_assoc, arith}
 use Rattle.std.specs.Prelude.{codes}
 use Rattle.std.specs.Fmt.{decimal}
 use Rattle.std.specs.List.{AllByRecursion, flat_map, list_all}
@@ -7,8 +7,8 @@ use Rattle.sn_base.specs.declared.column.Column.{Column}
 use Rattle.sn_base.specs.Groups.{Row}
 use Rattle.sn_core.specs.declared.event.Event.{Event}
 use Rattle.sn_core.specs.declared.event.Event.TheVariants.{Packet, ReadOut, Deliver, CloseWindow, Install}
-use Rattle.sn_core_trace.specs.Lines.{close_words, deliver_words, event_line, install_words, lines_of, packet_words, read_words}
-use Rattle.sn_out.specs.Text.{answer_text, bad_words, block_text, counted, cut_words, damage_line, dotted, emitted_text, emitted_words, level_text, level_words, number_text, numbers_text, part_text, query_line, query_words, row_line, rows_words, spaced_texts, total_line, total_words, window_line, window_words}
+use Rattle.sn_core_drive.specs.Lines.{close_words, deliver_words, event_line, install_words, lines_of, packet_words, read_words}
+use Rattle.sn_out.specs.Text.{answer_text, bad_words, block_text, counted, cut_words, damage_line, dotted, emitted_text, group_text, grouped, half_text, hex_digit, emitted_words, level_text, level_words, number_text, numbers_text, part_text, query_line, query_words, row_line, rows_words, spaced_texts, total_line, total_words, window_line, window_words}
 use Rattle.sn_pcap.specs.declared.packet.Ending.{Ending}
 use Rattle.sn_pcap.specs.declared.packet.Ending.TheVariants.{Clean, Cut, Bad}
 use Rattle.sn_plan.specs.Printing.{entry_text, list_text, next_text, piece_text, plan_text, sizes_text, texts}
@@ -23,7 +23,8 @@ use Rattle.sn_types.specs.declared.answers.Part.{Part}
 use Rattle.sn_types.specs.declared.typed_query.TypedQuery.{TypedQuery}
 use Rattle.sn_types.specs.Typed.{final_columns, query_at}
 use Rattle.sn_top_laws.proofs.EventLines.{Leaves, Stays, all_both, both_stay, decimal_passes, digit_feeds, digit_starts, each_goes, each_leaves, line_goes, line_stays, no_feed, no_start, none_leaves, starts_plain}
-use Rattle.sn_base.proofs.Lists.{and_parts as both_so}
+use Rattle.sn_base.proofs.Lists.{by_test, and_parts as both_so}
+use Rattle.std.proofs.lemmas.Bool.{ne_eqb}
 
 -- a text without a line feed
 abbrev pub IsOneLine : List ℕ → Type 0
@@ -47,7 +48,8 @@ no_starts text = list_all no_start text ≡ true
 digits_starts : (n : ℕ) → no_starts (decimal n)
 digits_starts n = decimal_passes no_start digit_starts n
 
-module _ (test : ℕ → Bool) (dot : test 46 ≡ true) (space : test 32 ≡ true) (digits : (n : ℕ) → list_all test (decimal n) ≡ true) where
+module _ (test : ℕ → Bool) (dot : test 46 ≡ true) (colon : test 58 ≡ true) (space : test 32 ≡ true) (hex : (d : ℕ) → d < 16 → test (hex_digit d) ≡ true)
+    (digits : (n : ℕ) → list_all test (decimal n) ≡ true) where
   after_dot : (n : ℕ) → list_all test (46 ∷ decimal n) ≡ true
   after_dot n = rw dot (digits n)
 
@@ -58,28 +60,69 @@ module _ (test : ℕ → Bool) (dot : test 46 ≡ true) (space : test 32 ≡ tru
       (all_both test (decimal (n / 2 ^ 24 % 256)) (46 ∷ decimal (n / 2 ^ 16 % 256)) (digits (n / 2 ^ 24 % 256)) (after_dot (n / 2 ^ 16 % 256))) (after_dot (n / 2 ^ 8 % 256)))
       (after_dot (n % 256))
 
-  by_address : (address : Bool) (n : ℕ) → list_all test (cond address (dotted n) (decimal n)) ≡ true
-  by_address true n = dotted_passes n
-  by_address false n = digits n
+  group_passes : (n : ℕ) → list_all test (group_text n) ≡ true
+  unfolding group_text
+  group_passes n =
+      let a = hex (n / 2 ^ 12 % 16) (omega arith) in
+      let b = hex (n / 2 ^ 8 % 16) (omega arith) in
+      let c = hex (n / 2 ^ 4 % 16) (omega arith) in
+      let d = hex (n % 16) (omega arith) in
+      rw (a, b, c, d) refl
+
+  after_colon : (n : ℕ) → list_all test (58 ∷ group_text n) ≡ true
+  after_colon n = rw colon (group_passes n)
+
+  half_passes : (n : ℕ) → list_all test (half_text n) ≡ true
+  half_passes n =
+      let a : List ℕ = group_text (n / 2 ^ 48 % 2 ^ 16) in
+      let b : List ℕ = group_text (n / 2 ^ 32 % 2 ^ 16) in
+      let c : List ℕ = group_text (n / 2 ^ 16 % 2 ^ 16) in
+      let d : List ℕ = group_text (n % 2 ^ 16) in
+      all_both test (a ++ 58 ∷ b ++ 58 ∷ c) (58 ∷ d)
+      (all_both test (a ++ 58 ∷ b) (58 ∷ c) (all_both test a (58 ∷ b) (group_passes (n / 2 ^ 48 % 2 ^ 16)) (after_colon (n / 2 ^ 32 % 2 ^ 16))) (after_colon (n / 2 ^ 16 % 2 ^ 16)))
+      (after_colon (n % 2 ^ 16))
+
+  grouped_passes : (n : ℕ) → list_all test (grouped n) ≡ true
+  grouped_passes n = all_both test (half_text (n / 2 ^ 64)) (58 ∷ half_text (n % 2 ^ 64)) (half_passes (n / 2 ^ 64)) (rw colon (half_passes (n % 2 ^ 64)))
+
+  by_width : (wide : Bool) (n : ℕ) → list_all test (cond wide (grouped n) (dotted n)) ≡ true
+  by_width true n = grouped_passes n
+  by_width false n = dotted_passes n
+
+  by_address : (address wide : Bool) (n : ℕ) → list_all test (cond address (cond wide (grouped n) (dotted n)) (decimal n)) ≡ true
+  by_address true wide n = by_width wide n
+  by_address false wide n = digits n
 
   spaced_passes : (columns : List Column) (row : Row) → list_all test (spaced_texts columns row) ≡ true
   spaced_passes [] row = refl
   spaced_passes (c ∷ cs) [] = refl
   spaced_passes (c ∷ cs) (n ∷ ns) =
-      all_both test (32 ∷ number_text c n) (spaced_texts cs ns) (rw space (by_address c.address n)) (spaced_passes cs ns)
+      all_both test (32 ∷ number_text c n) (spaced_texts cs ns) (rw space (by_address c.address (c.width == 128) n)) (spaced_passes cs ns)
 
   row_passes : (columns : List Column) (row : Row) → list_all test (numbers_text columns row) ≡ true
   row_passes [] row = refl
   row_passes (c ∷ cs) [] = refl
-  row_passes (c ∷ cs) (n ∷ ns) = all_both test (number_text c n) (spaced_texts cs ns) (by_address c.address n) (spaced_passes cs ns)
+  row_passes (c ∷ cs) (n ∷ ns) = all_both test (number_text c n) (spaced_texts cs ns) (by_address c.address (c.width == 128) n) (spaced_passes cs ns)
 
 first_starts : (text : List ℕ) → no_starts text → starts_plain text ≡ true
 first_starts [] e = refl
-first_starts (c ∷ cs) e = (both_so (no_start c) (list_all no_start cs) e).0
+first_starts (c ∷ []) e = refl
+first_starts (c ∷ d ∷ ds) e = (both_so (no_start d) (list_all no_start ds) (both_so (no_start c) (no_start d && list_all no_start ds) e).1).0
+
+-- a hexadecimal digit is no letter past `f`, and no line feed
+other_code : (k d : ℕ) → k ≢ 48 + d → k ≢ 87 + d → (k == hex_digit d) ≡ false
+other_code k d a b = by_test (nat_lt d 10) (λ is. rw is (ne_eqb k (48 + d) a)) (λ isnt. rw isnt (ne_eqb k (87 + d) b))
+
+hex_starts : (d : ℕ) → d < 16 → no_start (hex_digit d) ≡ true
+hex_starts d few = ap not (other_code 118 d (λ e. omega arith) (λ e. omega arith))
+
+hex_feeds : (d : ℕ) → d < 16 → no_feed (hex_digit d) ≡ true
+hex_feeds d few = by_test (nat_lt d 10) (λ is. rw is (ap not (ne_eqb (48 + d) 10 (λ e. omega arith)))) (λ isnt. rw isnt (ap not (ne_eqb (87 + d) 10 (λ e. omega arith))))
 
 row_stays : (columns : List Column) (row : Row) → Stays (row_line columns row)
 row_stays columns row =
-    line_stays (numbers_text columns row) (row_passes no_feed refl refl number_line columns row) (first_starts (numbers_text columns row) (row_passes no_start refl refl digits_starts columns row))
+    line_stays (numbers_text columns row) (row_passes no_feed refl refl refl hex_feeds number_line columns row)
+    (first_starts (numbers_text columns row) (row_passes no_start refl refl refl hex_starts digits_starts columns row))
 
 -- ---- answers
 

@@ -3,11 +3,11 @@ use Rattle.std.proofs.Common.{◌≡◌, ℕ, zero, suc, ◌+◌, ◌*◌, ◌�
 use Rattle.std.specs.Prelude.{◌-◌, ◌/◌, ◌%◌, ◌==◌, ◌||◌, nat_eq}
 use Rattle.std.specs.List.{AllByRecursion}
 use Rattle.std.proofs.lemmas.Option.{slice_get_within}
-use Rattle.sn_base.proofs.Lists.{all_append, all_weaker, nat_same, all_two}
+use Rattle.sn_base.proofs.Lists.{all_weaker, nat_same, all_two}
 use Rattle.sn_plan_choices.specs.Options.{path_of}
 use Rattle.sn_plan_choices.specs.Settings.{IsNarrow}
 use Rattle.sn_plan_fit.specs.Fits.{AreEntriesOf, Fits, IsEntryOf, IsPath, OnBranch, PieceFits, PiecesFit}
-use Rattle.sn_plan_fit.specs.Paths.{Place, is_among, level_places, piece_place, places}
+use Rattle.sn_plan_fit.specs.Paths.{Place, is_among, piece_place, places}
 use Rattle.sn_plan_fit.specs.Pieces.{piece_branch, prefix_of, tables_of}
 use Rattle.sn_plan_fit.specs.Placing.{StandAt, Table, register, stateless}
 use Rattle.sn_plan_fit.specs.Tables.{membership, op_tables}
@@ -27,7 +27,7 @@ use Rattle.sn_types.specs.declared.typed_query.TypedQuery.{TypedQuery}
 use Rattle.sn_types.specs.Cuts.{is_stateful, stateful}
 use Rattle.sn_types.specs.Typed.{branch_of}
 use Rattle.sn_top_laws.proofs.PlanFits.{AreEntries, AreSizes, IsEntryIn, IsName, IsPieceOf, both, neither}
-use Rattle.sn_engine_lockstep.proofs.Apart.{levels_all, places_all}
+use Rattle.sn_engine_lockstep.proofs.Apart.{places_all}
 use Rattle.sn_plan_lists.proofs.Slots.{times_next}
 use Rattle.sn_report.proofs.Outcomes.{nothing}
 

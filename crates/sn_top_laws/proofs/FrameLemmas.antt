@@ -1,5 +1,5 @@
 -- The items of a piece are those that its lane of the engine takes, and their frames have bytes.
-use Rattle.std.proofs.Common.{◌≡◌, ℕ, zero, suc, ◌<◌, ◌≤◌, ◌^◌, List, [], ◌∷◌, ◌&&◌, ◌||◌, ◌==◌, length, take, Bool, true, false, cond, not, nat_lt, Some, None, slice_index, refl, ap, sym, ◌∙◌, subst, arith}
+use Rattle.std.proofs.Common.{◌≡◌, ℕ, zero, suc, ◌<◌, ◌≤◌, ◌^◌, List, [], ◌∷◌, ◌&&◌, ◌||◌, ◌==◌, length, take, Bool, true, false, cond, not, nat_lt, Option, Some, None, slice_index, refl, ap, sym, ◌∙◌, subst, arith}
 use Rattle.std.specs.List.{AllByRecursion, AllByRecursion-prop, list_any}
 use Rattle.std.proofs.Math.Bridge.{le_prop}
 use Rattle.std.proofs.Math.Logic.{∥∥₁_elim}
@@ -12,10 +12,11 @@ use Rattle.sn_base.proofs.Lists.{all_filter, by_test, nat_same}
 use Rattle.sn_engine_lockstep.specs.declared.source.Source.{Source}
 use Rattle.sn_engine_lockstep.specs.Sources.{source_at, source_of}
 use Rattle.sn_engine_lockstep.specs.Work.{intake_of, name_of}
-use Rattle.sn_engine_lockstep.proofs.Seeing.{items_seen, seen_by}
+use Rattle.sn_engine_lockstep.proofs.Seeing.{items_passed, passed_by, seen_by}
 use Rattle.sn_emit.specs.Making.{CanMake}
 use Rattle.sn_emit.specs.Plans.{Placed, items_of}
 use Rattle.sn_emit.specs.Senders.{row_frame}
+use Rattle.sn_emit.specs.declared.tables.Tables.{Tables}
 use Rattle.sn_engine.specs.Taking.{has_columns, row_fault}
 use Rattle.sn_engine.specs.declared.fault.TakeFault.TheVariants.{Stranger, Width}
 use Rattle.sn_plan_fit.specs.Paths.{place_in}
@@ -27,13 +28,14 @@ use Rattle.sn_report.specs.Items.{Item}
 use Rattle.sn_report.specs.declared.frame.Tag.{Tag}
 use Rattle.sn_report.specs.declared.frame.Tag.TheVariants.{At, Partial}
 use Rattle.sn_report.specs.Frames.{HasColumns, IsFrame}
+use Rattle.sn_engine_split.specs.Opened.{is_open}
 use Rattle.sn_engine_split.specs.Branches.{IsItemOf, is_at_place, is_distinct, is_reduce, is_tag_of, tag_columns}
 use Rattle.sn_types.specs.declared.typed_op.TOp.{TOp}
 use Rattle.sn_types.specs.Cuts.{is_stateful}
 use Rattle.sn_types.specs.declared.typed_query.TypedBranch.{TypedBranch}
 use Rattle.sn_types.specs.declared.typed_query.TypedQuery.{TypedQuery}
 use Rattle.sn_types.specs.Typed.{HasWidths, IsTyped, branch_at, query_at, schema_at}
-use Rattle.sn_types.specs.Typing.{schemas_along, typed_ops}
+use Rattle.sn_types.specs.Typing.{schemas_along}
 use Rattle.sn_types.proofs.Facts.{branch_source_of, few_ops, few_packet_fields, length-typed_ops}
 use Rattle.sn_types.proofs.RowsAfter.{as_long}
 use Rattle.sn_types.proofs.Schemas.{HasWidth, IsSchema, packet_schema, schema_after}
@@ -119,13 +121,21 @@ module _ (window : ℕ) (queries : List TypedQuery) (x : Placed) (t : ∥ IsType
   seen_widths path kept tuples zero widths = widths
   seen_widths path kept tuples (suc j) widths = all_filter HasWidths (is_held (query_at queries x.query).field _ (kept j)) tuples widths
 
-  pub all_good : (depth : ℕ) (kept : Source → Set) (tuples : List (List ℕ)) → AllByRecursion HasWidths tuples → AllByRecursion (IsGood queries x) (items_of queries depth x (kept (source_of x)) tuples)
-  all_good depth kept tuples widths =
+  passed_widths : (entries : Option ℕ) (path : List ℕ) (kept : ℕ → Set) (tuples : List (List ℕ)) (place : ℕ) → AllByRecursion HasWidths tuples → AllByRecursion HasWidths (passed_by (query_at queries x.query) entries path kept tuples place)
+  passed_widths entries path kept tuples zero widths = widths
+  passed_widths entries path kept tuples (suc j) widths =
+      elim (is_open entries (kept j)) as (λ b. AllByRecursion HasWidths (cond b tuples (seen_by (query_at queries x.query) path kept tuples (suc j)))) [
+        | true ↦ widths
+        | false ↦ seen_widths path kept tuples (suc j) widths
+      ]
+
+  pub all_good : (tables : Tables) (kept : Source → Set) (tuples : List (List ℕ)) → AllByRecursion HasWidths tuples → AllByRecursion (IsGood queries x) (items_of queries tables x (kept (source_of x)) tuples)
+  all_good tables kept tuples widths =
       let place : ℕ = place_in x.path x.piece.level in
       let before : ℕ → Set = λ j. kept (source_at x.query (Some (slice_index x.path j))) in
-      subst (AllByRecursion (IsGood queries x)) (sym (items_seen queries depth x.query x.path x.piece kept tuples))
-      (items_sent window x.query x.piece.branch x.piece.level x.piece.cut depth queries None x.piece.slots (seen_by (query_at queries x.query) x.path before tuples place) t can.query can.branch can.cut
-      (seen_widths x.path before tuples place widths))
+      subst (AllByRecursion (IsGood queries x)) (sym (items_passed queries tables x.query x.path x.piece kept tuples))
+      (items_sent window x.query x.piece.branch x.piece.level x.piece.cut tables.depth queries None x.piece.slots (passed_by (query_at queries x.query) tables.entries x.path before tuples place) t can.query can.branch can.cut
+      (passed_widths tables.entries x.path before tuples place widths))
 
   -- the lane takes it
   pub no_fault : (item : Item) → IsGood queries x item → row_fault queries (intake_of x) item ≡ None

@@ -1,5 +1,5 @@
 -- A plan of typed queries has a lane.
-use Rattle.std.proofs.Common.{◌≡◌, ℕ, ◌+◌, ◌<◌, ◌≤◌, List, [], ◌∷◌, map, length, Option, None, Some, ap, sym, ◌∙◌, arith}
+use Rattle.std.proofs.Common.{◌≡◌, ℕ, ◌+◌, ◌<◌, ◌≤◌, List, [], ◌∷◌, map, length, Some, ap, sym, ◌∙◌, arith}
 use Rattle.std.proofs.Math.Bridge.{le_prop}
 use Rattle.std.proofs.Math.Logic.{∥∥₁_elim}
 use Rattle.std.proofs.lemmas.List.{length-append, length-map}
@@ -8,8 +8,6 @@ use Rattle.sn_plan_fit.specs.Fits.{AreEntriesOf, IsEntryOf}
 use Rattle.sn_plan_fit.specs.Paths.{last_of, piece_place, places}
 use Rattle.sn_plan_grammar.specs.declared.plan.Entry.{Entry}
 use Rattle.sn_query_grammar.specs.declared.ast.Branch.{Branch}
-use Rattle.sn_query_grammar.specs.declared.ast.Join.{Join}
-use Rattle.sn_query_grammar.specs.Limits.{AreJoined}
 use Rattle.sn_types.specs.declared.typed_query.TypedBranch.{TypedBranch}
 use Rattle.sn_types.specs.declared.typed_query.TypedQuery.{TypedQuery}
 use Rattle.sn_types.specs.Typed.{IsTyped, query_at}

@@ -1,18 +1,17 @@
 -- The lanes of a plan by their names, and the frames of one among those of all.
-use Rattle.std.proofs.Common.{◌≡◌, ℕ, suc, ◌+◌, List, [], ◌∷◌, ◌++◌, ◌&&◌, ◌==◌, map, Bool, true, false, cond, refl, ap, sym, ◌∙◌, subst, append_assoc, append-nil, arith}
+use Rattle.std.proofs.Common.{◌≡◌, ℕ, List, [], ◌∷◌, ◌++◌, ◌&&◌, ◌==◌, map, Bool, true, false, cond, refl, ap, sym, ◌∙◌, subst, append_assoc, append-nil}
 use Rattle.std.specs.List.{AllByRecursion, flat_map, list_any}
 use Rattle.std.proofs.lemmas.Bool.{false≢true}
 use Rattle.std.proofs.lemmas.List.{map-append}
 use Rattle.std.proofs.lemmas.List.Elements.{filter-append}
 use Rattle.sn_base.specs.declared.lane.Lane.{Lane}
-use Rattle.sn_base.proofs.Lists.{all_append, all_map, all_weaker, by_test, map_both, nat_same, nat_self, not_true, or_left, or_right}
+use Rattle.sn_base.proofs.Lists.{all_append, all_map, all_weaker, by_test, nat_same, nat_self, not_true, or_left, or_right}
 use Rattle.sn_engine_lockstep.specs.Work.{AreApart, intake_of, name_of}
 use Rattle.sn_engine_lockstep.proofs.Changes.{own_name}
-use Rattle.sn_emit.specs.Plans.{Placed, pieces_from, placed}
+use Rattle.sn_emit.specs.Plans.{Placed}
 use Rattle.sn_engine.specs.declared.intake.Intake.{Intake}
-use Rattle.sn_engine.specs.Intakes.{intakes_of, is_lane}
+use Rattle.sn_engine.specs.Intakes.{is_lane}
 use Rattle.sn_command_finish.specs.Whole.{HaveNames, frames_of, name_of as lane_name}
-use Rattle.sn_plan_grammar.specs.declared.plan.Entry.{Entry}
 use Rattle.sn_report.specs.Items.{Frame}
 use Rattle.sn_report.specs.Frames.{lane_of as lane_in}
 

@@ -9,8 +9,9 @@ use Rattle.sn_base.specs.declared.fold.Or.{Or}
 use Rattle.sn_base.proofs.Lists.{none_some, some_same, all_at as all_index}
 use Rattle.sn_chain.specs.Chain.{empty_chain}
 use Rattle.sn_emit.specs.Making.{CanMake}
-use Rattle.sn_emit.specs.Plans.{IsNewPipeOf, Placed, items_of, level_before}
-use Rattle.sn_pipe.specs.declared.stage.Stage.{Stage}
+use Rattle.sn_emit.specs.Plans.{IsNewPipeOf, Placed, gate_before, items_of}
+use Rattle.sn_emit.specs.declared.tables.Tables.{Tables}
+use Rattle.sn_pipe.specs.AnyStage.{Stage}
 use Rattle.sn_pipe.specs.declared.stage.Stage.TheVariants.{Filter, Map, Distinct, Reduce}
 use Rattle.sn_pipe.specs.Pipes.{PipeState, after_packet, after_packets, at_start, item_of, packets_give}
 use Rattle.sn_pipe.specs.Stages.{cleared, top_of}
@@ -105,12 +106,12 @@ slots_of sizes os all enough k op at is =
     least [] h = tt
     least (n ∷ ns) h = (h.0.0, least ns h.1)
 
-pub record HasPipe (queries : List TypedQuery) (depth : ℕ) (x : Placed) : Type 0 where
+pub record HasPipe (queries : List TypedQuery) (tables : Tables) (x : Placed) : Type 0 where
   pub pipe : PipeState
-  pub new : IsNewPipeOf queries depth x pipe
+  pub new : IsNewPipeOf queries tables x pipe
 
-pub has_pipe : (queries : List TypedQuery) (depth : ℕ) (x : Placed) → CanMake queries x → HasPipe queries depth x
-has_pipe queries depth x can =
+pub has_pipe : (queries : List TypedQuery) (tables : Tables) (x : Placed) → CanMake queries x → HasPipe queries tables x
+has_pipe queries tables x can =
     let os : List TOp = take x.piece.cut (branch_at queries x.query x.piece.branch).ops in
     let some = slots_of x.piece.slots os can.sizes can.enough in
     let size = size_at os x.piece.slots in
@@ -118,9 +119,9 @@ has_pipe queries depth x can =
       pipe = record {
         query = query_at queries x.query;
         branch = x.piece.branch;
-        coarser = level_before x.path x.piece.level;
+        coarser = gate_before tables.entries x.path x.piece.level;
         members = set.empty;
-        prefix = record { level = x.piece.level; stages = stages_from depth size 0 os; place = 0 };
+        prefix = record { level = x.piece.level; stages = stages_from tables.depth size 0 os; place = 0 };
       };
       new = record {
         same_query = refl;
@@ -128,38 +129,38 @@ has_pipe queries depth x can =
         same_coarser = refl;
         no_member = refl;
         same_level = refl;
-        stages = record { same = tops_are depth size 0 os; fresh = fresh_are depth size 0 os; sized = sized_are depth size 0 os some };
+        stages = record { same = tops_are tables.depth size 0 os; fresh = fresh_are tables.depth size 0 os; sized = sized_are tables.depth size 0 os some };
         unread = refl;
       };
     }
 
 -- ---- the items of a piece
 
-module _ (window : ℕ) (queries : List TypedQuery) (depth : ℕ) (x : Placed) (kept : Set) (t : ∥ IsTyped window queries ∥₁) (can : CanMake queries x) where
-  module _ (pipe : PipeState) (new : IsNewPipeOf queries depth x pipe) where
+module _ (window : ℕ) (queries : List TypedQuery) (tables : Tables) (x : Placed) (kept : Set) (t : ∥ IsTyped window queries ∥₁) (can : CanMake queries x) where
+  module _ (pipe : PipeState) (new : IsNewPipeOf queries tables x pipe) where
     abbrev start : PipeState
     start = at_start pipe kept
 
     gives : (before tuples : List (List ℕ)) → AllByRecursion HasWidths (before ++ tuples)
-        → flat_map (sends_at queries depth x kept (before ++ tuples)) (range_with_len (length before) (length tuples)) ≡ packets_give (after_packets start before) tuples
+        → flat_map (sends_at queries tables x kept (before ++ tuples)) (range_with_len (length before) (length tuples)) ≡ packets_give (after_packets start before) tuples
     gives before [] widths = refl
     gives before (tuple ∷ tuples) widths =
         let all : List (List ℕ) = before ++ tuple ∷ tuples in
         let next : List (List ℕ) = before ++ tuple ∷ [] in
         let same : next ++ tuples ≡ all = append_assoc before (tuple ∷ []) tuples in
         let count : length before + 1 ≡ length next = let both = length-append before (tuple ∷ []) in omega (arith, both) in
-        ap (λ (is : List Item). is ++ flat_map (sends_at queries depth x kept all) (range_with_len (length before + 1) (length tuples))) (sym (piece_sends window queries depth x pipe kept t can new before tuples tuple widths))
+        ap (λ (is : List Item). is ++ flat_map (sends_at queries tables x kept all) (range_with_len (length before + 1) (length tuples))) (sym (piece_sends window queries tables x pipe kept t can new before tuples tuple widths))
         ∙ ap (λ (is : List Item). option_to_list (item_of (after_packets start before) tuple) ++ is)
-        (ap (λ (ts : List (List ℕ)). flat_map (sends_at queries depth x kept ts) (range_with_len (length before + 1) (length tuples))) (sym same)
-        ∙ ap (λ n. flat_map (sends_at queries depth x kept (next ++ tuples)) (range_with_len n (length tuples))) count
+        (ap (λ (ts : List (List ℕ)). flat_map (sends_at queries tables x kept ts) (range_with_len (length before + 1) (length tuples))) (sym same)
+        ∙ ap (λ n. flat_map (sends_at queries tables x kept (next ++ tuples)) (range_with_len n (length tuples))) count
         ∙ gives next tuples (subst (AllByRecursion HasWidths) (sym same) widths)
         ∙ ap (λ (p : PipeState). packets_give p tuples) (fold-append after_packet start before (tuple ∷ [])))
 
   -- the items at the packets, and then those that are read out, are the items of the piece
   pub items_are : (tuples : List (List ℕ)) → AllByRecursion HasWidths tuples
-      → flat_map (sends_at queries depth x kept tuples) (range_with_len 0 (length tuples)) ++ reads_out queries depth x kept tuples ≡ items_of queries depth x kept tuples
+      → flat_map (sends_at queries tables x kept tuples) (range_with_len 0 (length tuples)) ++ reads_out queries tables x kept tuples ≡ items_of queries tables x kept tuples
   items_are tuples widths =
-      let h : HasPipe queries depth x = has_pipe queries depth x can in
-      ap (λ (is : List Item). is ++ reads_out queries depth x kept tuples) (gives h.pipe h.new [] tuples widths)
-      ∙ ap (λ (is : List Item). packets_give (at_start h.pipe kept) tuples ++ is) (sym (piece_reads window queries depth x h.pipe kept t can h.new tuples widths))
-      ∙ typed_items window queries x.query x.piece.branch x.piece.level x.piece.cut depth (level_before x.path x.piece.level) x.piece.slots h.pipe kept tuples t can.query can.branch can.cut h.new widths
+      let h : HasPipe queries tables x = has_pipe queries tables x can in
+      ap (λ (is : List Item). is ++ reads_out queries tables x kept tuples) (gives h.pipe h.new [] tuples widths)
+      ∙ ap (λ (is : List Item). packets_give (at_start h.pipe kept) tuples ++ is) (sym (piece_reads window queries tables x h.pipe kept t can h.new tuples widths))
+      ∙ typed_items window queries x.query x.piece.branch x.piece.level x.piece.cut tables.depth (gate_before tables.entries x.path x.piece.level) x.piece.slots h.pipe kept tuples t can.query can.branch can.cut h.new widths

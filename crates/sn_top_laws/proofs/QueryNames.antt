@@ -1,6 +1,6 @@
 -- The names and the levels of queries that are read are those that a plan may have.
 use Rattle.std.proofs.Common.{◌≡◌, ℕ, ◌≤◌, Bool, true, false, cond, List, [], ◌∷◌, ◌++◌, length, Option, Some, None, Ok, refl, sym, ap, ◌∙◌, subst, arith}
-use Rattle.std.specs.Prelude.{◌==◌, ◌||◌, codes, nat_lt, IfSome}
+use Rattle.std.specs.Prelude.{◌==◌, ◌||◌, codes, nat_lt}
 use Rattle.std.specs.List.{AllByRecursion, list_any}
 use Rattle.std.proofs.lemmas.Bool.Decides.{nat_tests}
 use Rattle.std.proofs.lemmas.List.{map-append}
@@ -9,7 +9,7 @@ use Rattle.sn_command.specs.declared.fault.Fault.TheVariants as faults
 use Rattle.sn_command_texts.specs.Queries.{QueriesIn}
 use Rattle.sn_command_texts.proofs.Accepted.{read_ok}
 use Rattle.sn_query_grammar.specs.Grammar.{Body, Name, body_of, body_rule, file_rule, query_names, query_rule, refine_rule, with_name}
-use Rattle.sn_query_grammar.specs.Limits.{QueryLimits, RefineLimits}
+use Rattle.sn_query_grammar.specs.Limits.{QueryLimits}
 use Rattle.sn_query_grammar.specs.Names.{is_keyword, name_not, name_test}
 use Rattle.sn_query_grammar.specs.declared.ast.Query.{Query}
 use Rattle.sn_query_grammar.specs.declared.ast.QueryFile.{QueryFile}
@@ -23,7 +23,7 @@ use Rattle.sn_text_rules.specs.Rules.{Accepts, Rule, fit_from, holds_of, items_s
 use Rattle.sn_text_rules.specs.Tokens.{Lexeme, Mark, faces, finish, mark_face, mark_faces, number, plain, word}
 use Rattle.sn_text_rules.specs.Words.{full, is_word, keyword, same, sign, ◌▸◌, ◌◂◌}
 use Rattle.sn_text_rules.proofs.Common.{spelled_faces}
-use Rattle.sn_types.specs.Typing.{levels_of, typed_query}
+use Rattle.sn_types.specs.Typing.{typed_query}
 use Rattle.sn_types_read.specs.Texts as query_texts
 use Rattle.sn_types_read.specs.Texts.{Queries}
 use Rattle.sn_top_laws.proofs.FitPlans.{HasLevelsIn}

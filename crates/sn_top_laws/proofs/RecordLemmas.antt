@@ -1,6 +1,6 @@
 -- The windows of a capture's records are ones that a capture can have.
-use Rattle.std.proofs.Common.{◌≡◌, ℕ, ◌+◌, ◌-◌, ◌*◌, ◌<◌, ◌≤◌, ◌^◌, ◌==◌, List, [], ◌∷◌, map, filter, drop, Bool, true, false, not, cond, nat_eq, None, refl, ap, sym, ◌∙◌, subst, arith}
-use Rattle.std.specs.List.{AllByRecursion, flat_map, list_all}
+use Rattle.std.proofs.Common.{◌≡◌, ℕ, ◌+◌, ◌-◌, ◌*◌, ◌<◌, ◌≤◌, ◌^◌, ◌==◌, List, [], ◌∷◌, map, filter, drop, Bool, true, false, not, cond, nat_eq, None, ap, sym, ◌∙◌, subst, arith}
+use Rattle.std.specs.List.{AllByRecursion, flat_map}
 use Rattle.std.proofs.Math.Nat.{div-le_self}
 use Rattle.std.proofs.lemmas.List.Folds.{flat_map-map}
 use Rattle.sn_command_capture.specs.Capture.{block_in, blocks_in, time_of, window_in, windows_in}
@@ -8,13 +8,12 @@ use Rattle.sn_command_capture.specs.Wording.{Wording}
 use Rattle.sn_command_capture.proofs.WindowLemmas.{rising_above, windows_more}
 use Rattle.sn_base.specs.Groups.{once}
 use Rattle.sn_base.proofs.Lists.{all_filter, all_map, all_weaker}
-use Rattle.sn_plan_fit.proofs.Tests.{and_true}
 use Rattle.sn_pcap.specs.Capture.{Records, number_at, packet_at, no_byte, short_header, too_large, short_packet, whole}
 use Rattle.sn_pcap.specs.declared.header.Header.{Header}
 use Rattle.sn_pcap.specs.declared.packet.Packet.{Packet}
 use Rattle.sn_pcap.specs.declared.packet.Ending.{Ending}
 use Rattle.sn_types.specs.Typed.{HasWidths}
-use Rattle.sn_windows.specs.Blocks.{all_few, is_few, while_holds}
+use Rattle.sn_windows.specs.Blocks.{all_few, is_few}
 use Rattle.sn_windows.specs.Numbering.{Numbering, begun, next_first, next_number, numbered_from, stepped}
 use Rattle.sn_windows.specs.Windows.{in_window, number_at as window_at, numbered, offset, record_at, run_of, windows_of}
 use Rattle.sn_windows.proofs.NumberLemmas.{numbered_is, numbers_rise}

@@ -1,12 +1,9 @@
 -- A run of `live --trace` keeps the headline.
-use Rattle.std.proofs.Common.{◌≡◌, ℕ, List, [], ◌∷◌, Result, Ok, Err, inl, inr, ap, sym, ◌∙◌, subst, arith, refl}
-use Rattle.sn_command.specs.declared.refusal.Refusal.{Refusal}
-use Rattle.sn_command.specs.declared.refusal.Refusal.TheVariants.{Memory, Usage, Missing, ReadFault, WriteFault, Refused}
+use Rattle.std.proofs.Common.{◌≡◌, ℕ, List, [], ◌∷◌, Ok, inl, inr, ap, sym, ◌∙◌, subst, arith}
 use Rattle.sn_command.specs.Ends.{Around, Excused, IsCommandRun, end_status}
 use Rattle.sn_command.specs.Outcomes.{Has, Outcome}
 use Rattle.sn_command.specs.Refusals.{refusing}
 use Rattle.sn_command.specs.Worlds.{AnyRose, OutRose}
-use Rattle.sn_command.proofs.FaultLemmas.{faults_own}
 use Rattle.sn_command_capture.specs.Capture.{ending_verdict}
 use Rattle.sn_command_live.specs.Headline.{AreAccepted, Headline, KeepsLimits}
 use Rattle.sn_command_live.specs.Live.{Live, TracedLive}

@@ -10,7 +10,7 @@ use Rattle.sn_io.specs.Counts.{ByName}
 use Rattle.sn_top_laws.specs.Calls.{Wrote}
 use Rattle.sn_top_laws.specs.Written.{CallsConfirm, IsKeptBeside}
 use Rattle.sn_top_laws.proofs.CallLemmas.{status_is, text_is}
-use Rattle.sn_top_laws.proofs.WrittenLemmas.{Certified, check_given, due, due_prints, found, plan_certified, run_given, yes}
+use Rattle.sn_top_laws.proofs.WrittenLemmas.{Certified, check_given, costs_so, due, due_prints, found, plan_certified, run_given, sent, yes}
 use Rattle.sn_command_live.proofs.PrintLemmas.{zero_is}
 
 module _ (show : Shows) (switch queries train written : List ℕ) (nodes : ℕ) (files later : ByName (List ℕ)) (names : List (List ℕ)) (text : List ℕ) (wrote : Wrote names (Plan switch queries train nodes) files 0 text) (few : length text ≤ most_text) (kept : IsKeptBeside switch queries train written text files later) where
@@ -30,6 +30,8 @@ module _ (show : Shows) (switch queries train written : List ℕ) (nodes : ℕ) 
     found = found show switch queries train written nodes files later text few kept certified;
     checks = λ names before now status call told. call.run later told (yes show switch queries train written nodes files later text few kept certified) (check_given show switch queries train written nodes files later text few kept certified);
     ran = due show switch queries train written nodes files later text few kept certified;
+    sent = sent show switch queries train written nodes files later text few kept certified;
+    costs = costs_so show switch queries train written nodes files later text few kept certified;
     prints = due_prints show switch queries train written nodes files later text few kept certified;
     runs = λ names before now status call told. call.run later told (due show switch queries train written nodes files later text few kept certified) (run_given show switch queries train written nodes files later text few kept certified);
   }

@@ -1,11 +1,9 @@
 -- `check` says yes to what `plan` wrote, and `run` along it sends what it costs.
-use Rattle.std.proofs.Common.{◌≡◌, ℕ, zero, suc, ◌+◌, ◌≤◌, ◌<◌, ◌^◌, false, cond, List, [], ◌∷◌, ◌++◌, length, map, nat_lt, sum, append-nil, Some, Result, Ok, Err, slice_get, refl, sym, ap, ◌∙◌, subst, arith}
-use Rattle.std.specs.Prelude.{unwrap_or}
-use Rattle.std.specs.List.{AllByRecursion, flat_map, sum_by}
+use Rattle.std.proofs.Common.{◌≡◌, ℕ, zero, suc, ◌+◌, ◌≤◌, ◌<◌, ◌^◌, false, cond, List, [], ◌∷◌, ◌++◌, length, nat_lt, append-nil, Result, Ok, Err, slice_get, refl, sym, ap, ◌∙◌, subst, arith}
+use Rattle.std.specs.Prelude.{◌*◌, unwrap_or}
+use Rattle.std.specs.List.{AllByRecursion, flat_map}
 use Rattle.std.proofs.lemmas.Bool.{le-ltb, ltb-false}
-use Rattle.std.proofs.lemmas.List.{length-map}
-use Rattle.std.proofs.lemmas.List.Sums.{sum_by-cons}
-use Rattle.sn_base.proofs.Lists.{by_test}
+use Rattle.sn_base.proofs.Lists.{by_test, some_same}
 use Rattle.sn_command.specs.declared.fault.Fault.{Fault}
 use Rattle.sn_command.specs.declared.fault.Fault.TheVariants as faults
 use Rattle.sn_command.specs.declared.refusal.Refusal.{Refusal}
@@ -13,7 +11,7 @@ use Rattle.sn_command.specs.declared.refusal.Refusal.TheVariants.{Refused}
 use Rattle.sn_command.specs.Outcomes.{Outcome, Stage, silent}
 use Rattle.sn_command.specs.Refusals.{refusing}
 use Rattle.sn_command.specs.Stages.{Bytes, Does, Gives, GoesOn, Judges, Text, Then, most_text, within_limit}
-use Rattle.sn_command_capture.specs.Capture.{ending_verdict, packet_tuple}
+use Rattle.sn_command_capture.specs.Capture.{ending_verdict}
 use Rattle.sn_windows.specs.Rising.{Window}
 use Rattle.sn_command_check.specs.Check.{Check}
 use Rattle.sn_command_check.specs.PlanTrees.{PlanBefore, TreeBehind}
@@ -28,6 +26,7 @@ use Rattle.sn_command_live.proofs.TrainLemmas.{TrainedSo, training_so}
 use Rattle.sn_command_run.specs.Planned.{Planned, as_they_are, emitted_at, emitted_in, plan_block, plan_lines, plan_wording}
 use Rattle.sn_command_run.specs.Run.{Run, planned, window_ns}
 use Rattle.sn_command_run.proofs.RunLemmas.{one_run}
+use Rattle.sn_command_search.proofs.Founds.{never_fall}
 use Rattle.sn_command_search.specs.Certificates.{IsCertificate, SearchedIn, certificate_text}
 use Rattle.sn_command_search.specs.Shown.{ShowsLeast}
 use Rattle.sn_command_search.specs.declared.certificate.Certificate.{Certificate}
@@ -35,13 +34,15 @@ use Rattle.sn_command_texts.specs.Fitting.{Fitting, misfit_verdict}
 use Rattle.sn_command_texts.specs.Queries.{QueriesIn}
 use Rattle.sn_command_texts.specs.Texts.{PlanIn, SwitchIn}
 use Rattle.sn_command_texts.proofs.Accepted.{read_ok, switch_limits, typed_in}
-use Rattle.sn_command_training.specs.Training.{JudgedAs, TrainingIn, judged_records, training_of, tuples_of}
+use Rattle.sn_command_texts.proofs.Verdicts.{switch_once}
+use Rattle.sn_command_training.specs.Training.{IsInOrder, JudgedAs, TrainingIn, judged_records, training_of}
+use Rattle.sn_command_training.proofs.TrainingLemmas.{as_ordered}
 use Rattle.sn_command_training.specs.declared.training.Training.{Training}
-use Rattle.sn_cost_laws.specs.Sent.{sent_over}
+use Rattle.sn_cost.specs.Training.{NeverFall}
+use Rattle.sn_cost_laws.specs.Sent.{cost_over, installed_over}
 use Rattle.sn_cost_laws.specs.Space.{trained_plans}
-use Rattle.sn_cost_laws.proofs.Plans.{trained_priced}
+use Rattle.sn_cost_laws.proofs.Plans.{no_weight, trained_priced}
 use Rattle.sn_io.specs.Counts.{ByName}
-use Rattle.sn_out.specs.Text.{damage_line, total_line}
 use Rattle.sn_pcap.specs.Capture.{head_of}
 use Rattle.sn_pcap.specs.Reading.{last_of}
 use Rattle.sn_pcap.specs.declared.header.HeadFault.{HeadFault}
@@ -70,7 +71,7 @@ use Rattle.sn_types_read.specs.Texts as query_texts
 use Rattle.sn_types_read.specs.Texts.{Queries}
 use Rattle.sn_query_grammar.specs.Limits.{Within}
 use Rattle.sn_refine_laws.specs.Counts.{KeepsCounts, KeepsQueryCounts}
-use Rattle.sn_top_laws.specs.Written.{IsKeptBeside, IsPlanTree, PrintsTotal, SaysYes, SendsCost, yes_of}
+use Rattle.sn_top_laws.specs.Written.{CostsSo, HasNoWeight, IsKeptBeside, IsPlanTree, PrintsTotal, SaysYes, SendsAsMany, SendsCost, yes_of}
 use Rattle.sn_top_laws.proofs.CostBounds.{HaveFewOps, lower_small, trained_few, tree_small}
 use Rattle.sn_refine_laws.proofs.CountLemmas.{counts}
 use Rattle.sn_top_laws.proofs.FitPlans.{fit_entries}
@@ -116,25 +117,19 @@ training_is : {a b : Training} → ◌≡◌ {A = Result Training Fault} (Ok a) 
 training_is e = cc
 
 module _ (window : ℕ) (file : List ℕ) (training : Training) where
-  records_few : (header : Header) (packets : List Packet) → Ok training ≡ judged_records window header.link file packets → length training.tuples ≤ most
-  records_few header packets e =
+  records_ordered : (header : Header) (packets : List Packet) → Ok training ≡ judged_records window header.link file packets → IsInOrder training
+  records_ordered header packets e =
       by_test (nat_lt most_records (length packets))
       (λ is. absurd (let no = e ∙ ap (λ b. cond b (Err faults.TooLarge) (Ok (training_of window header.link file packets))) is in cc))
       (λ isnt.
       let same : training ≡ training_of window header.link file packets = training_is (e ∙ ap (λ b. cond b (Err faults.TooLarge) (Ok (training_of window header.link file packets))) isnt) in
-      let few = ltb-false most_records (length packets) isnt in
-      let long = tuples_long header packets in
-      let tuples = ap (λ (t : Training). length t.tuples) same in
-      omega (arith, few, long, tuples))
-    where
-      tuples_long : (header : Header) (packets : List Packet) → length (tuples_of header.link file packets) ≡ length packets
-      tuples_long header packets = length-map packets (packet_tuple header.link file)
+      as_ordered window file header.link packets training.tuples training.numbers (ap (λ (t : Training). t.tuples) same) (ap (λ (t : Training). t.numbers) same) (ltb-false most_records (length packets) isnt))
 
-  training_few : TrainingIn window file (Ok training) → length training.tuples ≤ most
-  training_few is = by_head (head_of file) is
+  training_ordered : TrainingIn window file (Ok training) → IsInOrder training
+  training_ordered is = by_head (head_of file) is
     where
-      by_head : (head : Result Header HeadFault) → JudgedAs window file head (Ok training) → length training.tuples ≤ most
-      by_head (Ok header) j = records_few header j.packets j.same
+      by_head : (head : Result Header HeadFault) → JudgedAs window file head (Ok training) → IsInOrder training
+      by_head (Ok header) j = records_ordered header j.packets j.same
       by_head (Err fault) j = absurd (let no = j in cc)
 
 -- a file of a text's size has its last record in reach
@@ -272,8 +267,14 @@ module _ (show : Shows) (switch queries train written : List ℕ) (nodes : ℕ) 
   shows : ShowsLeast k.limits k.read.queries given c
   shows = show k.limits k.read.window_us k.read.queries given nodes c typed limited k.is
 
+  ordered : IsInOrder k.training
+  ordered = training_ordered (window_ns k.read) k.is_training.bytes k.training k.is_training.is
+
   tuples_few : length k.training.tuples ≤ most
-  tuples_few = training_few (window_ns k.read) k.is_training.bytes k.training k.is_training.is
+  tuples_few = ordered.most
+
+  numbers_rise : NeverFall k.training.numbers
+  numbers_rise = never_fall k.training.numbers ordered.rising
 
   ops_few : HaveFewOps k.read.queries
   ops_few = few_ops k.read.queries counted.each
@@ -281,11 +282,13 @@ module _ (show : Shows) (switch queries train written : List ℕ) (nodes : ℕ) 
   cost_small : c.cost < 2 ^ 64
   cost_small =
       subst (λ (n : ℕ). n < 2 ^ 64) (sym k.is.cost)
-      (lower_small k.limits k.read.queries ops_few k.training.numbers k.training.tuples tuples_few (typed_readable k.read.window_us k.read.queries typed) counted.count.to_most c.choices k.is.first.plan.partial)
+      (lower_small k.limits limited k.read.window_us k.read.queries typed ops_few k.training.numbers k.training.tuples tuples_few ordered.alike numbers_rise
+      (typed_readable k.read.window_us k.read.queries typed) counted.count.to_most c.choices k.is.first.plan.partial)
 
   nodes_small : AllByRecursion IsSmall c.tree
   nodes_small =
-      tree_small k.limits k.read.queries ops_few k.training.numbers k.training.tuples tuples_few (typed_readable k.read.window_us k.read.queries typed) counted.count.to_most c.choices k.is.first.plan.partial
+      tree_small k.limits limited k.read.window_us k.read.queries typed ops_few k.training.numbers k.training.tuples tuples_few ordered.alike numbers_rise
+      (typed_readable k.read.window_us k.read.queries typed) counted.count.to_most c.choices k.is.first.plan.partial
       [] c.tree shows.accepted.covers (itself [])
 
   entries : AreEntries c.plan.entries
@@ -377,18 +380,68 @@ module _ (show : Shows) (switch queries train written : List ℕ) (nodes : ℕ) 
       (then_given [] tt due fitting
       (answered_given (plan_wording along) (λ windows number tuples. refl) (window_ns k.read) train later k.is_training.bytes capture.windows capture.ending held_train.is capture.is each_few (ends_there k.is_training.bytes capture.ending k.is_training.has.few)))))
 
-  cost_sent : c.cost ≡ emitted_in along capture.windows
+  -- how many items the plan sends of the training capture
+  abbrev pub sent : ℕ
+  sent = emitted_in along capture.windows
+
+  cost_sent : c.cost ≡ sent + k.limits.weight * installed_over k.limits k.read.queries c.plan.entries capture.windows
   cost_sent =
       shows.cost ∙ trained_priced k.limits k.read.queries given c.plan.entries (all_rising k.limits k.read.window_us k.read.queries typed limited) shows.fits
-      ∙ ap (sent_over k.limits.chain k.read.queries c.plan.entries) capture.trained ∙ sums_are (emitted_at along capture.windows) capture.windows
+      ∙ ap (cost_over k.limits k.read.queries c.plan.entries) capture.trained
+      ∙ ap (λ n. n + k.limits.weight * installed_over k.limits k.read.queries c.plan.entries capture.windows) (sums_are (emitted_at along capture.windows) capture.windows)
 
-  pub due_prints : PrintsTotal c.cost due
+  pub costs_so : CostsSo switch queries train later c.plan c.cost sent
+  costs_so = record {
+    switch_text = k.is_switch.bytes;
+    query_text = k.are_queries.bytes;
+    train_file = k.is_training.bytes;
+    has_switch = held_switch;
+    has_queries = held_queries;
+    has_train = held_train;
+    limits = k.limits;
+    read = k.read;
+    windows = capture.windows;
+    ending = capture.ending;
+    is_switch = k.is_switch.is;
+    are_queries = k.are_queries.is;
+    is_train = capture.is;
+    costs = cost_sent;
+  }
+
+  pub due_prints : PrintsTotal sent due
   due_prints = record {
     ending = capture.ending;
     blocks = flat_map (λ (w : Window). plan_block along capture.windows w.0 w.1) capture.windows;
     windows = length capture.windows;
-    ran_so = ap (λ (n : ℕ). record { text = flat_map (λ (w : Window). plan_block along capture.windows w.0 w.1) capture.windows ++ (damage_line capture.ending ++ total_line (length capture.windows) (Some n)); end = refusing (ending_verdict capture.ending) }) (sym cost_sent);
+    ran_so = refl;
   }
 
-  pub sends_cost : (ran : Outcome (Unit {0})) → Run as_they_are false switch queries written train later ran → SendsCost text ran
-  sends_cost ran is = record { found = found; prints = subst (PrintsTotal c.cost) ((one_run as_they_are false switch queries written train).once later due ran run_given is) due_prints }
+  run_prints : (ran : Outcome (Unit {0})) → Run as_they_are false switch queries written train later ran → PrintsTotal sent ran
+  run_prints ran is = subst (PrintsTotal sent) ((one_run as_they_are false switch queries written train).once later due ran run_given is) due_prints
+
+  pub sends_cost : (ran : Outcome (Unit {0})) → Run as_they_are false switch queries written train later ran → SendsCost switch queries train later text ran
+  sends_cost ran is = record {
+    found = found;
+    sent = sent;
+    costs = costs_so;
+    prints = run_prints ran is;
+  }
+
+  -- ---- without a weight
+
+  cost_is : HasNoWeight switch later → c.cost ≡ sent
+  cost_is light =
+      let same_text : light.text ≡ k.is_switch.bytes = some_same light.text k.is_switch.bytes (sym light.held ∙ held_switch.is) in
+      let same : light.limits ≡ k.limits =
+      switch_same (switch_once k.is_switch.bytes (Ok light.limits) (Ok k.limits) (subst (λ (bytes : List ℕ). SwitchIn bytes (Ok light.limits)) same_text light.is) k.is_switch.is) in
+      let installed : ℕ = installed_over k.limits k.read.queries c.plan.entries capture.windows in
+      let none : k.limits.weight * installed ≡ 0 = ap (λ (s : Switch). s.weight * installed) (sym same) ∙ ap (λ (n : ℕ). n * installed) light.none ∙ no_weight installed in
+      let whole = cost_sent in
+      omega (arith, whole, none)
+    where
+      switch_same : {a b : Switch} → ◌≡◌ {A = Result Switch Fault} (Ok a) (Ok b) → a ≡ b
+      switch_same e = cc
+
+  pub sends_as_many : (ran : Outcome (Unit {0})) → Run as_they_are false switch queries written train later ran → HasNoWeight switch later → SendsAsMany text ran
+  sends_as_many ran is light =
+      record { found = found; prints = subst (λ (n : ℕ). PrintsTotal n ran) (sym (cost_is light)) (run_prints ran is) }

@@ -19,7 +19,7 @@ use Rattle.sn_types_faults.specs.declared.scope.Scope.{Scope}
 use Rattle.sn_types_faults.specs.Names.{fields_among, packet_fields, names_read, names_to_map, is_map, needs_map}
 use Rattle.sn_types_faults.specs.declared.fault.TypeFault.TheVariants.{UnknownField, UnknownColumn, TooWide, NoMap, RefineLost, RefineFilter, Levels}
 use Rattle.sn_types_faults.specs.Columns.{columns_after, packet_columns}
-use Rattle.sn_types_faults.specs.Faults.{unknown_field, unknown_column, too_wide, no_map, refine_lost, refine_filter, wrong_levels, narrow_sum, are_rising, wrong_refine, wrong_field_levels, out_of_range, refine_fault}
+use Rattle.sn_types_faults.specs.Faults.{unknown_field, unknown_column, too_wide, no_map, refine_lost, refine_filter, wrong_levels, wide_fold, wide_operands, are_rising, wrong_refine, wrong_field_levels, out_of_range, refine_fault}
 use Rattle.sn_query_grammar.specs.Limits.{BranchLimits, BranchOp, AreJoined, Within}
 use Rattle.sn_types_faults.specs.Walk.Place.{Operator}
 use Rattle.sn_types_faults.specs.Walk.{Place, is_end, first_fault, fault_at, refine_places, branch_places, join_places, query_places, operator_places, scope_after, scope_before, refine_levels}
@@ -60,7 +60,7 @@ few_here levels scope op last m none =
     let b = if_none (unknown_column scope op.what) (UnknownColumn op.line) of_width a.1 in
     let c = if_none (too_wide scope op.what) (TooWide op.line) of_map b.1 in
     let d = if_none (no_map scope op.what) (NoMap op.line) of_lost c.1 in
-    few_now scope.mapped (needs_map op.what) (narrow_sum scope.columns op.what) (length (fields_among (scope.read ++ names_read op.what))) m c.0 d.0
+    few_now scope.mapped (needs_map op.what) (wide_fold scope.columns op.what || wide_operands scope.columns op.what) (length (fields_among (scope.read ++ names_read op.what))) m c.0 d.0
 
 few_along : (levels : List ℕ) (scope : Scope) (ops : List Op) → scope.mapped ≡ false → length (fields_among scope.read) ≤ 8
     → first_fault (operator_places levels scope ops) ≡ None → length (fields_among (scope.read ++ names_to_map ops)) ≤ 8

@@ -3,6 +3,7 @@ pub mod Facts
 pub mod Following
 pub mod Items
 pub mod Joining
+pub mod KindLemmas
 pub mod Known
 pub mod Levels
 pub mod NotLost
@@ -10,6 +11,7 @@ pub mod RefinedLemmas
 pub mod RowLemmas
 pub mod RowsAfter
 pub mod Schemas
+pub mod SortedLemmas
 pub mod Sound
 pub mod Sources
 pub mod TypedRows

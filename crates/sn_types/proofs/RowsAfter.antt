@@ -1,11 +1,11 @@
 -- The rows after an operator are of the columns after it.
-use Rattle.std.proofs.Common.{◌≡◌, ℕ, suc, take, get_or, ◌+◌, ◌-◌, ◌^◌, ◌<◌, min, List, [], ◌∷◌, ◌++◌, map, fold, length, true, false, not, ◌&&◌, ◌==◌, cond, Option, slice_index, refl, ap, sym, ◌∙◌, subst, arith}
+use Rattle.std.proofs.Common.{◌≡◌, ℕ, suc, take, get_or, ◌+◌, ◌-◌, ◌^◌, ◌<◌, min, List, [], ◌∷◌, ◌++◌, map, fold, length, true, false, not, ◌&&◌, ◌==◌, nat_lt, cond, Option, slice_index, refl, ap, sym, ◌∙◌, subst, arith}
 use Rattle.std.proofs.lemmas.List.{take_more, map-append}
 use Rattle.std.proofs.Math.Bridge.{le_prop}
 use Rattle.std.proofs.Math.Pow.{pow_mono}
 use Rattle.std.proofs.Math.Nat.{div-mul-le_self}
 use Rattle.std.specs.List.{AllByRecursion, list_all}
-use Rattle.sn_base.proofs.Lists.{all_map, all_weaker, all_filter, all_front, all_rest as all_back, all_both}
+use Rattle.sn_base.proofs.Lists.{all_map, all_weaker, all_filter, or_none, all_front, all_rest as all_back, all_both}
 use Rattle.sn_base.proofs.OnceLemmas.{all_once}
 use Rattle.sn_base.proofs.FoldLemmas.{fold_had}
 use Rattle.sn_base.proofs.FoldedLemmas.{values_had}
@@ -26,6 +26,7 @@ use Rattle.sn_query_grammar.specs.declared.ast.Reduce.{Reduce}
 use Rattle.sn_query_grammar.specs.declared.ast.What.{What}
 use Rattle.sn_query_grammar.specs.declared.ast.What.TheVariants as what
 use Rattle.sn_types_faults.specs.Columns.{place_of, column_named, folded_column, mapped_column, field_column, columns_after}
+use Rattle.sn_types_faults.specs.Faults.{is_sum}
 use Rattle.sn_query_grammar.specs.Limits.{Within, IsPostExpr}
 use Rattle.sn_types_faults.specs.Names.{Name, names_in}
 use Rattle.sn_types_faults.specs.Widths.{lawful, fold_of}
@@ -125,7 +126,9 @@ value_had columns r row widths s of =
     let w : ℕ = (folded_column columns r).width in
     let known = (all_back (IsKnown columns) r.keys (r.value ∷ []) s.known).0 in
     let here = in_width columns row r.value of known in
-    let wide = pow_mono (folded_more r.fold r.width (column_named columns r.value).width s.narrow) in
+    let column : ℕ = (column_named columns r.value).width in
+    let narrow = or_none (nat_lt 64 column) (is_sum r.fold && nat_lt r.width column) s.narrow in
+    let wide = pow_mono (folded_more r.fold r.width column narrow.1) in
     let low : slice_index row (place_of columns r.value) < 2 ^ w = omega (arith, here, wide) in
     had_of r.fold w (slice_index row (place_of columns r.value)) (subst (λ (v : ℕ). slice_index row (place_of columns r.value) < 2 ^ v) (sym (lawful_same w (value_width columns r widths s))) low)
 

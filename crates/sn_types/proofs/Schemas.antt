@@ -1,9 +1,9 @@
--- Schemas along operators: at most eight columns, of 1 to 64 bits, with names apart.
+-- Schemas along operators: at most eight columns, of 1 to 128 bits, with names apart.
 use Rattle.std.proofs.Common.{◌≡◌, ℕ, suc, ◌-◌, ◌≤◌, ◌<◌, List, [], ◌∷◌, ◌++◌, map, filter, length, Bool, true, false, not, ◌||◌, ◌&&◌, cond, nat_lt, max, Some, unwrap_or, ap, sym, ◌∙◌, subst, arith, lit≤, length-append}
 use Rattle.std.proofs.lemmas.Bool.{ltb-false}
 use Rattle.std.proofs.lemmas.List.{length-map}
 use Rattle.std.specs.List.{AllByRecursion, find}
-use Rattle.sn_base.proofs.Lists.{by_test, all_weaker, all_append, filter_keeps, none_all as fails_for_each, all_front, all_rest as all_back}
+use Rattle.sn_base.proofs.Lists.{by_test, all_weaker, all_append, filter_keeps, or_none, none_all as fails_for_each, all_front, all_rest as all_back}
 use Rattle.sn_base.proofs.FoldedLemmas.{same_row_exact}
 use Rattle.sn_base.specs.declared.column.Column.{Column}
 use Rattle.sn_base.specs.Groups.{Apart, same_row}
@@ -86,13 +86,13 @@ fewer_keys columns r s =
 -- ---- widths
 
 abbrev pub HasWidth : Column → Type 0
-HasWidth c = Within 1 64 c.width
+HasWidth c = Within 1 128 c.width
 
 pub record IsSchema (columns : List Column) : Type 0 where
   pub few : length columns ≤ 8
   pub widths : AllByRecursion HasWidth columns
 
-field_width : (f : Field) → Within 1 64 (width_of f)
+field_width : (f : Field) → Within 1 128 (width_of f)
 field_width f = record { from_least = width_least f; to_most = width_most f }
 
 field_widths : (fields : List Field) → AllByRecursion HasWidth (map field_column fields)
@@ -115,17 +115,17 @@ found_has P p d (c ∷ columns) h all =
     (λ is. subst (λ b. P (unwrap_or (cond b (Some c) (find p columns)) d)) (sym is) all.0)
     (λ isnt. subst (λ b. P (unwrap_or (cond b (Some c) (find p columns)) d)) (sym isnt) later)
 
-pub column_width : (columns : List Column) (n : Name) → AllByRecursion HasWidth columns → Within 1 64 (column_named columns n).width
+pub column_width : (columns : List Column) (n : Name) → AllByRecursion HasWidth columns → Within 1 128 (column_named columns n).width
 column_width columns n widths =
     found_has HasWidth (λ (c : Column). same_name c.name n) (record { name = n; width = 1; address = false }) columns (record { from_least = lit≤ tt; to_most = lit≤ tt }) widths
 
-shifted_width : (w k : ℕ) → Within 1 64 w → Within 1 64 (max 1 (w - k))
+shifted_width : (w k : ℕ) → Within 1 128 w → Within 1 128 (max 1 (w - k))
 shifted_width w k h = record { from_least = omega arith; to_most = omega arith }
 
-constant_in : (z : ℕ) → Within 1 64 (max 1 (64 - z))
+constant_in : (z : ℕ) → Within 1 128 (max 1 (64 - z))
 constant_in z = record { from_least = omega arith; to_most = omega arith }
 
-expr_in : (columns : List Column) (e : Expr) → AllByRecursion HasWidth columns → Within 1 64 (expr_width columns e)
+expr_in : (columns : List Column) (e : Expr) → AllByRecursion HasWidth columns → Within 1 128 (expr_width columns e)
 expr_in columns (Const n) h = record { from_least = omega arith; to_most = omega arith }
 expr_in columns (Copy a) h = column_width columns a h
 expr_in columns (Mask a bits) h = column_width columns a h
@@ -141,11 +141,12 @@ pub named_widths : (columns : List Column) (names : List Name) → AllByRecursio
 named_widths columns [] h = tt
 named_widths columns (n ∷ names) h = (column_width columns n h, named_widths columns names h)
 
-folded_in : (word : FoldWord) (own width : ℕ) → FoldWidth word own → Within 1 64 width → Within 1 64 (folded_width word own width)
-folded_in fold.Sum own width h k = h
-folded_in fold.Max own width h k = k
-folded_in fold.Min own width h k = k
-folded_in fold.Or own width h k = k
+-- a fold's values have at most 64 bits
+folded_in : (word : FoldWord) (own width : ℕ) → FoldWidth word own → 1 ≤ width → width ≤ 64 → Within 1 64 (folded_width word own width)
+folded_in fold.Sum own width h some most = h
+folded_in fold.Max own width h some most = record { from_least = some; to_most = most }
+folded_in fold.Min own width h some most = record { from_least = some; to_most = most }
+folded_in fold.Or own width h some most = record { from_least = some; to_most = most }
 
 -- a fold's column is no narrower than that of its values
 pub folded_more : (word : FoldWord) (own width : ℕ) → (is_sum word && nat_lt own width) ≡ false → width ≤ folded_width word own width
@@ -155,7 +156,13 @@ folded_more fold.Min own width e = omega arith
 folded_more fold.Or own width e = omega arith
 
 pub value_width : (columns : List Column) (r : Reduce) → AllByRecursion HasWidth columns → IsSound columns (what.Reduce r) → Within 1 64 (folded_column columns r).width
-value_width columns r widths s = folded_in r.fold r.width (column_named columns r.value).width s.limits.width (column_width columns r.value widths)
+value_width columns r widths s =
+    let width = (column_named columns r.value).width in
+    let narrow = or_none (nat_lt 64 width) (is_sum r.fold && nat_lt r.width width) s.narrow in
+    folded_in r.fold r.width width s.limits.width (column_width columns r.value widths).from_least (ltb-false 64 width narrow.0)
+
+value_has : (columns : List Column) (r : Reduce) → AllByRecursion HasWidth columns → IsSound columns (what.Reduce r) → HasWidth (folded_column columns r)
+value_has columns r widths s = let h = value_width columns r widths s in record { from_least = h.from_least; to_most = omega (arith, h.to_most) }
 
 -- ---- what stands after an operator is whole
 
@@ -183,7 +190,7 @@ mapped_schema columns cols h few =
 reduced_schema : (columns : List Column) (r : Reduce) → IsSchema columns → IsSound columns (what.Reduce r) → IsSchema (columns_after columns (what.Reduce r))
 reduced_schema columns r h s =
     subst IsSchema (sym (reduced_whole columns r h.few s))
-    (record { few = reduced_few columns r h.few s; widths = all_append HasWidth (map (column_named columns) r.keys) (folded_column columns r ∷ []) (named_widths columns r.keys h.widths) (value_width columns r h.widths s, tt) })
+    (record { few = reduced_few columns r h.few s; widths = all_append HasWidth (map (column_named columns) r.keys) (folded_column columns r ∷ []) (named_widths columns r.keys h.widths) (value_has columns r h.widths s, tt) })
 
 pub schema_after : (columns : List Column) (w : What) → IsSchema columns → IsSound columns w → IsSchema (columns_after columns w)
 schema_after columns (what.Filter conds) h s = h

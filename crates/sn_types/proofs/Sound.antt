@@ -19,7 +19,7 @@ use Rattle.sn_types_faults.specs.declared.fault.TypeFault.TheVariants.{UnknownFi
 use Rattle.sn_types_faults.specs.declared.scope.Scope.{Scope}
 use Rattle.sn_types_faults.specs.Names.{Name, names_read, names_to_map, is_map, needs_map}
 use Rattle.sn_types_faults.specs.Columns.{has_column, columns_after, packet_columns}
-use Rattle.sn_types_faults.specs.Faults.{unknown_field, unknown_column, ninth_field, narrow_sum, too_wide, no_map, refine_lost, refine_filter, wrong_levels}
+use Rattle.sn_types_faults.specs.Faults.{unknown_field, unknown_column, ninth_field, wide_fold, wide_operands, too_wide, no_map, refine_lost, refine_filter, wrong_levels}
 use Rattle.sn_query_grammar.specs.Limits.{AreJoined, BranchOp, PostOp, IsBranchExpr, IsPostExpr, ReduceLimits}
 use Rattle.sn_types_faults.specs.Walk.Place.{Operator, JoinLine}
 use Rattle.sn_types_faults.specs.Walk.{is_end, ops_at, first_fault, fault_at, branch_places, branch_end, join_places, operator_places, scope_after, scope_before, scope_joined, refine_levels}
@@ -62,7 +62,7 @@ post_limits (what.Reduce r) h = absurd h
 pub record IsSound (columns : List Column) (w : What) : Type 0 where
   pub known : AllByRecursion (IsKnown columns) (names_read w)
   pub limits : OpLimits w
-  pub narrow : narrow_sum columns w ≡ false
+  pub narrow : wide_fold columns w ≡ false
 
 abbrev pub AreSound : List Column → List Op → Type 0
 AreSound columns [] = Unit {0}
@@ -110,11 +110,13 @@ along_mapped levels scope [] m s none = tt
 along_mapped levels scope (op ∷ ops) m s none =
     let parts = later_none (fault_at (Operator levels scope op (is_end ops))) (first_fault (operator_places levels (scope_after scope op.what) ops)) none in
     let clean = clean_of levels scope op (is_end ops) parts.0 in
-    let known = when_mapped scope.mapped (list_any (λ n. not (has_column scope.columns n)) (names_read op.what)) m clean.no_unknown_column in (
+    let known = when_mapped scope.mapped (list_any (λ n. not (has_column scope.columns n)) (names_read op.what)) m clean.no_unknown_column in
+    let both : Bool = wide_fold scope.columns op.what || wide_operands scope.columns op.what in
+    let wide = when_mapped scope.mapped both m (or_none (ninth_field scope op.what) (scope.mapped && both) clean.narrow).1 in (
       record {
         known = holds_for_each (has_column scope.columns) (names_read op.what) known;
         limits = s.0;
-        narrow = when_mapped scope.mapped (narrow_sum scope.columns op.what) m (or_none (ninth_field scope op.what) (scope.mapped && narrow_sum scope.columns op.what) clean.narrow).1;
+        narrow = (or_none (wide_fold scope.columns op.what) (wide_operands scope.columns op.what) wide).0;
       },
       along_mapped levels (scope_after scope op.what) ops (ap (λ b. b || is_map op.what) m) s.1 parts.1,
     )
@@ -145,7 +147,7 @@ unchanged columns what.Distinct i n = refl
 unchanged columns (what.Reduce r) i n = cc
 
 -- before the first map there is no sum
-no_sum : (columns : List Column) (w : What) → needs_map w ≡ false → narrow_sum columns w ≡ false
+no_sum : (columns : List Column) (w : What) → needs_map w ≡ false → wide_fold columns w ≡ false
 no_sum columns (what.Filter conds) n = refl
 no_sum columns (what.Map cols) n = refl
 no_sum columns what.Distinct n = refl

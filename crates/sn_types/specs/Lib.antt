@@ -1,4 +1,5 @@
 pub mod Cuts
+pub mod Kinds
 pub mod Places
 pub mod Typed
 pub mod Typing

@@ -6,6 +6,7 @@ pub mod check;
 pub mod copies;
 pub mod cuts;
 pub mod evaluate;
+mod kinds;
 pub mod laws;
 pub mod packet;
 mod resolve;

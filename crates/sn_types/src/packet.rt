@@ -3,6 +3,7 @@ ghost use Rattle.std.specs.Prelude.{◌≡◌, ◌≤◌, ◌<◌, ◌^◌, leng
 ghost use Rattle.std.proofs.Props.{props};
 ghost use Rattle.sn_base.specs.Columns.{IsOf};
 ghost use Rattle.sn_fields.specs.Fields.{width_of};
+ghost use Rattle.sn_types.specs.Kinds.{AreBelow};
 ghost use Rattle.sn_types.specs.Typed.{is_field, read_at, packet_row};
 ghost use Rattle.sn_types_faults.specs.Columns.{field_column};
 
@@ -25,11 +26,12 @@ fn is_field(refined: Option<Field>, field: Field) -> bool
 
 #[inline(always)]
 fn read_at<N: Number>(refined: Option<Field>, level: u32, tuple: &Tuple, field: Field) -> N
-    requires { IfSome refined (λ other. level ≤ width_of other) }
+    requires level { IfSome refined (λ other. level ≤ width_of other) }
+    requires below { 2 ^ width_of field ≤ N.limit }
     ensures value { N.value result ≡ read_at refined level tuple.now field }
     ensures below { N.value result < 2 ^ width_of field }
 {
-    let value = N::of_word(tuple.get(field));
+    let value = N::of_whole(tuple.get(field));
     if level != 0 && is_field(refined, field) {
         mask(value, field.width(), level)
     } else {
@@ -47,6 +49,7 @@ fn row_into<R: AnyRow>(
 )
     requires few { length fields.now ≤ 8 }
     requires level { IfSome refined (λ other. level ≤ width_of other) }
+    requires below { AreBelow R.Number.limit fields.now }
     ensures row { R.columns row.new ≡ packet_row refined level fields.now tuple.now }
     ensures columns { IsOf (map field_column fields.now) (R.columns row.new) }
 {
@@ -60,6 +63,7 @@ fn row_into<R: AnyRow>(
 pub fn row_of<R: AnyRow>(refined: Option<Field>, level: u32, fields: &[Field], tuple: &Tuple) -> R
     requires few { length fields.now ≤ 8 }
     requires level { IfSome refined (λ other. level ≤ width_of other) }
+    requires below { AreBelow R.Number.limit fields.now }
     ensures row { R.columns result ≡ packet_row refined level fields.now tuple.now }
     ensures columns { IsOf (map field_column fields.now) (R.columns result) }
 {
@@ -84,6 +88,7 @@ pub struct Packets<'a> {
 impl<'a> Packets<'a> {
     /// The packet row of a tuple, each number of its field's width. No row is made of it.
     pub fn row<N: Number>(&self, tuple: &'a Tuple) -> PacketRow<'a, N>
+        requires { AreBelow N.limit self.now.fields.now }
         ensures row { result ≡ packet_row self.now.refined self.now.level self.now.fields.now tuple.now }
         ensures columns { IsOf (map field_column self.now.fields.now) result }
     {
@@ -111,18 +116,19 @@ pub struct PacketRow<'a, N: Number> {
 impl<'a, N: Number> Model for PacketRow<'a, N> {
     ghost use Rattle.std.specs.Prelude.{ℕ, ◌≤◌, List, length, IfSome};
     ghost use Rattle.sn_fields.specs.Fields.{width_of};
+    ghost use Rattle.sn_types.specs.Kinds.{AreBelow};
     ghost use Rattle.sn_types.specs.Typed.{packet_row};
 
     ghost Value = { List ℕ };
 
     ghost view = { λ a. packet_row a.refined a.level a.fields.now a.tuple.now };
 
-    ghost invariant = { λ a. (length a.fields.now ≤ 8) × IfSome a.refined (λ other. a.level ≤ width_of other) };
+    ghost invariant = { λ a. (length a.fields.now ≤ 8) × IfSome a.refined (λ other. a.level ≤ width_of other) × AreBelow N.limit a.fields.now };
 }
 
 impl<'a, N: Number> PacketRow<'a, N> {
     /// Makes `row` the row, whatever it was before.
-    pub fn put_into<R: AnyRow>(&self, row: &mut R)
+    pub fn put_into<R: AnyRow + Columns<Number = N>>(&self, row: &mut R)
         ensures { R.columns row.new ≡ self.now }
     {
         row_into(self.refined, self.level, self.fields, self.tuple, row)

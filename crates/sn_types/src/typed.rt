@@ -1,10 +1,12 @@
 //! A typed file of queries.
-ghost use Rattle.std.specs.Prelude.{◌≡◌, ◌<◌, ◌≤◌, ◌*◌, IfOk, length, nat_eq, true};
+ghost use Rattle.std.specs.Prelude.{◌≡◌, ◌<◌, ◌≤◌, ◌*◌, IfOk, length, nat_eq, true, false, ◌^◌};
 ghost use Rattle.std.specs.List.{list_any};
 ghost use Rattle.sn_base.specs.Columns.{IsOf};
+ghost use Rattle.sn_types.specs.Kinds.{AreBelow, is_wide};
 ghost use Rattle.sn_types.specs.Typed.{IsTyped, query_at, branch_at, operator_at, schema_at, finest_level, first_columns, final_columns, packet_row};
 
 use crate::copies::copy_queries;
+use crate::kinds::are_wide;
 use crate::packet::{PacketRow, Packets, row_of};
 use crate::typed_op::{JoinKey, TOp};
 use crate::typed_query::{TypedBranch, TypedQuery};
@@ -152,6 +154,17 @@ impl Typed {
         self.branch(q, b).max_cut
     }
 
+    /// Whether a branch is wide: a field that it reads, or a column of one of its schemas, has more than 64 bits.
+    pub fn is_wide(&self, q: u32, b: u32) -> bool
+        requires query { q < length self.now.queries }
+        requires branch { b < length (query_at self.now.queries q).branches }
+        ensures value { result ≡ is_wide (branch_at self.now.queries q b) }
+        ensures short { result ≡ false → AreBelow (2 ^ 64) (branch_at self.now.queries q b).fields }
+        ensures wide { AreBelow (2 ^ 128) (branch_at self.now.queries q b).fields }
+    {
+        are_wide(self.branch(q, b).schemas.as_slice())
+    }
+
     /// The columns of the rows that come to an operator of a branch; for `op` the number of operators, those at its end.
     pub fn schema(&self, q: u32, b: u32, op: u32) -> Schema
         requires query { q < length self.now.queries }
@@ -242,6 +255,7 @@ impl Typed {
         requires query { q < length self.now.queries }
         requires branch { b < length (query_at self.now.queries q).branches }
         requires level { list_any (nat_eq level) (query_at self.now.queries q).levels ≡ true }
+        requires below { AreBelow R.Number.limit (branch_at self.now.queries q b).fields }
         ensures row { R.columns result ≡ packet_row (query_at self.now.queries q).field level (branch_at self.now.queries q b).fields tuple.now }
         ensures columns { IsOf (first_columns (branch_at self.now.queries q b)) (R.columns result) }
     {
@@ -275,6 +289,7 @@ impl Typed {
         requires query { q < length self.now.queries }
         requires branch { b < length (query_at self.now.queries q).branches }
         requires level { list_any (nat_eq level) (query_at self.now.queries q).levels ≡ true }
+        requires below { AreBelow N.limit (branch_at self.now.queries q b).fields }
         ensures row { result ≡ packet_row (query_at self.now.queries q).field level (branch_at self.now.queries q b).fields tuple.now }
         ensures columns { IsOf (first_columns (branch_at self.now.queries q b)) result }
     {

@@ -10,6 +10,8 @@ use Rattle.sn_fields.specs.Fields.{with_name, width_of, is_address}
 use Rattle.sn_query_grammar.specs.declared.ast.Refine.{Refine}
 use Rattle.sn_query_grammar.specs.declared.ast.Relax.{Relax}
 use Rattle.sn_query_grammar.specs.declared.ast.MapCol.{MapCol}
+use Rattle.sn_query_grammar.specs.declared.ast.Expr.{Expr}
+use Rattle.sn_query_grammar.specs.declared.ast.Expr.TheVariants as expr
 use Rattle.sn_query_grammar.specs.declared.ast.Join.{Join}
 use Rattle.sn_query_grammar.specs.declared.ast.Op.{Op}
 use Rattle.sn_query_grammar.specs.declared.ast.What.{What}
@@ -51,15 +53,34 @@ is_sum fold.Max = false
 is_sum fold.Min = false
 is_sum fold.Or = false
 
--- a sum's column is wider than its width
-abbrev pub narrow_sum : List Column → What → Bool
-narrow_sum columns (Filter conds) = false
-narrow_sum columns (Map cols) = false
-narrow_sum columns Distinct = false
-narrow_sum columns (Reduce r) = is_sum r.fold && nat_lt r.width (column_named columns r.value).width
+-- a fold's column is wider than 64 bits, or a sum's than its width
+abbrev pub wide_fold : List Column → What → Bool
+wide_fold columns (Filter conds) = false
+wide_fold columns (Map cols) = false
+wide_fold columns Distinct = false
+wide_fold columns (Reduce r) = nat_lt 64 (column_named columns r.value).width || (is_sum r.fold && nat_lt r.width (column_named columns r.value).width)
+
+-- a column is wider than 64 bits
+abbrev pub is_wide : List Column → Name → Bool
+is_wide columns n = nat_lt 64 (column_named columns n).width
+
+-- an operand of a sum of columns or of a ratio is wider than 64 bits
+abbrev pub wide_operand : List Column → Expr → Bool
+wide_operand columns (expr.Const n) = false
+wide_operand columns (expr.Copy a) = false
+wide_operand columns (expr.Mask a bits) = false
+wide_operand columns (expr.Shift a k) = false
+wide_operand columns (expr.Sum a b) = is_wide columns a || is_wide columns b
+wide_operand columns (expr.Ratio a k b) = is_wide columns a || is_wide columns b
+
+abbrev pub wide_operands : List Column → What → Bool
+wide_operands columns (Filter conds) = false
+wide_operands columns (Map cols) = list_any (λ c. wide_operand columns c.expr) cols
+wide_operands columns Distinct = false
+wide_operands columns (Reduce r) = false
 
 abbrev pub too_wide : Scope → What → Bool
-too_wide scope what = ninth_field scope what || (scope.mapped && narrow_sum scope.columns what)
+too_wide scope what = ninth_field scope what || (scope.mapped && (wide_fold scope.columns what || wide_operands scope.columns what))
 
 -- a distinct or a reduce stands before the branch's first map
 abbrev pub no_map : Scope → What → Bool

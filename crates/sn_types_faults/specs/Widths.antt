@@ -8,7 +8,7 @@ use Rattle.sn_base.specs.declared.any_fold.AnyFold.TheVariants as folds
 use Rattle.sn_query_grammar.specs.declared.ast.FoldWord.{FoldWord}
 use Rattle.sn_query_grammar.specs.declared.ast.FoldWord.TheVariants.{Sum, Max, Min, Or}
 
--- a width that a column can have, which is 1 to 64
+-- a width that the values of a fold can have, which is 1 to 64
 abbrev pub lawful : ℕ → ℕ
 lawful width = min (max 1 width) 64
 

@@ -7,7 +7,8 @@ pub enum TypeFault {
     UnknownField { line: u32 },
     /// A name that stands for a column isn't one.
     UnknownColumn { line: u32 },
-    /// A ninth field is read, a sum's column is wider than its width, or a joined row has more than eight columns.
+    /// A ninth field is read, a fold's column is wider than 64 bits or a sum's than its width, an operand of a sum of columns or of
+    /// a ratio is wider than 64 bits, or a joined row has more than eight columns.
     TooWide { line: u32 },
     /// A distinct or a reduce stands before the branch's first map.
     NoMap { line: u32 },

@@ -4,7 +4,8 @@ ghost use Rattle.std.specs.List.{list_any, list_all, count_by};
 ghost use Rattle.sn_fields.specs.Fields.{with_name};
 ghost use Rattle.sn_types_faults.specs.Names.{fields_among, names_read};
 ghost use Rattle.sn_types_faults.specs.Columns.{has_column};
-ghost use Rattle.sn_types_faults.specs.Faults.{reads_fields, unknown_field, unknown_column, ninth_field, narrow_sum, too_wide, no_map, refine_lost};
+ghost use Rattle.sn_types_faults.specs.Faults.{reads_fields, unknown_field, unknown_column, ninth_field, is_sum, wide_fold, is_wide, wide_operand};
+ghost use Rattle.sn_types_faults.specs.Faults.{wide_operands, too_wide, no_map, refine_lost};
 ghost use Rattle.sn_types_faults.specs.Faults.{refine_filter, ends_unmapped, wrong_relax, wrong_levels, operator_fault, are_rising, out_of_range};
 ghost use Rattle.sn_types_faults.specs.Faults.{wrong_field_levels, wrong_refine, refine_fault, in_both, join_too_wide, join_loses, wrong_key, wrong_keys};
 ghost use Rattle.sn_types_faults.specs.Faults.{join_fault};
@@ -18,7 +19,7 @@ use sn_base::column::Column;
 use sn_base::memory::Memory;
 use sn_base::name::Name;
 use sn_fields::field::{Field, field_named};
-use sn_query_grammar::ast::{Cond, FoldWord, Join, Op, Refine, Relax, What};
+use sn_query_grammar::ast::{Cond, Expr, FoldWord, Join, MapCol, Op, Refine, Relax, What};
 use std::alloc::Global;
 
 fn any_no_field(names: &[Name]) -> bool
@@ -64,15 +65,54 @@ fn ninth_field(alloc: Global, scope: &Scope, what: &What, names: &[Name]) -> Res
     Ok(reads_fields(scope, what) && fields.as_slice().len() > 8)
 }
 
-fn narrow_sum(columns: &[Column], what: &What) -> bool
-    ensures { result ≡ narrow_sum columns.now what.now }
+fn is_sum(fold: FoldWord) -> bool
+    ensures { result ≡ is_sum fold }
+{
+    match fold {
+        FoldWord::Sum => true,
+        FoldWord::Max | FoldWord::Min | FoldWord::Or => false,
+    }
+}
+
+fn wide_fold(columns: &[Column], what: &What) -> bool
+    ensures { result ≡ wide_fold columns.now what.now }
 {
     match what {
         What::Filter(_) | What::Map(_) | What::Distinct => false,
-        What::Reduce(reduce) => match reduce.fold {
-            FoldWord::Sum => column_named(columns, &reduce.value).width > reduce.width,
-            FoldWord::Max | FoldWord::Min | FoldWord::Or => false,
-        },
+        What::Reduce(reduce) => {
+            let width = column_named(columns, &reduce.value).width;
+            width > 64 || is_sum(reduce.fold) && width > reduce.width
+        }
+    }
+}
+
+fn is_wide(columns: &[Column], name: &Name) -> bool
+    ensures { result ≡ is_wide columns.now name.now }
+{
+    column_named(columns, name).width > 64
+}
+
+fn wide_operand(columns: &[Column], expr: &Expr) -> bool
+    ensures { result ≡ wide_operand columns.now expr.now }
+{
+    match expr {
+        Expr::Const(_) | Expr::Copy(_) | Expr::Mask(_, _) | Expr::Shift(_, _) => false,
+        Expr::Sum(a, b) | Expr::Ratio(a, _, b) => is_wide(columns, a) || is_wide(columns, b),
+    }
+}
+
+fn any_wide_operand(columns: &[Column], cols: &[MapCol]) -> bool
+    ensures { result ≡ list_any (λ c. wide_operand columns.now c.expr) cols.now }
+{
+    cols.iter().any(|col| wide_operand(columns, &col.expr))
+}
+
+fn wide_operands(columns: &[Column], what: &What) -> bool
+    ensures { result ≡ wide_operands columns.now what.now }
+{
+    match what {
+        What::Map(cols) => any_wide_operand(columns, cols.as_slice()),
+        What::Filter(_) | What::Distinct | What::Reduce(_) => false,
     }
 }
 
@@ -81,7 +121,8 @@ fn too_wide(alloc: Global, scope: &Scope, what: &What, names: &[Name]) -> Result
     ensures { IfOk result (λ wide. wide ≡ too_wide scope.now what.now) }
 {
     let ninth = ninth_field(alloc, scope, what, names)?;
-    Ok(ninth || scope.mapped && narrow_sum(scope.columns.as_slice(), what))
+    let columns = scope.columns.as_slice();
+    Ok(ninth || scope.mapped && (wide_fold(columns, what) || wide_operands(columns, what)))
 }
 
 fn no_map(scope: &Scope, what: &What) -> bool

@@ -1,4 +1,4 @@
-use Rattle.std.proofs.Common.{ℕ, List, [], Ok, Err, subst, ◌∙◌}
+use Rattle.std.proofs.Common.{ℕ, List, [], Ok, subst, ◌∙◌}
 use Rattle.std.proofs.lemmas.Result.{err_from_is_err_and}
 use Rattle.sn_command.specs.Desks.{world}
 use Rattle.sn_command.specs.Outcomes.{Outcome}

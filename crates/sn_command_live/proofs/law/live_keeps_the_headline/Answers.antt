@@ -1,4 +1,4 @@
-use Rattle.sn_command_live.proofs.HeadlineLemmas.{Costs, Shows, headline}
+use Rattle.sn_command_live.proofs.HeadlineLemmas.{headline}
 use Rattle.sn_command_live.proofs.ReachLemmas.{reached}
 use Rattle.sn_command_live.proofs.law.live_keeps_the_headline.Goals as goal
 

@@ -1,4 +1,4 @@
-use Rattle.std.proofs.Common.{Ok, [], refl}
+use Rattle.std.proofs.Common.{Ok, []}
 use Rattle.std.proofs.lemmas.Result.{err_from_is_err_and}
 use Rattle.sn_command.proofs.StageLemmas.{runs_gives}
 use Rattle.sn_command_live.proofs.WorkLemmas.{work_stops, work_then}

@@ -8,7 +8,7 @@ tuples-preserved c =
     let e = c.in-Some.ensures in
     let p = c.in_ok-packet.ensures in
     taking_more c.args.switch c.args.number c.args.many.now at.many c.args.share.now at.share at.invariant c.packet.new.self c.take.new.self c.in-Some.tuple e.some e.sound e.ending c.widths.ensures
-    (record { work = λ queries depth entries kept captures h. p.work queries depth entries kept captures h; phase = p.phase; last = p.last; count = p.count; queries = p.queries })
+    (record { work = λ queries tables entries kept window captures h. p.work queries tables entries kept window captures h; phase = p.phase; last = p.last; count = p.count; queries = p.queries })
 
 pub returns-clause-taken : goal.returns-clause-taken
 returns-clause-taken c =

@@ -1,6 +1,6 @@
 use Rattle.std.proofs.Common.{◌∙◌, sym}
 use Rattle.sn_emit.proofs.PlanFacts.{all_few}
-use Rattle.sn_emit.specs.Plans.{pieces_from}
+use Rattle.sn_emit.specs.Plans.{pieces_from, tables_of}
 use Rattle.sn_core_drive.proofs.Counting.{as_many_lanes}
 use Rattle.sn_core_drive.proofs.driving.start.Goals as goal
 
@@ -11,4 +11,4 @@ lane_count-requires g c =
 
 pub returns-clause-lanes : goal.returns-clause-lanes
 returns-clause-lanes g c =
-    c.lane_count.ensures ∙ sym (as_many_lanes c.args.t.now.queries c.args.s.now.chain (pieces_from 0 c.args.plan.now.entries) (g.M.Machine.state c.in_ok-machine.machine).lanes c.in_ok-machine.ensures.lanes)
+    c.lane_count.ensures ∙ sym (as_many_lanes c.args.t.now.queries (tables_of c.args.s.now) (pieces_from 0 c.args.plan.now.entries) (g.M.Machine.state c.in_ok-machine.machine).lanes c.in_ok-machine.ensures.lanes)

@@ -1,9 +1,7 @@
 use Rattle.std.proofs.Common.{◌≡◌, ◌++◌, ◌∷◌, [], List, length, map, refl, ap, sym, ◌∙◌, append_assoc, append-nil, arith}
 use Rattle.std.specs.Vec.Iter.{into_iter_items}
 use Rattle.std.proofs.lemmas.List.{map-append}
-use Rattle.circular_buffer.specs.Buffer.{Buffer}
 use Rattle.sn_emit.specs.declared.sender.Sender.{Sender}
-use Rattle.sn_report.specs.Items.{Frame}
 use Rattle.sn_core_net.specs.Holders.{with_ring}
 use Rattle.sn_core_net.specs.declared.holder.Holder.{Holder}
 use Rattle.sn_core_net.proofs.making.holders.Goals as goal
@@ -23,8 +21,8 @@ loop-sender-preserved c =
     record {
       rest = append_assoc at.yielded (s ∷ []) (into_iter_items c.next.new.self) ∙ ap (λ ss. at.yielded ++ ss) (sym steps) ∙ at.invariant.rest;
       count = omega (arith, count, gone, short);
-      lanes = c.in_ok-push.ensures.ok ∙ ap (λ (hs : List Holder). hs ++ record { sender = s; ring = c.in_ok-ring.ring } ∷ []) at.invariant.lanes
-          ∙ ap (λ (b : Buffer Frame). map (with_ring c.args.room) at.yielded ++ record { sender = s; ring = b } ∷ []) c.in_ok-ring.ensures
+      lanes = c.in_ok-push.ensures.ok ∙ ap (λ (hs : List Holder). hs ++ c.in_ok-holder.holder ∷ []) at.invariant.lanes
+          ∙ ap (λ (h : Holder). map (with_ring c.args.room) at.yielded ++ h ∷ []) c.in_ok-holder.ensures
           ∙ sym (map-append (with_ring c.args.room) at.yielded (s ∷ []));
     }
 

@@ -1,12 +1,14 @@
-use Rattle.std.proofs.Common.{◌≡◌, ℕ, ◌+◌, ◌-◌, ◌≤◌, List, Option, length, take, drop, get_or, subst, sym, ap, ◌∙◌, arith, refl}
-use Rattle.std.proofs.lemmas.List.{length-drop, take_all}
+use Rattle.std.proofs.Common.{◌≡◌, ℕ, ◌+◌, ◌-◌, ◌*◌, ◌≤◌, ◌<◌, List, Option, length, take, drop, get_or, subst, sym, ap, ◌∙◌, arith, refl}
+use Rattle.std.proofs.lemmas.List.{length-drop, length-take, take_all}
 use Rattle.sn_plan_choices.specs.Costs.{HasPlaces}
 use Rattle.sn_refine.specs.Steps.{Set, kept_at, kept_of, parts_in}
 use Rattle.sn_types.specs.declared.typed_query.TypedQuery.{TypedQuery}
 use Rattle.sn_types.specs.Typed.{query_at}
+use Rattle.sn_cost.specs.Adding.{HasRoom}
 use Rattle.sn_cost.specs.Runs.{equal_ahead}
-use Rattle.sn_cost.specs.Training.{AddsWindow}
-use Rattle.sn_cost.proofs.Trained.{TrainedTo, next_trained, none_trained}
+use Rattle.sn_cost.specs.Training.{AddsWindow, kept_count}
+use Rattle.sn_cost.proofs.Few.{few_kept}
+use Rattle.sn_cost.proofs.Trained.{TrainedTo, next_trained, none_trained, room_next}
 use Rattle.sn_cost.proofs.train.add_front.Goals as goal
 
 pub loop-done-init : goal.loop-done-init
@@ -15,12 +17,21 @@ loop-done-init c =
     record {
       query = c.in_ok-refined.ensures.query;
       path = c.in_ok-refined.ensures.path;
-      so_far = none_trained a.s.now a.q (query_at a.t.now.queries a.q) a.prefix a.front.now a.numbers.now a.tuples.now a.table.now c.in_ok-refined.refined.last c.in_ok-refined.refined.kept c.requires.never_fall c.requires.fresh c.in_ok-refined.ensures.last;
+      so_far = none_trained a.s.now a.q (query_at a.t.now.queries a.q) a.prefix a.front.now a.numbers.now a.tuples.now a.table.now c.in_ok-refined.refined.last c.in_ok-refined.refined.kept c.requires.never_fall c.requires.fresh c.in_ok-refined.ensures.last c.in_ok-refined.ensures.kept;
     }
 
 pub add_window-requires-clause-places : goal.add_window-requires-clause-places
 add_window-requires-clause-places c =
     subst (λ (n : ℕ). HasPlaces c.loop-done.table (n + 1)) (sym c.loop-done.invariant.query) (c.loop-done.invariant.so_far.counted.places (c.args.q + 1) c.requires.places)
+
+pub add_window-requires-clause-room : goal.add_window-requires-clause-room
+add_window-requires-clause-room c =
+    let a = c.args in
+    let r = c.loop-done.refined in
+    let room = room_next a.s.now a.q (query_at a.t.now.queries a.q) a.prefix a.front.now a.numbers.now a.tuples.now a.table.now c.loop-done.done r.last r.kept c.loop-done.table c.requires.switch.weight.1 c.loop-done-test.true c.requires.few
+    c.requires.places c.requires.prefix c.loop-done.invariant.so_far in
+    subst (λ (n : ℕ). (b : ℕ) → b < 2 → HasRoom c.loop-done.table n a.prefix b (a.s.now.weight * kept_count r.kept (length r.path - 1))) (sym c.loop-done.invariant.query)
+    (subst (λ (xs : List ℕ). (b : ℕ) → b < 2 → HasRoom c.loop-done.table a.q a.prefix b (a.s.now.weight * kept_count r.kept (length xs - 1))) (sym c.loop-done.invariant.path) room)
 
 pub loop-done-preserved : goal.loop-done-preserved
 loop-done-preserved c =
@@ -46,10 +57,13 @@ loop-done-preserved c =
     ∙ ap (λ (n : ℕ). kept n (query_at a.t.now.queries n) r.path ((done + count) - done)) c.loop-done.invariant.query
     ∙ ap (λ (p : List ℕ). kept a.q query p ((done + count) - done)) c.loop-done.invariant.path
     ∙ ap (kept a.q query a.front.now) back in
+    let some_kept = few_kept a.t.now.window_us a.q a.t.now.queries a.front.now (kept_at r.last r.kept w) (take count (drop done tuples)) a.t.now.typed c.requires.path (length a.front.now - 1) in
+    let short = length-take count (drop done tuples) in
+    let owed = ap (λ (sets : List Set). kept_count sets (length a.front.now - 1)) is in
     record {
       query = c.add_window.ensures.query ∙ c.loop-done.invariant.query;
       path = c.add_window.ensures.path ∙ c.loop-done.invariant.path;
       so_far = subst (λ (o : Option ℕ). TrainedTo a.s.now a.q query a.prefix a.front.now numbers tuples a.table.now (done + count) o c.add_window.new.refined.kept c.add_window.new.table) (sym c.in_ok-add_window.ensures.last)
-          (next_trained a.s.now a.q query a.prefix a.front.now numbers tuples a.table.now c.loop-done.table c.add_window.new.table done count (done + count) r c.add_window.new.refined.kept c.loop-done-test.true c.requires.same c.requires.never_fall run
-          c.first_run.ensures.some refl (omega (arith, within, long)) c.loop-done.invariant.path c.requires.some c.loop-done.invariant.so_far on c.loop-done.invariant.query is);
+          (next_trained a.s.now a.q query a.prefix a.front.now numbers tuples a.table.now c.loop-done.table c.add_window.new.table done count (done + count) r c.add_window.new.refined.kept c.requires.switch.weight.1 c.loop-done-test.true c.requires.same c.requires.never_fall run
+          c.first_run.ensures.some refl (omega (arith, within, long)) c.loop-done.invariant.path c.requires.some c.loop-done.invariant.so_far on c.loop-done.invariant.query is (omega (arith, some_kept, short, owed)));
     }

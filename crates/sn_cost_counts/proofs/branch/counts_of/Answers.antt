@@ -18,31 +18,31 @@ use Rattle.sn_cost_counts.proofs.branch.counts_of.Goals as goal
 use Rattle.sn_windows.specs.Blocks.{most_records}
 
 pub split_at-requires : goal.split_at-requires
-split_at-requires c =
+split_at-requires g c =
     let t = c.args.t.now in
     omega (arith, cut_within t.window_us t.queries c.args.q c.args.b t.typed c.requires.query c.requires.branch, c.max_cut.ensures, ap length c.operators.ensures)
 
 pub counts_along-requires-clause-operators : goal.counts_along-requires-clause-operators
-counts_along-requires-clause-operators c =
+counts_along-requires-clause-operators g c =
     let t = c.args.t.now in
     omega (arith, few_ops t.window_us t.queries c.args.q c.args.b t.typed c.requires.query c.requires.branch, ap length c.operators.ensures, ap length c.split_at.ensures.front, length-take c.max_cut.result c.operators.result.now)
 
 pub counts_along-requires-clause-takes : goal.counts_along-requires-clause-takes
-counts_along-requires-clause-takes c =
+counts_along-requires-clause-takes g c =
     let t = c.args.t.now in
     let front : c.split_at.result.0.now ≡ take c.max_cut.result (branch_at t.queries c.args.q c.args.b).ops = c.split_at.ensures.front ∙ ap (take c.max_cut.result) c.operators.ensures in
     subst (λ (os : List TOp). AllByRecursion (Takes c.args.level os) c.args.rows) (sym front)
     (branch_takes t.window_us t.queries c.args.q c.args.b c.args.level c.max_cut.result c.args.rows t.typed c.requires.query c.requires.branch c.requires.columns)
 
 pub counts_along-requires-clause-fits : goal.counts_along-requires-clause-fits
-counts_along-requires-clause-fits c =
+counts_along-requires-clause-fits g c =
     let t = c.args.t.now in
     let front : c.split_at.result.0.now ≡ take c.max_cut.result (branch_at t.queries c.args.q c.args.b).ops = c.split_at.ensures.front ∙ ap (take c.max_cut.result) c.operators.ensures in
     subst (λ (os : List TOp). AllFit c.args.level os []) (sym front)
     (fit_front c.args.level c.max_cut.result (branch_at t.queries c.args.q c.args.b).ops [] (branch_fit t.window_us t.queries c.args.q c.args.b c.args.level [] t.typed c.requires.query c.requires.branch tt))
 
 pub returns-clause-counts : goal.returns-clause-counts
-returns-clause-counts c =
+returns-clause-counts g c =
     let a = c.args in
     let t = a.t.now in
     let branch : TypedBranch = branch_at t.queries a.q a.b in
@@ -55,7 +55,7 @@ returns-clause-counts c =
     c.counts_along.ensures.counts
 
 pub returns-clause-small : goal.returns-clause-small
-returns-clause-small c =
+returns-clause-small g c =
     let a = c.args in
     let t = a.t.now in
     let branch : TypedBranch = branch_at t.queries a.q a.b in

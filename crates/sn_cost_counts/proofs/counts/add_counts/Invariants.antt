@@ -3,4 +3,4 @@ use Rattle.sn_cost_counts.specs.Flows.{counted}
 use Rattle.sn_cost_counts.proofs.counts.add_counts.Given as goal
 
 abbrev pub invariant-loop-flow : goal.invariant-loop-flow
-invariant-loop-flow l = l.counts ≡ l.fn.counts ++ map counted (take l.flow-index l.flows)
+invariant-loop-flow g l = l.counts ≡ l.fn.counts ++ map counted (take l.flow-index l.flows)

@@ -14,7 +14,7 @@ use Rattle.sn_pipe.specs.Windows.{rows_left}
 use Rattle.sn_cost_counts.proofs.held.reduce.Goals as goal
 
 pub read_out-requires : goal.read_out-requires
-read_out-requires c =
+read_out-requires g c =
     let r : TReduce = c.args.r.now in
     let rows : List Row = c.args.rows.now in
     let had = recursion_from_All (λ (row : Row). any_has r.fold (slice_index row r.value)) rows c.requires.fits.had in
@@ -23,7 +23,7 @@ read_out-requires c =
     subst (λ (x : ChainState AnyFold). AllByRecursion (λ (e : Row × ℕ). length e.0 < 8) (held_in_order x.cells)) (sym after) (keys_long r c.args.depth c.args.slots rows c.requires.some_slots had c.requires.fits.few)
 
 pub returns-clause-over : goal.returns-clause-over
-returns-clause-over c =
+returns-clause-over g c =
     let r : TReduce = c.args.r.now in
     let rows : List Row = c.args.rows.now in
     let had = recursion_from_All (λ (row : Row). any_has r.fold (slice_index row r.value)) rows c.requires.fits.had in
@@ -31,7 +31,7 @@ returns-clause-over c =
     c.offer_all-over.ensures.over ∙ ap (λ (x : ChainState AnyFold). length (overs_of r x rows)) fresh ∙ ap length (folded_over r c.args.depth c.args.slots rows c.requires.some_slots had)
 
 pub returns-clause-rows : goal.returns-clause-rows
-returns-clause-rows c =
+returns-clause-rows g c =
     let r : TReduce = c.args.r.now in
     let rows : List Row = c.args.rows.now in
     let had = recursion_from_All (λ (row : Row). any_has r.fold (slice_index row r.value)) rows c.requires.fits.had in

@@ -4,4 +4,4 @@ use Rattle.sn_cost_counts.specs.Flows.{stepped}
 use Rattle.sn_cost_counts.proofs.sizes.add_sizes.Given as goal
 
 abbrev pub invariant-loop-size : goal.invariant-loop-size
-invariant-loop-size l = l.out.items ≡ l.fn.out.items ++ map (λ size. stepped l.depth size (op_at 0 l.op) l.flow) (take l.size-index l.slots)
+invariant-loop-size g l = l.out.items ≡ l.fn.out.items ++ map (λ size. stepped l.depth size (op_at 0 l.op) l.flow) (take l.size-index l.slots)

@@ -5,4 +5,4 @@ use Rattle.sn_cost_counts.specs.Flows.{stepped}
 use Rattle.sn_cost_counts.proofs.sizes.by_size.Given as goal
 
 abbrev pub invariant-loop-flow : goal.invariant-loop-flow
-invariant-loop-flow l = l.out.items ≡ flat_map (λ f. map (λ size. stepped l.depth size (op_at 0 l.op) f) l.slots) (take l.flow-index l.flows)
+invariant-loop-flow g l = l.out.items ≡ flat_map (λ f. map (λ size. stepped l.depth size (op_at 0 l.op) f) l.slots) (take l.flow-index l.flows)

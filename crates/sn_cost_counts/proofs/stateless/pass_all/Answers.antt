@@ -1,12 +1,12 @@
 use Rattle.std.proofs.Common.{set, ap, sym, ◌∙◌}
 use Rattle.std.proofs.lemmas.List.Edits.{map_over_more}
 use Rattle.sn_types.specs.Values.{op_at}
-use Rattle.sn_cost_counts.specs.declared.flow.Flow.{Flow}
+use Rattle.sn_cost_counts.specs.AnyFlow.{Flow}
 use Rattle.sn_cost_counts.specs.Flows.{stepped}
 use Rattle.sn_cost_counts.proofs.stateless.pass_all.Goals as goal
 
 pub loop-flow-preserved : goal.loop-flow-preserved
-loop-flow-preserved c =
+loop-flow-preserved g c =
     let flows = c.loop-flow.flows in
     let i = c.loop-flow.flow-index in
     let f = stepped 0 0 (op_at c.args.level c.args.op.now) in

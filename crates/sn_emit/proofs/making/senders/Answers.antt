@@ -1,11 +1,13 @@
+use Rattle.std.proofs.Common.{◌≤◌, subst, sym}
+use Rattle.sn_emit.specs.declared.tables.Tables.{Tables}
 use Rattle.sn_emit.proofs.PlanFacts.{all_can, few_entries}
 use Rattle.sn_emit.proofs.making.senders.Goals as goal
 
 pub senders_of-requires-clause-some_depth : goal.senders_of-requires-clause-some_depth
-senders_of-requires-clause-some_depth c = c.requires.switch.chain.0
+senders_of-requires-clause-some_depth c = subst (λ (tables : Tables). 1 ≤ tables.depth) (sym c.of-tables.ensures) c.requires.switch.chain.0
 
 pub senders_of-requires-clause-most_depth : goal.senders_of-requires-clause-most_depth
-senders_of-requires-clause-most_depth c = c.requires.switch.chain.1
+senders_of-requires-clause-most_depth c = subst (λ (tables : Tables). tables.depth ≤ 4) (sym c.of-tables.ensures) c.requires.switch.chain.1
 
 pub senders_of-requires-clause-few : goal.senders_of-requires-clause-few
 senders_of-requires-clause-few c =

@@ -33,7 +33,7 @@ overflow_add-q c =
 pub loop-entry-preserved : goal.loop-entry-preserved
 loop-entry-preserved c =
     let queries : List TypedQuery = c.args.t.now.queries in
-    let depth = c.args.chain in
+    let tables = c.args.tables in
     let es : List Entry = c.args.plan.now.entries in
     let i = c.loop-entry.entry-index in
     let e : Entry = c.entry-item.result in
@@ -50,7 +50,7 @@ loop-entry-preserved c =
     ∙ ap (map (placed i e.levels)) c.as_slice.ensures in
     record {
       counted = ap (λ (n : ℕ). n + 1) c.loop-entry.invariant.counted;
-      lanes = subst (λ (xs : List Placed). AreNewLanes queries depth xs c.push_senders.new.lanes) (ap (λ (xs : List Placed). before ++ xs) own ∙ pieces_more es i e lt at count)
+      lanes = subst (λ (xs : List Placed). AreNewLanes queries tables xs c.push_senders.new.lanes) (ap (λ (xs : List Placed). before ++ xs) own ∙ pieces_more es i e lt at count)
           (c.in_ok-push_senders.ensures before c.loop-entry.invariant.lanes);
     }
 
@@ -61,5 +61,5 @@ returns c =
     let i = c.loop-entry.entry-index in
     let end : length es ≤ i = subst (λ (xs : List Entry). length xs ≤ i) c.as_slice-entry-items.ensures c.loop-entry-test.false in
     let whole = take_all i es end in
-    subst (λ (ss : List Sender). AreNewLanes t.queries c.args.chain (pieces_from 0 es) ss) (sym c.into_vec.ensures)
-    (subst (λ (xs : List Entry). AreNewLanes t.queries c.args.chain (pieces_from 0 xs) c.loop-entry.lanes) whole c.loop-entry.invariant.lanes)
+    subst (λ (ss : List Sender). AreNewLanes t.queries c.args.tables (pieces_from 0 es) ss) (sym c.into_vec.ensures)
+    (subst (λ (xs : List Entry). AreNewLanes t.queries c.args.tables (pieces_from 0 xs) c.loop-entry.lanes) whole c.loop-entry.invariant.lanes)

@@ -1,38 +1,33 @@
-use Rattle.std.proofs.Common.{◌≡◌, ◌≤◌, List, map, length, ap, sym, ◌∙◌, subst}
+use Rattle.std.proofs.Common.{◌≡◌, List, map, ap, sym, ◌∙◌, subst}
+use Rattle.std.specs.List.{AllByRecursion}
 use Rattle.sn_base.specs.Groups.{Row}
-use Rattle.sn_pipe_items.specs.Value.{is_at, rows_with, value}
-use Rattle.sn_ops.proofs.Steps.{ok_weaker}
-use Rattle.sn_types.specs.declared.typed_op.TOp.{TOp}
-use Rattle.sn_types.specs.Typed.{branch_at, end_columns}
-use Rattle.sn_types.specs.Values.{op_at}
-use Rattle.sn_types.proofs.Facts.{few_ops}
-use Rattle.sn_types.proofs.RowsAfter.{AreOf}
-use Rattle.sn_engine.specs.Fitting.{ItemsFit}
-use Rattle.sn_engine.proofs.FitLemmas.{branch_items_fit, branch_value_of}
+use Rattle.sn_engine_split.specs.Branches.{IsItemOf, branch_value}
+use Rattle.sn_report.specs.Items.{Item, item_by}
+use Rattle.sn_types.specs.Typed.{branch_at, query_at}
+use Rattle.sn_engine.specs.AnyItems.{items_in}
+use Rattle.sn_engine.proofs.OfKinds.{same_items}
 use Rattle.sn_engine.proofs.query.branch_value.Goals as goal
 
-pub value-requires-clause-few : goal.value-requires-clause-few
-value-requires-clause-few c =
-    let t = c.args.t.now in
-    let same = c.operators.ensures in
-    subst (λ (os : List TOp). length os ≤ 12) (sym same) (few_ops t.window_us t.queries c.args.q c.args.b t.typed c.requires.query c.requires.branch)
+pub kind_value-requires-clause-items : goal.kind_value-requires-clause-items
+kind_value-requires-clause-items c =
+    let same : map (item_by (λ (row : Row). row)) c.as_slice.result.now ≡ c.args.items.now =
+    same_items c.as_slice.result.now ∙ c.as_slice.ensures ∙ ap items_in (sym c.in-Short.is) ∙ c.kind.ensures in
+    subst (λ (items : List Item). AllByRecursion (IsItemOf (branch_at c.args.t.now.queries c.args.q c.args.b)) items) (sym same) c.requires.items
 
-pub value-requires-clause-items : goal.value-requires-clause-items
-value-requires-clause-items c =
-    let t = c.args.t.now in
-    let items = c.args.items.now in
-    let same = c.operators.ensures in
-    subst (λ (os : List TOp). ItemsFit c.args.level 0 os items (rows_with (is_at 0) items)) (sym same)
-    (branch_items_fit t.window_us t.queries c.args.q c.args.b c.args.level items t.typed c.requires.query c.requires.branch c.requires.items)
+pub returns-in_ok-rows-in-Short-clause-rows : goal.returns-in_ok-rows-in-Short-clause-rows
+returns-in_ok-rows-in-Short-clause-rows c =
+    let same : map (item_by (λ (row : Row). row)) c.as_slice.result.now ≡ c.args.items.now =
+    same_items c.as_slice.result.now ∙ c.as_slice.ensures ∙ ap items_in (sym c.in-Short.is) ∙ c.kind.ensures in
+    c.in_ok-rows-in-Short.ensures.rows ∙ ap (branch_value (query_at c.args.t.now.queries c.args.q) c.args.b c.args.level) same
 
-pub returns-clause-columns : goal.returns-clause-columns
-returns-clause-columns c =
-    let t = c.args.t.now in
-    let items = c.args.items.now in
-    let level = c.args.level in
-    let columns = end_columns (branch_at t.queries c.args.q c.args.b) in
-    let same = c.operators.ensures in
-    let out : List Row = value (map (op_at level) c.operators.result.now) items in
-    let is : out ≡ value (map (op_at level) (branch_at t.queries c.args.q c.args.b).ops) items = ap (λ (os : List TOp). value (map (op_at level) os) items) same in
-    ok_weaker (λ (rows : List Row). rows ≡ out) (AreOf columns)
-    (λ rows h. subst (AreOf columns) (sym (h ∙ is)) (branch_value_of t.window_us t.queries c.args.q c.args.b level items t.typed c.requires.query c.requires.branch c.requires.items)) c.value.result c.value.ensures
+pub kind_value-requires-in-Wide-clause-items : goal.kind_value-requires-in-Wide-clause-items
+kind_value-requires-in-Wide-clause-items c =
+    let same : map (item_by (λ (row : Row). row)) c.as_slice-in-Wide.result.now ≡ c.args.items.now =
+    same_items c.as_slice-in-Wide.result.now ∙ c.as_slice-in-Wide.ensures ∙ ap items_in (sym c.in-Wide.is) ∙ c.kind.ensures in
+    subst (λ (items : List Item). AllByRecursion (IsItemOf (branch_at c.args.t.now.queries c.args.q c.args.b)) items) (sym same) c.requires.items
+
+pub returns-in_ok-rows-in-Wide-clause-rows : goal.returns-in_ok-rows-in-Wide-clause-rows
+returns-in_ok-rows-in-Wide-clause-rows c =
+    let same : map (item_by (λ (row : Row). row)) c.as_slice-in-Wide.result.now ≡ c.args.items.now =
+    same_items c.as_slice-in-Wide.result.now ∙ c.as_slice-in-Wide.ensures ∙ ap items_in (sym c.in-Wide.is) ∙ c.kind.ensures in
+    c.in_ok-rows-in-Wide.ensures.rows ∙ ap (branch_value (query_at c.args.t.now.queries c.args.q) c.args.b c.args.level) same

@@ -1,6 +1,7 @@
-use Rattle.std.proofs.Common.{◌≡◌, ◌++◌, take}
+use Rattle.std.proofs.Common.{◌≡◌, ◌++◌, map, take}
 use Rattle.sn_pipe_items.specs.Value.{is_at, rows_with}
+use Rattle.sn_report.specs.Items.{item_by}
 use Rattle.sn_engine.proofs.rows.push_found.Given as goal
 
 abbrev pub invariant-loop-item : goal.invariant-loop-item
-invariant-loop-item l = l.rows ≡ l.initial.rows ++ rows_with (is_at l.operator) (take l.item-index l.items)
+invariant-loop-item g l = l.rows ≡ l.initial.rows ++ rows_with (is_at l.operator) (map (item_by g.R.Columns.columns) (take l.item-index l.items))

@@ -5,7 +5,7 @@ use Rattle.sn_engine.proofs.rows.push_rows_at.Goals as goal
 use Rattle.sn_engine.proofs.rows.push_rows_at.Goals.{then-operator-span-via-then-operator-span, then-operator-span-via-else-operator-span+then-span-operator}
 
 pub returns-then-operator-span : goal.returns-then-operator-span
-returns-then-operator-span c =
+returns-then-operator-span g c =
     let rows = c.args.rows.now in
     let outside : IsOutside c.args.operator c.args.span =
     elim c.then-operator-span.branch [

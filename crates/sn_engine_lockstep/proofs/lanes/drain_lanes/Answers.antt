@@ -8,8 +8,10 @@ pub loop-lane-init : goal.loop-lane-init
 loop-lane-init g c = record {
   count = refl;
   queries = refl;
-  lanes = λ queries depth pieces h. h;
-  work = λ typed_for depth queries pieces kept tuples t can widths w. ended_none queries depth c.args.window pieces kept tuples c.args.emitter.now c.args.engine.now.lanes.items w;
+  closed = refl;
+  prefixes = refl;
+  lanes = λ queries tables pieces h. h;
+  work = λ typed_for tables queries pieces kept tuples t can widths w. ended_none queries tables c.args.window pieces kept tuples c.args.emitter.now c.args.engine.now.lanes.items w;
   left = λ j le. refl;
   sent = sym (append-nil (g.W.Wire.told c.args.wire.now));
 }
@@ -28,21 +30,23 @@ loop-lane-preserved g c =
     record {
       count = e.count ∙ v.count;
       queries = e.queries ∙ v.queries;
-      lanes = λ queries depth pieces h. e.lanes queries depth pieces (v.lanes queries depth pieces h);
-      work = λ typed_for depth queries pieces kept tuples t can widths w.
-          end_one typed_for depth c.args.window queries pieces kept tuples i c.loop-lane.emitter c.drain.new.emitter c.loop-lane.engine.lanes.items c.drain.new.engine.lanes.items
-          t can widths lt e.count e.read e.others (v.work typed_for depth queries pieces kept tuples t can widths w);
+      closed = e.closed ∙ v.closed;
+      prefixes = e.prefixes ∙ v.prefixes;
+      lanes = λ queries tables pieces h. e.lanes queries tables pieces (v.lanes queries tables pieces h);
+      work = λ typed_for tables queries pieces kept tuples t can widths w.
+          end_one typed_for tables c.args.window queries pieces kept tuples i c.loop-lane.emitter c.drain.new.emitter c.loop-lane.engine.lanes.items c.drain.new.engine.lanes.items
+          t can widths lt e.count e.read e.others (v.work typed_for tables queries pieces kept tuples t can widths w);
       left = left_others c.args.emitter.now c.loop-lane.emitter c.drain.new.emitter i e.others v.left;
       sent = sent_more g.W.Wire.word (λ s. frames_left s c.args.window) c.args.emitter.now c.loop-lane.emitter i (g.W.Wire.told c.args.wire.now) (g.W.Wire.told c.loop-lane.wire) (g.W.Wire.told c.drain.new.wire) among (v.left i here) v.sent e.sent;
     }
 
 pub returns-clause-work : goal.returns-clause-work
-returns-clause-work g c = λ typed_for depth queries pieces kept tuples t can widths w.
+returns-clause-work g c = λ typed_for tables queries pieces kept tuples t can widths w.
     let v = c.loop-lane.invariant in
     let past = c.loop-lane-test.false in
     let end = c.lanes-lane-end.ensures in
     let count = v.count in
-    ended_all queries depth c.args.window pieces kept tuples c.loop-lane.lane c.loop-lane.emitter c.loop-lane.engine.lanes.items (omega (arith, past, end, count)) (v.work typed_for depth queries pieces kept tuples t can widths w)
+    ended_all queries tables c.args.window pieces kept tuples c.loop-lane.lane c.loop-lane.emitter c.loop-lane.engine.lanes.items (omega (arith, past, end, count)) (v.work typed_for tables queries pieces kept tuples t can widths w)
 
 pub returns-clause-sent : goal.returns-clause-sent
 returns-clause-sent g c =

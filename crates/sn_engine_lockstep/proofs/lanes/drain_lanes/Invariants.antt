@@ -6,6 +6,7 @@ use Rattle.sn_engine_lockstep.proofs.Giving.{Ended}
 use Rattle.sn_emit.specs.Making.{CanMake}
 use Rattle.sn_emit.specs.Plans.{AreLanesOf, Placed}
 use Rattle.sn_emit.specs.Senders.{frames_left}
+use Rattle.sn_emit.specs.declared.tables.Tables.{Tables}
 use Rattle.sn_refine.specs.Steps.{Set}
 use Rattle.sn_types.specs.Typed.{HasWidths, IsTyped}
 use Rattle.sn_types.specs.declared.typed_query.TypedQuery.{TypedQuery}
@@ -15,9 +16,11 @@ abbrev pub invariant-loop-lane : goal.invariant-loop-lane
 invariant-loop-lane g l = record {
   count : length l.emitter ≡ length l.initial.emitter;
   queries : l.engine.t.queries ≡ l.initial.engine.t.queries;
-  lanes : (queries : List TypedQuery) (depth : ℕ) (pieces : List Placed) → AreLanesOf queries depth pieces l.initial.emitter → AreLanesOf queries depth pieces l.emitter;
-  work : (typed_for depth : ℕ) (queries : List TypedQuery) (pieces : List Placed) (kept : Source → Set) (tuples : List (List ℕ)) → ∥ IsTyped typed_for queries ∥₁ → AllByRecursion (CanMake queries) pieces → AllByRecursion HasWidths tuples →
-      AreAtWork queries depth pieces kept tuples l.initial.emitter l.initial.engine.lanes.items → Each (Ended queries depth kept tuples l.window l.lane) pieces l.emitter l.engine.lanes.items;
+  closed : l.engine.closed ≡ l.initial.engine.closed;
+  prefixes : l.engine.kept ≡ l.initial.engine.kept;
+  lanes : (queries : List TypedQuery) (tables : Tables) (pieces : List Placed) → AreLanesOf queries tables pieces l.initial.emitter → AreLanesOf queries tables pieces l.emitter;
+  work : (typed_for : ℕ) (tables : Tables) (queries : List TypedQuery) (pieces : List Placed) (kept : Source → Set) (tuples : List (List ℕ)) → ∥ IsTyped typed_for queries ∥₁ → AllByRecursion (CanMake queries) pieces → AllByRecursion HasWidths tuples →
+      AreAtWork queries tables pieces kept tuples l.initial.emitter l.initial.engine.lanes.items → Each (Ended queries tables kept tuples l.window l.lane) pieces l.emitter l.engine.lanes.items;
   left : (j : ℕ) → l.lane ≤ j → slice_get l.emitter j ≡ slice_get l.initial.emitter j;
   sent : g.W.Wire.told l.wire ≡ g.W.Wire.told l.initial.wire ++ flat_map g.W.Wire.word (flat_map (λ s. frames_left s l.window) (take l.lane l.initial.emitter));
 }

@@ -11,8 +11,10 @@ loop-lane-init g c = record {
   count = refl;
   unread = c.requires;
   queries = refl;
-  lanes = λ queries depth pieces h. h;
-  work = λ queries depth pieces kept tuples w. given_none queries depth pieces kept tuples c.args.tuple.now c.args.emitter.now c.args.engine.now.lanes.items w;
+  closed = refl;
+  prefixes = refl;
+  lanes = λ queries tables pieces h. h;
+  work = λ queries tables pieces kept tuples w. given_none queries tables pieces kept tuples c.args.tuple.now c.args.emitter.now c.args.engine.now.lanes.items w;
   left = λ j le. refl;
   sent = sym (append-nil (g.W.Wire.told c.args.wire.now));
 }
@@ -36,21 +38,23 @@ loop-lane-preserved g c =
       count = set_many c.loop-lane.emitter c.give.new.emitter i (λ s. sender_next s tuple) lt e.after ∙ v.count;
       unread = next_unread c.loop-lane.emitter c.give.new.emitter i tuple lt e.after v.unread;
       queries = e.queries ∙ v.queries;
-      lanes = λ queries depth pieces h. e.lanes queries depth pieces (v.lanes queries depth pieces h);
-      work = λ queries depth pieces kept tuples w.
-          give_one queries depth pieces kept tuples tuple i c.loop-lane.emitter c.give.new.emitter c.loop-lane.engine.lanes.items c.give.new.engine.lanes.items lt e.after e.taken
-          (v.work queries depth pieces kept tuples w);
+      closed = e.closed ∙ v.closed;
+      prefixes = e.prefixes ∙ v.prefixes;
+      lanes = λ queries tables pieces h. e.lanes queries tables pieces (v.lanes queries tables pieces h);
+      work = λ queries tables pieces kept tuples w.
+          give_one queries tables pieces kept tuples tuple i c.loop-lane.emitter c.give.new.emitter c.loop-lane.engine.lanes.items c.give.new.engine.lanes.items lt e.after e.taken
+          (v.work queries tables pieces kept tuples w);
       left = left_more c.args.emitter.now c.loop-lane.emitter c.give.new.emitter i (λ s. sender_next s tuple) lt e.after v.left;
       sent = sent_more g.W.Wire.word (frames_given tuple) c.args.emitter.now c.loop-lane.emitter i (g.W.Wire.told c.args.wire.now) (g.W.Wire.told c.loop-lane.wire) (g.W.Wire.told c.give.new.wire) among (v.left i here) v.sent e.sent;
     }
 
 pub returns-clause-work : goal.returns-clause-work
-returns-clause-work g c = λ queries depth pieces kept tuples w.
+returns-clause-work g c = λ queries tables pieces kept tuples w.
     let v = c.loop-lane.invariant in
     let past = c.loop-lane-test.false in
     let end = c.lanes-lane-end.ensures in
     let count = v.count in
-    given_all queries depth pieces kept tuples c.args.tuple.now c.loop-lane.lane c.loop-lane.emitter c.loop-lane.engine.lanes.items (omega (arith, past, end, count)) (v.work queries depth pieces kept tuples w)
+    given_all queries tables pieces kept tuples c.args.tuple.now c.loop-lane.lane c.loop-lane.emitter c.loop-lane.engine.lanes.items (omega (arith, past, end, count)) (v.work queries tables pieces kept tuples w)
 
 pub returns-clause-sent : goal.returns-clause-sent
 returns-clause-sent g c =

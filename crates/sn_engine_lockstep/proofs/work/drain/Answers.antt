@@ -9,8 +9,10 @@ frames-init g c = record {
   sent = sent_none g.W.Wire.word c.args.window c.args.lane c.args.emitter.now (g.W.Wire.told c.args.wire.now) c.requires;
   count = refl;
   others = λ other differs. refl;
-  lanes = λ queries depth pieces h. h;
+  lanes = λ queries tables pieces h. h;
   queries = refl;
+  closed = refl;
+  prefixes = refl;
 }
 
 pub frames-smaller : goal.frames-smaller
@@ -31,8 +33,10 @@ frames-preserved g c =
           c.in-Some.frame c.in-Some.ensures.count lt c.in-Some.ensures.frame c.in_ok-send-in-Some.ensures.sent;
       count = c.in-Some.ensures.count ∙ v.count;
       others = λ other differs. c.in-Some.ensures.others other differs ∙ v.others other differs;
-      lanes = λ queries depth pieces h. c.in-Some.ensures.lanes queries depth pieces (v.lanes queries depth pieces h);
+      lanes = λ queries tables pieces h. c.in-Some.ensures.lanes queries tables pieces (v.lanes queries tables pieces h);
       queries = c.in_ok-send-in-Some.ensures.queries ∙ v.queries;
+      closed = c.in_ok-send-in-Some.ensures.closed ∙ v.closed;
+      prefixes = c.in_ok-send-in-Some.ensures.prefixes ∙ v.prefixes;
     }
 
 pub returns-in-None-clause-read : goal.returns-in-None-clause-read

@@ -3,6 +3,7 @@ use Rattle.std.specs.Option.{option_map_or}
 use Rattle.sn_engine_lockstep.proofs.Draining.{HasRead}
 use Rattle.sn_emit.specs.Plans.{AreLanesOf, Placed}
 use Rattle.sn_emit.specs.Senders.{frames_left}
+use Rattle.sn_emit.specs.declared.tables.Tables.{Tables}
 use Rattle.sn_types.specs.declared.typed_query.TypedQuery.{TypedQuery}
 use Rattle.sn_engine_lockstep.proofs.Sending.{HasSent}
 use Rattle.sn_engine_lockstep.proofs.work.drain.Given as goal
@@ -13,8 +14,10 @@ invariant-frames g l = record {
   sent : HasSent g.W.Wire.word l.window l.lane l.initial.emitter l.emitter (g.W.Wire.told l.initial.wire) (g.W.Wire.told l.wire);
   count : length l.emitter ≡ length l.initial.emitter;
   others : (other : ℕ) → other ≢ l.lane → slice_get l.emitter other ≡ slice_get l.initial.emitter other;
-  lanes : (queries : List TypedQuery) (depth : ℕ) (pieces : List Placed) → AreLanesOf queries depth pieces l.initial.emitter → AreLanesOf queries depth pieces l.emitter;
+  lanes : (queries : List TypedQuery) (tables : Tables) (pieces : List Placed) → AreLanesOf queries tables pieces l.initial.emitter → AreLanesOf queries tables pieces l.emitter;
   queries : l.engine.t.queries ≡ l.initial.engine.t.queries;
+  closed : l.engine.closed ≡ l.initial.engine.closed;
+  prefixes : l.engine.kept ≡ l.initial.engine.kept;
 }
 
 abbrev pub decreases-frames : goal.decreases-frames

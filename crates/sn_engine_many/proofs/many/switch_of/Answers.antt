@@ -18,6 +18,6 @@ returns-clause-resting c =
     record {
       queries_are = e.queries;
       sources = e.sources ∙ sources_are 0 entries;
-      idle = subst (λ (ls : List Intake). AreIdle t.queries c.args.chain (pieces_from 0 entries) made.emitter ls) (sym e.empty)
-          (new_idle t.queries c.args.chain entries made.emitter c.requires.shape.paths e.lanes);
+      idle = subst (λ (ls : List Intake). AreIdle t.queries c.args.tables (pieces_from 0 entries) made.emitter ls) (sym e.empty)
+          (new_idle t.queries c.args.tables entries made.emitter c.requires.shape.paths e.lanes);
     }

@@ -6,8 +6,8 @@ use Rattle.sn_engine_many.specs.Switches.{AreWorking, IsResting, no_tuples}
 use Rattle.sn_engine_many.proofs.switches.+begin_all.Goals as goal
 
 pub returns-in_ok-begin_all-clause-work : goal.returns-in_ok-begin_all-clause-work
-returns-in_ok-begin_all-clause-work t c = λ queries depth pieces h.
+returns-in_ok-begin_all-clause-work t c = λ queries tables pieces h.
     let was = c.in-Some.ensures.cases.0 in
-    let rests = subst (AllByRecursion (IsResting queries depth pieces)) was h in
-    subst (λ (ds : List Driver). AreWorking queries depth pieces (kept_in queries c.args.last.now c.args.window) (no_tuples ds) (c.begin_one.new.switch ∷ c.begin_all.new.switches)) (sym was)
-    (c.in_ok-begin_one.ensures.work queries depth pieces rests.0, c.in_ok-begin_all.ensures.work queries depth pieces rests.1)
+    let rests = subst (AllByRecursion (IsResting queries tables pieces)) was h in
+    subst (λ (ds : List Driver). AreWorking queries tables pieces (kept_in queries c.args.last.now c.args.window) (no_tuples ds) (c.begin_one.new.switch ∷ c.begin_all.new.switches)) (sym was)
+    (c.in_ok-begin_one.ensures.work queries tables pieces rests.0, c.in_ok-begin_all.ensures.work queries tables pieces rests.1)

@@ -7,14 +7,14 @@ use Rattle.sn_engine_many.specs.Turns.{frames_of}
 use Rattle.sn_engine_many.proofs.switches.+drain_all.Goals as goal
 
 pub returns-in_ok-drain_all-clause-work : goal.returns-in_ok-drain_all-clause-work
-returns-in_ok-drain_all-clause-work t c = λ typed_for depth queries pieces kept captures ty can widths w.
-    drain_more queries depth pieces kept (λ tuples. flat_map (frames_of queries) (map (done queries depth kept tuples c.args.window) pieces))
+returns-in_ok-drain_all-clause-work t c = λ typed_for tables queries pieces kept captures ty can widths w.
+    drain_more queries tables pieces kept (λ tuples. flat_map (frames_of queries) (map (done queries tables kept tuples c.args.window) pieces))
     c.in-Some.first.now c.drain_one.new.switch c.in-Some.rest.now c.drain_all.new.switches c.args.engine.now.lanes.items c.drain_one.new.engine.lanes.items c.drain_all.new.engine.lanes.items
-    (λ tuples ws working. c.in_ok-drain_one.ensures.work typed_for depth queries pieces kept tuples ty can ws working)
-    (λ cs ws working. c.in_ok-drain_all.ensures.work typed_for depth queries pieces kept cs ty can ws working)
-    captures widths (subst (AreWorking queries depth pieces kept captures) c.in-Some.ensures.cases.0 w)
+    (λ tuples ws working. c.in_ok-drain_one.ensures.work typed_for tables queries pieces kept tuples ty can ws working)
+    (λ cs ws working. c.in_ok-drain_all.ensures.work typed_for tables queries pieces kept cs ty can ws working)
+    captures widths (subst (AreWorking queries tables pieces kept captures) c.in-Some.ensures.cases.0 w)
 
 pub returns-in_default-clause-work : goal.returns-in_default-clause-work
-returns-in_default-clause-work t c = λ typed_for depth queries pieces kept captures ty can widths w.
-    drain_none queries depth pieces kept (λ tuples. flat_map (frames_of queries) (map (done queries depth kept tuples c.args.window) pieces))
+returns-in_default-clause-work t c = λ typed_for tables queries pieces kept captures ty can widths w.
+    drain_none queries tables pieces kept (λ tuples. flat_map (frames_of queries) (map (done queries tables kept tuples c.args.window) pieces))
     c.args.engine.now.lanes.items c.args.switches.now captures c.in_default.ensures.cases w

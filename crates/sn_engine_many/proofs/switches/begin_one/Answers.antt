@@ -11,14 +11,14 @@ returns-clause-can c =
     record { begins = still_begins c.args.switch.now c.begin.new.self e.sources e.count e.queries c.requires; unread = e.unread }
 
 pub returns-clause-work : goal.returns-clause-work
-returns-clause-work c = λ queries depth pieces r.
+returns-clause-work c = λ queries tables pieces r.
     let s = c.args.switch.now in
     let new = c.begin.new.self in
     let e = c.in_ok-begin.ensures in
     record {
       queries_are = e.queries ∙ r.queries_are;
       sources = e.sources ∙ r.sources;
-      lanes = e.lanes queries depth pieces r.idle.lanes;
-      work = subst (λ (qs : List TypedQuery). AreAtWork qs depth pieces (kept_in qs c.args.last.now c.args.window) [] new.emitter new.engine.lanes.items) r.queries_are
-          (e.work depth pieces r.sources (subst (λ (qs : List TypedQuery). AreIdle qs depth pieces s.emitter s.engine.lanes.items) (sym r.queries_are) r.idle));
+      lanes = e.lanes queries tables pieces r.idle.lanes;
+      work = subst (λ (qs : List TypedQuery). AreAtWork qs tables pieces (kept_in qs c.args.last.now c.args.window) [] new.emitter new.engine.lanes.items) r.queries_are
+          (e.work tables pieces r.sources (subst (λ (qs : List TypedQuery). AreIdle qs tables pieces s.emitter s.engine.lanes.items) (sym r.queries_are) r.idle));
     }

@@ -21,20 +21,20 @@ returns-clause-can c =
     still_begins s (record c.drain.new.self { engine = c.clear.new.self }) e.sources e.count (c.clear.ensures.queries ∙ e.queries) c.requires
 
 pub returns-clause-work : goal.returns-clause-work
-returns-clause-work c = λ typed_for depth queries pieces kept tuples t can widths w.
+returns-clause-work c = λ typed_for tables queries pieces kept tuples t can widths w.
     let s = c.args.switch.now in
     let e = c.in_ok-drain.ensures in
     let read = c.drain.new.self.engine in
     let before = c.args.engine.now.lanes.items in
-    let are : read.lanes.items ≡ map (done queries depth kept tuples c.args.window) pieces =
-    e.items typed_for depth queries pieces kept tuples t can widths w.work in (
+    let are : read.lanes.items ≡ map (done queries tables kept tuples c.args.window) pieces =
+    e.items typed_for tables queries pieces kept tuples t can widths w.work in (
       record {
         queries_are = c.clear.ensures.queries ∙ e.queries ∙ w.queries_are;
         sources = e.sources ∙ w.sources;
         idle = record {
           apart = w.work.apart;
-          lanes = e.lanes queries depth pieces w.lanes;
-          empty = c.clear.ensures.emptied ∙ ap (map emptied) are ∙ done_emptied queries depth c.args.window kept tuples pieces;
+          lanes = e.lanes queries tables pieces w.lanes;
+          empty = c.clear.ensures.emptied ∙ ap (map emptied) are ∙ done_emptied queries tables c.args.window kept tuples pieces;
         };
       },
       c.in_ok-gather.ensures.taken

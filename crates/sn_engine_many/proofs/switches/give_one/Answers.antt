@@ -8,11 +8,11 @@ returns-clause-can c =
     record { begins = still_begins c.args.switch.now c.packet.new.self e.sources e.count e.queries c.requires.begins; unread = e.unread }
 
 pub returns-clause-work : goal.returns-clause-work
-returns-clause-work c = λ queries depth pieces kept tuples w.
+returns-clause-work c = λ queries tables pieces kept tuples w.
     let e = c.in_ok-packet.ensures in
     record {
       queries_are = e.queries ∙ w.queries_are;
       sources = e.sources ∙ w.sources;
-      lanes = e.lanes queries depth pieces w.lanes;
-      work = e.work queries depth pieces kept tuples w.work;
+      lanes = e.lanes queries tables pieces w.lanes;
+      work = e.work queries tables pieces kept tuples w.work;
     }

@@ -1,14 +1,12 @@
 use Rattle.std.proofs.Common.{ap, ◌∙◌, sym, subst, slice_index, ℕ, ◌<◌, ◌^◌, List}
 use Rattle.sn_fields.specs.Fields.{number_of, width_of}
 use Rattle.sn_fields.proofs.Ranges.{all_bytes, tuple_below}
-use Rattle.sn_fields.proofs.Walked.{tuple_is, field_at}
+use Rattle.sn_fields.proofs.Walked.{field_at}
 use Rattle.sn_fields.proofs.Fronts.{tuple_front}
 use Rattle.sn_fields.proofs.tuple.tuple_of.Goals as goal
 
 pub returns-clause-fields : goal.returns-clause-fields
-returns-clause-fields c =
-    tuple_is c.args.link c.args.wire c.args.bytes.now c.link_part-frame.result c.ip_part-ip.result c.tcp_header.result c.udp_header.result c.icmp_header.result
-    c.link_part-frame.ensures c.ip_part-ip.ensures c.tcp_header.ensures c.udp_header.ensures c.icmp_header.ensures
+returns-clause-fields c = c.after_link.ensures c.args.link c.link_part-frame.ensures
 
 pub returns-clause-each : goal.returns-clause-each
 returns-clause-each c field =

@@ -3,4 +3,5 @@ use Rattle.sn_out.specs.Records.{number_fields}
 use Rattle.sn_out.proofs.fields.with_values.Given as goal
 
 abbrev pub invariant-loop-place : goal.invariant-loop-place
-invariant-loop-place l = l.longer ++ number_fields (drop l.place l.columns) (drop l.place l.numbers) ≡ l.fn.fields ++ number_fields l.columns l.numbers
+invariant-loop-place g l =
+    l.longer ++ number_fields (drop l.place l.columns) (drop l.place (g.R.Columns.columns l.row)) ≡ l.fn.fields ++ number_fields l.columns (g.R.Columns.columns l.row)

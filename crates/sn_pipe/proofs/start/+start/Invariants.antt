@@ -2,4 +2,4 @@ use Rattle.std.proofs.Common.{length}
 use Rattle.sn_pipe.proofs.start.+start.Given as goal
 
 abbrev pub decreases-start : goal.decreases-start
-decreases-start l = length l.stages.now
+decreases-start g l = length l.stages.now

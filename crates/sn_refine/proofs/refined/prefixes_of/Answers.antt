@@ -14,6 +14,6 @@ loop-part-preserved c =
     let within : i < length parts = omega arith in
     let f : Part → Set = λ (p : Part). prefixes_of query p.rows in
     c.in_ok-push.ensures.ok
-    ∙ ap (λ (set : Set). c.loop-part.sets ++ set ∷ []) (c.in_ok-members.ensures.set ∙ ap (prefixes_of query) c.as_slice.ensures)
+    ∙ ap (λ (set : Set). c.loop-part.sets ++ set ∷ []) c.in_ok-members.ensures.set
     ∙ ap (λ (sets : List Set). sets ++ f part ∷ []) c.loop-part.invariant
     ∙ map_step f parts i part within c.part-item.is

@@ -16,22 +16,24 @@ loop-tuple-preserved c =
     let within : i < length tuples = omega arith in
     let more : take (i + 1) tuples ≡ take i tuples ++ tuple ∷ [] = take_more tuples i tuple within ∙ ap (λ (t : List ℕ). take i tuples ++ t ∷ []) (sym c.tuple-item.is) in
     record {
-      work = λ queries depth pieces kept w. subst (λ (ts : List (List ℕ)). AreAtWork queries depth pieces kept ts c.packet.new.self.emitter c.packet.new.self.engine.lanes.items) (sym more)
-          (e.work queries depth pieces kept (take i tuples) (v.work queries depth pieces kept w));
+      work = λ queries tables pieces kept w. subst (λ (ts : List (List ℕ)). AreAtWork queries tables pieces kept ts c.packet.new.self.emitter c.packet.new.self.engine.lanes.items) (sym more)
+          (e.work queries tables pieces kept (take i tuples) (v.work queries tables pieces kept w));
       widths = subst (AllByRecursion HasWidths) (sym more) (all_append HasWidths (take i tuples) (tuple ∷ []) v.widths (c.widths.ensures, tt));
       unread = e.unread;
-      lanes = λ queries depth pieces h. e.lanes queries depth pieces (v.lanes queries depth pieces h);
+      lanes = λ queries tables pieces h. e.lanes queries tables pieces (v.lanes queries tables pieces h);
       count = e.count ∙ v.count;
       queries = e.queries ∙ v.queries;
+      closed = e.closed ∙ v.closed;
+      prefixes = e.prefixes ∙ v.prefixes;
       sources = e.sources ∙ v.sources;
     }
 
 pub returns-clause-work : goal.returns-clause-work
-returns-clause-work c = λ queries depth pieces kept w.
+returns-clause-work c = λ queries tables pieces kept w.
     let past = c.loop-tuple-test.false in
     let le : length c.args.tuples.now ≤ c.loop-tuple.tuple-index = omega (arith, past) in
-    subst (λ (ts : List (List ℕ)). AreAtWork queries depth pieces kept ts c.loop-tuple.driver.emitter c.loop-tuple.driver.engine.lanes.items) (take_all c.loop-tuple.tuple-index c.args.tuples.now le)
-    (c.loop-tuple.invariant.work queries depth pieces kept w)
+    subst (λ (ts : List (List ℕ)). AreAtWork queries tables pieces kept ts c.loop-tuple.driver.emitter c.loop-tuple.driver.engine.lanes.items) (take_all c.loop-tuple.tuple-index c.args.tuples.now le)
+    (c.loop-tuple.invariant.work queries tables pieces kept w)
 
 pub returns-clause-widths : goal.returns-clause-widths
 returns-clause-widths c =

@@ -2,6 +2,7 @@ use Rattle.std.proofs.Common.{ℕ, ◌≡◌, ◌<◌, length, map, List, [], �
 use Rattle.std.proofs.lemmas.List.{take_more, map-append}
 use Rattle.sn_fields.specs.declared.field.Field.TheVariants.{PacketLength}
 use Rattle.sn_types.specs.Typed.{read_at}
+use Rattle.sn_types.proofs.KindLemmas.{below_at}
 use Rattle.sn_types.proofs.RowsAfter.{field_more}
 use Rattle.sn_types.proofs.packet.row_into.Goals as goal
 
@@ -21,3 +22,6 @@ loop-field-preserved g c =
           ∙ sym (ap (map read) (take_more fields i PacketLength within) ∙ map-append read (take i fields) (get_or fields i PacketLength ∷ []));
       columns = field_more fields i PacketLength row longer x within c.read_at.ensures.below now before.columns;
     }
+
+pub read_at-requires-clause-below : goal.read_at-requires-clause-below
+read_at-requires-clause-below g c = below_at g.R.Number.Number.limit c.args.fields.now c.loop-field.field-index c.requires.below c.loop-field-test.true

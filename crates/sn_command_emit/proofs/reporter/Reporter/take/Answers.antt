@@ -6,4 +6,4 @@ returns-clause-given c =
     let e = c.packet.ensures in
     on_five c.packet.result e.work e.sent e.unread e.lanes e.count
     (λ work sent unread lanes count closed number tuples h.
-    given_hand c.args.self.now c.packet.new.self c.packet.new.wire c.args.tuple.now closed number tuples h c.widths.ensures work sent unread lanes count e.queries e.sources)
+    given_hand c.args.self.now c.packet.new.self c.packet.new.wire c.args.tuple.now closed number tuples h c.widths.ensures work sent unread lanes count e.queries e.sources e.closed e.prefixes)

@@ -1,4 +1,3 @@
-use Rattle.std.proofs.Common.{sym}
 use Rattle.sn_command_job.proofs.SummingLemmas.{shown_next}
 use Rattle.sn_command_run.specs.Along.{plan_of}
 use Rattle.sn_command_job.proofs.summing.SummingAnswering.close.Goals as goal

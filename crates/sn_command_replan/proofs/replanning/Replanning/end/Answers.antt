@@ -10,6 +10,7 @@ use Rattle.sn_replan.specs.Running.{Runs}
 use Rattle.sn_types.specs.declared.answers.Answers.{Answers}
 use Rattle.sn_windows.specs.Rising.{Window}
 use Rattle.sn_command_replan.proofs.replanning.Replanning.end.Goals as goal
+use Rattle.sn_emit.specs.Plans.{tables_of}
 
 pub returns-in-Some-clause-stops : goal.returns-in-Some-clause-stops
 returns-in-Some-clause-stops c = λ closed tuples some h. stops c.args.self.now closed c.args.number tuples h c.in-Some.fault c.in-Some.is
@@ -25,11 +26,11 @@ block-requires c =
     let entries = entries_of g.c.plan in
     let given : c.as_slice.result.now ≡ tuples = c.as_slice.ensures ∙ h.held in
     let is = subst (λ (ts : List (List ℕ)). c.in_ok-closed.closed.answers ≡ answers_at (along (followed a) g.c.plan) (g.c.before ++ (number, ts) ∷ []) number) given
-    (c.in_ok-closed.ensures.answers a.typed.queries a.limits.chain entries g.c.before g.going.runs) in
-    let runs = subst (λ (ts : List (List ℕ)). Runs a.typed.queries a.limits.chain entries (g.c.before ++ (number, ts) ∷ []) c.window.new.self) given
-    (c.in_ok-closed.ensures.runs a.typed.queries a.limits.chain entries g.c.before g.going.runs) in
+    (c.in_ok-closed.ensures.answers a.typed.queries (tables_of a.limits) entries g.c.before g.going.runs) in
+    let runs = subst (λ (ts : List (List ℕ)). Runs a.typed.queries (tables_of a.limits) entries (g.c.before ++ (number, ts) ∷ []) c.window.new.self) given
+    (c.in_ok-closed.ensures.runs a.typed.queries (tables_of a.limits) entries g.c.before g.going.runs) in
     let now : List Window = g.c.before ++ (number, tuples) ∷ [] in
-    answers_fit a closed number tuples h c.in_default.is c.in_ok-closed.closed.answers (runs_rising a.typed.queries a.limits.chain entries now c.window.new.self runs) is
+    answers_fit a closed number tuples h c.in_default.is c.in_ok-closed.closed.answers (runs_rising a.typed.queries (tables_of a.limits) entries now c.window.new.self runs) is
 
 pub returns-clause-text : goal.returns-clause-text
 returns-clause-text c = λ closed tuples some h.
@@ -38,7 +39,7 @@ returns-clause-text c = λ closed tuples some h.
     let g = going_now a closed number tuples h c.in_default.is in
     let given : c.as_slice.result.now ≡ tuples = c.as_slice.ensures ∙ h.held in
     let is = subst (λ (ts : List (List ℕ)). c.in_ok-closed.closed.answers ≡ answers_at (along (followed a) g.c.plan) (g.c.before ++ (number, ts) ∷ []) number) given
-    (c.in_ok-closed.ensures.answers a.typed.queries a.limits.chain (entries_of g.c.plan) g.c.before g.going.runs) in
+    (c.in_ok-closed.ensures.answers a.typed.queries (tables_of a.limits) (entries_of g.c.plan) g.c.before g.going.runs) in
     c.from_vec.ensures
     ∙ c.in_ok-push_bytes.ensures
     ∙ ap₂ (λ (front block : List ℕ). front ++ block) (c.into_vec-text.ensures ∙ c.replace.ensures.value)
@@ -58,12 +59,12 @@ returns-clause-answered c = λ closed tuples some h.
     let now : List Window = g.c.before ++ (number, tuples) ∷ [] in
     let given : c.as_slice.result.now ≡ tuples = c.as_slice.ensures ∙ h.held in
     let is = subst (λ (ts : List (List ℕ)). c.in_ok-closed.closed.answers ≡ answers_at (along (followed a) g.c.plan) (g.c.before ++ (number, ts) ∷ []) number) given
-    (e.answers a.typed.queries a.limits.chain entries g.c.before g.going.runs) in
-    let early_is = subst (λ (ts : List (List ℕ)). c.in_ok-closed.closed.early ≡ plan_early a.typed.queries a.limits.chain entries (windows_of (g.c.before ++ (number, ts) ∷ [])) number) given
-    (e.early a.typed.queries a.limits.chain entries g.c.before g.going.runs) in
-    let runs = subst (λ (ts : List (List ℕ)). Runs a.typed.queries a.limits.chain entries (g.c.before ++ (number, ts) ∷ []) c.window.new.self) given
-    (e.runs a.typed.queries a.limits.chain entries g.c.before g.going.runs) in
-    let rising = runs_rising a.typed.queries a.limits.chain entries now c.window.new.self runs in
+    (e.answers a.typed.queries (tables_of a.limits) entries g.c.before g.going.runs) in
+    let early_is = subst (λ (ts : List (List ℕ)). c.in_ok-closed.closed.early ≡ plan_early a.typed.queries (tables_of a.limits) entries (windows_of (g.c.before ++ (number, ts) ∷ [])) number) given
+    (e.early a.typed.queries (tables_of a.limits) entries g.c.before g.going.runs) in
+    let runs = subst (λ (ts : List (List ℕ)). Runs a.typed.queries (tables_of a.limits) entries (g.c.before ++ (number, ts) ∷ []) c.window.new.self) given
+    (e.runs a.typed.queries (tables_of a.limits) entries g.c.before g.going.runs) in
+    let rising = runs_rising a.typed.queries (tables_of a.limits) entries now c.window.new.self runs in
     record {
       c = g.c;
       current = g.is;

@@ -1,5 +1,7 @@
-use Rattle.std.proofs.Common.{map, ap, refl}
+use Rattle.std.proofs.Common.{map, ap, refl, sym, ◌∙◌}
 use Rattle.sn_core_net.specs.States.{State}
+use Rattle.sn_emit.specs.declared.tables.Tables.{Tables}
+use Rattle.sn_command_run.specs.Along.{answers_for}
 use Rattle.sn_command_run.proofs.along.Along.make.Goals as goal
 
 pub returns-clause-begun : goal.returns-clause-begun
@@ -14,7 +16,9 @@ returns-clause-begun g c =
         stands = e.stands;
         taken = ap (λ (s : State). s.waiting) e.new;
         sound = tt;
-        owes = λ following falls widths. ap (map g.M.Machine.told) (e.due following falls widths);
+        owes = λ following falls widths.
+            ap (map g.M.Machine.told)
+            (e.due following falls widths ∙ ap (λ (tables : Tables). answers_for (record { queries = c.args.typed.queries; tables = tables; entries = c.args.plan.entries }) following) (sym c.of.ensures));
         emitted = refl;
       };
       used = (ap (λ (s : State). s.held) e.new, ap (λ (s : State). s.window) e.new);

@@ -3,7 +3,7 @@ use Rattle.sn_emit.specs.Plans.{pieces_from}
 use Rattle.sn_core_net.specs.PlanWorkings.{AreLanesFor}
 use Rattle.sn_command_run.specs.Along.{plan_of}
 use Rattle.sn_command_run.specs.Planned.{Planned}
-use Rattle.sn_core_trace.proofs.MadeLemmas.{new_plain}
+use Rattle.sn_core_drive.proofs.MadeLemmas.{new_plain}
 use Rattle.sn_command_run.specs.TraceWording.{works_of}
 use Rattle.sn_command_run.proofs.traced.Traced.make.Goals as goal
 
@@ -24,7 +24,7 @@ returns-clause-begun g c =
       watched = record {
         lines_are = c.new-lines.ensures.items;
         number_is = sym c.from.ensures;
-        state_is = sym (new_plain 64 p.queries p.depth p.entries (g.M.Machine.works a.machine) (g.M.Machine.state a.machine) works e.new
-            (subst (λ (q : Planned). AreLanesFor q.queries q.depth (pieces_from 0 q.entries) (g.M.Machine.state a.machine).lanes) (sym e.plan) e.pipes));
+        state_is = sym (new_plain 64 p.queries p.tables p.entries (g.M.Machine.works a.machine) (g.M.Machine.state a.machine) works e.new
+            (subst (λ (q : Planned). AreLanesFor q.queries q.tables (pieces_from 0 q.entries) (g.M.Machine.state a.machine).lanes) (sym e.plan) e.pipes));
       };
     }

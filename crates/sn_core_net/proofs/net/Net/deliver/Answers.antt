@@ -1,155 +1,178 @@
-use Rattle.std.proofs.Common.{◌≡◌, ◌<◌, ◌^◌, ◌∙◌, ◌==◌, ap, ap₂, sym, subst, length, map, drop, true, get_or, set, slice_get, None, Some, ℕ, List, Bool, refl}
+use Rattle.std.proofs.Common.{◌≡◌, ◌<◌, ◌^◌, ◌∙◌, ◌==◌, ◌||◌, [], ◌∷◌, ap, ap₂, sym, subst, length, map, not, nat_eq, true, get_or, set, slice_get, Option, None, Some, Result, Ok, Err, OnOk, OnErr, ℕ, List, Bool, refl}
+use Rattle.std.proofs.lemmas.Bool.{false≢true}
 use Rattle.std.proofs.lemmas.List.{length-set}
 use Rattle.sn_core.proofs.Tests.{length_changed}
-use Rattle.circular_buffer.specs.Buffer.{Buffer, buffer}
 use Rattle.std.specs.List.{list_all}
-use Rattle.sn_core.specs.Nets as core
 use Rattle.sn_core.specs.Events.{after_event, change_at}
+use Rattle.sn_core.specs.Needs.{first_need_that_fails}
+use Rattle.sn_core.specs.Standing.{IsNet}
 use Rattle.sn_core.specs.declared.event.Event.TheVariants as event
 use Rattle.sn_engine_lockstep.specs.Known.{AreKnown}
 use Rattle.sn_engine_lockstep.specs.Work.{taken}
 use Rattle.sn_engine.specs.Intakes.{after_frame, emptied}
 use Rattle.sn_engine.specs.declared.intake.Intake.{Intake}
 use Rattle.sn_core_net.specs.PlanWorkings.{workings_of}
-use Rattle.sn_pipe.specs.Pipes.{PipeState}
 use Rattle.sn_report.specs.Items.{Frame as Report}
-use Rattle.sn_report.specs.Items.{Item}
 use Rattle.sn_types.specs.declared.typed_query.TypedQuery.{TypedQuery}
 use Rattle.sn_core_net.specs.declared.holder.Holder.{Holder}
 use Rattle.sn_core_net.specs.declared.net.Net.{Net}
-use Rattle.sn_core_net.specs.Facts.{are_named, are_unread, ends_agree, may_be_read, names_of}
-use Rattle.sn_core_net.specs.Nets.{state, works}
-use Rattle.sn_core_net.specs.States.{state_of}
+use Rattle.sn_core_net.specs.Facts.{are_named, are_own, are_roomy, are_unread, ends_agree, may_be_read, names_of}
+use Rattle.sn_core_net.specs.Holders.{after_frame_of, without_first}
+use Rattle.sn_core_net.specs.Nets.{last, state, works}
+use Rattle.sn_core_net.specs.States.{last_of, state_of}
+use Rattle.sn_refine.specs.Steps.{Set}
 use Rattle.sn_core_net.specs.Reports.{frame_of, is_own, report_of, window_number}
-use Rattle.sn_core_net.proofs.Changes.{deliver_changes}
+use Rattle.sn_core_net.proofs.Changes.{deliver_changes, deliver_may}
 use Rattle.sn_core_net.proofs.Facts.{event_stands, same_stands}
 use Rattle.sn_core_net.proofs.Named.{frame_taken, names_set, or_kept, own_frame, taken_agrees, taken_emptied}
-use Rattle.sn_core_net.proofs.Zips.{all_at, all_dropped, all_first, all_set, get_same, nothing_moves}
+use Rattle.sn_core_net.proofs.Zips.{all_at, all_dropped, all_first, all_set, set_same}
 use Rattle.sn_core_net.proofs.net.Net.deliver.Goals as goal
 
 -- the first frame of a lane is what the engine learns from it
-record Reported (net : Net) (h : Holder) (report : Report) : Type 0 where
+record Reported (net : Net) (h : Holder) : Type 0 where
+  report : Report
   first : slice_get h.ring.items 0 ≡ Some report
   is : report ≡ report_of h.sender.lane (window_number net.window) (frame_of report)
 
-reported : (net : Net) (n : ℕ) (h k : Holder) (report : Report) → n < length net.lanes.items → h ≡ get_or net.lanes.items n h → k ≡ get_or net.lanes.items n k → Some report ≡ slice_get k.ring.items 0 → Reported net h report
-reported net n h k report within own seen e =
-    let test : Holder → Bool = λ (x : Holder). list_all (is_own x.sender.lane (window_number net.window)) x.ring.items in
-    let first : slice_get h.ring.items 0 ≡ Some report = ap (λ (x : Holder). slice_get x.ring.items 0) (own ∙ get_same net.lanes.items n h k within ∙ sym seen) ∙ sym e in
-    let all : test h ≡ true = ap test own ∙ all_at test net.lanes.items n h net.own within in
-    record { first = first; is = own_frame h.sender.lane (window_number net.window) report (all_first (is_own h.sender.lane (window_number net.window)) h.ring.items report all first) }
+first_of : (net : Net) (h : Holder) (frames : List Report) → h.ring.items ≡ frames → not (nat_eq (length frames) 0) ≡ true → list_all (is_own h.sender.lane (window_number net.window)) h.ring.items ≡ true → Reported net h
+first_of net h [] is some all = absurd (false≢true some)
+first_of net h (report ∷ frames) is some all =
+    let first : slice_get h.ring.items 0 ≡ Some report = ap (λ (fs : List Report). slice_get fs 0) is in
+    record { report = report; first = first; is = own_frame h.sender.lane (window_number net.window) report (all_first (is_own h.sender.lane (window_number net.window)) h.ring.items report all first) }
 
-module _ (net : Net) (n : ℕ) (h : Holder) (report : Report) (ys : List Intake) (within : n < length net.lanes.items) (own : h ≡ get_or net.lanes.items n h) (r : Reported net h report) (taken_by : ys ≡ after_frame net.engine.lanes.items report) where
+-- a lane whose first frame the engine may take, and takes
+module _ (net : Net) (n : ℕ) (h next : Holder) (ys : List Intake) (within : n < length net.lanes.items) (may : first_need_that_fails (state net) (event.Deliver n) ≡ None) (own : h ≡ get_or net.lanes.items n h) (gone : next ≡ without_first h) (taken_by : ys ≡ after_frame_of net.engine.lanes.items (slice_get h.ring.items 0)) where
+  abbrev hs : List Holder
+  hs = net.lanes.items
+
   abbrev xs : List Intake
   xs = net.engine.lanes.items
 
+  abbrev window : ℕ
+  window = window_number net.window
+
+  -- a test that every lane passes
+  here : (test : Holder → Bool) → list_all test hs ≡ true → test h ≡ true
+  here test all = ap test own ∙ all_at test hs n h all within
+
+  own_first : list_all (is_own h.sender.lane window) h.ring.items ≡ true
+  own_first = here (λ k. list_all (is_own k.sender.lane window) k.ring.items) net.own
+
+  found : Reported net h
+  found = first_of net h h.ring.items refl (deliver_may net.engine.t.queries xs net.sources net.room hs xs net.matched net.installs.items (last net) net.waiting net.held net.window n within h own may) own_first
+
   abbrev change : Intake → Intake
-  change x = taken x (report_of h.sender.lane (window_number net.window) (frame_of report))
+  change x = taken x (report_of h.sender.lane window (frame_of found.report))
 
   came : ys ≡ change_at change xs n
-  came = taken_by ∙ ap (after_frame xs) r.is ∙ frame_taken net.lanes.items xs n (window_number net.window) h (frame_of report) net.named within own
+  came =
+      taken_by ∙ ap (after_frame_of xs) found.first ∙ ap (after_frame xs) found.is
+      ∙ frame_taken hs xs n window h (frame_of found.report) net.named within own
 
   empty : map emptied ys ≡ map emptied xs
-  empty = ap (λ (zs : List Intake). map emptied zs) came ∙ taken_emptied h.sender.lane (window_number net.window) (frame_of report) xs n
+  empty = ap (λ (zs : List Intake). map emptied zs) came ∙ taken_emptied h.sender.lane window (frame_of found.report) xs n
 
   agreed : ends_agree net.window ys ≡ true
-  agreed = ap (ends_agree net.window) came ∙ taken_agrees net.window h.sender.lane (frame_of report) xs n net.agreed
+  agreed = ap (ends_agree net.window) came ∙ taken_agrees net.window h.sender.lane (frame_of found.report) xs n net.agreed
 
-  count : length ys ≡ length xs
-  count = ap (λ (zs : List Intake). length zs) came ∙ length_changed change xs n
+  matched : length (set hs n next) ≡ length ys
+  matched = length-set hs n next ∙ net.matched ∙ sym (ap (λ (zs : List Intake). length zs) came ∙ length_changed change xs n)
 
-  changed : (ring : Buffer Report) → ring ≡ buffer (drop 1 h.ring.items) h.ring.capacity →
-      state_of net.room net.held net.window (set net.lanes.items n (record h { ring = ring })) ys net.installs.items net.last net.waiting ≡ after_event (works net) (state net) (event.Deliver n)
-  changed ring is =
-      ap (λ (zs : List Intake). state_of net.room net.held net.window (set net.lanes.items n (record h { ring = ring })) zs net.installs.items net.last net.waiting) came
-      ∙ deliver_changes net.engine.t.queries xs net.sources net.room net.lanes.items xs net.matched net.installs.items net.last net.waiting net.held net.window n within h own (record h { ring = ring }) (window_number net.window) report r.first refl
-      (ap (λ (b : Buffer Report). b.items) is)
+  roomy : are_roomy net.room (set hs n next) ≡ true
+  roomy = all_set (λ k. k.ring.capacity == net.room) hs n next net.roomy (ap (λ (k : Holder). k.ring.capacity == net.room) gone ∙ here (λ k. k.ring.capacity == net.room) net.roomy)
 
-pub returns-in-None-clause-ok : goal.returns-in-None-clause-ok
-returns-in-None-clause-ok c =
-    let net : Net = c.args.self.now in
-    let hs : List Holder = net.lanes.items in
-    let k : Holder = c.index.result.now in
-    let none : slice_get k.ring.items 0 ≡ None = sym c.in-None.ensures in
-    ap (λ (lanes : List (core.Lane PipeState Item)). record (state net) { lanes = lanes })
-    (sym (nothing_moves hs net.engine.lanes.items c.args.lane k net.matched c.requires.lane (ap (λ (x : Holder). slice_get x.ring.items 0) (sym c.index.ensures) ∙ none)))
+  named : are_named (names_of (set hs n next)) (map emptied ys) ≡ true
+  named = ap₂ are_named (names_set hs n h next within (ap (λ (k : Holder). k.sender.lane) gone ∙ ap (λ (k : Holder). k.sender.lane) own)) empty ∙ net.named
+
+  unread : (may_be_read net.window net.held || are_unread (set hs n next)) ≡ true
+  unread =
+      or_kept (may_be_read net.window net.held) (are_unread hs) (are_unread (set hs n next)) net.unread
+      (λ e. all_set (λ k. k.sender.pipe.prefix.place == 0) hs n next e (ap (λ (k : Holder). k.sender.pipe.prefix.place == 0) gone ∙ here (λ k. k.sender.pipe.prefix.place == 0) e))
+
+  owned : are_own window (set hs n next) ≡ true
+  owned =
+      all_set (λ k. list_all (is_own k.sender.lane window) k.ring.items) hs n next net.own
+      (ap (λ (k : Holder). list_all (is_own k.sender.lane window) k.ring.items) gone ∙ all_dropped (is_own h.sender.lane window) 1 h.ring.items own_first)
+
+  changed : state_of net.room net.held net.window (set hs n next) ys net.installs.items (last net) net.waiting ≡ after_event (works net) (state net) (event.Deliver n)
+  changed =
+      ap (λ (zs : List Intake). state_of net.room net.held net.window (set hs n next) zs net.installs.items (last net) net.waiting) came
+      ∙ deliver_changes net.engine.t.queries xs net.sources net.room hs xs net.matched net.installs.items (last net) net.waiting net.held net.window n within h own next window found.report found.first
+      (ap (λ (k : Holder). k.sender) gone) (ap (λ (k : Holder). k.ring.items) gone)
+
+-- what holds of a result either way
+either_way : {A E G : Type 0} (P Q V W : Type 0) (r : Result A E) → OnOk r P → OnOk r Q → OnErr r V → OnErr r W → (P → Q → G) → (V → W → G) → G
+either_way P Q V W (Ok a) p q v w good bad = good p q
+either_way P Q V W (Err e) p q v w good bad = bad v w
 
 pub invariant_of-self : goal.invariant_of-self
 invariant_of-self c =
     let net : Net = c.args.self.now in
-    record {
-      matched = net.matched;
-      few = net.few;
-      roomy = net.roomy;
-      named = net.named;
-      unread = net.unread;
-      own = net.own;
-      agreed = net.agreed;
-      known = net.known;
-      standing = net.standing;
-    }
-
-pub invariant_of-self-in-Break-1 : goal.invariant_of-self-in-Break-1
-invariant_of-self-in-Break-1 c =
-    let net : Net = c.args.self.now in
-    let same : c.take.new.engine.lanes.items ≡ net.engine.lanes.items = c.in_err-take.ensures.err in
-    record {
-      matched = net.matched ∙ sym (ap (λ (zs : List Intake). length zs) same);
-      few = net.few;
-      roomy = net.roomy;
-      named = ap (λ (zs : List Intake). are_named (names_of net.lanes.items) (map emptied zs)) same ∙ net.named;
-      unread = net.unread;
-      own = net.own;
-      agreed = ap (ends_agree net.window) same ∙ net.agreed;
-      known = subst (λ (qs : List TypedQuery). AreKnown qs net.sources) (sym c.take.ensures.queries) net.known;
-      standing = same_stands net.engine.t.queries c.take.new.engine.t.queries net.engine.lanes.items c.take.new.engine.lanes.items net.sources c.take.ensures.queries (ap (λ (zs : List Intake). map emptied zs) same)
-          (λ zs. state_of net.room net.held net.window net.lanes.items zs net.installs.items net.last net.waiting) same net.standing;
-    }
-
-pub invariant_of-self-2 : goal.invariant_of-self-2
-invariant_of-self-2 c =
-    let net : Net = c.args.self.now in
     let n : ℕ = c.args.lane in
     let hs : List Holder = net.lanes.items in
-    let ys : List Intake = c.take.new.engine.lanes.items in
+    let xs : List Intake = net.engine.lanes.items in
     let h : Holder = c.index_mut.result.now in
+    let next : Holder = c.deliver.new.self in
+    let ys : List Intake = c.deliver.new.engine.lanes.items in
     let own : h ≡ get_or hs n h = c.index_mut.ensures.value in
-    let within : n < length hs = c.requires.lane in
-    let ring : Buffer Report = c.pop_front.new.self in
-    let next : Holder = record h { ring = ring } in
-    let r : Reported net h c.in-Some.frame.now = reported net n h c.index.result.now c.in-Some.frame.now within own c.index.ensures c.in-Some.ensures in
-    let by : ys ≡ after_frame net.engine.lanes.items c.in-Some.frame.now = c.in_ok-take.ensures.ok in
-    record {
-      matched = length-set hs n next ∙ net.matched ∙ sym (count net n h c.in-Some.frame.now ys within own r by);
+    let engine = c.deliver.new.engine in
+    let same_last : last_of engine.closed engine.kept ≡ last net = ap₂ last_of c.deliver.ensures.closed c.deliver.ensures.prefixes in
+    either_way (ys ≡ after_frame_of xs (slice_get h.ring.items 0)) (next ≡ without_first h) (ys ≡ xs) (next ≡ h) c.deliver.result c.deliver.ensures.taken c.deliver.ensures.gone c.deliver.ensures.kept c.deliver.ensures.same
+    (λ by gone. record {
+      matched = matched net n h next ys c.requires.lane c.requires.may own gone by;
       few = subst (λ (k : ℕ). k < 2 ^ 32) (sym (length-set hs n next)) net.few;
-      roomy = all_set (λ k. k.ring.capacity == net.room) hs n next net.roomy
-          (ap (λ (b : Buffer Report). b.capacity == net.room) c.pop_front.ensures.items ∙ ap (λ (k : Holder). k.ring.capacity == net.room) own ∙ all_at (λ k. k.ring.capacity == net.room) hs n h net.roomy within);
-      named = ap₂ are_named (names_set hs n h next within (ap (λ (k : Holder). k.sender.lane) own)) (empty net n h c.in-Some.frame.now ys within own r by) ∙ net.named;
-      unread = or_kept (may_be_read net.window net.held) (are_unread hs) (are_unread (set hs n next)) net.unread
-          (λ e. all_set (λ k. k.sender.pipe.prefix.place == 0) hs n next e (ap (λ (k : Holder). k.sender.pipe.prefix.place == 0) own ∙ all_at (λ k. k.sender.pipe.prefix.place == 0) hs n h e within));
-      own = all_set (λ k. list_all (is_own k.sender.lane (window_number net.window)) k.ring.items) hs n next net.own
-          (ap (λ (b : Buffer Report). list_all (is_own h.sender.lane (window_number net.window)) b.items) c.pop_front.ensures.items
-          ∙ all_dropped (is_own h.sender.lane (window_number net.window)) 1 h.ring.items (ap (λ (k : Holder). list_all (is_own k.sender.lane (window_number net.window)) k.ring.items) own ∙ all_at (λ k. list_all (is_own k.sender.lane (window_number net.window)) k.ring.items) hs n h net.own within));
-      agreed = agreed net n h c.in-Some.frame.now ys within own r by;
-      known = subst (λ (qs : List TypedQuery). AreKnown qs net.sources) (sym c.take.ensures.queries) net.known;
-      standing = event_stands net.engine.t.queries c.take.new.engine.t.queries net.engine.lanes.items ys net.sources c.take.ensures.queries (empty net n h c.in-Some.frame.now ys within own r by) (state net)
-          (state_of net.room net.held net.window (set hs n next) ys net.installs.items net.last net.waiting) (event.Deliver n) net.standing c.requires.may (changed net n h c.in-Some.frame.now ys within own r by ring c.pop_front.ensures.items);
-    }
+      roomy = roomy net n h next ys c.requires.lane c.requires.may own gone by;
+      named = named net n h next ys c.requires.lane c.requires.may own gone by;
+      unread = unread net n h next ys c.requires.lane c.requires.may own gone by;
+      own = owned net n h next ys c.requires.lane c.requires.may own gone by;
+      agreed = agreed net n h next ys c.requires.lane c.requires.may own gone by;
+      known = subst (λ (qs : List TypedQuery). AreKnown qs net.sources) (sym c.deliver.ensures.queries) net.known;
+      standing = event_stands net.engine.t.queries c.deliver.new.engine.t.queries xs ys net.sources c.deliver.ensures.queries (empty net n h next ys c.requires.lane c.requires.may own gone by) (state net)
+          (state_of net.room net.held net.window (set hs n next) ys net.installs.items (last_of engine.closed engine.kept) net.waiting) (event.Deliver n) net.standing c.requires.may
+          (ap (λ (l : Option (ℕ × List Set)). state_of net.room net.held net.window (set hs n next) ys net.installs.items l net.waiting) same_last ∙ changed net n h next ys c.requires.lane c.requires.may own gone by);
+    })
+    -- nothing has changed where memory ran out
+    (λ kept still.
+    let same : set hs n next ≡ hs = set_same hs n h next c.requires.lane own still in
+    record {
+      matched = ap (λ (ks : List Holder). length ks) same ∙ net.matched ∙ sym (ap (λ (zs : List Intake). length zs) kept);
+      few = subst (λ (ks : List Holder). length ks < 2 ^ 32) (sym same) net.few;
+      roomy = ap (are_roomy net.room) same ∙ net.roomy;
+      named = ap₂ (λ (ks : List Holder) (zs : List Intake). are_named (names_of ks) (map emptied zs)) same kept ∙ net.named;
+      unread = ap (λ (ks : List Holder). may_be_read net.window net.held || are_unread ks) same ∙ net.unread;
+      own = ap (are_own (window_number net.window)) same ∙ net.own;
+      agreed = ap (ends_agree net.window) kept ∙ net.agreed;
+      known = subst (λ (qs : List TypedQuery). AreKnown qs net.sources) (sym c.deliver.ensures.queries) net.known;
+      standing = same_stands net.engine.t.queries c.deliver.new.engine.t.queries xs ys net.sources c.deliver.ensures.queries (ap (λ (zs : List Intake). map emptied zs) kept)
+          (λ zs. state_of net.room net.held net.window (set hs n next) zs net.installs.items (last_of engine.closed engine.kept) net.waiting) kept
+          (subst (λ (l : Option (ℕ × List Set)). ∥ IsNet (works net) (state_of net.room net.held net.window (set hs n next) xs net.installs.items l net.waiting) ∥₁) (sym same_last)
+          (subst (λ (ks : List Holder). ∥ IsNet (works net) (state_of net.room net.held net.window ks xs net.installs.items (last net) net.waiting) ∥₁) (sym same) net.standing));
+    })
 
 pub returns-clause-ok : goal.returns-clause-ok
 returns-clause-ok c =
     let net : Net = c.args.self.now in
-    let n : ℕ = c.args.lane in
-    let h : Holder = c.index_mut.result.now in
-    let own : h ≡ get_or net.lanes.items n h = c.index_mut.ensures.value in
-    let r : Reported net h c.in-Some.frame.now = reported net n h c.index.result.now c.in-Some.frame.now c.requires.lane own c.index.ensures c.in-Some.ensures in
-    changed net n h c.in-Some.frame.now c.take.new.engine.lanes.items c.requires.lane own r c.in_ok-take.ensures.ok c.pop_front.new.self c.pop_front.ensures.items
+    ap (λ (l : Option (ℕ × List Set)). state_of net.room net.held net.window (set net.lanes.items c.args.lane c.deliver.new.self) c.deliver.new.engine.lanes.items net.installs.items l net.waiting) (ap₂ last_of c.deliver.ensures.closed c.deliver.ensures.prefixes)
+    ∙ changed c.args.self.now c.args.lane c.index_mut.result.now c.deliver.new.self c.deliver.new.engine.lanes.items c.requires.lane c.requires.may c.index_mut.ensures.value c.in_ok-deliver.ensures.gone c.in_ok-deliver.ensures.taken
+
+on_err : {A E : Type 0} (P : Type 0) (r : Result A E) → P → OnErr r P
+on_err P (Ok a) p = tt
+on_err P (Err e) p = p
+
+pub returns-in_err-deliver-clause-err : goal.returns-in_err-deliver-clause-err
+returns-in_err-deliver-clause-err c =
+    let net : Net = c.args.self.now in
+    let hs : List Holder = net.lanes.items in
+    let next : Holder = c.deliver.new.self in
+    let ys : List Intake = c.deliver.new.engine.lanes.items in
+    let same : set hs c.args.lane next ≡ hs = set_same hs c.args.lane c.index_mut.result.now next c.requires.lane c.index_mut.ensures.value c.in_err-deliver.ensures.same in
+    let engine = c.deliver.new.engine in
+    on_err (state_of net.room net.held net.window (set hs c.args.lane next) ys net.installs.items (last_of engine.closed engine.kept) net.waiting ≡ state net) c.from_residual.result
+    (ap (λ (l : Option (ℕ × List Set)). state_of net.room net.held net.window (set hs c.args.lane next) ys net.installs.items l net.waiting) (ap₂ last_of c.deliver.ensures.closed c.deliver.ensures.prefixes)
+    ∙ ap₂ (λ (ks : List Holder) (zs : List Intake). state_of net.room net.held net.window ks zs net.installs.items (last net) net.waiting) same c.in_err-deliver.ensures.kept)
 
 pub returns-clause-works : goal.returns-clause-works
 returns-clause-works c =
     let net : Net = c.args.self.now in
-    let n : ℕ = c.args.lane in
-    let h : Holder = c.index_mut.result.now in
-    let own : h ≡ get_or net.lanes.items n h = c.index_mut.ensures.value in
-    let r : Reported net h c.in-Some.frame.now = reported net n h c.index.result.now c.in-Some.frame.now c.requires.lane own c.index.ensures c.in-Some.ensures in
-    ap₂ (λ (qs : List TypedQuery) (es : List Intake). workings_of qs es net.sources) c.take.ensures.queries (empty net n h c.in-Some.frame.now c.take.new.engine.lanes.items c.requires.lane own r c.in_ok-take.ensures.ok)
+    ap₂ (λ (qs : List TypedQuery) (es : List Intake). workings_of qs es net.sources) c.deliver.ensures.queries
+    (empty net c.args.lane c.index_mut.result.now c.deliver.new.self c.deliver.new.engine.lanes.items c.requires.lane c.requires.may c.index_mut.ensures.value c.in_ok-deliver.ensures.gone c.in_ok-deliver.ensures.taken)

@@ -8,7 +8,7 @@ use Rattle.sn_core.specs.declared.supply.Window.{Window}
 use Rattle.sn_engine.specs.declared.intake.Intake.{Intake}
 use Rattle.sn_core_net.specs.declared.net.Net.{Net}
 use Rattle.sn_core_net.specs.Facts.{are_own, are_unread, ends_agree, may_be_read}
-use Rattle.sn_core_net.specs.Nets.{state, works}
+use Rattle.sn_core_net.specs.Nets.{last, state, works}
 use Rattle.sn_core_net.specs.Reports.{window_number}
 use Rattle.sn_core_net.specs.States.{state_of}
 use Rattle.sn_core_net.proofs.Facts.{give_stands, given_ends, given_own, given_unread}
@@ -32,7 +32,7 @@ invariant_of-self c =
       agreed = subst (λ (w : Window). ends_agree w xs ≡ true) (sym is)
           (∥∥₁_elim net.standing (Bool-set (ends_agree (window_from net.window next) xs) true) (λ h. given_ends (works net) net.lanes.items xs net.matched net.held net.window next h.stands net.agreed));
       known = net.known;
-      standing = subst (λ (w : Window). ∥ IsNet (works net) (state_of net.room (Some next) w net.lanes.items xs net.installs.items net.last net.waiting) ∥₁) (sym is)
+      standing = subst (λ (w : Window). ∥ IsNet (works net) (state_of net.room (Some next) w net.lanes.items xs net.installs.items (last net) net.waiting) ∥₁) (sym is)
           (give_stands net.engine.t.queries xs net.sources (state net) next net.standing c.requires.wants c.requires.rises);
     }
 

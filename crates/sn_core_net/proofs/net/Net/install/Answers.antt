@@ -12,7 +12,7 @@ use Rattle.sn_core_net.specs.declared.holder.Holder.{Holder}
 use Rattle.sn_core_net.specs.declared.net.Net.{Net}
 use Rattle.sn_core_net.specs.Facts.{are_named, are_own, are_roomy, are_unread, ends_agree, may_be_read, names_of}
 use Rattle.sn_core_net.specs.Holders.{all_begun}
-use Rattle.sn_core_net.specs.Nets.{state, works}
+use Rattle.sn_core_net.specs.Nets.{last, state, works}
 use Rattle.sn_core_net.specs.Reports.{window_number}
 use Rattle.sn_core_net.specs.States.{state_of}
 use Rattle.sn_core_net.proofs.Both.{Set, length_begun, names_begun, own_begun, roomy_begun, unread_begun}
@@ -22,12 +22,12 @@ use Rattle.sn_core_net.proofs.net.Net.install.Goals as goal
 use Rattle.sn_base.proofs.Lists.{or_right as right_true}
 
 changed : (net : Net) (window : Window) (closed : ℕ) (lanes : List Holder) (installs : List Set) → net.window ≡ Closed closed → lanes ≡ all_begun net.lanes.items (kept_for_held closed net.installs.items net.held) → window ≡ window_of_held net.held → installs ≡ [] →
-    state_of net.room net.held window lanes net.engine.lanes.items installs net.last net.waiting ≡ after_event (works net) (state net) event.Install
+    state_of net.room net.held window lanes net.engine.lanes.items installs (last net) net.waiting ≡ after_event (works net) (state net) event.Install
 changed net window closed lanes installs is begun next none =
     let xs : List Intake = net.engine.lanes.items in
-    ap (λ (w : Window). state_of net.room net.held w lanes xs installs net.last net.waiting) next
-    ∙ ap (λ (ks : List Set). state_of net.room net.held (window_of_held net.held) lanes xs ks net.last net.waiting) none
-    ∙ install_changes net.engine.t.queries xs net.sources net.room net.lanes.items xs net.matched net.installs.items net.last net.waiting net.held net.window closed lanes is begun
+    ap (λ (w : Window). state_of net.room net.held w lanes xs installs (last net) net.waiting) next
+    ∙ ap (λ (ks : List Set). state_of net.room net.held (window_of_held net.held) lanes xs ks (last net) net.waiting) none
+    ∙ install_changes net.engine.t.queries xs net.sources net.room net.lanes.items xs net.matched net.installs.items (last net) net.waiting net.held net.window closed lanes is begun
 
 ends : (net : Net) (window : Window) (closed : ℕ) → net.window ≡ Closed closed → ends_agree window net.engine.lanes.items ≡ true
 ends net window closed is = ∥∥₁_elim net.standing (Bool-set (ends_agree window net.engine.lanes.items) true) (λ h. closed_ends (works net) net.lanes.items net.engine.lanes.items net.matched net.held net.window window closed is h.stands)
@@ -54,7 +54,7 @@ invariant_of-self c =
       own = ap (are_own (window_number window)) begun ∙ own_begun (window_number window) hs kepts ∙ own net (window_number window) closed c.in-Closed.is;
       agreed = ends net window closed c.in-Closed.is;
       known = net.known;
-      standing = event_stands net.engine.t.queries net.engine.t.queries xs xs net.sources refl refl (state net) (state_of net.room net.held window lanes xs c.clear.new.self.items net.last net.waiting) event.Install net.standing c.requires
+      standing = event_stands net.engine.t.queries net.engine.t.queries xs xs net.sources refl refl (state net) (state_of net.room net.held window lanes xs c.clear.new.self.items (last net) net.waiting) event.Install net.standing c.requires
           (changed net window closed lanes c.clear.new.self.items c.in-Closed.is begun c.window_of_held-self.ensures c.clear.ensures.items);
     }
 

@@ -11,7 +11,7 @@ use Rattle.sn_core_net.specs.declared.holder.Holder.{Holder}
 use Rattle.sn_core_net.specs.declared.net.Net.{Net}
 use Rattle.sn_core_net.specs.Facts.{are_named, are_own, are_roomy, are_unread, may_be_read, names_of}
 use Rattle.sn_core_net.specs.Holders.{all_took}
-use Rattle.sn_core_net.specs.Nets.{state, works}
+use Rattle.sn_core_net.specs.Nets.{last, state, works}
 use Rattle.sn_core_net.specs.Reports.{window_number}
 use Rattle.sn_core_net.specs.States.{state_of}
 use Rattle.sn_core_net.proofs.Both.{length_took, names_took, own_took, roomy_took, unread_took}
@@ -24,14 +24,14 @@ unread : (net : Net) → first_need_that_fails (state net) event.Packet ≡ None
 unread net may =
     let xs : List Intake = net.engine.lanes.items in
     packet_unread net.window net.held (are_unread net.lanes.items)
-    (packet_may net.engine.t.queries xs net.sources net.room net.lanes.items xs net.matched net.installs.items net.last net.waiting net.held net.window may).0 net.unread
+    (packet_may net.engine.t.queries xs net.sources net.room net.lanes.items xs net.matched net.installs.items (last net) net.waiting net.held net.window may).0 net.unread
 
 changed : (net : Net) (lanes : List Holder) (number : ℕ) (tuple : List ℕ) → net.held ≡ Some (Numbered number tuple) → lanes ≡ all_took tuple net.lanes.items → first_need_that_fails (state net) event.Packet ≡ None →
-    state_of net.room None net.window lanes net.engine.lanes.items net.installs.items net.last net.waiting ≡ after_event (works net) (state net) event.Packet
+    state_of net.room None net.window lanes net.engine.lanes.items net.installs.items (last net) net.waiting ≡ after_event (works net) (state net) event.Packet
 changed net lanes number tuple is new may =
     let xs : List Intake = net.engine.lanes.items in
-    ap (λ (hs : List Holder). state_of net.room None net.window hs xs net.installs.items net.last net.waiting) new
-    ∙ packet_changes net.engine.t.queries xs net.sources net.room net.lanes.items xs net.matched net.installs.items net.last net.waiting net.held net.window number tuple is may net.roomy (unread net may)
+    ap (λ (hs : List Holder). state_of net.room None net.window hs xs net.installs.items (last net) net.waiting) new
+    ∙ packet_changes net.engine.t.queries xs net.sources net.room net.lanes.items xs net.matched net.installs.items (last net) net.waiting net.held net.window number tuple is may net.roomy (unread net may)
 
 pub take_in_all-requires : goal.take_in_all-requires
 take_in_all-requires c = unread c.args.self.now c.requires
@@ -52,7 +52,7 @@ invariant_of-self c =
       own = ap (are_own (window_number net.window)) new ∙ own_took (window_number net.window) tuple hs net.own;
       agreed = net.agreed;
       known = net.known;
-      standing = event_stands net.engine.t.queries net.engine.t.queries xs xs net.sources refl refl (state net) (state_of net.room None net.window c.take_in_all.new.lanes.items xs net.installs.items net.last net.waiting) event.Packet net.standing c.requires
+      standing = event_stands net.engine.t.queries net.engine.t.queries xs xs net.sources refl refl (state net) (state_of net.room None net.window c.take_in_all.new.lanes.items xs net.installs.items (last net) net.waiting) event.Packet net.standing c.requires
           (changed net c.take_in_all.new.lanes.items c.in-Numbered.field-0 tuple (c.in-Some.is ∙ ap (λ (s : Supply (List ℕ)). Some s) c.in-Numbered.is) new c.requires);
     }
 

@@ -8,7 +8,7 @@ use Rattle.sn_engine.specs.declared.intake.Intake.{Intake}
 use Rattle.sn_core_net.specs.declared.holder.Holder.{Holder}
 use Rattle.sn_core_net.specs.declared.net.Net.{Net}
 use Rattle.sn_core_net.specs.Facts.{are_named, are_own, are_unread}
-use Rattle.sn_core_net.specs.Nets.{state}
+use Rattle.sn_core_net.specs.Nets.{last, state}
 use Rattle.sn_core_net.specs.Reports.{is_own, window_number}
 use Rattle.sn_core_net.specs.States.{state_of}
 use Rattle.sn_core_net.proofs.Changes.{read_out_changes, read_out_may}
@@ -26,7 +26,7 @@ append_next-requires-clause-free c =
     let h : Holder = c.index_mut.result.now in
     let xs : List Intake = net.engine.lanes.items in
     fits (length h.ring.items) net.room h.ring.capacity
-    (read_out_may net.engine.t.queries xs net.sources net.room net.lanes.items xs net.matched net.installs.items net.last net.waiting net.held net.window c.args.lane c.requires.lane h c.index_mut.ensures.value c.requires.may).1
+    (read_out_may net.engine.t.queries xs net.sources net.room net.lanes.items xs net.matched net.installs.items (last net) net.waiting net.held net.window c.args.lane c.requires.lane h c.index_mut.ensures.value c.requires.may).1
     (capacity net c.args.lane h c.requires.lane c.index_mut.ensures.value)
 
 pub append_next-requires-clause-runs : goal.append_next-requires-clause-runs
@@ -34,7 +34,7 @@ append_next-requires-clause-runs c =
     let net : Net = c.args.self.now in
     let h : Holder = c.index_mut.result.now in
     let xs : List Intake = net.engine.lanes.items in
-    no_more h.sender.ended (read_out_may net.engine.t.queries xs net.sources net.room net.lanes.items xs net.matched net.installs.items net.last net.waiting net.held net.window c.args.lane c.requires.lane h c.index_mut.ensures.value c.requires.may).2
+    no_more h.sender.ended (read_out_may net.engine.t.queries xs net.sources net.room net.lanes.items xs net.matched net.installs.items (last net) net.waiting net.held net.window c.args.lane c.requires.lane h c.index_mut.ensures.value c.requires.may).2
 
 -- a lane that appended one of its own frames holds its own frames
 own_frames : (net : Net) (n number : ℕ) (h next : Holder) → n < length net.lanes.items → h ≡ get_or net.lanes.items n h → number ≡ window_number net.window → next.sender.lane ≡ h.sender.lane →
@@ -54,7 +54,7 @@ invariant_of-self c =
     let h : Holder = c.index_mut.result.now in
     let own : h ≡ get_or hs n h = c.index_mut.ensures.value in
     let next : Holder = c.append_next.new.self in
-    let may = read_out_may net.engine.t.queries xs net.sources net.room hs xs net.matched net.installs.items net.last net.waiting net.held net.window n c.requires.lane h own c.requires.may in
+    let may = read_out_may net.engine.t.queries xs net.sources net.room hs xs net.matched net.installs.items (last net) net.waiting net.held net.window n c.requires.lane h own c.requires.may in
     record {
       matched = length-set hs n next ∙ net.matched;
       few = subst (λ (k : ℕ). k < 2 ^ 32) (sym (length-set hs n next)) net.few;
@@ -64,8 +64,8 @@ invariant_of-self c =
       own = own_frames net n c.window_number-window.result h next c.requires.lane own c.window_number-window.ensures c.append_next.ensures.name c.append_next.ensures.own;
       agreed = net.agreed;
       known = net.known;
-      standing = event_stands net.engine.t.queries net.engine.t.queries xs xs net.sources refl refl (state net) (state_of net.room net.held net.window (set hs n next) xs net.installs.items net.last net.waiting) (event.ReadOut n) net.standing c.requires.may
-          (read_out_changes net.engine.t.queries xs net.sources net.room hs xs net.matched net.installs.items net.last net.waiting net.held net.window n c.requires.lane h own next
+      standing = event_stands net.engine.t.queries net.engine.t.queries xs xs net.sources refl refl (state net) (state_of net.room net.held net.window (set hs n next) xs net.installs.items (last net) net.waiting) (event.ReadOut n) net.standing c.requires.may
+          (read_out_changes net.engine.t.queries xs net.sources net.room hs xs net.matched net.installs.items (last net) net.waiting net.held net.window n c.requires.lane h own next
           (c.append_next.ensures.lane net.engine.t.queries (map emptied xs) net.sources));
     }
 
@@ -73,5 +73,5 @@ pub returns-clause-state : goal.returns-clause-state
 returns-clause-state c =
     let net : Net = c.args.self.now in
     let xs : List Intake = net.engine.lanes.items in
-    read_out_changes net.engine.t.queries xs net.sources net.room net.lanes.items xs net.matched net.installs.items net.last net.waiting net.held net.window c.args.lane c.requires.lane c.index_mut.result.now c.index_mut.ensures.value c.append_next.new.self
+    read_out_changes net.engine.t.queries xs net.sources net.room net.lanes.items xs net.matched net.installs.items (last net) net.waiting net.held net.window c.args.lane c.requires.lane c.index_mut.result.now c.index_mut.ensures.value c.append_next.new.self
     (c.append_next.ensures.lane net.engine.t.queries (map emptied xs) net.sources)

@@ -50,7 +50,7 @@ invariant_of-self-2-clause-way c =
     let tuples = c.args.tuples.now in
     let told : List ℕ = c.in_ok-addresses-2.field-0 in
     let unrefined : c.in_ok-addresses.field-0 ≡ column_of its (level_rows its (finest_level its) (Some tuples)) =
-    c.in_ok-addresses.ensures ∙ ap (column_of its) (c.as_slice.ensures ∙ c.in_ok-unrefined.ensures) in
+    c.in_ok-addresses.ensures ∙ ap (column_of its) c.in_ok-unrefined.ensures in
     let looks : c.push.new.self ≡ s.looks ++ record { window = w; unrefined = column_of its (level_rows its (finest_level its) (Some tuples)); refined = told } ∷ [] =
     c.in_ok-push.ensures.ok ∙ ap (λ (u : List ℕ). s.looks ++ record { window = w; unrefined = u; refined = told } ∷ []) unrefined in
     let kept : c.keep.new.self.kept ≡ kept_of its path (parts_in q its path (kept_at s.refined.last s.refined.kept w) tuples) =
@@ -70,7 +70,7 @@ invariant_of-self-2-clause-upto c =
     let tuples = c.args.tuples.now in
     let told : List ℕ = c.in_ok-addresses-2.field-0 in
     let unrefined : c.in_ok-addresses.field-0 ≡ column_of its (level_rows its (finest_level its) (Some tuples)) =
-    c.in_ok-addresses.ensures ∙ ap (column_of its) (c.as_slice.ensures ∙ c.in_ok-unrefined.ensures) in
+    c.in_ok-addresses.ensures ∙ ap (column_of its) c.in_ok-unrefined.ensures in
     let looks : c.push.new.self ≡ s.looks ++ record { window = w; unrefined = column_of its (level_rows its (finest_level its) (Some tuples)); refined = told } ∷ [] =
     c.in_ok-push.ensures.ok ∙ ap (λ (u : List ℕ). s.looks ++ record { window = w; unrefined = u; refined = told } ∷ []) unrefined in
     subst (λ (l : Option ℕ). AreUpTo l c.push.new.self) (sym c.keep.ensures.last)
@@ -94,9 +94,9 @@ invariant_of-self-2-clause-time c =
     let rows : ℕ → List Row = rows_at its path (kept_at s.refined.last s.refined.kept w) tuples in
     let parts : map (part_at q path rows) (range_with_len 0 (length path)) ≡ c.pop.new.self ++ c.in-Some.part ∷ [] = sym c.in_ok-parts.ensures.parts ∙ c.in-Some.ensures.some in
     let same : (last : ℕ) → length path ≡ suc last → told ≡ column_of its (rows last) =
-    λ last long. c.in_ok-addresses-2.ensures ∙ ap (column_of its) (c.as_slice-2.ensures ∙ last_part q path rows last c.pop.new.self c.in-Some.part long parts) in
+    λ last long. c.in_ok-addresses-2.ensures ∙ ap (column_of its) (last_part q path rows last c.pop.new.self c.in-Some.part long parts) in
     let unrefined : c.in_ok-addresses.field-0 ≡ column_of its (level_rows its (finest_level its) (Some tuples)) =
-    c.in_ok-addresses.ensures ∙ ap (column_of its) (c.as_slice.ensures ∙ c.in_ok-unrefined.ensures) in
+    c.in_ok-addresses.ensures ∙ ap (column_of its) c.in_ok-unrefined.ensures in
     let looks : c.push.new.self ≡ s.looks ++ record { window = w; unrefined = column_of its (level_rows its (finest_level its) (Some tuples)); refined = told } ∷ [] =
     c.in_ok-push.ensures.ok ∙ ap (λ (u : List ℕ). s.looks ++ record { window = w; unrefined = u; refined = told } ∷ []) unrefined in
     let base = time_kept s.t.window_us q s.t.queries s.t.typed s.path.query s.is_refined path s.ends s.looks s.refined.last s.refined.kept w tuples c.requires.widths s.upto c.requires.above s.way s.time told same in
@@ -143,8 +143,8 @@ returns-clause-looked c =
     let parts : map (part_at q path rows) (range_with_len 0 (length path)) ≡ c.pop.new.self ++ c.in-Some.part ∷ [] = sym c.in_ok-parts.ensures.parts ∙ c.in-Some.ensures.some in
     let some = s.some in
     let long : length path ≡ suc (length path - 1) = omega (arith, some) in
-    let same : told ≡ column_of its (rows (length path - 1)) = c.in_ok-addresses-2.ensures ∙ ap (column_of its) (c.as_slice-2.ensures ∙ last_part q path rows (length path - 1) c.pop.new.self c.in-Some.part long parts) in
-    let unrefined : c.in_ok-addresses.field-0 ≡ whole = c.in_ok-addresses.ensures ∙ ap (column_of its) (c.as_slice.ensures ∙ c.in_ok-unrefined.ensures) in
+    let same : told ≡ column_of its (rows (length path - 1)) = c.in_ok-addresses-2.ensures ∙ ap (column_of its) (last_part q path rows (length path - 1) c.pop.new.self c.in-Some.part long parts) in
+    let unrefined : c.in_ok-addresses.field-0 ≡ whole = c.in_ok-addresses.ensures ∙ ap (column_of its) c.in_ok-unrefined.ensures in
     c.in_ok-push.ensures.ok
     ∙ ap (λ (u : List ℕ). s.looks ++ record { window = w; unrefined = u; refined = told } ∷ []) unrefined
     ∙ ap (λ (r : List ℕ). s.looks ++ record { window = w; unrefined = whole; refined = r } ∷ []) same

@@ -10,5 +10,5 @@ invariant_of-result c =
     let ss = c.in_ok-lanes.lanes.items in
     let new = c.in_ok-lanes.ensures in
     let few = c.requires.most in
-    let count = lanes_count t.queries c.args.chain (pieces_from 0 es) ss new in
-    (omega (arith, few, count), lanes_in_range t.queries c.args.chain (pieces_from 0 es) ss c.requires.can new)
+    let count = lanes_count t.queries c.args.tables (pieces_from 0 es) ss new in
+    (omega (arith, few, count), lanes_in_range t.queries c.args.tables (pieces_from 0 es) ss c.requires.can new)

@@ -20,7 +20,7 @@ of-requires-clause-few c =
 pub returns-clause-many : goal.returns-clause-many
 returns-clause-many c =
     let entries = c.args.plan.now.entries in
-    ap (λ (ss : List Source). length ss) (c.in_ok-sources.ensures ∙ ap (sources_of 0) c.as_slice.ensures) ∙ made_many c.args.t.now.queries c.args.chain entries c.in_ok-emitter.emitter c.in_ok-emitter.ensures
+    ap (λ (ss : List Source). length ss) (c.in_ok-sources.ensures ∙ ap (sources_of 0) c.as_slice.ensures) ∙ made_many c.args.t.now.queries c.args.tables entries c.in_ok-emitter.emitter c.in_ok-emitter.ensures
 
 pub returns-clause-known : goal.returns-clause-known
 returns-clause-known c =

@@ -7,7 +7,7 @@ use Rattle.sn_engine_many.specs.Switches.{AreWorking, IsResting, no_tuples, shor
 use Rattle.sn_engine_many.proofs.many.Many.begin.Goals as goal
 
 pub returns-in_ok-begin_all-in-Between-clause-work : goal.returns-in_ok-begin_all-in-Between-clause-work
-returns-in_ok-begin_all-in-Between-clause-work c = λ queries depth entries b.
+returns-in_ok-begin_all-in-Between-clause-work c = λ queries tables entries b.
     let s = c.args.self.now in
     let items : List Driver = s.switches.items in
     let new : List Driver = c.begin_all.new.switches in
@@ -16,8 +16,9 @@ returns-in_ok-begin_all-in-Between-clause-work c = λ queries depth entries b.
     let same = c.deref_mut.ensures.value in
     let count : length new ≡ length items = c.in_ok-begin_all-in-Between.ensures.count ∙ ap (λ (ds : List Driver). length ds) same in
     record {
-      each = subst (AreWorking queries depth shorts kept (no_tuples items)) (sym (whole s.switches.len new items count s.switches.ok.0))
-          (subst (λ (ds : List Driver). AreWorking queries depth shorts kept (no_tuples ds) new) same
-          (c.in_ok-begin_all-in-Between.ensures.work queries depth shorts (subst (AllByRecursion (IsResting queries depth shorts)) (sym same) b.each)));
+      each = subst (AreWorking queries tables shorts kept (no_tuples items)) (sym (whole s.switches.len new items count s.switches.ok.0))
+          (subst (λ (ds : List Driver). AreWorking queries tables shorts kept (no_tuples ds) new) same
+          (c.in_ok-begin_all-in-Between.ensures.work queries tables shorts (subst (AllByRecursion (IsResting queries tables shorts)) (sym same) b.each)));
       none = b.none;
+      held = b.recalls c.args.window;
     }

@@ -5,7 +5,7 @@ use Rattle.sn_types.specs.declared.answers.Answers.{Answers}
 use Rattle.sn_replan.proofs.epoch.Epoch.window.Goals as goal
 
 pub returns-clause-answers : goal.returns-clause-answers
-returns-clause-answers c = λ queries depth entries windows h.
+returns-clause-answers c = λ queries tables entries windows h.
     let d = c.args.self.driver in
     let last = c.args.self.last in
     let w = c.args.w in
@@ -13,13 +13,13 @@ returns-clause-answers c = λ queries depth entries windows h.
     let b = c.in_ok-begin.ensures in
     let g = c.in_ok-give.ensures in
     let r = c.in_ok-drain.ensures in
-    let ended = ended_by queries depth entries windows d last h w c.begin.new.self c.give.new.driver c.drain.new.self tuples (record { queries = b.queries; sources = b.sources; count = b.count }) b.lanes b.work
-    (record { queries = g.queries; sources = g.sources; count = g.count }) g.lanes g.work g.widths (record { queries = r.queries; sources = r.sources; count = r.count }) r.lanes r.items in
+    let ended = ended_by queries tables entries windows d last h w c.begin.new.self c.give.new.driver c.drain.new.self tuples (record { queries = b.queries; sources = b.sources; count = b.count; closed = b.closed; prefixes = b.prefixes }) b.lanes b.work
+    (record { queries = g.queries; sources = g.sources; count = g.count; closed = g.closed; prefixes = g.prefixes }) g.lanes g.work g.widths (record { queries = r.queries; sources = r.sources; count = r.count; closed = r.closed; prefixes = r.prefixes }) r.lanes r.items in
     let e = c.in_ok-answers.ensures in
-    answers_are queries depth entries windows d last h w c.requires c.drain.new.self tuples ended c.in_ok-answers.answers e.window e.emitted e.parts
+    answers_are queries tables entries windows d last h w c.requires c.drain.new.self tuples ended c.in_ok-answers.answers e.window e.emitted e.parts
 
 pub returns-clause-early : goal.returns-clause-early
-returns-clause-early c = λ queries depth entries windows h.
+returns-clause-early c = λ queries tables entries windows h.
     let d = c.args.self.driver in
     let last = c.args.self.last in
     let w = c.args.w in
@@ -27,12 +27,12 @@ returns-clause-early c = λ queries depth entries windows h.
     let b = c.in_ok-begin.ensures in
     let g = c.in_ok-give.ensures in
     let r = c.in_ok-drain.ensures in
-    let ended = ended_by queries depth entries windows d last h w c.begin.new.self c.give.new.driver c.drain.new.self tuples (record { queries = b.queries; sources = b.sources; count = b.count }) b.lanes b.work
-    (record { queries = g.queries; sources = g.sources; count = g.count }) g.lanes g.work g.widths (record { queries = r.queries; sources = r.sources; count = r.count }) r.lanes r.items in
-    early_is queries depth entries windows d last h w c.requires c.drain.new.self tuples ended c.early-early.result c.early-early.ensures
+    let ended = ended_by queries tables entries windows d last h w c.begin.new.self c.give.new.driver c.drain.new.self tuples (record { queries = b.queries; sources = b.sources; count = b.count; closed = b.closed; prefixes = b.prefixes }) b.lanes b.work
+    (record { queries = g.queries; sources = g.sources; count = g.count; closed = g.closed; prefixes = g.prefixes }) g.lanes g.work g.widths (record { queries = r.queries; sources = r.sources; count = r.count; closed = r.closed; prefixes = r.prefixes }) r.lanes r.items in
+    early_is queries tables entries windows d last h w c.requires c.drain.new.self tuples ended c.early-early.result c.early-early.ensures
 
 pub returns-clause-rests : goal.returns-clause-rests
-returns-clause-rests c = λ queries depth entries windows h.
+returns-clause-rests c = λ queries tables entries windows h.
     let d = c.args.self.driver in
     let last = c.args.self.last in
     let w = c.args.w in
@@ -40,8 +40,8 @@ returns-clause-rests c = λ queries depth entries windows h.
     let b = c.in_ok-begin.ensures in
     let g = c.in_ok-give.ensures in
     let r = c.in_ok-drain.ensures in
-    let ended = ended_by queries depth entries windows d last h w c.begin.new.self c.give.new.driver c.drain.new.self tuples (record { queries = b.queries; sources = b.sources; count = b.count }) b.lanes b.work
-    (record { queries = g.queries; sources = g.sources; count = g.count }) g.lanes g.work g.widths (record { queries = r.queries; sources = r.sources; count = r.count }) r.lanes r.items in
+    let ended = ended_by queries tables entries windows d last h w c.begin.new.self c.give.new.driver c.drain.new.self tuples (record { queries = b.queries; sources = b.sources; count = b.count; closed = b.closed; prefixes = b.prefixes }) b.lanes b.work
+    (record { queries = g.queries; sources = g.sources; count = g.count; closed = g.closed; prefixes = g.prefixes }) g.lanes g.work g.widths (record { queries = r.queries; sources = r.sources; count = r.count; closed = r.closed; prefixes = r.prefixes }) r.lanes r.items in
     let e = c.in_ok-answers.ensures in
-    subst (λ (a : Answers). Rests queries depth entries (windows ++ (w, tuples) ∷ []) c.finish.new.self (Some a)) (sym c.in_ok-copied.ensures)
-    (rests_on queries depth entries windows d last h w c.requires c.drain.new.self tuples ended c.finish.new.self c.in_ok-answers.answers e.window e.emitted e.parts e.lanes e.emptied e.queries e.sources)
+    subst (λ (a : Answers). Rests queries tables entries (windows ++ (w, tuples) ∷ []) c.finish.new.self (Some a)) (sym c.in_ok-copied.ensures)
+    (rests_on queries tables entries windows d last h w c.requires c.drain.new.self tuples ended c.finish.new.self c.in_ok-answers.answers e.window e.emitted e.parts e.lanes e.emptied e.queries e.sources e.closed e.prefixes)

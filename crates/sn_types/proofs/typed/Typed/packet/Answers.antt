@@ -1,7 +1,12 @@
-use Rattle.std.proofs.Common.{◌∙◌}
+use Rattle.std.proofs.Common.{List, ◌∙◌, sym, subst}
+use Rattle.sn_fields.specs.declared.field.Field.{Field}
+use Rattle.sn_types.specs.Kinds.{AreBelow}
 use Rattle.sn_types.specs.Typed.{query_at, branch_at}
 use Rattle.sn_types.proofs.TypedRows.{of_fields, same_packet_row}
 use Rattle.sn_types.proofs.typed.Typed.packet.Goals as goal
+
+pub row-requires : goal.row-requires
+row-requires g c = subst (λ (fields : List Field). AreBelow g.N.Number.limit fields) (sym c.packets.ensures.fields) c.requires.below
 
 pub returns-clause-row : goal.returns-clause-row
 returns-clause-row g c =

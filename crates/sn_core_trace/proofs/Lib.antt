@@ -1,7 +1,0 @@
-pub mod PickLemmas
-pub mod TurnLemmas
-pub mod CloseLemmas
-pub mod LineLemmas
-pub mod PipeLemmas
-pub mod StateLemmas
-pub mod MadeLemmas

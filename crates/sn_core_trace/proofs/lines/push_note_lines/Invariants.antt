@@ -1,7 +1,0 @@
-use Rattle.std.proofs.Common.{◌≡◌, ◌++◌, take}
-use Rattle.std.specs.List.{flat_map}
-use Rattle.sn_core_trace.specs.Lines.{note_lines}
-use Rattle.sn_core_trace.proofs.lines.push_note_lines.Given as goal
-
-abbrev pub invariant-loop-note : goal.invariant-loop-note
-invariant-loop-note l = l.text.items ≡ l.fn.text.items ++ flat_map note_lines (take l.note-index l.notes)

@@ -1,4 +1,0 @@
-pub mod Turns
-pub mod Lines
-pub mod Lanes
-pub mod Plain

@@ -1,0 +1,79 @@
+//! One lane of the emitter, over rows of a kind that is known.
+ghost use Rattle.std.specs.Prelude.{◌≡◌, IfSome, slice_get};
+ghost use Rattle.std.specs.FinSet as set;
+ghost use Rattle.std.specs.Option.{option_map};
+ghost use Rattle.std.specs.Ordering.{nat_cmp};
+ghost use Rattle.sn_emit.specs.Making.{CanEncode, InRange};
+ghost use Rattle.sn_emit.specs.Runs.{IsReadOut};
+ghost use Rattle.sn_emit.specs.Senders.{ended_after, row_frame, sender_next, sender_start};
+ghost use Rattle.sn_pipe.specs.Pipes.{at_start, item_of};
+ghost use Rattle.sn_pipe.specs.Prefixes.{left_in};
+ghost use Rattle.sn_report.specs.Items.{frame_by};
+
+use sn_base::any_row::AnyRow;
+use sn_base::lane::Lane;
+use sn_base::members::Members;
+use sn_fields::tuple::Tuple;
+use sn_pipe::pipe::Pipe;
+use sn_report::frame::Frame;
+
+/// A pipe that gives frames. Contracts see any pipe as its state, so that lanes over rows of either kind are the same to them.
+#[derive(Drop)]
+pub struct SenderOf<P> {
+    /// What its frames are named by.
+    pub lane: Lane,
+    /// What gives their rows.
+    pub pipe: P,
+    /// How many frames with rows it gave in this window, or 2^64 - 1 where they are more.
+    pub given: u64,
+    /// Whether the End of this window was given.
+    pub ended: bool,
+}
+
+impl<R: AnyRow> SenderOf<Pipe<R>> {
+    /// Takes a tuple, before any read-out. `Some` exactly where the pipe gives an item. Takes no memory.
+    #[inline(always)]
+    pub fn packet(&mut self, tuple: &Tuple) -> Option<Frame<R>>
+        requires { self.old.pipe.prefix.place ≡ 0 }
+        ensures frame { option_map (frame_by R.columns) result ≡ option_map (row_frame self.old.lane) (item_of self.old.pipe tuple.now) }
+        ensures after { self.new ≡ sender_next self.old tuple.now }
+        ensures range { InRange self.old.lane → IfSome result (λ frame. CanEncode (frame_by R.columns frame)) }
+    {
+        match self.pipe.packet(tuple) {
+            Some(item) => {
+                self.given = self.given.saturating_add(1);
+                Some(Frame::Row(self.lane, item))
+            }
+            None => None,
+        }
+    }
+
+    /// The next frame of the read-out: the rows, then one End, then `None`. Takes no memory.
+    pub fn read_out(&mut self, window: u64) -> Option<Frame<R>>
+        ensures frame { IsReadOut window self.old (option_map (frame_by R.columns) result) self.new }
+        ensures lane { self.new.lane ≡ self.old.lane }
+        ensures pipe { (kept : set.FinSet nat_cmp) → at_start self.new.pipe kept ≡ at_start self.old.pipe kept }
+        ensures rest { self.new.pipe ≡ record self.old.pipe { prefix = record self.old.pipe.prefix { place = self.new.pipe.prefix.place } } }
+        ensures ended { self.new.ended ≡ ended_after self.old.ended (slice_get (left_in self.old.pipe.prefix) 0) }
+        ensures range { InRange self.old.lane → IfSome result (λ frame. CanEncode (frame_by R.columns frame)) }
+    {
+        if let Some(item) = self.pipe.read_out_next() {
+            self.given = self.given.saturating_add(1);
+            return Some(Frame::Row(self.lane, item));
+        }
+        if self.ended {
+            return None;
+        }
+        self.ended = true;
+        Some(Frame::End(self.lane, window))
+    }
+
+    /// Begins a window: empty registers, this prefix set, and nothing given. Takes no memory.
+    pub fn next_window(&mut self, kept: Members)
+        ensures { self.new ≡ sender_start self.old kept }
+    {
+        self.pipe.next_window(kept);
+        self.given = 0;
+        self.ended = false;
+    }
+}

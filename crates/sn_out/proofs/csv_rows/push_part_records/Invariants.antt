@@ -1,8 +1,0 @@
-use Rattle.std.proofs.Common.{◌≡◌, ◌++◌, take}
-use Rattle.std.specs.List.{flat_map}
-use Rattle.sn_types.specs.Typed.{query_at}
-use Rattle.sn_out.specs.Records.{record_text}
-use Rattle.sn_out.proofs.csv_rows.push_part_records.Given as goal
-
-abbrev pub invariant-loop-row : goal.invariant-loop-row
-invariant-loop-row l = l.text.items ≡ l.fn.text.items ++ flat_map (record_text l.window (query_at l.t.queries l.part.query) l.part.level) (take l.row-index l.row-items)

@@ -1,0 +1,44 @@
+use Rattle.std.proofs.Common.{◌≡◌, List, ℕ, None, ap, sym, subst, ◌∙◌, slice_index}
+use Rattle.sn_base.specs.AnyFold.{any_has, any_step}
+use Rattle.sn_base.specs.Groups.{Row, columns_at}
+use Rattle.sn_base.specs.declared.any_fold.AnyFold.{AnyFold}
+use Rattle.sn_chain.specs.Chain.{ChainState, after_offer}
+use Rattle.sn_chain.specs.declared.offer.Offer.{Offer}
+use Rattle.sn_types.specs.declared.typed_op.TReduce.{TReduce}
+use Rattle.sn_pipe.specs.AnyStage.{Stage}
+use Rattle.sn_pipe.specs.Passing.{CanTake, passed_as}
+use Rattle.sn_pipe.specs.declared.stage.Stage.TheVariants.{Reduce}
+use Rattle.sn_pipe.specs.Stages.{after_row, answer_to, flows, is_over, overflows}
+use Rattle.sn_pipe.proofs.Begins.{word_had}
+use Rattle.sn_pipe.proofs.stage.Stage+Chain+Or+R+Chain+AnyFold+R.pass.Goals as goal
+
+pub offer-requires : goal.offer-requires
+offer-requires g c =
+    let row : Row = g.R.Columns.columns c.args.row.now in
+    let r : TReduce = record { keys = c.in-Reduce.r.keys; value = c.in-Reduce.r.value; fold = c.in-Reduce.r.fold } in
+    let chain : ChainState AnyFold = c.in-Reduce.chain in
+    let can : CanTake (Reduce r chain) row = subst (λ (s : Stage). CanTake s row) c.in-Reduce.is c.requires in
+    subst (any_has chain.fold) (sym (word_had chain.fold c.word.result _ (slice_index row r.value) c.word.ensures c.column.ensures can.3)) can.3
+
+pub returns-in-Reduce-clause-passed : goal.returns-in-Reduce-clause-passed
+returns-in-Reduce-clause-passed g c =
+    let row : Row = g.R.Columns.columns c.args.row.now in
+    let chain : ChainState AnyFold = c.in-Reduce.chain in
+    let key : g.R.Columns.columns c.columns_into.new.key ≡ columns_at c.in-Reduce.r.keys row = c.columns_into.ensures ∙ ap (λ (ks : List ℕ). columns_at ks row) c.as_slice-in-Reduce.ensures in
+    c.folded.ensures
+    ∙ ap (λ (answer : Offer). passed_as (is_over answer) None) (c.offer.ensures.answer ∙ ap (answer_to chain) key)
+    ∙ ap (λ s. passed_as (overflows s row) (flows c.args.level s row)) (sym c.in-Reduce.is)
+
+pub returns-in-Reduce-clause-after : goal.returns-in-Reduce-clause-after
+returns-in-Reduce-clause-after g c =
+    let row : Row = g.R.Columns.columns c.args.row.now in
+    let r : TReduce = record { keys = c.in-Reduce.r.keys; value = c.in-Reduce.r.value; fold = c.in-Reduce.r.fold } in
+    let chain : ChainState AnyFold = c.in-Reduce.chain in
+    let can : CanTake (Reduce r chain) row = subst (λ (s : Stage). CanTake s row) c.in-Reduce.is c.requires in
+    let key : g.R.Columns.columns c.columns_into.new.key ≡ columns_at r.keys row = c.columns_into.ensures ∙ ap (λ (ks : List ℕ). columns_at ks row) c.as_slice-in-Reduce.ensures in
+    let word = word_had chain.fold c.word.result _ (slice_index row r.value) c.word.ensures c.column.ensures can.3 in
+    ap (Reduce r)
+    (c.offer.ensures.after
+    ∙ ap (λ (k : List ℕ). after_offer any_step chain k c.word.result) key
+    ∙ ap (λ (v : ℕ). after_offer any_step chain (columns_at r.keys row) v) word)
+    ∙ ap (λ s. after_row s row) (sym c.in-Reduce.is)

@@ -1,6 +1,0 @@
-use Rattle.std.proofs.Common.{◌≡◌, map, take, slice_index}
-use Rattle.std.specs.FinSet as set
-use Rattle.sn_refine.proofs.members.members.Given as goal
-
-abbrev pub invariant-loop-row : goal.invariant-loop-row
-invariant-loop-row l = l.members ≡ set.from_list (map (λ row. slice_index row l.place) (take l.row-index l.rows))

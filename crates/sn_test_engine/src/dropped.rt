@@ -1,0 +1,91 @@
+//! What an engine drops: items of other prefixes than the window before was answered with.
+use crate::texts::{NET, REFINED, TWO_LEVELS, lane, plan, queries, row, rows};
+use sn_base::short_row::ShortRow;
+use sn_engine::engine::Engine;
+use sn_engine::fault::TakeFault;
+use sn_plan_fit::shape;
+use sn_report::frame::{Frame, Item, Tag};
+use std::test::Fail;
+
+/// An engine of two levels, with nothing cut. In window 0 level 8 has two packets to 10.0.0.0, and is closed.
+fn engine_after_a_window(rt: &HostRuntime) -> Result<Engine, Fail> {
+    let t = queries(rt.alloc(), REFINED).ok_or("no queries")?;
+    let plan = plan(rt.alloc(), TWO_LEVELS).ok_or("no plan")?;
+    let Ok(()) = shape(&t, &plan) else {
+        return Err("no shape".into());
+    };
+    let mut engine = Engine::make(rt.alloc(), &t, &plan)?;
+    take(&mut engine, 0, &[NET, NET])?;
+    end(&mut engine, 0)?;
+    let first = engine.close_window()?;
+    if first.emitted == 2 && rows(&first, 0) == &[row(&[NET, 2])][..] {
+        Ok(engine)
+    } else {
+        Err("another answer to the first window".into())
+    }
+}
+
+/// Takes a packet to each of these addresses at a level.
+fn take(engine: &mut Engine, level: u8, addresses: &[u64]) -> Result<(), TakeFault> {
+    for address in addresses {
+        let item = Item {
+            tag: Tag::At(0),
+            row: row(&[*address]),
+        };
+        engine.take(&Frame::Row(lane(0, level), item))?;
+    }
+    Ok(())
+}
+
+/// Takes the End of both levels.
+fn end(engine: &mut Engine, window: u64) -> Result<(), TakeFault> {
+    for level in [0, 1] {
+        let frame: Frame<ShortRow> = Frame::End(lane(0, level), window);
+        engine.take(&frame)?;
+    }
+    Ok(())
+}
+
+#[test]
+fn drops_items_of_other_prefixes(rt: HostRuntime) -> Result<(), Fail> {
+    let mut engine = engine_after_a_window(&rt)?;
+    take(
+        &mut engine,
+        1,
+        &[NET + 9, 2 * NET + 9, NET + 9, 2 * NET + 9],
+    )?;
+    end(&mut engine, 1)?;
+    let value = engine.value()?;
+    assert_eq!(rt; value.emitted, 4);
+    assert_eq!(rt; rows(&value, 1), [row(&[NET + 9, 2])].as_slice());
+    let second = engine.close_window()?;
+    assert_eq!(rt; second.emitted, 4);
+    assert_eq!(rt; rows(&second, 1), [row(&[NET + 9, 2])].as_slice());
+    Ok(())
+}
+
+#[test]
+fn drops_all_items_after_a_gap(rt: HostRuntime) -> Result<(), Fail> {
+    let mut engine = engine_after_a_window(&rt)?;
+    take(&mut engine, 1, &[NET + 9, NET + 9])?;
+    end(&mut engine, 2)?;
+    let second = engine.close_window()?;
+    assert_eq!(rt; second.emitted, 2);
+    assert!(rt; rows(&second, 1).is_empty());
+    Ok(())
+}
+
+#[test]
+fn keeps_its_prefixes_where_items_are_dropped_at_once(rt: HostRuntime) -> Result<(), Fail> {
+    let mut engine = engine_after_a_window(&rt)?;
+    take(&mut engine, 0, &[2 * NET, 2 * NET])?;
+    engine.clear();
+    assert!(rt; !engine.started());
+    take(&mut engine, 1, &[NET + 9, NET + 9])?;
+    end(&mut engine, 1)?;
+    let second = engine.close_window()?;
+    assert_eq!(rt; second.emitted, 2);
+    assert!(rt; rows(&second, 0).is_empty());
+    assert_eq!(rt; rows(&second, 1), [row(&[NET + 9, 2])].as_slice());
+    Ok(())
+}
