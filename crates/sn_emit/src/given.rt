@@ -1,6 +1,7 @@
 //! Frames that lanes give.
 ghost use Rattle.std.specs.Prelude.{◌≡◌};
 
+use sn_base::lane::Lane;
 use sn_base::row::Row;
 use sn_base::short_row::ShortRow;
 use sn_report::frame::Frame;
@@ -30,6 +31,16 @@ impl Model for Given {
 
 impl Given {
     ghost use Rattle.sn_emit.specs.Kinds.{frame_in};
+
+    /// A frame that no lane gives, as a place for others.
+    pub fn unsent() -> Given {
+        let lane = Lane {
+            query: 0,
+            level: 0,
+            branch: 0,
+        };
+        Given::of_short(Frame::End(lane, 0))
+    }
 
     /// A frame over short rows.
     pub fn of_short(frame: Frame<ShortRow>) -> Given

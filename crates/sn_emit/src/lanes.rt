@@ -1,6 +1,7 @@
 //! All lanes of a plan.
 ghost use Rattle.std.specs.Prelude.{◌≡◌, ◌≢◌, ℕ, ◌<◌, ◌≤◌, List, IfOk, IfSome, length, slice_get, slice_set};
 ghost use Rattle.std.specs.List.{AllByRecursion};
+ghost use Rattle.std.specs.Bool.{then_some};
 ghost use Rattle.std.specs.Option.{option_map};
 ghost use Rattle.sn_emit.specs.Lanes.{emitted_by};
 ghost use Rattle.sn_emit.specs.Making.{CanEncode, CanMake};
@@ -92,7 +93,21 @@ impl Emitter {
         self.lanes.len() as u32
     }
 
-    /// Gives a tuple to a lane, before its read-out. Takes no memory.
+    /// Gives a tuple to a lane, before its read-out. `true` exactly where the lane gives a frame, which is then written into `into`: most
+    /// lanes give none, and a frame takes longer to move than to find out so. Takes no memory.
+    pub fn give(&mut self, lane: u32, tuple: &Tuple, into: &mut Given) -> bool
+        requires lane { lane < length self.old }
+        requires unread { IfSome (slice_get self.old lane) (λ s. s.pipe.prefix.place ≡ 0) }
+        ensures frame { IfSome (slice_get self.old lane) (λ s. then_some result into.new ≡ option_map (row_frame s.lane) (item_of s.pipe tuple.now)) }
+        ensures after { IfSome (slice_get self.old lane) (λ s. self.new ≡ slice_set self.old lane (sender_next s tuple.now)) }
+        ensures lanes { (queries : List TypedQuery) (tables : Tables) (pieces : List Placed) → AreLanesOf queries tables pieces self.old →
+            AreLanesOf queries tables pieces self.new }
+        ensures range { IfSome (then_some result into.new) CanEncode }
+    {
+        self.lanes[lane as usize].packet(tuple, into)
+    }
+
+    /// The frame that a lane gives for a tuple, before its read-out. Takes no memory.
     pub fn packet(&mut self, lane: u32, tuple: &Tuple) -> Option<Given>
         requires lane { lane < length self.old }
         requires unread { IfSome (slice_get self.old lane) (λ s. s.pipe.prefix.place ≡ 0) }
@@ -102,7 +117,12 @@ impl Emitter {
             AreLanesOf queries tables pieces self.new }
         ensures range { IfSome result CanEncode }
     {
-        self.lanes[lane as usize].packet(tuple)
+        let mut frame = Given::unsent();
+        if self.give(lane, tuple, &mut frame) {
+            Some(frame)
+        } else {
+            None
+        }
     }
 
     /// The next frame of a lane's read-out: the rows, then one End, then `None`. Takes no memory.

@@ -1,6 +1,7 @@
 //! One lane of the emitter.
 ghost use Rattle.std.specs.Prelude.{◌≡◌, IfSome, slice_get};
 ghost use Rattle.std.specs.FinSet as set;
+ghost use Rattle.std.specs.Bool.{then_some};
 ghost use Rattle.std.specs.Option.{option_map};
 ghost use Rattle.std.specs.Ordering.{nat_cmp};
 ghost use Rattle.sn_pipe.specs.Pipes.{at_start, item_of};
@@ -39,7 +40,6 @@ impl Model for Sender {
     ghost view = { λ a. sender_in a.held };
 }
 
-#[inline(always)]
 fn of_short(frame: Option<Frame<ShortRow>>) -> Option<Given>
     ensures { result ≡ frame }
 {
@@ -109,17 +109,29 @@ impl Sender {
         }
     }
 
-    /// Takes a tuple, before any read-out. `Some` exactly where the pipe gives an item. Takes no memory.
+    /// Takes a tuple, before any read-out. `true` exactly where the pipe gives an item, whose frame is then written into `into`. Takes no memory.
     #[inline(always)]
-    pub fn packet(&mut self, tuple: &Tuple) -> Option<Given>
+    pub fn packet(&mut self, tuple: &Tuple, into: &mut Given) -> bool
         requires { self.old.pipe.prefix.place ≡ 0 }
-        ensures frame { result ≡ option_map (row_frame self.old.lane) (item_of self.old.pipe tuple.now) }
+        ensures frame { then_some result into.new ≡ option_map (row_frame self.old.lane) (item_of self.old.pipe tuple.now) }
         ensures after { self.new ≡ sender_next self.old tuple.now }
-        ensures range { InRange self.old.lane → IfSome result CanEncode }
+        ensures range { InRange self.old.lane → IfSome (then_some result into.new) CanEncode }
     {
         match &mut self.held {
-            AnySender::Short(sender) => of_short(sender.packet(tuple)),
-            AnySender::Wide(sender) => of_wide(sender.packet(tuple)),
+            AnySender::Short(sender) => match sender.packet(tuple) {
+                Some(frame) => {
+                    *into = Given::of_short(frame);
+                    true
+                }
+                None => false,
+            },
+            AnySender::Wide(sender) => match sender.packet(tuple) {
+                Some(frame) => {
+                    *into = Given::of_wide(frame);
+                    true
+                }
+                None => false,
+            },
         }
     }
 

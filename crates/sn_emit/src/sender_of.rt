@@ -39,13 +39,11 @@ impl<R: AnyRow> SenderOf<Pipe<R>> {
         ensures after { self.new ≡ sender_next self.old tuple.now }
         ensures range { InRange self.old.lane → IfSome result (λ frame. CanEncode (frame_by R.columns frame)) }
     {
-        match self.pipe.packet(tuple) {
-            Some(item) => {
-                self.given = self.given.saturating_add(1);
-                Some(Frame::Row(self.lane, item))
-            }
-            None => None,
-        }
+        let Some(item) = self.pipe.packet(tuple) else {
+            return None;
+        };
+        self.given = self.given.saturating_add(1);
+        Some(Frame::Row(self.lane, item))
     }
 
     /// The next frame of the read-out: the rows, then one End, then `None`. Takes no memory.

@@ -19,6 +19,7 @@ use crate::source::{Source, kept_in};
 use crate::wire::Wire;
 use crate::work::{drain, give};
 use sn_base::memory::Memory;
+use sn_emit::given::Given;
 use sn_emit::lanes::Emitter;
 use sn_engine::engine::Engine;
 use sn_fields::tuple::Tuple;
@@ -69,8 +70,9 @@ pub(crate) fn give_lanes<W: Wire>(
     ensures closed { engine.new.closed ≡ engine.old.closed }
     ensures prefixes { engine.new.kept ≡ engine.old.kept }
 {
+    let mut frame = Given::unsent();
     for lane in 0..emitter.lanes() {
-        give(emitter, engine, wire, lane, tuple)?;
+        give(emitter, engine, wire, lane, tuple, &mut frame)?;
     }
     Ok(())
 }

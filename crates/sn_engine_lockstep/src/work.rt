@@ -45,13 +45,14 @@ fn send<W: Wire>(engine: &mut Engine, wire: &mut W, frame: &Given) -> Result<(),
     }
 }
 
-/// Gives a tuple to a lane, and sends what it gives.
+/// Gives a tuple to a lane, and sends what it gives. `frame` is the place for it.
 pub(crate) fn give<W: Wire>(
     emitter: &mut Emitter,
     engine: &mut Engine,
     wire: &mut W,
     lane: u32,
     tuple: &Tuple,
+    frame: &mut Given,
 ) -> Result<(), Memory>
     requires lane { lane < length emitter.old }
     requires unread { IfSome (slice_get emitter.old lane) (λ s. s.pipe.prefix.place ≡ 0) }
@@ -65,9 +66,10 @@ pub(crate) fn give<W: Wire>(
     ensures closed { engine.new.closed ≡ engine.old.closed }
     ensures prefixes { engine.new.kept ≡ engine.old.kept }
 {
-    match emitter.packet(lane, tuple) {
-        Some(frame) => send(engine, wire, &frame),
-        None => Ok(()),
+    if emitter.give(lane, tuple, frame) {
+        send(engine, wire, frame)
+    } else {
+        Ok(())
     }
 }
 

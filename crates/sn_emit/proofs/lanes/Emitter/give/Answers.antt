@@ -1,7 +1,7 @@
 use Rattle.std.proofs.Common.{subst, sym}
 use Rattle.sn_emit.specs.Plans.{AreLanesOf}
 use Rattle.sn_emit.proofs.PlanLanes.{lanes_stay, packet_stays}
-use Rattle.sn_emit.proofs.lanes.Emitter.packet.Goals as goal
+use Rattle.sn_emit.proofs.lanes.Emitter.give.Goals as goal
 
 pub returns-clause-lanes : goal.returns-clause-lanes
 returns-clause-lanes c queries tables pieces h =
