@@ -1,6 +1,6 @@
 -- Captures that are counted, over plain values.
-use Rattle.std.proofs.Common.{◌≡◌, ◌&&◌, ℕ, ◌+◌, ◌<◌, ◌≤◌, List, [], ◌∷◌, ◌++◌, Bool, true, false, cond, map, take, drop, length, fold, min, get_or, Option, None, Some, unwrap_or, Result, Ok, Err, refl, ap, sym, ◌∙◌, subst, arith}
-use Rattle.std.specs.List.{AllByRecursion, flat_map, list_all}
+use Rattle.std.proofs.Common.{◌≡◌, ◌&&◌, ℕ, suc, ◌+◌, ◌<◌, ◌≤◌, List, [], ◌∷◌, ◌++◌, Bool, true, false, cond, map, take, drop, length, fold, min, get_or, Option, None, Some, unwrap_or, Result, Ok, Err, refl, ap, sym, ◌∙◌, subst, arith}
+use Rattle.std.specs.List.{AllByRecursion, flat_map, list_all, zip}
 use Rattle.std.proofs.lemmas.List.{append-nil, map-append, take-append-drop, take_all, take_more}
 use Rattle.std.proofs.lemmas.Grind.{flat_map-append}
 use Rattle.std.proofs.lemmas.List.Elements.{All-head, All-tail}
@@ -14,7 +14,7 @@ use Rattle.sn_command.specs.declared.refusal.Refusal.{Refusal}
 use Rattle.sn_command.specs.declared.refusal.Refusal.TheVariants.{Memory, Usage, Missing, ReadFault, WriteFault, Refused}
 use Rattle.sn_command.specs.Runs.{Answers}
 use Rattle.sn_command_captures.specs.Captures.{IsWhole}
-use Rattle.sn_command_captures.specs.Counted.{counted, numbered_verdict, share_of, share_verdict, shares_of, start_found}
+use Rattle.sn_command_captures.specs.Counted.{counted, numbers_of, numbers_verdict, share_of, share_verdict, shares_of, start_found}
 use Rattle.sn_command_captures.specs.Shares.{IsSound}
 use Rattle.sn_command_captures.specs.declared.share.Share.{Share}
 use Rattle.sn_pcap.specs.Capture.{IsWithin}
@@ -89,7 +89,7 @@ module _ (window start : ℕ) (packets : List Packet) (i : ℕ) (p : Packet) (so
         ∙ sym (from_append time_of first before (here ∷ [])) ∙ ap (numbered_from time_of first) (sym (take_more packets i p some))
 
     -- one record too many
-    pub too_many : CountsIn s records → most_records ≤ next_count s (time_of here) → ◌≡◌ {A = Result (List (ℕ × Packet)) Fault} (Err faults.TooLarge) (numbered_verdict window start packets)
+    pub too_many : CountsIn s records → most_records ≤ next_count s (time_of here) → ◌≡◌ {A = Result (List ℕ) Fault} (Err faults.TooLarge) (numbers_verdict window start packets)
     too_many counts full =
         let n = next_number s (time_of here) in
         let many = full_next s records (time_of here) here counts full in
@@ -98,7 +98,7 @@ module _ (window start : ℕ) (packets : List Packet) (i : ℕ) (p : Packet) (so
         sym (numbered_is_since window start time_of packets) ∙ ap (numbered_from time_of first) (sym (take-append-drop (i + 1) packets)) ∙ from_append time_of first (take (i + 1) packets) (drop (i + 1) packets)
         ∙ ap (λ ps. ps ++ rest) (sym (records_more n refl)) in
         let isnt : all_few (numbered_since time_of window start packets) ≡ false = ap all_few whole ∙ full_all n ((records ++ (n, here) ∷ []) ++ rest) (full_stays n (records ++ (n, here) ∷ []) rest many) in
-        sym (ap (λ b. cond b (Ok (numbered_since time_of window start packets)) (Err faults.TooLarge)) isnt)
+        sym (ap (λ b. cond b (Ok (numbers_of (numbered_since time_of window start packets))) (Err faults.TooLarge)) isnt)
 
     module _ (next : Numbering) (now : List (ℕ × Packet)) (number : ℕ) (counts : CountsIn s records) (number_is : number ≡ next_number s (time_of here)) (now_is : now ≡ records ++ (number, here) ∷ []) where
       pub counts_more : next ≡ stepped s (time_of here) → CountsIn next now
@@ -111,11 +111,20 @@ module _ (window start : ℕ) (packets : List Packet) (i : ℕ) (p : Packet) (so
 
 -- all packets came, and no window has too many
 pub all_numbered : (window start : ℕ) (packets : List Packet) (i : ℕ) (records : List (ℕ × Packet)) → length packets ≤ i → records ≡ numbered_from time_of (begun_at start window) (take i packets)
-    → ((w : ℕ) → length (in_window w records) ≤ most_records) → Ok records ≡ numbered_verdict window start packets
+    → ((w : ℕ) → length (in_window w records) ≤ most_records) → Ok (numbers_of records) ≡ numbers_verdict window start packets
 all_numbered window start packets i records all are few =
     let whole : records ≡ numbered_since time_of window start packets = are ∙ ap (numbered_from time_of (begun_at start window)) (take_all i packets all) ∙ numbered_is_since window start time_of packets in
     let is : all_few (numbered_since time_of window start packets) ≡ true = ap all_few (sym whole) ∙ few_all records few in
-    ap (λ ps. Ok ps) whole ∙ sym (ap (λ b. cond b (Ok (numbered_since time_of window start packets)) (Err faults.TooLarge)) is)
+    ap (λ ps. Ok (numbers_of ps)) whole ∙ sym (ap (λ b. cond b (Ok (numbers_of (numbered_since time_of window start packets))) (Err faults.TooLarge)) is)
+
+-- packets beside the numbers of their windows are numbered
+pub numbered_zip : (s : Numbering) (packets : List Packet) → zip (numbers_of (numbered_from time_of s packets)) packets ≡ numbered_from time_of s packets
+numbered_zip s [] = refl
+numbered_zip s (p ∷ ps) = ap (λ rest. (next_number s (time_of p), p) ∷ rest) (numbered_zip (stepped s (time_of p)) ps)
+
+pub numbers_length : (s : Numbering) (packets : List Packet) → length (numbers_of (numbered_from time_of s packets)) ≡ length packets
+numbers_length s [] = refl
+numbers_length s (p ∷ ps) = ap suc (numbers_length (stepped s (time_of p)) ps)
 
 -- ---- one capture
 
@@ -165,6 +174,33 @@ module _ (window start : ℕ) (c : Capture) where
         rises = subst (λ (ps : List (ℕ × Packet)). Rises ps) same (numbers_rise time_of (begun_at start window) c.packets);
         taken = omega arith;
       }
+
+  -- the numbers that were found, and the records beside them
+  numbers_same : {ns ms : List ℕ} → ◌≡◌ {A = Result (List ℕ) Fault} (Ok ns) (Ok ms) → ns ≡ ms
+  numbers_same e = cc
+
+  no_numbers : {ns : List ℕ} {f : Fault} → ◌≡◌ {A = Result (List ℕ) Fault} (Ok ns) (Err f) → ⊥
+  no_numbers e = cc
+
+  module _ (numbers : List ℕ) (found : Ok numbers ≡ numbers_verdict window start c.packets) where
+    since_from : numbered_from time_of (begun_at start window) c.packets ≡ records_since window start c
+    since_from = numbered_is_since window start time_of c.packets
+
+    numbers_found : (is_countable window start c ≡ true) × (numbers ≡ numbers_of (records_since window start c))
+    numbers_found =
+        by_test (is_countable window start c)
+        (λ is. (is, numbers_same (found ∙ ap (λ b. cond b (Ok (numbers_of (records_since window start c))) (Err faults.TooLarge)) is)))
+        (λ isnt. absurd (no_numbers (found ∙ ap (λ b. cond b (Ok (numbers_of (records_since window start c))) (Err faults.TooLarge)) isnt)))
+
+    pub numbers_many : length numbers ≡ length c.packets
+    numbers_many = ap length (numbers_found.1 ∙ ap numbers_of (sym since_from)) ∙ numbers_length (begun_at start window) c.packets
+
+    pub share_counted : (records : List (ℕ × Packet)) → records ≡ zip numbers c.packets
+        → ◌≡◌ {A = Result Share Fault} (Ok (record { link = c.link; file = c.file; records = records; ending = c.ending; taken = 0 })) (share_verdict window start c)
+    share_counted records are =
+        let whole : records ≡ records_since window start c =
+        are ∙ ap (λ ns. zip ns c.packets) (numbers_found.1 ∙ ap numbers_of (sym since_from)) ∙ numbered_zip (begun_at start window) c.packets ∙ since_from in
+        ap (λ rs. Ok (record { link = c.link; file = c.file; records = rs; ending = c.ending; taken = 0 })) whole ∙ sym (few_verdict numbers_found.0)
 
 -- ---- all captures
 

@@ -1,3 +1,4 @@
+pub mod AnswerLemmas
 pub mod CaptureLemmas
 pub mod CountLemmas
-pub mod AnswerLemmas
+mod RecordLemmas

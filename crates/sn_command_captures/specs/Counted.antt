@@ -43,10 +43,13 @@ abbrev pub start_found : Option ℕ → ℕ → ℕ
 start_found None time = time
 start_found (Some least) time = min least time
 
--- packets beside the numbers of their windows, where no window has too many
-abbrev pub numbered_verdict : ℕ → ℕ → List Packet → Result (List (ℕ × Packet)) Fault
-numbered_verdict window start packets =
-    if all_few (numbered_since time_of window start packets) then Ok (numbered_since time_of window start packets) else Err faults.TooLarge
+-- the numbers of the windows of packets, where no window has too many
+abbrev pub numbers_of : List (ℕ × Packet) → List ℕ
+numbers_of records = map (λ p. p.0) records
+
+abbrev pub numbers_verdict : ℕ → ℕ → List Packet → Result (List ℕ) Fault
+numbers_verdict window start packets =
+    if all_few (numbered_since time_of window start packets) then Ok (numbers_of (numbered_since time_of window start packets)) else Err faults.TooLarge
 
 abbrev pub share_verdict : ℕ → ℕ → Capture → Result Share Fault
 share_verdict window start c = if all_few (records_since window start c) then Ok (share_of window start c) else Err faults.TooLarge

@@ -3,11 +3,12 @@ ghost use Rattle.std.specs.Prelude.{◌≡◌, ◌≤◌, [], IfOk};
 ghost use Rattle.std.specs.List.{AllByRecursion};
 ghost use Rattle.sn_command.specs.Runs.{Answers};
 ghost use Rattle.sn_command_captures.specs.Captures.{IsWhole};
-ghost use Rattle.sn_command_captures.specs.Counted.{counted, numbered_verdict, share_verdict, start_found};
+ghost use Rattle.sn_command_captures.specs.Counted.{counted, numbers_verdict, share_verdict, start_found};
 ghost use Rattle.sn_command_captures.specs.Shares.{IsSound};
 ghost use Rattle.sn_command_captures.specs.Windows.{start_of};
 
 use crate::capture::Capture;
+use crate::records::Records;
 use crate::share::Share;
 use sn_base::memory::Memory;
 use sn_base::seq::Seq;
@@ -40,32 +41,32 @@ fn earlier(least: Option<u64>, time: u64) -> u64
     }
 }
 
-/// An empty list with room for this many records, so that none is copied when it grows.
-fn room(alloc: Global, count: usize) -> Result<Seq<(u64, Packet)>, Memory>
-    ensures { IfOk result (λ records. records ≡ []) }
+/// An empty list with room for this many numbers, so that none is copied when it grows.
+fn room(alloc: Global, count: usize) -> Result<Seq<u64>, Memory>
+    ensures { IfOk result (λ numbers. numbers ≡ []) }
 {
     Ok(Seq::from_vec(Vec::with_capacity(alloc, count)?))
 }
 
-/// The packets of a capture, each beside the number of its window.
-fn numbered(
+/// The number of the window of each of these packets.
+fn numbers(
     alloc: Global,
     window_ns: u64,
     start: u64,
     packets: &[Packet],
-) -> Result<Seq<(u64, Packet)>, Refusal>
+) -> Result<Seq<u64>, Refusal>
     requires { 1 ≤ window_ns }
-    ensures { Answers (λ verdict. verdict ≡ numbered_verdict window_ns start packets.now) result }
+    ensures { Answers (λ verdict. verdict ≡ numbers_verdict window_ns start packets.now) result }
 {
     let mut windows = Windows::starting(start, window_ns);
-    let mut records = room(alloc, packets.len())?;
+    let mut numbers = room(alloc, packets.len())?;
     for packet in packets {
         match windows.next_number(packet.time) {
-            Ok(number) => records.push((number, *packet))?,
+            Ok(number) => numbers.push(number)?,
             Err(_) => return Err(Refusal::Refused(Fault::TooLarge)),
         }
     }
-    Ok(records)
+    Ok(numbers)
 }
 
 /// What a switch saw that recorded this capture.
@@ -73,11 +74,11 @@ fn share(alloc: Global, window_ns: u64, start: u64, capture: Capture) -> Result<
     requires { 1 ≤ window_ns }
     ensures { Answers (λ verdict. verdict ≡ share_verdict window_ns start capture) result }
 {
-    let records = numbered(alloc, window_ns, start, capture.packets.as_slice())?;
+    let numbers = numbers(alloc, window_ns, start, capture.packets.as_slice())?;
     Ok(Share {
         link: capture.link,
         file: capture.file,
-        records,
+        records: Records::of(numbers, capture.packets),
         ending: capture.ending,
         taken: 0,
     })

@@ -6,10 +6,11 @@ ghost use Rattle.sn_command_captures.specs.Counted.{left_of};
 ghost use Rattle.sn_windows_together.specs.Merging.{head_number, lesser, next_in};
 ghost use Rattle.sn_command_captures.specs.Shares.{IsSound};
 
+use crate::records::Records;
 use sn_base::link::Link;
 use sn_base::seq::Seq;
 use sn_fields::tuple::{Tuple, tuple_of};
-use sn_pcap::packet::{Ending, Packet};
+use sn_pcap::packet::Ending;
 
 /// What one of several switches saw: a capture, whose records have the numbers of their windows, and how many of them were taken.
 #[derive(Drop)]
@@ -17,7 +18,7 @@ pub struct Share {
     pub link: Link,
     pub file: Seq<u8>,
     /// The number of its window beside each record, in capture order.
-    pub records: Seq<(u64, Packet)>,
+    pub records: Records,
     pub ending: Ending,
     /// How many of the records were taken.
     pub taken: usize,
@@ -29,8 +30,8 @@ impl Share {
         requires { IsSound self.now }
         ensures { result ≡ head_number (left_of self.now) }
     {
-        match self.records.as_slice().get(self.taken) {
-            Some((number, _)) => Some(*number),
+        match self.records.get(self.taken) {
+            Some((number, _)) => Some(number),
             None => None,
         }
     }
@@ -44,7 +45,7 @@ impl Share {
         ensures sound { IsSound self.new }
         ensures ending { self.new.ending ≡ self.old.ending }
     {
-        let (found, packet) = *self.records.as_slice().get(self.taken)?;
+        let (found, packet) = self.records.get(self.taken)?;
         if found != number {
             return None;
         }
