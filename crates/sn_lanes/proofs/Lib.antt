@@ -1,0 +1,4 @@
+pub mod LaneLemmas
+pub mod MaskLemmas
+pub mod MixLemmas
+pub mod RowLemmas

@@ -1,0 +1,167 @@
+//! The slots of eight rows at once.
+ghost use Rattle.std.specs.Prelude.{◌≡◌, ◌%◌, ◌-◌, ◌^◌, ◌≤◌, ◌<◌, All, fold, length, map, min, nat_lt, slice_index, true};
+ghost use Rattle.std.specs.List.{list_all};
+ghost use Rattle.std.specs.Simd.Lanes.{zip2, sel_l};
+ghost use Rattle.std.specs.Int.{w64, to_le_bytes, byte_at};
+ghost use Rattle.sn_base.specs.Slot.{fnv_step, row_hash, slot};
+ghost use Rattle.sn_lanes.specs.Words.{are_words};
+
+use sn_base::any_row::AnyRow;
+use sn_base::number::Number;
+use sn_base::slot::slot_of;
+use std::simd::prelude::*;
+
+const BASIS: u64 = 14695981039346656037;
+
+const PRIME: u64 = 1099511628211;
+
+/// Whether all columns of a row are below 2^64.
+fn is_narrow<R: AnyRow>(key: &R) -> bool
+    ensures { result ≡ are_words (R.columns key.now) }
+{
+    const WORD: u128 = 1 << 64;
+    for place in 0..key.len() {
+        if key.column(place as u32).whole() >= WORD {
+            return false;
+        }
+    }
+    true
+}
+
+/// Whether all columns of these rows are below 2^64.
+fn are_narrow<R: AnyRow>(keys: &[R]) -> bool
+    ensures { result ≡ list_all (λ key. are_words (R.columns key)) keys.now }
+{
+    keys.iter().all(|key| is_narrow(key))
+}
+
+/// Mixes one byte of each column into its hash.
+fn mix_byte(hash: u64x8, column: u64x8, byte: u64) -> u64x8
+    requires byte { byte < 8 }
+    requires hash { length hash ≡ 8 }
+    requires column { length column ≡ 8 }
+    ensures { result ≡ zip2 (λ h x. fnv_step h (byte_at byte x)) hash column }
+{
+    let part = (column >> u64x8::splat(8 * byte)) & u64x8::splat(255);
+    (hash ^ part) * u64x8::splat(PRIME)
+}
+
+/// Mixes all eight bytes of each column into its hash.
+fn mix_column(hash: u64x8, column: u64x8) -> u64x8
+    requires hash { length hash ≡ 8 }
+    requires column { length column ≡ 8 }
+    ensures { result ≡ zip2 (λ h x. fold fnv_step h (to_le_bytes w64 x)) hash column }
+{
+    let mut mixed = hash;
+    for byte in 0..8 {
+        mixed = mix_byte(mixed, column, byte);
+    }
+    mixed
+}
+
+/// The column at a place in 64 bits, 0 past the end.
+fn cell<R: AnyRow>(key: &R, place: u32) -> u64
+    ensures { result ≡ min (slice_index (R.columns key.now) place) (2 ^ 64 - 1) }
+{
+    if (place as usize) < key.len() {
+        key.column(place).word()
+    } else {
+        0
+    }
+}
+
+/// The column at a place of each row in 64 bits, 0 past its end.
+fn fill_column<R: AnyRow>(keys: &[R], place: u32, column: &mut [u64])
+    requires { length keys.now ≡ length column.old }
+    ensures { column.new ≡ map (λ key. min (slice_index (R.columns key) place) (2 ^ 64 - 1)) keys.now }
+{
+    for lane in 0..keys.len() {
+        column[lane] = cell(&keys[lane], place);
+    }
+}
+
+/// How many columns each row has.
+fn fill_lengths<R: AnyRow>(keys: &[R], lengths: &mut [u64])
+    requires { length keys.now ≡ length lengths.old }
+    ensures value { lengths.new ≡ map (λ key. length (R.columns key)) keys.now }
+    ensures most { All (λ n. n ≤ 8) lengths.new }
+{
+    for lane in 0..keys.len() {
+        let count = keys[lane].len() as u64;
+        lengths[lane] = count;
+    }
+}
+
+/// Mixes one column of each row that has it into the row's hash.
+fn mix_place(hash: u64x8, column: [u64; 8], lengths: [u64; 8], place: u64) -> u64x8
+    requires hash { length hash ≡ 8 }
+    requires column { length column ≡ 8 }
+    requires lengths { length lengths ≡ 8 }
+    ensures { result ≡ sel_l (map (λ n. nat_lt place n) lengths) (zip2 (λ h x. fold fnv_step h (to_le_bytes w64 x)) hash column) hash }
+{
+    let mixed = mix_column(hash, u64x8::from_array(column));
+    u64x8::splat(place)
+        .simd_lt(u64x8::from_array(lengths))
+        .select(mixed, hash)
+}
+
+/// The hashes of eight rows whose columns are below 2^64.
+fn hashes8<R: AnyRow>(index: u32, keys: &[R]) -> [u64; 8]
+    requires eight { length keys.now ≡ 8 }
+    requires narrow { list_all (λ key. are_words (R.columns key)) keys.now ≡ true }
+    ensures { result ≡ map (λ key. row_hash index (R.columns key)) keys.now }
+{
+    let mut lengths = [0; 8];
+    fill_lengths(keys, &mut lengths);
+    let mut hash = u64x8::splat(BASIS ^ u64::from(index));
+    for place in 0..8u64 {
+        let mut column = [0; 8];
+        fill_column(keys, place as u32, &mut column);
+        hash = mix_place(hash, column, lengths, place);
+    }
+    hash.to_array()
+}
+
+fn slot_in(hash: u64, slots: u32) -> u32
+    requires { 1 ≤ slots }
+    ensures { result ≡ hash % slots }
+{
+    (hash % u64::from(slots)) as u32
+}
+
+fn fill_slots(hashes: &[u64], slots: u32, out: &mut [u32])
+    requires slots { 1 ≤ slots }
+    requires lengths { length hashes.now ≡ length out.old }
+    ensures { out.new ≡ map (λ h. h % slots) hashes.now }
+{
+    for lane in 0..hashes.len() {
+        out[lane] = slot_in(hashes[lane], slots);
+    }
+}
+
+/// The slots of rows, one after another.
+fn fill_one_by_one<R: AnyRow>(index: u32, keys: &[R], slots: u32, out: &mut [u32])
+    requires slots { 1 ≤ slots }
+    requires lengths { length keys.now ≡ length out.old }
+    ensures { out.new ≡ map (λ key. slot index (R.columns key) slots) keys.now }
+{
+    for lane in 0..keys.len() {
+        out[lane] = slot_of(index, &keys[lane], slots);
+    }
+}
+
+/// The slots of eight rows in register number `index`, which has at least one slot. Where each column is below 2^64, they are
+/// hashed in lanes, and else one after another.
+pub fn slots8<R: AnyRow>(index: u32, keys: &[R; 8], slots: u32) -> [u32; 8]
+    requires { 1 ≤ slots }
+    ensures { result ≡ map (λ key. slot index (R.columns key) slots) keys.now }
+{
+    let rows = keys.as_slice();
+    let mut out = [0; 8];
+    if are_narrow(rows) {
+        fill_slots(&hashes8(index, rows), slots, &mut out);
+    } else {
+        fill_one_by_one(index, rows, slots, &mut out);
+    }
+    out
+}
