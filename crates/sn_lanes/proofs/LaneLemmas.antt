@@ -73,3 +73,7 @@ block_step f col out new at room long done is =
     take-put_mid at (at + 8 - at) out new (at + 8) (omega arith) (omega arith)
     ∙ ap (λ ys. ys ++ new) done ∙ ap (λ ys. map f (take at col) ++ ys) block
     ∙ sym (ap (map f) (take-add at 8 col) ∙ map-append f (take at col) (take 8 (drop at col)))
+
+pub map_same : {X Y : Type 0} (f g : X → Y) → ((x : X) → f x ≡ g x) → (xs : List X) → map f xs ≡ map g xs
+map_same f g e [] = refl
+map_same f g e (x ∷ xs) = ap (λ y. y ∷ map f xs) (e x) ∙ ap (λ ys. g x ∷ ys) (map_same f g e xs)

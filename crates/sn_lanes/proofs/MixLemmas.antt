@@ -49,8 +49,7 @@ byte_is : (k x : ℕ) → bit_and (x / 2 ^ (8 * k)) 255 ≡ byte_at k x
 byte_is k x = and_mask (x / 2 ^ (8 * k)) 8 ∙ ap (λ p. x / p % 256) (eights k) ∙ whole_byte k x
 
 pub mixed_is : (hash column : List ℕ) (k : ℕ) → length hash ≡ 8 → length column ≡ 8 →
-    zip2 (λ a b. (a * b) % 2 ^ 64) (zip2 bit_xor hash (zip2 bit_and (zip2 (λ x s. x / 2 ^ s) column (replicate 8 (8 * k))) (replicate 8 255))) (replicate 8 1099511628211)
-    ≡ zip2 (λ h x. fnv_step h (byte_at k x)) hash column
+    map (λ h. h * 1099511628211 % 2 ^ 64) (zip2 bit_xor hash (zip2 bit_and (zip2 (λ x s. x / 2 ^ s) column (replicate 8 (8 * k))) (replicate 8 255))) ≡ zip2 (λ h x. fnv_step h (byte_at k x)) hash column
 mixed_is hash column k eight also =
     let shifted = zip2_splat (λ (x s : ℕ). x / 2 ^ s) column 8 (8 * k) also in
     let part : zip2 bit_and (zip2 (λ x s. x / 2 ^ s) column (replicate 8 (8 * k))) (replicate 8 255) ≡ map (λ x. bit_and (x / 2 ^ (8 * k)) 255) column =
@@ -58,11 +57,20 @@ mixed_is hash column k eight also =
     ∙ zip2_splat bit_and (map (λ (x : ℕ). x / 2 ^ (8 * k)) column) 8 255 (length_flags (λ (x : ℕ). x / 2 ^ (8 * k)) column ∙ also)
     ∙ map_map (λ (x : ℕ). bit_and x 255) (λ (x : ℕ). x / 2 ^ (8 * k)) column in
     let mix : ℕ → ℕ → ℕ = λ h x. bit_xor h (bit_and (x / 2 ^ (8 * k)) 255) in
-    ap (λ xs. zip2 (λ a b. (a * b) % 2 ^ 64) (zip2 bit_xor hash xs) (replicate 8 1099511628211)) part
-    ∙ ap (λ ys. zip2 (λ a b. (a * b) % 2 ^ 64) ys (replicate 8 1099511628211)) (zip2_right bit_xor (λ (x : ℕ). bit_and (x / 2 ^ (8 * k)) 255) hash column)
-    ∙ zip2_splat (λ (a b : ℕ). (a * b) % 2 ^ 64) (zip2 mix hash column) 8 1099511628211 (length-zip2 mix hash column (eight ∙ sym also) ∙ eight)
-    ∙ map_zip2 (λ (a : ℕ). (a * 1099511628211) % 2 ^ 64) mix hash column
-    ∙ zip2_same (λ h x. (mix h x * 1099511628211) % 2 ^ 64) (λ h x. fnv_step h (byte_at k x)) (λ h x. ap (fnv_step h) (byte_is k x)) hash column
+    let times : ℕ → ℕ = λ h. h * 1099511628211 % 2 ^ 64 in
+    ap (λ xs. map times (zip2 bit_xor hash xs)) part
+    ∙ ap (map times) (zip2_right bit_xor (λ (x : ℕ). bit_and (x / 2 ^ (8 * k)) 255) hash column)
+    ∙ map_zip2 times mix hash column
+    ∙ zip2_same (λ h x. times (mix h x)) (λ h x. fnv_step h (byte_at k x)) (λ h x. ap (fnv_step h) (byte_is k x)) hash column
+
+-- a byte of each column, put into its hash, is as many lanes
+pub mixed_long : (hash column : List ℕ) (k : ℕ) → length hash ≡ 8 → length column ≡ 8 → length (zip2 bit_xor hash (zip2 bit_and (zip2 (λ x s. x / 2 ^ s) column (replicate 8 (8 * k))) (replicate 8 255))) ≡ 8
+mixed_long hash column k eight also =
+    let shift : ℕ → ℕ → ℕ = λ x s. x / 2 ^ s in
+    let shifted = zip2 shift column (replicate 8 (8 * k)) in
+    let shift_long : length shifted ≡ 8 = length-zip2 shift column (replicate 8 (8 * k)) also ∙ also in
+    let part_long : length (zip2 bit_and shifted (replicate 8 255)) ≡ 8 = length-zip2 bit_and shifted (replicate 8 255) shift_long ∙ shift_long in
+    length-zip2 bit_xor hash (zip2 bit_and shifted (replicate 8 255)) (eight ∙ sym part_long) ∙ eight
 
 same_sum : (a b c : ℕ) → c ≡ a + b → c ≡ a + b
 same_sum a b c e = e
