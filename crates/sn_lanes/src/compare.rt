@@ -1,5 +1,5 @@
 //! Comparing a column with a constant.
-ghost use Rattle.std.specs.Prelude.{◌≡◌, ◌+◌, ◌≤◌, length, map, bit_and};
+ghost use Rattle.std.specs.Prelude.{◌≡◌, ◌≤◌, length, map, take};
 ghost use Rattle.sn_lanes.specs.Lanes.{flag};
 ghost use Rattle.sn_lanes.specs.declared.compare.Cmp3.TheVariants as cmp3;
 
@@ -78,7 +78,19 @@ fn compare_one(value: u64, and: u64, cmp: Cmp3, constant: u64) -> u8
     u8::from(holds)
 }
 
-/// Writes 1 where the and-ed number compares so with the constant, and 0 elsewhere.
+/// Compares the numbers from a place on, one after another.
+fn compare_rest(column: &[u64], from: usize, and: u64, cmp: Cmp3, constant: u64, out: &mut [u8])
+    requires lengths { length column.now ≡ length out.old }
+    requires from { from ≤ length column.now }
+    requires done { take from out.old ≡ map (flag cmp and constant) (take from column.now) }
+    ensures { out.new ≡ map (flag cmp and constant) column.now }
+{
+    for place in from..column.len() {
+        out[place] = compare_one(column[place], and, cmp, constant);
+    }
+}
+
+/// Writes 1 where the and-ed number compares so with the constant, and 0 elsewhere. Takes no memory.
 pub fn compare(column: &[u64], and: u64, cmp: Cmp3, constant: u64, out: &mut [u8])
     requires { length column.now ≡ length out.old }
     ensures { out.new ≡ map (flag cmp and constant) column.now }
@@ -94,7 +106,5 @@ pub fn compare(column: &[u64], and: u64, cmp: Cmp3, constant: u64, out: &mut [u8
         );
         at += LANES;
     }
-    for place in at..column.len() {
-        out[place] = compare_one(column[place], and, cmp, constant);
-    }
+    compare_rest(column, at, and, cmp, constant, out);
 }

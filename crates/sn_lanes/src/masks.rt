@@ -1,5 +1,5 @@
 //! Keeping the highest bits of the numbers of a column.
-ghost use Rattle.std.specs.Prelude.{◌≡◌, ◌-◌, ◌^◌, ◌≤◌, length, map, bit_and};
+ghost use Rattle.std.specs.Prelude.{◌≡◌, ◌-◌, ◌^◌, ◌≤◌, length, map, take, bit_and};
 ghost use Rattle.sn_base.specs.Mask.{masked};
 
 use std::simd::prelude::*;
@@ -27,6 +27,18 @@ fn mask_block(block: &[u64], bits: u64, out: &mut [u64])
     masked.copy_to_slice(out);
 }
 
+/// Ands the numbers from a place on with these bits, one after another.
+fn mask_rest(column: &[u64], from: usize, bits: u64, out: &mut [u64])
+    requires lengths { length column.now ≡ length out.old }
+    requires from { from ≤ length column.now }
+    requires done { take from out.old ≡ map (λ x. bit_and x bits) (take from column.now) }
+    ensures { out.new ≡ map (λ x. bit_and x bits) column.now }
+{
+    for place in from..column.len() {
+        out[place] = column[place] & bits;
+    }
+}
+
 /// Ands each number of a column with these bits.
 fn mask_all(column: &[u64], bits: u64, out: &mut [u64])
     requires { length column.now ≡ length out.old }
@@ -37,12 +49,10 @@ fn mask_all(column: &[u64], bits: u64, out: &mut [u64])
         mask_block(&column[at..at + LANES], bits, &mut out[at..at + LANES]);
         at += LANES;
     }
-    for place in at..column.len() {
-        out[place] = column[place] & bits;
-    }
+    mask_rest(column, at, bits, out);
 }
 
-/// Keeps the highest `keep` of the `width` bits of each number of a column, and clears the rest.
+/// Keeps the highest `keep` of the `width` bits of each number of a column, and clears the rest. Takes no memory.
 pub fn masks(column: &[u64], width: u32, keep: u32, out: &mut [u64])
     requires lengths { length column.now ≡ length out.old }
     requires keep { keep ≤ width }

@@ -198,17 +198,25 @@ fn fill_one_by_one<R: AnyRow>(index: u32, keys: &[R], slots: u32, out: &mut [u32
 }
 
 /// The slots of eight rows in register number `index`, which has at least one slot. Where each column is below 2^64, they are
-/// hashed in lanes, and else one after another.
+/// hashed in lanes, and else one after another. Takes no memory.
+pub fn slots_of_eight<R: AnyRow>(index: u32, keys: &[R], slots: u32) -> [u32; 8]
+    requires eight { length keys.now ≡ 8 }
+    requires some { 1 ≤ slots }
+    ensures { result ≡ map (λ key. slot index (R.columns key) slots) keys.now }
+{
+    let mut out = [0; 8];
+    if are_narrow(keys) {
+        fill_slots(&hashes8(index, keys), slots, &mut out);
+    } else {
+        fill_one_by_one(index, keys, slots, &mut out);
+    }
+    out
+}
+
+/// What `slots_of_eight` gives, where the rows are an array.
 pub fn slots8<R: AnyRow>(index: u32, keys: &[R; 8], slots: u32) -> [u32; 8]
     requires { 1 ≤ slots }
     ensures { result ≡ map (λ key. slot index (R.columns key) slots) keys.now }
 {
-    let rows = keys.as_slice();
-    let mut out = [0; 8];
-    if are_narrow(rows) {
-        fill_slots(&hashes8(index, rows), slots, &mut out);
-    } else {
-        fill_one_by_one(index, rows, slots, &mut out);
-    }
-    out
+    slots_of_eight(index, keys.as_slice(), slots)
 }

@@ -9,6 +9,3 @@ invariant-loop-at l = record {
 
 abbrev pub decreases-loop-at : goal.decreases-loop-at
 decreases-loop-at l = length l.column - l.at
-
-abbrev pub invariant-loop-place : goal.invariant-loop-place
-invariant-loop-place l = take l.place l.out ≡ map (λ x. bit_and x l.bits) (take l.place l.column)
