@@ -1,0 +1,7 @@
+pub mod Blocks
+pub mod Going
+pub mod Holding
+pub mod Marking
+pub mod Numbering
+pub mod Numbers
+pub mod Tallying

@@ -1,0 +1,4 @@
+pub mod Seats
+pub mod Marks
+pub mod Tallies
+pub mod Ways

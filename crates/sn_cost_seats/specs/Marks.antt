@@ -1,0 +1,17 @@
+-- serves proofs
+-- Places of a chain that are taken, as a mark for each.
+use Rattle.std.specs.Prelude.{ℕ, List, Bool, true, false, not, find, Option, None, Some, slice_index_or, slice_set}
+use Rattle.sn_cost_seats.specs.Seats.{places_at}
+
+-- whether a place is free
+abbrev pub is_free : List Bool → ℕ → Bool
+is_free taken p = not (slice_index_or taken p false)
+
+-- the first of a key's places that is free, by the key's slots
+abbrev pub free_at : ℕ → ℕ → List Bool → List ℕ → Option ℕ
+free_at depth slots taken at = find (is_free taken) (places_at depth slots at)
+
+-- the marks once a place is taken, or none
+abbrev pub taken_with : List Bool → Option ℕ → List Bool
+taken_with taken None = taken
+taken_with taken (Some p) = slice_set taken p true

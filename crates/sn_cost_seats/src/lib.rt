@@ -1,0 +1,7 @@
+//! Which distinct keys find room in a chain of registers, and what distinct keys say of all rows.
+#![tactic(auto)]
+
+pub mod law;
+pub mod seats;
+pub mod slots;
+pub mod tally;
