@@ -1,0 +1,10 @@
+//! Tests of columns of the fields of packets, of the kernels over columns, and of keys by their slots. It has tests alone, and is a program
+//! that does nothing, since no crate stands on it.
+#![tactic(auto)]
+
+#[cfg(test)]
+mod columns;
+#[cfg(test)]
+mod registers;
+
+fn main() {}
