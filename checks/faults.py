@@ -4,145 +4,121 @@
     python3 checks/faults.py                     all tables
     python3 checks/faults.py reads memory        some of them
 
-reads    the N-th read fails, or the N-th file can't be opened: status 9, and a front of the whole text. Reads that give a byte each: the whole text
-writes   the N-th write of standard output fails, or takes nothing: status 10, and a front of the whole text. Writes that take a byte each: the whole text. Where a
-         write of the line on standard error fails, status and text are as they were
-memory   the N-th request for memory is refused: status 1 and a front of the whole text, or all of it
-bytes    each byte of each file of a call is replaced by each of ten, and each file is cut to each length: what the reading in checks/planned.py answers
-streams  standard output on a full disk or without a reader, closed descriptors, a folder in the place of a file, a long name, a capture that comes in pieces, and
-         20 limits of the address space: the one status that docs/FORMATS.md has for it
+reads    the N-th read fails, or file to open, or step to a place in a file: status 9, and a front of the whole text. One that a signal
+         interrupts: that, or the whole text. The N-th read gives a byte, or all do: the whole text
+writes   the N-th write of standard output fails, or takes nothing: status 10, and a front of the whole text. One that a signal interrupts:
+         that, or the whole text. The N-th write takes a byte, or all do: the whole text. Where a write of the line on standard error fails,
+         status and text are as they were
+memory   the N-th request for memory is refused, or all from the N-th on: status 1 and a front of the whole text, or all of it
+worked   the same of eight worked calls of which the text stands in this file
+bytes    each byte of each file is replaced by each of ten, and each file is cut to each length, in the call that reads it first of all that do
+others   the same at a few evenly drawn places, in all other calls that read the file
+streams, limits, growth, sizes                  what the machine does: checks/machine.py
 
-N counts from 0 up to the first run that meets no failure; where a call or a file has more than `--most` places, evenly drawn ones of them are tried. Prints each run that
-is answered otherwise. The status is 0 where none is."""
+N counts from 0 up to the first run that meets no failure; where a call or a file has more than `--most` places, evenly drawn ones of them are
+tried. The whole text and the answer to a spoilt file are those of the reading in checks/planned.py. Prints each run that is answered otherwise.
+The status is 0 where none is."""
 
-import multiprocessing
 import os
-import resource
-import signal
 import subprocess
 import sys
 import tempfile
 
+import calls
+import machine
 import planned
 import program
+from calls import CALLS, FIRST, words
 
 HERE = os.path.dirname(os.path.abspath(__file__))
-sys.path.insert(0, os.path.join(HERE, '..', 'bench'))
-import generate  # noqa: E402
-
-SECONDS = 60
-ERRORS = {0: '', 1: 'sonata: memory\n', 9: 'sonata: read fault\n', 10: 'sonata: write fault\n'}
+SECONDS = 120
+ERRORS = {1: 'sonata: memory\n', 9: 'sonata: read fault\n', 10: 'sonata: write fault\n'}
 VALUES = [0, 1, 10, 32, 48, 57, 59, 97, 128, 255]
-
-SWITCH = 'stages 4;\nactions 2;\nbits 4096;\nmeta 1024;\nchain 2;\nslots 4, 16;\n'
-QUERIES = '''window 1000000
-query many {
-  refine ip.dst: 8, 32;
-  packets
-    | filter tcp.flags == 2
-    | map ip.dst as d, ip.src as s
-    | distinct
-    | map d as d, 1 as n
-    | reduce d: sum(n) width 32
-    | filter n > 2 at (8: 1);
-}
-query both {
-  packets
-    | map ip.src as a, pkt.len as n
-    | reduce a: sum(n) width 32;
-  packets
-    | map ip.src as a, 1 as c
-    | reduce a: max(c);
-  join a
-    | map a as a, n * 2 / c as r;
-}
-'''
+# of a job, which takes a third of a second, as many places are tried as one in so many of another call; and of a file in another call than the first
+FEWER, DRAWN = 20, 80
 
 
-# ---- the files of the calls
+# ---- what may come
 
-def capture():
-    """Three windows of a few packets each."""
-    drawn = [(window, 0x0A000001 + source, 0x0A000009 + target, flags) for window in range(3) for target in range(2) for source in range(3) for flags in (2, 16)]
-    return generate.FILE_HEADER + b''.join(generate.record(second, 0, source, target, 1234, 80, flags, 40) for second, source, target, flags in drawn)
+def complete(answer, whole):
+    return answer == whole
 
 
-def write(folder, sonata):
-    """The files, by name; plan, certificate and reports are the program's own."""
-    names = {}
-
-    def put(name, content):
-        names[name] = os.path.join(folder, name)
-        with open(names[name], 'wb') as file:
-            file.write(content)
-
-    put('switch', SWITCH.encode())
-    put('queries', QUERIES.encode())
-    put('capture', capture())
-    put('damaged', capture()[:-9])
-    put('large', program.ran(sonata, 'gen', '7')[1])
-    refused = program.ran(sonata, 'plain', names['queries'], names['capture'])
-    if refused[0]:
-        sys.exit('the queries are refused: ' + program.shown(refused))
-    put('certificate', program.ran(sonata, 'plan', names['switch'], names['queries'], names['capture'])[1])
-    with open(names['certificate'], 'rb') as file:
-        put('plan', b''.join(line for line in file if line.startswith((b'plan', b'query', b'piece'))))
-    put('reports', program.ran(sonata, 'emit', names['switch'], names['queries'], names['plan'], names['capture'])[1])
-    return names
+def refused(status):
+    """A status with its line, and a front of the whole text."""
+    return lambda answer, whole: answer[0] == status and answer[2] == ERRORS[status] and whole[1].startswith(answer[1])
 
 
-CALLS = {
-    'plain': ['queries', 'capture'],
-    'plan': ['switch', 'queries', 'capture'],
-    'check': ['switch', 'queries', 'capture', 'certificate'],
-    'run': ['switch', 'queries', 'plan', 'capture'],
-    'run --csv': ['switch', 'queries', 'plan', 'capture'],
-    'emit': ['switch', 'queries', 'plan', 'capture'],
-    'finish': ['queries', 'plan', 'reports'],
-    'detect': ['queries', 'plan', 'capture'],
-    'many': ['switch', 'queries', 'plan', 'capture', 'capture'],
-    'live': ['switch', 'queries', 'capture', 'capture'],
-    'live --trace': ['switch', 'queries', 'capture', 'capture'],
-    'replan': ['switch', 'queries', 'capture', 'capture'],
-    'gen': [],
-    'job': [],
-}
-# those that take a number in the place of files, and the one that takes it after them
-NUMBERS = {'gen': ['7'], 'job': ['7']}
-MOST = {'replan': ['1']}
+def either(*accepted):
+    return lambda answer, whole: any(one(answer, whole) for one in accepted)
 
 
-def words(call, names):
-    command, _, option = call.partition(' ')
-    return [command, *NUMBERS.get(command, []), *(names[name] for name in CALLS[call]), *MOST.get(command, []), *([option] if option else [])]
+def unheard(answer, whole):
+    """Nothing but the line on standard error is lost."""
+    return answer[:2] == whole[:2] and whole[2].startswith(answer[2])
 
 
-# ---- a call of the system that fails
+def starved(answer, whole):
+    """Out of memory, with its line where the words were taken, or the whole answer."""
+    return answer == whole or ((answer[0], answer[2]) in ((1, ERRORS[1]), (1, ''), (13, '')) and whole[1].startswith(answer[1]))
+
+
+# ---- a run with one failing call
 
 class Faults:
-    """Runs a program with one failing call."""
+    """The program, the names of its files, and what was tried of it."""
 
-    def __init__(self, sonata, folder):
-        self.sonata, self.library, self.met = sonata, os.path.join(folder, 'faults.so'), os.path.join(folder, 'met')
+    def __init__(self, sonata, folder, most):
+        self.sonata, self.folder, self.most, self.names = sonata, folder, most, calls.write(folder)
+        self.calls, self.tried, self.bad = built(sonata), 0, 0
+        self.library, self.met = os.path.join(folder, 'faults.so'), os.path.join(folder, 'met')
         subprocess.run(['cc', '-shared', '-fPIC', '-O1', '-o', self.library, os.path.join(HERE, 'faults.c')], check=True)
 
-    def run(self, spoken, call, at, how):
-        """The answer, and whether the failure was met."""
+    def run(self, spoken, call, at, how, before=None, **more):
+        """The answer, and whether the failure was met. `before` is called before the program begins."""
         if os.path.exists(self.met):
             os.remove(self.met)
-        changed = dict(os.environ, LD_PRELOAD=self.library, FAULT_CALL=call, FAULT_AT=str(at), FAULT_HOW=how, FAULT_MET=self.met)
-        done = subprocess.run([self.sonata, *spoken], capture_output=True, env=changed, timeout=SECONDS, check=False)
+        changed = dict(os.environ, LD_PRELOAD=self.library, FAULT_CALL=call, FAULT_AT=str(at), FAULT_HOW=how, FAULT_MET=self.met, **more)
+        done = subprocess.run([self.sonata, *spoken], capture_output=True, env=changed, timeout=SECONDS, check=False, preexec_fn=before)
         return (done.returncode, done.stdout, done.stderr.decode(errors='replace')), os.path.exists(self.met)
 
     def count(self, spoken, call):
         """How many such calls a run makes: the least number that isn't met."""
         low, high = 0, 1
-        while self.run(spoken, call, high - 1, 'one')[1]:
+        while self.run(spoken, call, high - 1, 'fail')[1]:
             low, high = high, high * 2
         while low < high:
             middle = (low + high) // 2
-            low, high = (middle + 1, high) if self.run(spoken, call, middle, 'one')[1] else (low, middle)
+            low, high = (middle + 1, high) if self.run(spoken, call, middle, 'fail')[1] else (low, middle)
         return low
+
+    def expect(self, what, answer, may):
+        self.tried += 1
+        if not may:
+            self.bad += 1
+            print('  %s: %s' % (what, program.shown(answer)), flush=True)
+
+    def fail(self, call, names, kind, *hows):
+        """Lets each call of a kind fail in these ways, each with what may come of it."""
+        self.fail_words(call, words(call, names), kind, *hows)
+
+    def fail_words(self, call, spoken, kind, *hows, whole=None):
+        whole = whole or calls.answer(*spoken)
+        for at in places(self.count(spoken, kind), self.most // FEWER if call == 'job' else self.most):
+            for how, accepted in hows:
+                answer, met = self.run(spoken, kind, at, how)
+                self.expect('%s, %s %d %s' % (call, kind, at, how), answer, met and accepted(answer, whole))
+
+    def piecemeal(self, call, spoken, kind, accepted=complete):
+        """Lets each call of a kind move one byte."""
+        answer, _ = self.run(spoken, kind, 0, 'one')
+        self.expect('%s, each %s of one byte' % (call, kind), answer, accepted(answer, calls.answer(*spoken)))
+
+
+def built(sonata):
+    """The calls whose commands the program has."""
+    found = program.built(sonata)
+    return [call for call in CALLS if call in found or call == 'live --trace' and 'live --schedule' in found]
 
 
 def places(count, most):
@@ -150,187 +126,140 @@ def places(count, most):
     return range(count) if count <= most else sorted({place * (count - 1) // (most - 1) for place in range(most)})
 
 
-def is_front(text, whole):
-    return whole[:len(text)] == text
-
-
-def told(call, what, answer, bad):
-    print('  %s, %s: %s' % (call, what, program.shown(answer)))
-    bad.append(call)
-
-
-def try_calls(faults, call, names, kind, hows, accepted, most, bad):
-    """Lets each call of a kind fail in these ways. `accepted` says of an answer and the whole one whether it may be."""
-    spoken, tried = words(call, names), 0
-    whole = program.ran(faults.sonata, *spoken)
-    for at in places(faults.count(spoken, kind), most):
-        for how in hows:
-            answer, met = faults.run(spoken, kind, at, how)
-            tried += 1
-            if not met or not accepted(answer, whole):
-                told(call, '%s %d %s' % (kind, at, how), answer, bad)
-    return tried
-
-
-def try_pieces(faults, call, names, kind, bad):
-    """Lets each call of a kind move one byte."""
-    spoken = words(call, names)
-    whole, (answer, _) = program.ran(faults.sonata, *spoken), faults.run(spoken, kind, 0, 'one')
-    if answer != whole:
-        told(call, 'each %s of one byte' % kind, answer, bad)
-    return 1
-
-
-def refused(status):
-    """A status with its line, and a front of the whole text."""
-    return lambda answer, whole: answer[0] == status and answer[2] == ERRORS[status] and is_front(answer[1], whole[1])
-
-
-def unheard(answer, whole):
-    """Nothing but the line on standard error is lost."""
-    return answer[:2] == whole[:2] and is_front(answer[2], whole[2])
-
-
-def starved(answer, whole):
-    """Out of memory, with its line where the words were taken, or the whole answer."""
-    return answer == whole or (answer[0] in (1, 13) and answer[2] in (ERRORS[1], '') and is_front(answer[1], whole[1]))
-
-
-def both(names, calls):
+def small_and_large(faults):
     """The calls over the small files, and those that answer a capture over one of 1.4 MB."""
-    yield from ((call, names) for call in calls)
-    yield from ((call, dict(names, capture=names['large'])) for call in calls if call in ('plain', 'run', 'run --csv', 'emit', 'detect'))
+    yield from ((call, faults.names) for call in faults.calls)
+    yield from ((call, dict(faults.names, capture=faults.names['large'])) for call in faults.calls if call in ('plain', 'run', 'run --csv', 'emit', 'detect'))
 
 
-def reads(faults, names, calls, most, bad):
-    tried = 0
-    for call, files in both(names, [call for call in calls if CALLS[call]]):
-        tried += try_calls(faults, call, files, 'open', ['fail'], refused(9), most, bad)
-        tried += try_calls(faults, call, files, 'read', ['fail'], refused(9), most, bad)
-        tried += try_pieces(faults, call, files, 'read', bad)
-    return tried
+# ---- reads and writes
+
+def reads(faults):
+    failing, interrupted = ('fail', refused(9)), ('interrupted', either(refused(9), complete))
+    for call, names in small_and_large(faults):
+        faults.fail(call, names, 'open', failing, interrupted)
+        faults.fail(call, names, 'read', failing, interrupted, ('once', complete))
+    for call in (call for call in faults.calls if CALLS[call]):
+        faults.piecemeal(call, words(call, faults.names), 'read')
+    for call in (call for call in faults.calls if {'training', 'capture'} < set(CALLS[call])):
+        faults.fail(call, dict(faults.names, training=faults.names['capture']), 'seek', failing)
 
 
-def writes(faults, names, calls, most, bad):
-    tried = 0
-    for call, files in both(names, calls):
-        tried += try_calls(faults, call, files, 'write', ['fail', 'none'], refused(10), most, bad)
-        tried += try_pieces(faults, call, files, 'write', bad) if call != 'gen' else 0
-    for call in (call for call in calls if call in ('plain', 'run', 'emit', 'detect', 'live')):
-        damaged = dict(names, capture=names['damaged'])
-        tried += try_calls(faults, call, damaged, 'error', ['fail', 'none'], unheard, most, bad)
-        tried += try_pieces(faults, call, damaged, 'error', bad)
-    return tried
+def complaining(faults, call):
+    """Words of which the answer has a line on standard error: too few, a file that isn't there, a damaged capture."""
+    spoken = words(call, faults.names)
+    yield spoken[:1]
+    if CALLS[call]:
+        yield [spoken[0], os.path.join(HERE, 'absent'), *spoken[2:]]
+    if 'capture' in CALLS[call]:
+        yield words(call, dict(faults.names, capture=faults.names['damaged']))
 
 
-def memory(faults, names, calls, most, bad):
-    return sum(try_calls(faults, call, names, 'memory', ['fail'], starved, most, bad) for call in calls)
+def writes(faults):
+    interrupted = ('interrupted', either(refused(10), complete))
+    for call, names in small_and_large(faults):
+        faults.fail(call, names, 'write', ('fail', refused(10)), ('none', refused(10)), interrupted, ('once', complete))
+        faults.piecemeal(call, words(call, names), 'write')
+    for call in faults.calls:
+        for spoken in complaining(faults, call):
+            faults.fail_words(call, spoken, 'error', ('fail', unheard), ('none', unheard), ('interrupted', unheard), ('once', unheard))
+            faults.piecemeal(call, spoken, 'error', unheard)
+
+
+# ---- memory
+
+def memory(faults):
+    for call in faults.calls:
+        faults.fail(call, faults.names, 'memory', ('fail', starved), ('from', starved))
+
+
+SPREAD = b'''window 1000000 query q { packets | map ip.dst as d, ip.src as s | distinct | map d as d, 1 as n | reduce d: sum(n) width 16 | filter n > 1; }'''
+LEVELS = b'''window 1000000 query q { refine ip.dst: 8, 32; packets | map ip.dst as d, 1 as n | reduce d: sum(n) width 16 | filter n > 1; }'''
+TWO = b'''window 1000000 query a { packets | map ip.dst as d, 1 as n | reduce d: sum(n) width 8; }
+query b { packets | map ip.src as s, 1 as n | reduce s: sum(n) width 8; }'''
+FRAMES = bytes.fromhex('''0200000000010200 0000000000000000000000000a000009 0000000000000000000000000a000002
+                          0201000000030200 0000000000000000000000000a000009 00000000000000000000000000000001 0202000000000100 0000000000000000''')
+PLAN_TEXT = b'''plan\nquery a path 0;\npiece 0 0 cut 2 slots 1 stages 1;\nquery b path 0;\npiece 0 0 cut 0;
+cost 6;\ntree\nE 4\nE 4\nB 8\nB 8\nE 4\nE 4\nE 4\nP 6\nB 6\nE 4\nX\ndone\n'''
+# captures of SYN packets by time in microseconds, source and target
+FILES = {
+    'spread.query': SPREAD, 'levels.query': LEVELS, 'two.query': TWO, 'frames': FRAMES, 'tree': PLAN_TEXT,
+    'spread.plan': b'plan query q path 0; piece 0 0 cut 5 slots 1, 1 stages 1, 3;',
+    'levels.plan': b'plan query q path 8, 32; piece 8 0 cut 0; piece 32 0 cut 0;',
+    'five.switch': b'stages 5; actions 2; bits 1000; meta 1000; chain 1; slots 1;',
+    'four.switch': b'stages 4; actions 2; bits 1000; meta 1000; chain 1; slots 1;',
+    'two.switch': b'stages 2; actions 1; bits 41; meta 100; chain 1; slots 1;',
+    'spread.pcap': [(0, 1, 9), (0, 2, 9)],
+    'levels.pcap': [(0, 1, 9), (100000, 1, 9), (1000000, 1, 9), (1100000, 1, 9)],
+    'gap.pcap': [(0, 1, 9), (100000, 1, 9), (2000000, 1, 9), (2100000, 1, 9)],
+    'two.pcap': [(0, 1, 9), (1, 1, 9), (2, 1, 9), (3, 2, 9), (4, 2, 9)],
+}
+WORKED = [
+    ('emit five.switch spread.query spread.plan spread.pcap', FRAMES),
+    ('finish spread.query spread.plan frames', b'window 0 emitted 2\nquery q level 0 rows 1\n10.0.0.9 2\ntotal windows 1 emitted 2\n'),
+    ('run four.switch levels.query levels.plan levels.pcap', b'''window 0 emitted 2\nquery q level 8 rows 1\n10.0.0.0 2\nquery q level 32 rows 0
+window 1 emitted 4\nquery q level 8 rows 1\n10.0.0.0 2\nquery q level 32 rows 1\n10.0.0.9 2\ntotal windows 2 emitted 6\n'''),
+    ('run four.switch levels.query levels.plan gap.pcap', b'''window 0 emitted 2\nquery q level 8 rows 1\n10.0.0.0 2\nquery q level 32 rows 0
+window 2 emitted 2\nquery q level 8 rows 1\n10.0.0.0 2\nquery q level 32 rows 0\ntotal windows 2 emitted 4\n'''),
+    ('run four.switch levels.query levels.plan levels.pcap --csv', b'''window,query,level,c1,c2,c3,c4,c5,c6,c7,c8
+0,q,8,10.0.0.0,2,,,,,,\n1,q,8,10.0.0.0,2,,,,,,\n1,q,32,10.0.0.9,2,,,,,,\n'''),
+    ('plan two.switch two.query two.pcap', PLAN_TEXT),
+    ('live two.switch two.query two.pcap two.pcap', PLAN_TEXT + b'''window 0 emitted 6\nquery a level 0 rows 1\n10.0.0.9 5
+query b level 0 rows 2\n10.0.0.1 3\n10.0.0.2 2\ntotal windows 1 emitted 6\n'''),
+    ('check two.switch two.query two.pcap tree', b'yes cost 6 nodes 11\n'),
+]
+
+
+def worked(faults):
+    """Refuses each request for memory of the worked calls, whose text stands above."""
+    names = {}
+    for name, content in FILES.items():
+        calls.put(names, faults.folder, name, content if isinstance(content, bytes) else calls.syns(content))
+    for line, text in WORKED:
+        spoken = [names.get(word, word) for word in line.split()]
+        whole, answer = (0, text, ''), program.ran(faults.sonata, *spoken)
+        faults.expect(line, answer, answer == whole)
+        faults.fail_words(line, spoken, 'memory', ('fail', starved), ('from', starved), whole=whole)
 
 
 # ---- spoilt files
 
-def spoilt(content, values, most):
-    """A file with one byte replaced, and cut to each length."""
-    for place in places(len(content), most):
-        for value in values:
+def spoilt(content, limit, most):
+    """A file with one of the bytes before a limit replaced, and cut to each length."""
+    for place in places(limit, most):
+        for value in VALUES:
             if content[place] != value:
                 yield 'byte %d as %d' % (place, value), content[:place] + bytes([value]) + content[place + 1:]
-        yield 'length %d' % place, content[:place]
+    for length in places(len(content), most):
+        yield 'length %d' % length, content[:length]
 
 
-def texts(faults, names, calls, most, bad):
-    """Each byte of each file, in the call that reads the file first of all that do."""
-    tried = 0
-    first = {'queries': 'plain', 'switch': 'run', 'plan': 'run', 'capture': 'plain', 'certificate': 'check', 'reports': 'finish'}
-    for name, call in first.items():
-        if call not in calls:
-            continue
-        with open(names[name], 'rb') as file:
-            content = file.read()
-        changed = dict(names, **{name: names[name] + '.spoilt'})
-        spoken = words(call, changed)
-        # of a capture the header, and the first two records with their headers
-        limit = 24 + 2 * 70 if name == 'capture' else len(content)
-        for what, bytes_ in spoilt(content[:limit], VALUES, most):
-            with open(changed[name], 'wb') as file:
-                file.write(bytes_ + (content[limit:] if len(bytes_) == limit else b''))
-            tried += 1
-            wanted, answer = planned.answer(*spoken), program.ran(faults.sonata, *spoken)
-            if answer != wanted:
-                told(call, '%s, %s, wanted %s' % (name, what, program.shown(wanted)), answer, bad)
-    return tried
+def spoil(faults, call, name, most):
+    """Spoils a file of a call; of a capture the header, and the first two records with their headers."""
+    content, changed = calls.held(faults.names[name]), dict(faults.names, **{name: os.path.join(faults.folder, 'spoilt')})
+    limit = 24 + 2 * 70 if name in ('capture', 'training', 'second') else len(content)
+    spoken = words(call, changed)
+    for what, bytes_ in spoilt(content, limit, most):
+        with open(changed[name], 'wb') as file:
+            file.write(bytes_)
+        wanted, answer = planned.answer(*spoken), program.ran(faults.sonata, *spoken)
+        faults.expect('%s, %s, %s, wanted %s' % (call, name, what, program.shown(wanted)), answer, answer == wanted)
 
 
-# ---- the machine
-
-def with_streams(sonata, spoken, **streams):
-    """The status, text and line of a run whose descriptors are closed or replaced before it begins."""
-    before = streams.pop('before', None)
-    done = subprocess.run([sonata, *spoken], stdin=subprocess.DEVNULL, timeout=SECONDS, check=False, preexec_fn=before,
-                          stdout=streams.get('out', subprocess.PIPE), stderr=streams.get('error', subprocess.PIPE))
-    return done.returncode, done.stdout or b'', (done.stderr or b'').decode(errors='replace')
+def in_first(faults):
+    for name, call in FIRST.items():
+        if call in faults.calls:
+            spoil(faults, call, name, faults.most)
 
 
-def fed(path, name):
-    """Writes a file to a named pipe in pieces."""
-    with open(path, 'wb') as pipe, open(name, 'rb') as file:
-        while piece := file.read(100):
-            pipe.write(piece)
-            pipe.flush()
+def in_others(faults):
+    for call in faults.calls:
+        for name in CALLS[call]:
+            if FIRST[name] != call:
+                spoil(faults, call, name, max(faults.most // DRAWN, 2))
 
 
-def in_pieces(sonata, names, folder):
-    """The answer to a capture that comes through a named pipe in pieces."""
-    path = os.path.join(folder, 'pieces')
-    os.mkfifo(path)
-    feeding = multiprocessing.Process(target=fed, args=(path, names['capture']))
-    feeding.start()
-    try:
-        return with_streams(sonata, ['plain', names['queries'], path])
-    finally:
-        feeding.terminate()
-        feeding.join()
-
-
-def streams(faults, names, calls, most, bad):
-    sonata, spoken, tried = faults.sonata, words('plain', names), 0
-    whole = program.ran(sonata, *spoken)
-
-    def expect(what, answer, accepted):
-        nonlocal tried
-        tried += 1
-        if not accepted(answer):
-            told('plain', what, answer, bad)
-
-    with open('/dev/full', 'wb') as full:
-        expect('a full disk', with_streams(sonata, spoken, out=full), lambda found: found == (10, b'', ERRORS[10]))
-        damaged = words('plain', dict(names, capture=names['damaged']))
-        expect('errors to a full disk', with_streams(sonata, damaged, error=full), lambda found: found == program.ran(sonata, *damaged)[:2] + ('',))
-    reader, writer = os.pipe()
-    os.close(reader)
-    expect('no reader', with_streams(sonata, spoken, out=writer), lambda found: found[0] in (10, -signal.SIGPIPE))
-    os.close(writer)
-    expect('no standard input', with_streams(sonata, spoken, before=lambda: os.close(0)), lambda found: found == whole)
-    expect('no standard output', with_streams(sonata, spoken, before=lambda: os.close(1)), lambda found: found[0] in (9, 10) and not found[1])
-    expect('no standard error', with_streams(sonata, spoken, before=lambda: os.close(2)), lambda found: found[:2] == whole[:2])
-    for place in range(1, len(spoken)):
-        for what, name in [('a folder', HERE), ('a name of 4096 bytes', '/' + 'x' * 4095), ('no file', os.path.join(HERE, 'absent'))]:
-            other = spoken[:place] + [name] + spoken[place + 1:]
-            expect('%s as word %d' % (what, place), program.ran(sonata, *other), lambda found: found == (9, b'', ERRORS[9]))
-    with tempfile.TemporaryDirectory() as folder:
-        expect('a capture in pieces', in_pieces(sonata, names, folder), lambda found: found == whole)
-    for call in calls:
-        spoken = words(call, names)
-        whole = program.ran(sonata, *spoken)
-        for step in range(20):
-            limit = (2 + step) << 20
-            found = with_streams(sonata, spoken, before=lambda: resource.setrlimit(resource.RLIMIT_AS, (limit, limit)))
-            # 127: the system itself can't begin the program in so little
-            expect('%s in %d MB' % (call, limit >> 20), found, lambda found: found[0] == 127 or starved(found, whole))
-    return tried
-
-
-TABLES = {'reads': reads, 'writes': writes, 'memory': memory, 'bytes': texts, 'streams': streams}
+TABLES = {'reads': reads, 'writes': writes, 'memory': memory, 'worked': worked, 'bytes': in_first, 'others': in_others, **machine.TABLES}
 
 
 def main():
@@ -340,15 +269,14 @@ def main():
     chosen = given.parse_args()
     if strange := set(chosen.tables) - set(TABLES):
         given.error('no table %s' % ', '.join(sorted(strange)))
-    built, bad = program.built(chosen.sonata), []
-    calls = [call for call in CALLS if call in built or call == 'live --trace' and 'live --schedule' in built]
+    bad = 0
     with tempfile.TemporaryDirectory() as folder:
-        names = write(folder, chosen.sonata)
-        faults = Faults(chosen.sonata, folder)
+        faults = Faults(os.path.abspath(chosen.sonata), folder, chosen.most)
         for table in chosen.tables or TABLES:
-            before = len(bad)
-            tried = TABLES[table](faults, names, calls, chosen.most, bad)
-            print('%s: %d runs of %d calls, %d answered otherwise' % (table, tried, len(calls), len(bad) - before), flush=True)
+            faults.tried, faults.bad = 0, 0
+            TABLES[table](faults)
+            bad += faults.bad
+            print('%s: %d runs of %d calls, %d answered otherwise' % (table, faults.tried, len(faults.calls), faults.bad), flush=True)
     return 1 if bad else 0
 
 

@@ -2,9 +2,11 @@
 """Builds `sonata` with counters at its branches, as AFL++ reads them, for checks/fuzz.py.
 
     python3 checks/instrument.py PROGRAM
+    python3 checks/instrument.py PROGRAM --module MODULE
 
-It stands on the libraries that the gate left in this clone, or on those in the folder of `--libraries`. The toolchain is used as it is, but for its clang, in whose
-place stands a script that asks for the counters. Needs a C compiler and AFL++ (Debian's package afl++)."""
+It stands on the libraries that the gate left in this clone, or on those in the folder of `--libraries`. The toolchain is used as it is, but for its
+clang, in whose place stands a script that asks for the counters. With `--module` nothing is built anew but that file, the whole program in the form that
+LLVM keeps (`module.bc` in the folder that `rt try` makes while it runs). Needs a C compiler and AFL++ (Debian's package afl++)."""
 
 import argparse
 import os
@@ -14,6 +16,7 @@ import tempfile
 
 TOP = os.path.join(os.path.dirname(os.path.abspath(__file__)), '..')
 RUNTIME = '/usr/lib/afl/afl-compiler-rt-64.o'
+COUNTERS = '-fsanitize-coverage=trace-pc-guard'
 
 
 def kit_folder():
@@ -34,7 +37,7 @@ def with_counters(kit, folder):
             os.symlink(os.path.join(from_, 'bin', name), os.path.join(to, 'bin', name))
     clang = os.path.join(to, 'bin', 'clang')
     with open(clang, 'w', encoding='utf-8') as file:
-        file.write('#!/bin/sh\nexec %s "$@" -fsanitize-coverage=trace-pc-guard\n' % os.path.join(from_, 'bin', 'clang'))
+        file.write('#!/bin/sh\nexec %s "$@" %s\n' % (os.path.join(from_, 'bin', 'clang'), COUNTERS))
     os.chmod(clang, 0o755)
     return to
 
@@ -69,17 +72,26 @@ def build(kit, toolchain, libraries, made):
     subprocess.run(words, cwd=os.path.join(TOP, 'crates', 'sonata'), check=True, stdout=subprocess.DEVNULL)
 
 
+def compile_module(kit, module, made):
+    """The program as an object, from a module of the whole of it."""
+    subprocess.run([os.path.join(kit, 'toolchain', 'bin', 'clang'), '-O2', '-fPIE', '-c', '-x', 'ir', module, '-o', made, COUNTERS], check=True)
+
+
 def main():
     words = argparse.ArgumentParser(description=__doc__, formatter_class=argparse.RawDescriptionHelpFormatter)
     words.add_argument('program', help='the program that is made')
     words.add_argument('--libraries', metavar='FOLDER', help='where the libraries of the crates stand, by name')
+    words.add_argument('--module', metavar='FILE', help='the whole program as LLVM keeps it, in place of libraries')
     given = words.parse_args()
     if not os.path.exists(RUNTIME):
         sys.exit('no ' + RUNTIME)
     kit = kit_folder()
     with tempfile.TemporaryDirectory() as folder:
         made = os.path.join(folder, 'sonata.o')
-        build(kit, with_counters(kit, folder), given.libraries and os.path.abspath(given.libraries), made)
+        if given.module:
+            compile_module(kit, given.module, made)
+        else:
+            build(kit, with_counters(kit, folder), given.libraries and os.path.abspath(given.libraries), made)
         subprocess.run(['cc', '-o', given.program, made, os.path.join(kit, 'c', 'libos_c.a'), os.path.join(kit, 'c', 'liblibc_c.a'), RUNTIME,
                         '-ldl', '-lrt', '-lpthread', '-lm'], check=True)
     return 0
