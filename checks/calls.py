@@ -89,6 +89,13 @@ def capture(sources=3, targets=2):
     return generate.FILE_HEADER + b''.join(generate.record(second, 0, source, target, 1234, 80, flags, 40) for second, source, target, flags in drawn)
 
 
+def many_keys(count=936):
+    """A capture of so many packets of different sources and targets, fifty in a second."""
+    drawn = (generate.record(number // 50, number % 50, 0x0A000000 + number * 7919 % 65536, 0x14000000 + number * 104729 % 65536, number, 80,
+                             2 if number % 3 else 16, 40) for number in range(count))
+    return generate.FILE_HEADER + b''.join(drawn)
+
+
 def syns(packets):
     """SYN packets, each so many microseconds after one second, from 10.0.0.S to 10.0.0.D."""
     drawn = (generate.record(1 + after // 10**6, after % 10**6, 0x0A000000 + source, 0x0A000000 + target, 1024, 80, 2, 40) for after, source, target in packets)

@@ -13,7 +13,7 @@ memory   the N-th request for memory is refused, or all from the N-th on: status
 worked   the same of eight worked calls of which the text stands in this file
 bytes    each byte of each file is replaced by each of ten, and each file is cut to each length, in the call that reads it first of all that do
 others   the same at a few evenly drawn places, in all other calls that read the file
-streams, limits, growth, sizes                  what the machine does: checks/machine.py
+streams, limits, growth, sizes, long            what the machine does: checks/machine.py
 
 N counts from 0 up to the first run that meets no failure; where a call or a file has more than `--most` places, evenly drawn ones of them are
 tried. The whole text and the answer to a spoilt file are those of the reading in checks/planned.py. Prints each run that is answered otherwise.

@@ -9,6 +9,7 @@ limits   each command in 21 limits of the address space, from the one in which i
          files, with one for each file, and where half of its text is the largest file
 growth   each capture holds half of its bytes, and the others are added right before the N-th read of the call: the answer to the whole, or from
          some N on to half
+long     texts and reports of 64 kB that are one thing over and over, and a capture of 64 kB of different keys: in less than a second of a processor
 sizes    each text, report and training capture with exactly 2^30 bytes, which are sparse and in a comment where it has any, and with one more;
          captures that go on after a damaged record, and captures of 4,194,304 records and one more
 
@@ -31,7 +32,7 @@ HERE = os.path.dirname(os.path.abspath(__file__))
 READ, WRITE, LARGE = (9, 'sonata: read fault\n'), (10, 'sonata: write fault\n'), (12, 'sonata: too large\n')
 # the descriptors of standard input, output and error
 CLOSED = [(0,), (1,), (2,), (0, 1), (0, 2), (1, 2), (0, 1, 2)]
-STEPS = 20
+STEPS, LONG = 20, 65536
 C, NOT_RANDOM = ctypes.CDLL(None), 0x40000
 
 
@@ -385,4 +386,42 @@ def records(faults):
         sized(faults, call, '%d records' % (most + 1), {'training': sparse(faults, 'training', head, 24 + 16 * (most + 1))}, (LARGE[0], b'', LARGE[1]))
 
 
-TABLES = {'streams': streams, 'limits': limits, 'growth': growth, 'sizes': sizes}
+# ---- 64 kB
+
+def over_and_over(names):
+    """Texts of 64 kB that are one thing over and over, and a capture of as many keys as they hold: a call, the file, and its bytes."""
+    for byte in b'{|(#>=9a._ \n':
+        for name in ('queries', 'switch', 'plan', 'certificate'):
+            yield FIRST[name], name, bytes([byte]) * LONG
+    queries, front_ = calls.held(names['queries']), calls.held(names['certificate']).partition(b'tree\n')
+    yield 'plain', 'queries', queries + b'#' * (LONG - len(queries))
+    yield 'plain', 'queries', b'window 1 query ' + b'a' * (LONG - 15)
+    yield 'plain', 'queries', b'window 0x' + b'0' * (LONG - 10) + b'1'
+    for node in (b'E 0\n', b'X\n', b'B 99\n', b'E 18446744073709551615\n', front_[2][:front_[2].index(b'\n') + 1]):
+        yield 'check', 'certificate', (front_[0] + front_[1] + node * LONG)[:LONG]
+    for call in CALLS:
+        for name in set(CALLS[call]) & {'training', 'capture'}:
+            yield call, name, calls.many_keys()[:LONG]
+    yield 'finish', 'reports', (calls.held(names['reports']) * LONG)[:LONG]
+
+
+def used():
+    """The seconds of a processor that ended runs took."""
+    found = resource.getrusage(resource.RUSAGE_CHILDREN)
+    return found.ru_utime + found.ru_stime
+
+
+def long(faults):
+    path = os.path.join(faults.folder, 'long.text')
+    for call, name, content in over_and_over(faults.names):
+        if call in faults.calls:
+            with open(path, 'wb') as file:
+                file.write(content)
+            spoken, before = with_word(call, faults.names, name, path), used()
+            answer, seconds = run(faults.sonata, spoken), used() - before
+            wanted = calls.planned.answer(*spoken)
+            faults.expect('%s, %s of %r.. in %.3f seconds, wanted status %d' % (call, name, content[:12], seconds, wanted[0]), answer,
+                          answer == wanted and seconds < 1)
+
+
+TABLES = {'streams': streams, 'limits': limits, 'growth': growth, 'sizes': sizes, 'long': long}

@@ -33,7 +33,8 @@ class Token:
 def number_of(word):
     """The number of a word that begins with a digit, or None where it is no number."""
     if DECIMAL.match(word):
-        value = int(word)
+        # 21 digits after the zeros are past 64 bits, whatever follows them
+        value = int(word.lstrip(b'0')[:21] or b'0')
     elif HEXADECIMAL.match(word):
         value = int(word, 16)
     else:
