@@ -51,8 +51,7 @@ CALLS = {
     'job': [],
 }
 # the call that reads a file of this name first of all that do
-FIRST = {'queries': 'plain', 'capture': 'plain', 'switch': 'run', 'plan': 'run', 'training': 'plan', 'certificate': 'check', 'reports': 'finish',
-         'second': 'many'}
+FIRST = {'queries': 'plain', 'capture': 'plain', 'switch': 'run', 'plan': 'run', 'certificate': 'check', 'reports': 'finish'}
 # those that take a number in the place of files, and the one that takes it after them
 NUMBERS = {'gen': ['7'], 'job': ['7']}
 MOST = {'replan': ['1']}

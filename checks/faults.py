@@ -12,12 +12,12 @@ writes   the N-th write of standard output fails, or takes nothing: status 10, a
 memory   the N-th request for memory is refused, or all from the N-th on: status 1 and a front of the whole text, or all of it
 worked   the same of eight worked calls of which the text stands in this file
 bytes    each byte of each file is replaced by each of ten, and each file is cut to each length, in the call that reads it first of all that do
-others   the same at a few evenly drawn places, in all other calls that read the file
+others   the same at a few evenly drawn places, in all other calls that read the file, and of training captures
 streams, limits, growth, sizes, long            what the machine does: checks/machine.py
 
 N counts from 0 up to the first run that meets no failure; where a call or a file has more than `--most` places, evenly drawn ones of them are
-tried. The whole text and the answer to a spoilt file are those of the reading in checks/planned.py. Prints each run that is answered otherwise.
-The status is 0 where none is."""
+tried. `--calls` asks for some of the commands alone. The whole text and the answer to a spoilt file are those of the reading in checks/planned.py. Prints
+each run that is answered otherwise; Control-C ends a table with what was tried of it. The status is 0 where none is."""
 
 import os
 import subprocess
@@ -255,28 +255,38 @@ def in_first(faults):
 def in_others(faults):
     for call in faults.calls:
         for name in CALLS[call]:
-            if FIRST[name] != call:
+            if FIRST.get(name) != call:
                 spoil(faults, call, name, max(faults.most // DRAWN, 2))
 
 
 TABLES = {'reads': reads, 'writes': writes, 'memory': memory, 'worked': worked, 'bytes': in_first, 'others': in_others, **machine.TABLES}
 
 
+def tell(faults, table):
+    """Tries a table, and tells how it came out, also where Control-C ends it."""
+    faults.tried, faults.bad, ended = 0, 0, ''
+    try:
+        TABLES[table](faults)
+    except KeyboardInterrupt:
+        ended = ', interrupted'
+    print('%s: %d runs of %d calls, %d answered otherwise%s' % (table, faults.tried, len(faults.calls), faults.bad, ended), flush=True)
+    return faults.bad
+
+
 def main():
     given = program.command_line(__doc__)
     given.add_argument('tables', nargs='*', metavar='TABLE', help='which of them: %s (default: all)' % ', '.join(TABLES))
     given.add_argument('--most', type=int, default=2000, help='the most places of a call or a file that are tried (default 2000)')
+    given.add_argument('--calls', metavar='CALLS', help='which commands, as `plain,run --csv` (default: all)')
     chosen = given.parse_args()
     if strange := set(chosen.tables) - set(TABLES):
         given.error('no table %s' % ', '.join(sorted(strange)))
     bad = 0
     with tempfile.TemporaryDirectory() as folder:
         faults = Faults(os.path.abspath(chosen.sonata), folder, chosen.most)
+        faults.calls = [call for call in faults.calls if not chosen.calls or call in chosen.calls.split(',')]
         for table in chosen.tables or TABLES:
-            faults.tried, faults.bad = 0, 0
-            TABLES[table](faults)
-            bad += faults.bad
-            print('%s: %d runs of %d calls, %d answered otherwise' % (table, faults.tried, len(faults.calls), faults.bad), flush=True)
+            bad += tell(faults, table)
     return 1 if bad else 0
 
 
