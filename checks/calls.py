@@ -81,6 +81,11 @@ def answer(*spoken):
     return (0, JOB, '') if spoken == ('job', '7') else planned.answer(*spoken)
 
 
+def front(answer, whole, *told):
+    """One of these statuses with its line, and a front of the whole text."""
+    return (answer[0], answer[2]) in told and whole[1].startswith(answer[1])
+
+
 def capture(sources=3, targets=2):
     """Three windows of a few packets each."""
     drawn = [(window, 0x0A000001 + source, 0x0A000009 + target, flags)
@@ -89,14 +94,14 @@ def capture(sources=3, targets=2):
 
 
 def many_keys(count=936):
-    """A capture of so many packets of different sources and targets, fifty in a second."""
+    """A capture of this many packets of different sources and targets, fifty in a second."""
     drawn = (generate.record(number // 50, number % 50, 0x0A000000 + number * 7919 % 65536, 0x14000000 + number * 104729 % 65536, number, 80,
                              2 if number % 3 else 16, 40) for number in range(count))
     return generate.FILE_HEADER + b''.join(drawn)
 
 
 def syns(packets):
-    """SYN packets, each so many microseconds after one second, from 10.0.0.S to 10.0.0.D."""
+    """SYN packets, each the given microseconds after one second, from 10.0.0.S to 10.0.0.D."""
     drawn = (generate.record(1 + after // 10**6, after % 10**6, 0x0A000000 + source, 0x0A000000 + target, 1024, 80, 2, 40) for after, source, target in packets)
     return generate.FILE_HEADER + b''.join(drawn)
 

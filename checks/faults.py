@@ -28,7 +28,7 @@ import calls
 import machine
 import planned
 import program
-from calls import CALLS, FIRST, words
+from calls import CALLS, FIRST, front, words
 
 HERE = os.path.dirname(os.path.abspath(__file__))
 SECONDS = 120
@@ -46,7 +46,7 @@ def complete(answer, whole):
 
 def refused(status):
     """A status with its line, and a front of the whole text."""
-    return lambda answer, whole: answer[0] == status and answer[2] == ERRORS[status] and whole[1].startswith(answer[1])
+    return lambda answer, whole: front(answer, whole, (status, ERRORS[status]))
 
 
 def either(*accepted):
@@ -60,7 +60,7 @@ def unheard(answer, whole):
 
 def starved(answer, whole):
     """Out of memory, with its line where the words were taken, or the whole answer."""
-    return answer == whole or ((answer[0], answer[2]) in ((1, ERRORS[1]), (1, ''), (13, '')) and whole[1].startswith(answer[1]))
+    return answer == whole or front(answer, whole, (1, ERRORS[1]), (1, ''), (13, ''))
 
 
 # ---- a run with one failing call

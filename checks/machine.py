@@ -25,7 +25,7 @@ import subprocess
 import time
 
 import calls
-from calls import CALLS, FIRST, words
+from calls import CALLS, FIRST, front, words
 
 SECONDS = 300
 HERE = os.path.dirname(os.path.abspath(__file__))
@@ -41,11 +41,6 @@ def run(sonata, spoken, **streams):
     done = subprocess.run([sonata, *spoken], stdin=subprocess.DEVNULL, timeout=SECONDS, check=False, preexec_fn=streams.get('before'),
                           stdout=streams.get('out', subprocess.PIPE), stderr=streams.get('error', subprocess.PIPE))
     return done.returncode, done.stdout or b'', (done.stderr or b'').decode(errors='replace')
-
-
-def front(answer, whole, status_and_line):
-    """A status with its line, and a front of the whole text."""
-    return (answer[0], answer[2]) == status_and_line and whole[1].startswith(answer[1])
 
 
 # ---- standard streams
@@ -241,7 +236,7 @@ def least(holds):
 
 def starved(answer, whole):
     """Out of memory, with its line where the words were taken, or the whole answer."""
-    return answer == whole or ((answer[0], answer[2]) in ((1, 'sonata: memory\n'), (13, '')) and whole[1].startswith(answer[1]))
+    return answer == whole or front(answer, whole, (1, 'sonata: memory\n'), (13, ''))
 
 
 def address_space(faults, call):
@@ -322,7 +317,7 @@ def grow(faults, what, spoken, files, whole, half):
 # ---- sizes
 
 def sparse(faults, name, front_, size):
-    """A file of so many bytes of which these are the first and the others 0."""
+    """A file of this many bytes, of which these are the first and the others 0."""
     path = os.path.join(faults.folder, name + '.sparse')
     with open(path, 'wb') as file:
         file.write(front_)

@@ -72,7 +72,7 @@ maps_alike c f far (row ∷ rows) =
     ap (λ b. length (cond b (f row ∷ filter p (map f rows)) (filter p (map f rows)))) (sym (one_further c (far (f row))))
     ∙ elim (q row) as (λ b. length (cond b (f row ∷ filter p (map f rows)) (filter p (map f rows))) ≡ length (cond b (row ∷ filter q rows) (filter q rows))) [ true ↦ ap suc rest | false ↦ rest ]
 
--- the rows after so many operators are as many as come so far
+-- as many rows come out of the first operators as come through them
 pub reached : (ops : List Op) (c : ℕ) → AreStateless ops → c ≤ length ops → (rows : List Row) → length (through (take c ops) rows) ≡ length (filter (λ row. nat_le c (reach ops row)) rows)
 reached ops zero h le rows = sym (ap length (keeps_all (λ row. nat_le 0 (reach ops row)) (λ row. none_left (reach ops row)) rows))
 reached [] (suc c) h le rows = absurd (omega (arith, le))

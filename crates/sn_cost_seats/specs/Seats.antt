@@ -5,7 +5,7 @@ use Rattle.std.specs.List.{range_with_len}
 use Rattle.sn_base.specs.Groups.{Row}
 use Rattle.sn_base.specs.Slot.{slot}
 
--- a key's slot in a register, where a chain of so many has it, and else 0
+-- a key's slot in a register, where a chain of this depth has it, and else 0
 abbrev pub slot_where : ℕ → ℕ → ℕ → Row → ℕ
 slot_where depth slots register key = if nat_lt register depth then slot register key slots else 0
 

@@ -40,12 +40,12 @@ pub fn rows_come_one_by_one()
     ensures { (ops : List Op) → AreStateless ops → (rows : List Row) → through ops rows ≡ filter_map (come ops) rows }
 {}
 
-/// The rows after the first so many of them are as many as the rows that come so far.
+/// As many rows come out of the first `c` operators as rows come through `c` of them.
 pub fn rows_are_counted_by_reach()
     ensures { (ops : List Op) (c : ℕ) → AreStateless ops → c ≤ length ops → (rows : List Row) → length (through (take c ops) rows) ≡ length (filter (λ row. nat_le c (reach ops row)) rows) }
 {}
 
-/// Rows that are told by the numbers of keys that are apart: the distinct rows are those of the distinct numbers, and a key comes as
+/// Rows that are named by the numbers of keys that are apart: the distinct rows are those of the distinct numbers, and a key comes as
 /// often as its number.
 pub fn numbers_stand_for_keys()
     ensures once { (keys : List Row) → Apart same_row keys → (ids : List ℕ) → AllByRecursion (λ id. id < length keys) ids → once same_row (rows_at keys ids) ≡ rows_at keys (once nat_eq ids) }

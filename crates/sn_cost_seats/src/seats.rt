@@ -37,7 +37,7 @@ fn take_seat(taken: &mut [bool], depth: u32, slots: u32, at: &[u32; 4]) -> bool
 }
 
 /// Which of some keys, no two the same, reside in a chain of `depth` registers with `slots` slots each, where they come in this
-/// order: at most 4 registers, and 1 to 65536 slots. A key is told by its number,
+/// order: at most 4 registers, and 1 to 65536 slots. A key is named by its number,
 /// under which `at` has its slots. `taken` has room for a mark a place, whatever it holds before.
 pub fn seat(
     taken: &mut [bool],

@@ -62,7 +62,7 @@ fn mix_byte(hash: u64x8, column: u64x8, byte: u64) -> u64x8
     times_prime(hash ^ part)
 }
 
-/// Mixes the lowest bytes of each column into its hash, so many of them.
+/// Mixes the given number of lowest bytes of each column into its hash.
 fn mix_bytes(hash: u64x8, column: u64x8, count: u64) -> u64x8
     requires count { count ≤ 8 }
     requires hash { length hash ≡ 8 }
