@@ -2,8 +2,8 @@
 """Measures `sonata plain` on captures of crafted keys against captures of random ones: processor time as a ratio, all of one run of this program.
 
 Of the first kind are keys of two columns (Ethernet addresses) with one hash of 64 bits, of the second keys of three columns (addresses and a port) that agree in
-the low bits of their hashes, both for tables that hash from a known number (checks/crafted.c, which takes about a minute for a million keys). Nothing is left
-behind. Needs a C compiler."""
+the low bits of their hashes, of the third prefixes of IPv6 addresses with one hash; all for tables that hash from a known number (checks/crafted.c, which takes
+about a minute for a million keys). Nothing is left behind. Needs a C compiler."""
 
 import argparse
 import os
@@ -12,10 +12,11 @@ import sys
 
 import run
 
-GOAL = 3
+GOAL = 2
 CHECKS = os.path.join(run.HERE, '..', 'checks')
 QUERIES = {
     'hash': ('addresses', 'map eth.src as a, eth.dst as b | distinct | map 1 as one, 1 as n | reduce one: sum(n) width 32'),
+    'prefixes': ('hosts', 'filter ip6.valid == 1 | map ip6.src as s | distinct | map 1 as one, 1 as n | reduce one: sum(n) width 32'),
     'bits': ('ports', 'map ip.dst as d, ip.src as s, tcp.sport as p | distinct | map d as d, 1 as n | reduce d: sum(n) width 32'),
 }
 

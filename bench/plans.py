@@ -13,7 +13,9 @@ several   `many` with the same queries and plan over what two switches saw that 
           are compared.
 open      `run` with the same queries along paths of two levels, with nothing cut, on the switch of full.switch and on the same with `entries 1`: in each window whose
           tables are open all packets come to level 32, and the engine drops those of other prefixes. The answers are compared.
-training  `plan` and `check` with the queries and the switch of the generated job, at several sizes of the capture. `plan --nodes 1` ends behind the cost
+lanes     `run` against `emit` along plans of 8 to 64 lanes, each of which tests each packet and sends none: what a machine's choice of events costs as lanes grow.
+short     `run`, `emit` and the training with windows of one packet each: what is done at each window's end, whatever it holds.
+training  `plan` and `check` with the queries and the switch of the generated job, at several sizes of both captures. `plan --nodes 1` ends behind the cost
           table, so it is the training alone, and what `plan` takes beyond it is the search and the printing of the tree.
 job       `job 7` against `plain` with its queries on the capture of 8.
 search    a million expanded nodes of a space in which the search doesn't end.
@@ -35,7 +37,7 @@ TIGHT_SWITCH = 'stages 4; actions 2; bits 65536; meta 512; chain 2; slots 64, 25
 # Eight queries that want more registers than the tight switch has.
 EIGHT = 'window 1000000\n' + ''.join('query q%d { refine ip.dst: 8, 16, 24, 32; packets | filter ip.len > %d | map ip.dst as d, 1 as n | reduce d: sum(n) width 32 | filter n > %d; }\n'
                                      % (number, 40 + 100 * number, 50 + number) for number in range(8))
-GOALS = {('detect', 'plain'): 2.2, ('many', 'run'): 1.3, ('run', 'plain'): 2, ('emit', 'plain'): 2, ('run', 'emit'): 1.2, ('run fitting', 'plain'): 2, ('emit fitting', 'plain'): 2, ('run fitting', 'emit fitting'): 1.2, ('training', 'plain'): 15, ('job', 'plain'): 40, ('replan', 'live'): 1.1}
+GOALS = {('detect', 'plain'): 2.2, ('many', 'run'): 1.3, ('run', 'plain'): 1.5, ('emit', 'plain'): 1.3, ('run', 'emit'): 1.2, ('run fitting', 'plain'): 2, ('emit fitting', 'plain'): 2, ('run fitting', 'emit fitting'): 1.2, ('training', 'plain'): 4, ('training many', 'plain'): 7, ('short training', 'plain'): 3, ('lanes run', 'lanes emit'): 1.3, ('job', 'plain'): 6, ('replan', 'live'): 1.1}
 
 sys.path.insert(0, CHECKS)
 import program  # noqa: E402
@@ -230,15 +232,57 @@ def written(folder, name, text):
     return path
 
 
+def lanes_texts(count):
+    """Queries of two branches at four levels, and a plan that gives them this many lanes, of which none ever sends."""
+    branch = 'packets | filter ip.len > 65000 | map ip.dst as d, ip.len as %s | reduce d: sum(%s) width 32;'
+    query = 'query q%d { refine ip.dst: 8, 16, 24, 32; ' + branch % ('n', 'n') + ' ' + branch % ('m', 'm') + ' join d | filter n > 5; }\n'
+    path = ''.join('piece %d %d cut 1;\n' % (level, side) for level in (8, 16, 24, 32) for side in (0, 1))
+    queries = range(count // 8)
+    return 'window 1000000\n' + ''.join(query % n for n in queries), 'plan\n' + ''.join('query q%d path 8, 16, 24, 32;\n' % n + path for n in queries)
+
+
+def lanes(given, measurer, folder):
+    """Whether `run` and `emit` end along plans of many lanes."""
+    good, switch = True, written(folder, 'lanes.switch', 'stages 16; actions 64; bits 8388608; meta 65535; chain 1; slots 256;\n')
+    capture = run.generate('few', given.packets // 4, given.number, folder)
+    run.read_once(capture)
+    for count in (8, 16, 32, 64):
+        queries, plan = (written(folder, name, text) for name, text in zip(('lanes.query', 'lanes.plan'), lanes_texts(count)))
+        part = Part(given, measurer, folder, '%d lanes, few: %d packets' % (count, given.packets // 4))
+        part.add('lanes run', 'run', switch, queries, plan, capture)
+        part.add('lanes emit', 'emit', switch, queries, plan, capture)
+        part.measure()
+        part.tell(given.packets // 4, over='lanes emit')
+        good = good and all(one.status == 0 for one in part.found.values())
+    os.remove(capture)
+    return good
+
+
+def short(given, measurer, folder):
+    """Whether commands end over windows of one packet."""
+    text = run.bytes_of(run.QUERIES).decode()
+    queries = written(folder, 'short.query', text.replace('window 1000000', 'window 200'))
+    switch, capture = written(folder, 'job.switch', JOB_SWITCH), run.generate('few', given.windows, given.number, folder)
+    part = Part(given, measurer, folder, 'windows of one packet: %d' % given.windows)
+    part.add('plain', 'plain', queries, capture)
+    part.add('short run', 'run', SWITCH, queries, PLAN, capture)
+    part.add('short emit', 'emit', SWITCH, queries, PLAN, capture)
+    part.add('short training', 'plan', switch, queries, capture, '--nodes', '1')
+    run.read_once(capture)
+    part.measure()
+    part.tell(given.windows)
+    return all(one.status in (0, 8) for one in part.found.values())
+
+
 def training(given, measurer, folder):
     """Whether `plan` ends and `check` says yes."""
     good, switch = True, written(folder, 'job.switch', JOB_SWITCH)
-    for packets in given.training:
-        capture = run.generate('few', packets, given.number, folder)
-        part = Part(given, measurer, folder, 'training, few: %d packets' % packets)
+    for kind, packets in ((kind, packets) for kind in given.kinds for packets in given.training):
+        capture, label = run.generate(kind, packets, given.number, folder), {'few': 'training', 'many': 'training many'}[kind]
+        part = Part(given, measurer, folder, 'training, %s: %d packets' % (kind, packets))
         three = switch, run.QUERIES, capture
         part.add('plain', 'plain', run.QUERIES, capture)
-        part.add('training', 'plan', *three, '--nodes', '1')
+        part.add(label, 'plan', *three, '--nodes', '1')
         certificate = part.add('plan', 'plan', *three)
         run.read_once(capture)
         part.measure(given.runs if packets < 500000 else 1)
@@ -246,8 +290,8 @@ def training(given, measurer, folder):
             part.add('check', 'check', *three, certificate)
             part.measure(given.runs if packets < 500000 else 1)
         part.tell(packets)
-        search = part.found['plan'].seconds - part.found['training'].seconds
-        print('  what plan takes beyond its training, over the training: %.2f (goal 0.20)' % (search / max(1e-6, part.found['training'].seconds)))
+        search = part.found['plan'].seconds - part.found[label].seconds
+        print('  what plan takes beyond its training, over the training: %.2f (goal 0.20)' % (search / max(1e-6, part.found[label].seconds)))
         good = good and part.found['plan'].status == 0 and ('check' not in part.found or part.found['check'].status == 0)
         os.remove(capture)
     return good
@@ -291,7 +335,7 @@ def reading(given, measurer, folder):
     return run.bytes_of(part.outs['plan']) == run.bytes_of(part.outs['reading'])
 
 
-PARTS = {'along': (along, {'run'}), 'late': (late, {'detect'}), 'following': (following, {'live', 'replan'}), 'several': (several, {'run', 'many'}), 'open': (opened, {'run'}), 'training': (training, {'plan'}), 'job': (job, {'job', 'gen'}), 'search': (search, {'plan'}), 'reading': (reading, {'plan'})}
+PARTS = {'along': (along, {'run'}), 'late': (late, {'detect'}), 'following': (following, {'live', 'replan'}), 'several': (several, {'run', 'many'}), 'open': (opened, {'run'}), 'lanes': (lanes, {'run', 'emit'}), 'short': (short, {'run', 'emit', 'plan'}), 'training': (training, {'plan'}), 'job': (job, {'job', 'gen'}), 'search': (search, {'plan'}), 'reading': (reading, {'plan'})}
 
 
 def words_given():
@@ -300,6 +344,7 @@ def words_given():
     words.add_argument('--sonata', default=run.USUAL, help='the program to measure (default: the one that this clone built)')
     words.add_argument('--packets', type=int, default=1000000, help='packets of each answered capture of `along`, `late`, `following`, `several` and `open`')
     words.add_argument('--training', type=int, nargs='+', default=[20000, 2000000], metavar='PACKETS', help='packets of training captures (default 20000 2000000)')
+    words.add_argument('--windows', type=int, default=20000, help='windows of `short` (default 20000)')
     words.add_argument('--number', type=int, default=7, help='the number from which the captures are drawn')
     words.add_argument('--runs', type=int, default=5, help='runs of each command; the least processor time counts (above 500000 packets of training it is one)')
     words.add_argument('--kinds', nargs='+', default=['few', 'many'], choices=['few', 'many'], help='captures of `along`, `late`, `following`, `several` and `open`')

@@ -34,6 +34,14 @@ impl<R: AnyRow> RowSeq<R> {
         }
     }
 
+    /// An empty list with room for this many rows, so that none is moved while it grows to them.
+    pub fn with_room(alloc: Global, count: usize) -> Result<RowSeq<R>, Memory>
+        ensures { IfOk result (λ list. list ≡ []) }
+    {
+        let held = Vec::with_capacity(alloc, count)?;
+        Ok(RowSeq { held })
+    }
+
     /// A copy of these rows.
     pub fn from_slice(alloc: Global, rows: &[R]) -> Result<RowSeq<R>, Memory>
         ensures { IfOk result (λ list. list ≡ map R.columns rows.now) }

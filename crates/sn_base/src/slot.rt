@@ -56,8 +56,9 @@ fn mix_column(hash: u64, column: u128) -> u64
     if high == 0 { low } else { mix_half(low, high) }
 }
 
-/// The remainder of a hash by a number of slots. That is mostly a power of two, and a division takes as long as all else.
-fn remainder(hash: u64, slots: u32) -> u32
+/// The remainder of a hash by a number of slots, of which there is at least one. That is mostly a power of two, and a division takes
+/// as long as all else. Takes no memory.
+pub fn remainder(hash: u64, slots: u32) -> u32
     requires { 1 ≤ slots }
     ensures { result ≡ hash % slots }
 {

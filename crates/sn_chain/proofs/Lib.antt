@@ -1,6 +1,7 @@
 pub mod AnswerLemmas
 pub mod ChainLemmas
 pub mod HomeLemmas
+pub mod MarkLemmas
 pub mod OfferLemmas
 pub mod Places
 pub mod RegisterLemmas

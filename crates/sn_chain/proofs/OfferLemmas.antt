@@ -1,5 +1,6 @@
 -- One offer, on the cells as they are stored.
-use Rattle.std.proofs.Common.{◌≡◌, ℕ, zero, suc, ◌+◌, ◌*◌, ◌≤◌, ◌<◌, List, [], ◌∷◌, map, length, true, false, cond, nat_eq, Option, Some, None, IfSome, get_or, set, length-set, replicate, refl, ap, sym, subst, ◌∙◌, arith}
+use Rattle.std.proofs.Common.{◌≡◌, ◌≢◌, ◌/◌, ◌^◌, ℕ, zero, suc, ◌+◌, ◌*◌, ◌≤◌, ◌<◌, List, [], ◌∷◌, map, length, true, false, cond, nat_eq, Option, Some, None, IfSome, get_or, set, length-set, replicate, refl, ap, sym, subst, ◌∙◌, arith}
+use Rattle.std.specs.Int.{div_ceil}
 use Rattle.std.specs.List.{All, AllByRecursion}
 use Rattle.std.proofs.lemmas.List.{get_or_default, map-set, length-map, length-replicate}
 use Rattle.std.proofs.lemmas.List.Elements.{All-from_recursion, All-get_or, All-replicate, All-set, recursion_from_All}
@@ -12,6 +13,8 @@ use Rattle.sn_chain.specs.Registers.{cell, stepped, put}
 use Rattle.sn_chain.specs.declared.offer.Offer.TheVariants.{Over}
 use Rattle.sn_chain.specs.declared.register.Found.{Found}
 use Rattle.sn_chain.specs.declared.register.Found.TheVariants as found
+use Rattle.sn_chain.specs.Marks.{mark_at, mark_of, AreMarks}
+use Rattle.sn_chain.proofs.MarkLemmas.{few_words, marks_bare, marks_stay, marks_taken, word_within}
 use Rattle.sn_chain.proofs.Places.{read_cell}
 use Rattle.sn_chain.proofs.StandLemmas.{stand_bare, stand_put}
 
@@ -43,6 +46,11 @@ full_empty None None is = refl
 shown_stepped : (step : ℕ → ℕ → ℕ) (round v : ℕ) (c : Cell) → shown_by round (record c { value = step c.value v }) ≡ stepped step v (shown_by round c)
 shown_stepped step round v c =
     elim (nat_eq c.round round) as (λ b. cond b (Some (c.key, step c.value v)) None ≡ stepped step v (cond b (Some (c.key, c.value)) None)) [ true ↦ refl | false ↦ refl ]
+
+-- and whether it holds a key stays
+same_mark : (round w : ℕ) (c : Cell) → mark_of (shown_by round (with_value w c)) ≡ mark_of (shown_by round c)
+same_mark round w c =
+    elim (nat_eq c.round round) as (λ b. mark_of {X = Row × ℕ} (cond b (Some (c.key, w)) None) ≡ mark_of {X = Row × ℕ} (cond b (Some (c.key, c.value)) None)) [ true ↦ refl | false ↦ refl ]
 
 -- a cell that is taken now
 shown_taken : (round v : ℕ) (key : Row) → shown_by round (record { round = round; key = key; value = v }) ≡ Some (key, v)
@@ -150,9 +158,9 @@ empty_made round (suc n) value first =
     let old : nat_eq 0 round ≡ false = not_true (nat_eq 0 round) (λ is. let same : 0 ≡ round = nat_same 0 round is in absurd (omega arith)) in
     ap (λ b. cond b (Some ([], value)) None ∷ all_shown_by round (replicate n (untaken value))) old ∙ ap (λ cs. None ∷ cs) (empty_made round n value first)
 
-pub made_cells : (has : ℕ → Type 0) (depth slots round value : ℕ) (cells : List Cell) → 1 ≤ round → 1 ≤ depth → depth ≤ 4 → 1 ≤ slots → slots ≤ 65536 → has value → cells ≡ replicate (depth * slots) (untaken value) →
-    AreCells has depth slots round cells
-made_cells has depth slots round value cells first some_depth most_depth some_slots most_slots had is =
+pub made_cells : (has : ℕ → Type 0) (depth slots round value : ℕ) (cells : List Cell) (marks : List ℕ) → 1 ≤ round → 1 ≤ depth → depth ≤ 4 → 1 ≤ slots → slots ≤ 65536 → has value → cells ≡ replicate (depth * slots) (untaken value) →
+    marks ≡ replicate (div_ceil (depth * slots) 64) 0 → AreCells has depth slots round cells marks
+made_cells has depth slots round value cells marks first some_depth most_depth some_slots most_slots had is unmarked =
     record {
       some_depth = some_depth;
       most_depth = most_depth;
@@ -162,14 +170,20 @@ made_cells has depth slots round value cells first some_depth most_depth some_sl
       long = ap length is ∙ length-replicate (depth * slots) (untaken value);
       each = recursion_from_All (IsCell has round) cells (subst (λ (cs : List Cell). All (IsCell has round) cs) (sym is) (All-replicate (IsCell has round) (depth * slots) (untaken value) (record { no_later = omega arith; had = had })));
       stand = subst (λ (cs : List (Option (Row × ℕ))). KeysStand depth slots cs) (sym (ap (all_shown_by round) is ∙ empty_made round (depth * slots) value first)) (stand_bare depth slots (depth * slots));
+      marked = marks_bare (depth * slots) marks (all_shown_by round cells) unmarked (ap (all_shown_by round) is ∙ empty_made round (depth * slots) value first);
     }
 
 pub made_empty : {F : Type 0} (f : F) (depth slots round value : ℕ) (cells : List Cell) → 1 ≤ round → cells ≡ replicate (depth * slots) (untaken value) → state_of f depth slots round cells ≡ empty_chain f depth slots
 made_empty f depth slots round value cells first is = ap (state_with f depth slots) (ap (all_shown_by round) is ∙ empty_made round (depth * slots) value first)
 
-module _ {has : ℕ → Type 0} {depth slots round : ℕ} {cells : List Cell} (c : AreCells has depth slots round cells) where
-  pub are_next : AreCells has depth slots (round + 1) cells
-  are_next = record {
+module _ {has : ℕ → Type 0} {depth slots round : ℕ} {cells : List Cell} {marks : List ℕ} (c : AreCells has depth slots round cells marks) where
+  -- no cell is in use, and no mark is set
+  unmarked : (now : ℕ) (new : List Cell) (words : List ℕ) → words ≡ replicate (length marks) 0 → all_shown_by now new ≡ replicate (length cells) None → AreMarks words (all_shown_by now new)
+  unmarked now new words is bare =
+      marks_bare (length cells) words (all_shown_by now new) (is ∙ ap (λ n. replicate n 0) (c.marked.level ∙ ap (λ n. div_ceil n 64) (length-map cells (shown_by round)))) bare
+
+  pub are_next : (words : List ℕ) → words ≡ replicate (length marks) 0 → AreCells has depth slots (round + 1) cells words
+  are_next words is = record {
     some_depth = c.some_depth;
     most_depth = c.most_depth;
     some_slots = c.some_slots;
@@ -178,10 +192,11 @@ module _ {has : ℕ → Type 0} {depth slots round : ℕ} {cells : List Cell} (c
     long = c.long;
     each = cells_next has round cells c.each;
     stand = subst (λ (cs : List (Option (Row × ℕ))). KeysStand depth slots cs) (sym (empty_next has round cells c.each)) (stand_bare depth slots (length cells));
+    marked = unmarked (round + 1) cells words is (empty_next has round cells c.each);
   }
 
-  pub are_forgotten : AreCells has depth slots 1 (map forgotten cells)
-  are_forgotten = record {
+  pub are_forgotten : (words : List ℕ) → words ≡ replicate (length marks) 0 → AreCells has depth slots 1 (map forgotten cells) words
+  are_forgotten words is = record {
     some_depth = c.some_depth;
     most_depth = c.most_depth;
     some_slots = c.some_slots;
@@ -190,7 +205,32 @@ module _ {has : ℕ → Type 0} {depth slots round : ℕ} {cells : List Cell} (c
     long = length-map cells forgotten ∙ c.long;
     each = cells_forgotten has round cells c.each;
     stand = subst (λ (cs : List (Option (Row × ℕ))). KeysStand depth slots cs) (sym (empty_forgotten cells)) (stand_bare depth slots (length cells));
+    marked = unmarked 1 (map forgotten cells) words is (empty_forgotten cells);
   }
+
+  -- the marks after an offer of a key that is held
+  pub marks_held : (at w : ℕ) (new : List Cell) → at < length cells → new ≡ set cells at (with_value w (get_or cells at (untaken 0))) → AreMarks marks (all_shown_by round new)
+  marks_held at w new inside written =
+      let x = get_or cells at (untaken 0) in
+      let shown = all_shown_by round cells in
+      subst (λ (cs : List (Option (Row × ℕ))). AreMarks marks cs) (sym (ap (all_shown_by round) written ∙ map-set (shown_by round) cells at (with_value w x)))
+      (marks_stay marks shown c.marked at (subst (λ (n : ℕ). at < n) (sym (length-map cells (shown_by round))) inside) (shown_by round (with_value w x))
+      (same_mark round w x ∙ sym (ap mark_of (read_cell round cells at x inside (get_or_default cells at (untaken 0) x inside)))))
+
+  pub words_few : length marks * 64 < 2 ^ 32
+  words_few = few_words marks (all_shown_by round cells) c.marked depth slots (length-map cells (shown_by round) ∙ c.long) c.most_depth c.most_slots
+
+  -- a place that a key takes has a word
+  pub word_there : (at : ℕ) → at < length cells → at / 64 < length marks
+  word_there at inside = word_within marks (all_shown_by round cells) c.marked at (subst (λ (n : ℕ). at < n) (sym (length-map cells (shown_by round))) inside)
+
+  -- the marks after an offer of a key that takes a cell
+  pub marks_new : (key : Row) (v at : ℕ) (new : List Cell) (words : List ℕ) → at < length cells → new ≡ set cells at (record { round = round; key = key; value = v }) →
+      length words ≡ length marks → mark_at words at ≡ 1 → ((p : ℕ) → p ≢ at → mark_at words p ≡ mark_at marks p) → AreMarks words (all_shown_by round new)
+  marks_new key v at new words inside written long here others =
+      let x : Cell = record { round = round; key = key; value = v } in
+      subst (λ (cs : List (Option (Row × ℕ))). AreMarks words cs) (sym (ap (all_shown_by round) written ∙ map-set (shown_by round) cells at x ∙ ap (set (all_shown_by round cells) at) (shown_taken round v key)))
+      (marks_taken marks (all_shown_by round cells) c.marked at (subst (λ (n : ℕ). at < n) (sym (length-map cells (shown_by round))) inside) words (key, v) long here others)
 
   -- the keys stand after an offer too
   stand_after : {F : Type 0} (join : F → ℕ → ℕ → ℕ) (f : F) (key : Row) (v : ℕ) (new : List Cell) → state_of f depth slots round new ≡ after_offer join (state_of f depth slots round cells) key v → KeysStand depth slots (all_shown_by round new)
@@ -206,9 +246,9 @@ module _ {has : ℕ → Type 0} {depth slots round : ℕ} {cells : List Cell} (c
   }
 
   -- the cells after an offer that was written to one of them
-  pub are_offered : {F : Type 0} (join : F → ℕ → ℕ → ℕ) (f : F) (key : Row) (v at : ℕ) (x : Cell) (new : List Cell) → new ≡ set cells at x → state_of f depth slots round new ≡ after_offer join (state_of f depth slots round cells) key v → IsCell has round x →
-      AreCells has depth slots round new
-  are_offered join f key v at x new written is one = record {
+  pub are_offered : {F : Type 0} (join : F → ℕ → ℕ → ℕ) (f : F) (key : Row) (v at : ℕ) (x : Cell) (new : List Cell) (words : List ℕ) → new ≡ set cells at x → state_of f depth slots round new ≡ after_offer join (state_of f depth slots round cells) key v → IsCell has round x →
+      AreMarks words (all_shown_by round new) → AreCells has depth slots round new words
+  are_offered join f key v at x new words written is one marked = record {
     some_depth = c.some_depth;
     most_depth = c.most_depth;
     some_slots = c.some_slots;
@@ -219,6 +259,7 @@ module _ {has : ℕ → Type 0} {depth slots round : ℕ} {cells : List Cell} (c
         subst (λ (cs : List Cell). AllByRecursion (IsCell has round) cs) (sym written)
         (recursion_from_All (IsCell has round) (set cells at x) (All-set (IsCell has round) cells at x one (All-from_recursion (IsCell has round) cells c.each)));
     stand = stand_after join f key v new is;
+    marked = marked;
   }
 
   -- a chain whose cells show nothing

@@ -4,6 +4,7 @@ use Rattle.std.specs.List.{AllByRecursion}
 use Rattle.sn_base.specs.Groups.{Row}
 use Rattle.sn_chain.specs.Chain.{KeysStand}
 use Rattle.sn_chain.specs.Limits.{largest_register}
+use Rattle.sn_chain.specs.Marks.{AreMarks}
 
 -- a cell: the round in which it was taken, the key that took it, and the fold of the key's values
 pub record Cell : Type 0 where
@@ -35,8 +36,9 @@ pub record IsCell (has : ℕ → Type 0) (round : ℕ) (c : Cell) : Type 0 where
   pub no_later : c.round ≤ round
   pub had : has c.value
 
--- the cells of n registers with m slots each. A key of the round stands at one of its places, and once
-pub record AreCells (has : ℕ → Type 0) (depth slots round : ℕ) (cells : List Cell) : Type 0 where
+-- the cells of n registers with m slots each, and the marks of those in use. A key of the round stands at one of its
+-- places, and once
+pub record AreCells (has : ℕ → Type 0) (depth slots round : ℕ) (cells : List Cell) (marks : List ℕ) : Type 0 where
   pub some_depth : 1 ≤ depth
   pub most_depth : depth ≤ 4
   pub some_slots : 1 ≤ slots
@@ -45,3 +47,4 @@ pub record AreCells (has : ℕ → Type 0) (depth slots round : ℕ) (cells : Li
   pub long : length cells ≡ depth * slots
   pub each : AllByRecursion (IsCell has round) cells
   pub stand : KeysStand depth slots (all_shown_by round cells)
+  pub marked : AreMarks marks (all_shown_by round cells)

@@ -3,6 +3,7 @@ pub mod Chain
 pub mod Found
 pub mod Homes
 pub mod Limits
+pub mod Marks
 pub mod Registers
 pub mod Residence
 pub mod Stored

@@ -1,5 +1,5 @@
 //! A chain of registers.
-ghost use Rattle.std.specs.Prelude.{◌≡◌, ◌≤◌, ℕ, length, IfOk, IfSome};
+ghost use Rattle.std.specs.Prelude.{◌≡◌, ◌<◌, ◌≤◌, ℕ, None, false, is_none, length, max, IfOk, IfSome};
 ghost use Rattle.std.specs.Option.{ForSome, option_map};
 ghost use Rattle.sn_base.specs.Groups.{Row};
 ghost use Rattle.sn_chain.specs.Chain.{AreSlots, KeysStand, empty_chain, after_offer, answer_at, holder, vacancy};
@@ -7,6 +7,7 @@ ghost use Rattle.sn_chain.specs.Limits.{largest_register};
 ghost use Rattle.sn_chain.specs.Registers.{cell};
 
 use crate::cells::Cells;
+use crate::marks::{mark, next_marked, unmark_all, unmarked};
 use crate::offer::Offer;
 use crate::register::{Found, look};
 use sn_base::any_row::AnyRow;
@@ -27,6 +28,8 @@ pub struct Chain<F: Fold, R: AnyRow> {
     slots: u32,
     round: u32,
     cells: Cells<R>,
+    /// A bit for each cell: 1 exactly where it was taken in the round.
+    marks: Vec<u64>,
 }
 
 impl<F: Fold, R: AnyRow> Model for Chain<F, R> {
@@ -39,7 +42,7 @@ impl<F: Fold, R: AnyRow> Model for Chain<F, R> {
 
     ghost view = { λ a. record { fold = a.fold; depth = a.depth; slots = a.slots; cells = all_shown_by a.round a.cells } };
 
-    ghost invariant = { λ a. AreCells (F.takes a.fold) a.depth a.slots a.round a.cells };
+    ghost invariant = { λ a. AreCells (F.takes a.fold) a.depth a.slots a.round a.cells a.marks.items };
 }
 
 impl<F: Fold, R: AnyRow> Chain<F, R> {
@@ -71,13 +74,16 @@ impl<F: Fold, R: AnyRow> Chain<F, R> {
         ensures { IfOk result (λ chain. chain ≡ empty_chain fold depth slots) }
     {
         let value = fold.unit();
-        let cells = Cells::make(alloc, depth as usize * slots as usize, value)?;
+        let places = depth as usize * slots as usize;
+        let cells = Cells::make(alloc, places, value)?;
+        let marks = unmarked(alloc, places)?;
         Ok(Chain {
             fold,
             depth,
             slots,
             round,
             cells,
+            marks,
         })
     }
 
@@ -117,6 +123,7 @@ impl<F: Fold, R: AnyRow> Chain<F, R> {
             }
             Found::Empty(at) => {
                 self.cells.take(at, self.round, key, v);
+                mark(&mut self.marks, at);
                 Offer::New
             }
             Found::Full => Offer::Over,
@@ -131,6 +138,20 @@ impl<F: Fold, R: AnyRow> Chain<F, R> {
         ensures held { IfSome result (λ e. holder self.now (R.columns e.0) ≡ Some place) }
     {
         self.cells.shown(place as usize, self.round)
+    }
+
+    /// The first place from this one on that holds a key. Where none does, the larger of this one and the number
+    /// of places. So a walk from held place to held place passes over 64 empty cells at a time. Takes no memory.
+    pub fn next_held(&self, from: u32) -> u32
+        ensures no_less { from ≤ result }
+        ensures empty { (p : ℕ) → from ≤ p → p < result → cell self.now.cells p ≡ None }
+        ensures held { result < length self.now.cells → is_none (cell self.now.cells result) ≡ false }
+        ensures end { length self.now.cells ≤ result → result ≡ max from (length self.now.cells) }
+    {
+        match next_marked(&self.marks, from as usize) {
+            Some(place) => place as u32,
+            None => from.max(self.places()),
+        }
     }
 
     /// What holds of every chain, however it came to be: each key that it holds stands at one of its own places, at no
@@ -149,12 +170,12 @@ impl<F: Fold, R: AnyRow> Chain<F, R> {
         self.depth * self.slots
     }
 
-    /// Empties the chain. This begins a new round, and writes to no cell, so that a chain of any size is
-    /// cleared at the cost of one sum. Only where the number of rounds would pass 32 bits every cell is
-    /// written once. Takes no memory.
+    /// Empties the chain. This begins a new round, and writes to no cell, only a word for each 64 of them. Only
+    /// where the number of rounds would pass 32 bits every cell is written once. Takes no memory.
     pub fn clear(&mut self)
         ensures { self.new ≡ empty_chain self.old.fold self.old.depth self.old.slots }
     {
+        unmark_all(&mut self.marks);
         if self.round == u32::MAX {
             self.cells.forget();
             self.round = 0;

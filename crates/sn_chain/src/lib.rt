@@ -5,6 +5,7 @@ mod cells;
 pub mod chain;
 mod head;
 pub mod law;
+mod marks;
 mod number_at;
 pub mod offer;
 mod register;

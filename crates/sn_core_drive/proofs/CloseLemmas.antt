@@ -1,5 +1,5 @@
 -- What happens up to the close of a window doesn't depend on what is held, where nothing more comes of the window.
-use Rattle.std.proofs.Common.{◌≡◌, ℕ, zero, suc, ◌+◌, ◌≤◌, ◌%◌, List, [], ◌∷◌, ◌++◌, filter, length, slice_get, Bool, true, false, not, is_none, nat_eq, nat_lt, Option, None, Some, refl, ap, sym, ◌∙◌, subst, arith}
+use Rattle.std.proofs.Common.{◌≡◌, ℕ, zero, suc, ◌+◌, ◌≤◌, ◌%◌, List, [], ◌∷◌, ◌++◌, length, slice_get, Bool, true, false, not, is_none, nat_eq, nat_lt, Option, None, Some, refl, ap, sym, ◌∙◌, subst, arith}
 use Rattle.std.specs.Option.{option_map_or}
 use Rattle.std.proofs.lemmas.Bool.{false≢true, le-ltb, ne_eqb}
 use Rattle.sn_core.proofs.Falls.{step_works}

@@ -3,7 +3,8 @@ mod Listing
 pub mod Running
 mod Behind
 mod Counting
-mod Counted
+mod BitLemmas
+mod Found
 mod Noting
 pub mod PickLemmas
 pub mod TurnLemmas

@@ -1,11 +1,6 @@
 -- What a draw picks may happen.
-use Rattle.std.proofs.Common.{◌≡◌, ℕ, zero, suc, List, [], ◌∷◌, filter, slice_get, Bool, true, false, cond, is_none, Option, None, Some, refl, ap, sym, ◌∙◌}
-use Rattle.std.proofs.lemmas.Bool.{false≢true}
-use Rattle.sn_base.proofs.Lists.{none_some, some_same, none_is}
-use Rattle.sn_core.specs.Needs.{first_need_that_fails}
-use Rattle.sn_core.specs.declared.event.Event.{Event}
-use Rattle.sn_core_drive.specs.Schedules.{events_of, may_happen, picked}
-use Rattle.sn_core_net.specs.States.{State}
+use Rattle.std.proofs.Common.{◌≡◌, ℕ, zero, suc, List, [], ◌∷◌, filter, slice_get, Bool, true, false, cond, Some, refl, ap, sym, ◌∙◌}
+use Rattle.sn_base.proofs.Lists.{none_some, some_same}
 
 module _ {X : Type 0} (p : X → Bool) where
   passes_if : (x : X) (xs : List X) (k : ℕ) (y : X) (b : Bool) → p x ≡ b → ((n : ℕ) → slice_get (filter p xs) n ≡ Some y → p y ≡ true) → slice_get (cond b (x ∷ filter p xs) (filter p xs)) k ≡ Some y → p y ≡ true

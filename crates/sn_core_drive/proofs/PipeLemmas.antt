@@ -1,5 +1,5 @@
 -- What a pipe does is the same whatever the folds of a distinct's registers are.
-use Rattle.std.proofs.Common.{◌≡◌, ℕ, suc, ◌+◌, List, [], ◌∷◌, map, filter, drop, Bool, true, false, ◌||◌, ◌&&◌, cond, Option, None, Some, refl, ap, ap₂, ◌∙◌}
+use Rattle.std.proofs.Common.{◌≡◌, ℕ, suc, ◌+◌, List, [], ◌∷◌, map, drop, Bool, true, false, ◌||◌, ◌&&◌, cond, Option, None, Some, refl, ap, ap₂, ◌∙◌}
 use Rattle.std.specs.FinSet as set
 use Rattle.std.specs.List.{list_all}
 use Rattle.std.specs.Option.{option_and_then, option_map_or}

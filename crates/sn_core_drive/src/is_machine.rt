@@ -36,6 +36,14 @@ impl Machine for Net {
         self.enabled(event)
     }
 
+    fn read_outs(&self) -> u64 {
+        self.read_outs()
+    }
+
+    fn deliveries(&self) -> u64 {
+        self.deliveries()
+    }
+
     fn happen(&mut self, event: Event) -> Result<(), Memory> {
         self.happen(event)
     }

@@ -7,6 +7,7 @@ pub mod is_machine;
 pub mod law;
 pub mod lines;
 pub mod machine;
+mod marks;
 pub mod note;
 pub mod notes;
 mod picking;

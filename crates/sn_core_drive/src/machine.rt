@@ -1,5 +1,6 @@
 //! What answers windows: any machine whose state is that of a net.
 ghost use Rattle.std.specs.Prelude.{◌≡◌, ◌<◌, ◌≤◌, ℕ, List, IfOk, None, OnErr, OnOk, is_none, length, map, true};
+ghost use Rattle.std.specs.Int.{bit_at};
 ghost use Rattle.std.specs.Option.{option_map};
 ghost use Rattle.sn_core.specs.Calls.{made};
 ghost use Rattle.sn_core.specs.Due.{due, windows_of};
@@ -8,11 +9,13 @@ ghost use Rattle.sn_core.specs.Needs.{first_need_that_fails, is_done, wants};
 ghost use Rattle.sn_core.specs.Numbers.{DontFall};
 ghost use Rattle.sn_core.specs.Standing.{IsNet, IsNoEarlier};
 ghost use Rattle.sn_core.specs.Workings.{AreLawful};
+ghost use Rattle.sn_core.specs.declared.event.Event.TheVariants as Happens;
 ghost use Rattle.sn_core.specs.declared.supply.Supply.{Supply as Given};
 ghost use Rattle.sn_core_drive.specs.Telling.{Tells};
 ghost use Rattle.sn_engine_lockstep.specs.Windows.{plan_answers};
 ghost use Rattle.sn_emit.specs.Plans.{pieces_from, tables_of};
 ghost use Rattle.sn_plan_fit.specs.Fits.{Fits};
+ghost use Rattle.sn_core_net.specs.Marks.{bit_of};
 ghost use Rattle.sn_core_net.specs.States.{State, Works};
 ghost use Rattle.sn_core_net.specs.Steps.{IsOneOf, takes_memory};
 ghost use Rattle.sn_core_net.specs.PlanWorkings.{AreLanesFor, HaveWidths, given_of, workings};
@@ -72,6 +75,16 @@ pub trait Machine: Sized + Drop {
     fn enabled(&self, event: Event) -> bool
         requires { IsOneOf (length (state self.now).lanes) event }
         ensures { result ≡ is_none (first_need_that_fails (state self.now) event) };
+
+    /// The lanes that may be read out: bit n is 1 exactly where the read-out of lane n may happen. So there are at most 64 of them. Takes
+    /// no memory.
+    fn read_outs(&self) -> u64
+        ensures { (lane : ℕ) → bit_at result lane ≡ bit_of (is_none (first_need_that_fails (state self.now) (Happens.ReadOut lane))) };
+
+    /// The lanes whose first frame may be delivered: bit n is 1 exactly where the delivery of lane n may happen. So there are at most 64
+    /// of them. Takes no memory.
+    fn deliveries(&self) -> u64
+        ensures { (lane : ℕ) → bit_at result lane ≡ bit_of (is_none (first_need_that_fails (state self.now) (Happens.Deliver lane))) };
 
     /// Does an event whose needs hold. A lane that it names must be one of the machine's. After an `Err` the state is as it was.
     fn happen(&mut self, event: Event) -> Result<(), Memory>

@@ -1,139 +1,121 @@
 //! Which event happens next.
-ghost use Rattle.std.specs.Prelude.{◌≡◌, ◌<◌, ◌≤◌, ◌+◌, ◌^◌, ◌%◌, ◌++◌, ◌∷◌, [], List, Some, None, false, filter, length, map, slice_get};
-ghost use Rattle.std.specs.List.{range_with_len};
+ghost use Rattle.std.specs.Prelude.{◌≡◌, ◌<◌, ◌≤◌, ◌%◌, Some, None, false, length, slice_get};
 ghost use Rattle.sn_core.specs.Needs.{first_need_that_fails};
 ghost use Rattle.sn_core.specs.Standing.{IsNet};
-ghost use Rattle.sn_core.specs.declared.event.Event.{Event as Counted};
-ghost use Rattle.sn_core.specs.declared.event.Event.TheVariants as Event;
-ghost use Rattle.sn_core_drive.specs.Picking.{AreCounted};
-ghost use Rattle.sn_core_drive.specs.Schedules.{enabled_events, is_still, may_happen, picked};
+ghost use Rattle.sn_core_drive.specs.Picking.{AreFound, deliveries_found, events_found, lanes_found, lasts_found};
+ghost use Rattle.sn_core_drive.specs.Schedules.{is_still, picked};
 ghost use Rattle.sn_gen.specs.Generated.{drawn, next_number};
+ghost use Rattle.sn_core_net.specs.Marks.{bit_of};
 ghost use Rattle.sn_core_net.specs.Steps.{IsOneOf};
 
 use crate::machine::Machine;
+use crate::marks::{count_marked, nth_marked};
 use sn_core::event::Event;
 use sn_gen::draws::Draws;
 
-/// The events that may happen: how many there are, and eight of them after those that are passed over.
-#[derive(Drop)]
+/// The events that may happen: of the read-outs and the deliveries a bit for each lane.
+#[derive(Clone, Copy)]
 struct Enabled {
-    count: u64,
-    passed_over: u64,
-    next: [Event; 8],
+    packet: bool,
+    read_outs: u64,
+    deliveries: u64,
+    close: bool,
+    install: bool,
 }
 
-/// Counts an event, and keeps it where it is one of the eight.
-fn count_in(found: &mut Enabled, event: Event)
-    requires { found.old.count < 2 ^ 40 }
-    ensures counted { (events : List Counted) → AreCounted events found.old → AreCounted (events ++ event ∷ []) found.new }
-    ensures few { found.new.count ≡ found.old.count + 1 }
-    ensures passed_over { found.new.passed_over ≡ found.old.passed_over }
+/// The events that may happen.
+fn look<M: Machine>(machine: &M) -> Enabled
+    ensures { AreFound (M.state machine.now) result }
 {
-    if let Some(place) = found.count.checked_sub(found.passed_over) {
-        if place < 8 {
-            found.next[place as usize] = event;
-        }
-    }
-    found.count += 1;
-}
-
-/// Counts an event where it may happen.
-fn look_at<M: Machine>(machine: &M, event: Event, found: &mut Enabled)
-    requires event { IsOneOf (length (M.state machine.now).lanes) event }
-    requires few { found.old.count < 2 ^ 40 }
-    ensures counted { (events : List Counted) → AreCounted events found.old →
-        AreCounted (events ++ filter (may_happen (M.state machine.now)) (event ∷ [])) found.new }
-    ensures few { found.new.count ≤ found.old.count + 1 }
-    ensures passed_over { found.new.passed_over ≡ found.old.passed_over }
-{
-    if machine.enabled(event) {
-        count_in(found, event);
+    Enabled {
+        packet: machine.enabled(Event::Packet),
+        read_outs: machine.read_outs(),
+        deliveries: machine.deliveries(),
+        close: machine.enabled(Event::CloseWindow),
+        install: machine.enabled(Event::Install),
     }
 }
 
-/// Counts the read-outs that may happen.
-fn look_at_read_outs<M: Machine>(machine: &M, lanes: u32, found: &mut Enabled)
-    requires lanes { lanes ≡ length (M.state machine.now).lanes }
-    requires few { found.old.count ≤ 2 ^ 34 }
-    ensures counted { (events : List Counted) → AreCounted events found.old →
-        AreCounted (events ++ filter (may_happen (M.state machine.now)) (map Event.ReadOut (range_with_len 0 lanes))) found.new }
-    ensures few { found.new.count ≤ found.old.count + lanes }
-    ensures passed_over { found.new.passed_over ≡ found.old.passed_over }
+/// 1 where this holds, and else 0.
+fn one_if(holds: bool) -> u32
+    ensures value { result ≡ bit_of holds }
+    ensures most { result ≤ 1 }
 {
-    for lane in 0..lanes {
-        look_at(machine, Event::ReadOut(lane), found);
-    }
+    if holds { 1 } else { 0 }
 }
 
-/// Counts the deliveries that may happen.
-fn look_at_deliveries<M: Machine>(machine: &M, lanes: u32, found: &mut Enabled)
-    requires lanes { lanes ≡ length (M.state machine.now).lanes }
-    requires few { found.old.count ≤ 2 ^ 34 }
-    ensures counted { (events : List Counted) → AreCounted events found.old →
-        AreCounted (events ++ filter (may_happen (M.state machine.now)) (map Event.Deliver (range_with_len 0 lanes))) found.new }
-    ensures few { found.new.count ≤ found.old.count + lanes }
-    ensures passed_over { found.new.passed_over ≡ found.old.passed_over }
+/// How many there are.
+fn count_found(found: Enabled) -> u32
+    ensures { result ≡ length (events_found found) }
 {
-    for lane in 0..lanes {
-        look_at(machine, Event::Deliver(lane), found);
-    }
+    let lanes = count_marked(found.read_outs) + count_marked(found.deliveries);
+    one_if(found.packet) + lanes + one_if(found.close) + one_if(found.install)
 }
 
-/// Counts the packet or the read-outs: where a packet may go in, its window isn't over, and no lane is read out.
-fn look_at_switch<M: Machine>(machine: &M, lanes: u32, found: &mut Enabled)
-    requires lanes { lanes ≡ length (M.state machine.now).lanes }
-    requires few { found.old.count ≤ 2 ^ 34 }
-    ensures counted { (events : List Counted) → AreCounted events found.old →
-        AreCounted (events ++ filter (may_happen (M.state machine.now)) (Event.Packet ∷ map Event.ReadOut (range_with_len 0 lanes))) found.new }
-    ensures few { found.new.count ≤ found.old.count + lanes + 1 }
-    ensures passed_over { found.new.passed_over ≡ found.old.passed_over }
+/// Of the close and the install, the one of this number.
+fn nth_last(found: Enabled, n: u32) -> Event
+    requires { n < length (lasts_found found) }
+    ensures { slice_get (lasts_found found) n ≡ Some result }
 {
-    if machine.enabled(Event::Packet) {
-        count_in(found, Event::Packet);
+    if !found.close {
+        Event::Install
+    } else if n == 0 {
+        Event::CloseWindow
     } else {
-        look_at_read_outs(machine, lanes, found);
+        Event::Install
     }
 }
 
-/// The events that may happen. Of these, the given number is passed over, and the next eight are kept.
-fn look<M: Machine>(machine: &M, lanes: u32, passed_over: u64) -> Enabled
-    requires { lanes ≡ length (M.state machine.now).lanes }
-    ensures counted { AreCounted (enabled_events (M.state machine.now)) result }
-    ensures passed_over { result.passed_over ≡ passed_over }
+/// Of the deliveries and what comes after them, the one of this number.
+fn nth_delivery(found: Enabled, n: u32) -> Event
+    requires { n < length (deliveries_found found) }
+    ensures { slice_get (deliveries_found found) n ≡ Some result }
 {
-    let mut found = Enabled {
-        count: 0,
-        passed_over,
-        next: [Event::Packet; 8],
-    };
-    look_at_switch(machine, lanes, &mut found);
-    look_at_deliveries(machine, lanes, &mut found);
-    look_at(machine, Event::CloseWindow, &mut found);
-    look_at(machine, Event::Install, &mut found);
-    found
+    let count = count_marked(found.deliveries);
+    if n < count {
+        Event::Deliver(nth_marked(found.deliveries, n))
+    } else {
+        nth_last(found, n - count)
+    }
 }
 
-/// Of the events that may happen, the one of this number. Few may happen at a time, so it is mostly one of the first eight.
-fn nth_enabled<M: Machine>(machine: &M, lanes: u32, first: &Enabled, n: u64) -> Event
-    requires lanes { lanes ≡ length (M.state machine.now).lanes }
-    requires first { AreCounted (enabled_events (M.state machine.now)) first.now }
-    requires none_passed { first.now.passed_over ≡ 0 }
-    requires within { n < first.now.count }
-    ensures { slice_get (enabled_events (M.state machine.now)) n ≡ Some result }
+/// Of the read-outs and what comes after them, the one of this number.
+fn nth_read_out(found: Enabled, n: u32) -> Event
+    requires { n < length (lanes_found found) }
+    ensures { slice_get (lanes_found found) n ≡ Some result }
 {
-    if n < 8 {
-        return first.next[n as usize];
+    let count = count_marked(found.read_outs);
+    if n < count {
+        Event::ReadOut(nth_marked(found.read_outs, n))
+    } else {
+        nth_delivery(found, n - count)
     }
-    let later = look(machine, lanes, n);
-    later.next[0]
+}
+
+/// Of the events that may happen, the one of this number.
+fn nth_found(found: Enabled, n: u32) -> Event
+    requires { n < length (events_found found) }
+    ensures { slice_get (events_found found) n ≡ Some result }
+{
+    if !found.packet {
+        nth_read_out(found, n)
+    } else if n == 0 {
+        Event::Packet
+    } else {
+        nth_read_out(found, n - 1)
+    }
 }
 
 /// The remainder of a drawn number by how many events may happen. Mostly that is one, which takes no division.
-fn place_of(drawn: u64, count: u64) -> u64
+fn place_of(drawn: u64, count: u32) -> u32
     requires { 0 < count }
     ensures { result ≡ drawn % count }
 {
-    if count == 1 { 0 } else { drawn % count }
+    if count == 1 {
+        0
+    } else {
+        (drawn % count as u64) as u32
+    }
 }
 
 /// The event that the next draw picks, in a machine that goes on and whose answers were taken: there is one that may happen.
@@ -147,7 +129,7 @@ pub(crate) fn pick<M: Machine>(machine: &M, lanes: u32, draws: &mut Draws) -> Ev
     ensures may { first_need_that_fails (M.state machine.now) result ≡ None }
     ensures draws { draws.new.number ≡ next_number draws.old.number }
 {
-    let found = look(machine, lanes, 0);
-    let n = place_of(draws.draw(), found.count);
-    nth_enabled(machine, lanes, &found, n)
+    let found = look(machine);
+    let n = place_of(draws.draw(), count_found(found));
+    nth_found(found, n)
 }

@@ -1,4 +1,5 @@
 mod Rings
+mod MarkLemmas
 pub mod Zips
 mod Named
 mod Both

@@ -9,3 +9,4 @@ pub mod Steps
 pub mod ReadOut
 pub mod PlanWorkings
 pub mod Settled
+pub mod Marks

@@ -1,5 +1,6 @@
 //! One lane of the switch.
-ghost use Rattle.std.specs.Prelude.{◌≡◌, ◌<◌, ◌==◌, List, length, slice_get, IfOk, OnErr, OnOk};
+ghost use Rattle.std.specs.Prelude.{◌≡◌, ◌<◌, ◌==◌, List, is_some, length, slice_get, IfOk, OnErr, OnOk};
+ghost use Rattle.sn_pipe.specs.Pipes.{item_of};
 
 use crate::any_holder::AnyHolder;
 use crate::holder_of::HolderOf;
@@ -91,10 +92,11 @@ impl Holder {
         }
     }
 
-    /// Takes a tuple, before any read-out, and appends the frame that it gives, if there is one.
-    pub(crate) fn take_tuple(&mut self, tuple: &Tuple)
+    /// Takes a tuple, before any read-out, and appends the frame that it gives, if there is one. Says whether there is.
+    pub(crate) fn take_tuple(&mut self, tuple: &Tuple) -> bool
         requires { self.old.sender.pipe.prefix.place ≡ 0 }
-        ensures { self.new ≡ took tuple.now self.old }
+        ensures taken { self.new ≡ took tuple.now self.old }
+        ensures gives { result ≡ is_some (item_of self.old.sender.pipe tuple.now) }
     {
         match &mut self.held {
             AnyHolder::Short(h) => h.take_tuple(tuple),

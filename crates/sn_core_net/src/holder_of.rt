@@ -1,5 +1,5 @@
 //! One lane of the switch, over rows of a kind that is known.
-ghost use Rattle.std.specs.Prelude.{◌≡◌, ◌<◌, List, false, length, slice_get, true, IfOk, OnErr, OnOk};
+ghost use Rattle.std.specs.Prelude.{◌≡◌, ◌<◌, List, false, is_some, length, slice_get, true, IfOk, OnErr, OnOk};
 ghost use Rattle.std.specs.List.{list_all};
 ghost use Rattle.sn_core.specs.Events.{with_next};
 ghost use Rattle.sn_core_net.specs.Holders.{after_frame_of, begun, took, with_ring, without_first};
@@ -9,6 +9,7 @@ ghost use Rattle.sn_core_net.specs.States.{lane_of};
 ghost use Rattle.sn_engine.specs.Intakes.{after_frame};
 ghost use Rattle.sn_engine.specs.declared.intake.Intake.{Intake};
 ghost use Rattle.sn_engine_lockstep.specs.declared.source.Source.{Source};
+ghost use Rattle.sn_pipe.specs.Pipes.{item_of};
 ghost use Rattle.sn_report.specs.Items.{frame_by};
 ghost use Rattle.sn_types.specs.declared.typed_query.TypedQuery.{TypedQuery};
 
@@ -60,13 +61,18 @@ impl<R: LaneRow> HolderOf<SenderOf<Pipe<R>>, RingOf<R>> {
         Ok(HolderOf { sender, ring })
     }
 
-    /// Takes a tuple, before any read-out, and appends the frame that it gives, if there is one.
-    pub(crate) fn take_tuple(&mut self, tuple: &Tuple)
+    /// Takes a tuple, before any read-out, and appends the frame that it gives, if there is one. Says whether there is.
+    pub(crate) fn take_tuple(&mut self, tuple: &Tuple) -> bool
         requires { self.old.sender.pipe.prefix.place ≡ 0 }
-        ensures { self.new ≡ took tuple.now self.old }
+        ensures taken { self.new ≡ took tuple.now self.old }
+        ensures gives { result ≡ is_some (item_of self.old.sender.pipe tuple.now) }
     {
-        if let Some(frame) = self.sender.packet(tuple) {
-            self.ring.push(frame);
+        match self.sender.packet(tuple) {
+            Some(frame) => {
+                self.ring.push(frame);
+                true
+            }
+            None => false,
         }
     }
 

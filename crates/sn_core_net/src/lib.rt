@@ -8,6 +8,7 @@ pub mod holder;
 pub mod holder_of;
 mod lanes;
 mod making;
+pub mod marks;
 mod needs;
 pub mod net;
 pub mod plans;

@@ -15,6 +15,7 @@ ghost use Rattle.sn_refine.specs.Steps.{windows_of as given_windows};
 ghost use Rattle.sn_switch.specs.Texts.{IsSwitch};
 
 use crate::holder::Holder;
+use crate::marks::Marks;
 use crate::net::Net;
 use sn_base::memory::Memory;
 use sn_base::seq::Seq;
@@ -62,6 +63,7 @@ impl Net {
         let sources = sources(t.alloc, plan.entries.as_slice())?;
         let engine = Engine::make(t.alloc, t, plan)?;
         let installs = Vec::new(t.alloc);
+        let marks = Marks::of(&lanes, room);
         Ok(Net {
             room,
             held: None,
@@ -71,6 +73,7 @@ impl Net {
             sources,
             installs,
             waiting: None,
+            marks,
         })
     }
 }

@@ -1,23 +1,16 @@
 //! The first need of an event that fails.
-ghost use Rattle.std.specs.Prelude.{◌≡◌, ◌<◌, ◌^◌, length, not, position, IfSome, nat_lt, is_none};
-ghost use Rattle.sn_core.specs.Needs.{first_full, first_need_that_fails, first_open, has_room, is_empty, passes};
+ghost use Rattle.std.specs.Prelude.{◌≡◌, ◌<◌, ◌^◌, ℕ, length, not, position, IfSome, is_none};
+ghost use Rattle.std.specs.Int.{bit_at};
+ghost use Rattle.sn_core.specs.Needs.{first_full, first_need_that_fails, first_open, has_room, is_begun_with, is_empty, is_over, passes};
 ghost use Rattle.sn_core.specs.declared.event.Event.TheVariants as Event;
+ghost use Rattle.sn_core_net.specs.Marks.{bit_of};
 ghost use Rattle.sn_core_net.specs.Nets.{state};
 ghost use Rattle.sn_core_net.specs.Steps.{IsOneOf};
 
-use crate::holder::Holder;
 use crate::net::Net;
 use sn_core::event::{Event, Why};
 use sn_core::supply::{Supply, Window};
 use sn_engine::intake::Intake;
-
-/// The least lane that has no room.
-fn first_full(lanes: &[Holder], room: u32) -> Option<usize>
-    ensures first { result ≡ position (λ h. not (nat_lt (length h.ring.items) room)) lanes.now }
-    ensures within { IfSome result (λ n. n < length lanes.now) }
-{
-    lanes.iter().position(|h| !h.has_room(room))
-}
 
 /// The least lane whose End the engine hasn't taken.
 fn first_open(lanes: &[Intake]) -> Option<usize>
@@ -29,11 +22,14 @@ fn first_open(lanes: &[Intake]) -> Option<usize>
 
 impl Net {
     /// The least lane that has no room.
-    fn full_lane(&self) -> Option<usize>
-        ensures lane { result ≡ first_full (state self.now).room (state self.now).lanes }
-        ensures within { IfSome result (λ n. n < 2 ^ 32) }
+    fn full_lane(&self) -> Option<u32>
+        ensures { result ≡ first_full (state self.now).room (state self.now).lanes }
     {
-        first_full(&self.lanes, self.room)
+        if self.marks.full == 0 {
+            None
+        } else {
+            Some(self.marks.full.trailing_zeros())
+        }
     }
 
     /// The least lane whose End the engine hasn't taken.
@@ -79,8 +75,22 @@ impl Net {
             return Some(Why::Reading);
         }
         match self.full_lane() {
-            Some(lane) => Some(Why::Full(lane as u32)),
+            Some(lane) => Some(Why::Full(lane)),
             None => None,
+        }
+    }
+
+    /// Whether a window is begun of which nothing more comes.
+    fn is_over(&self) -> bool
+        ensures { result ≡ is_begun_with (λ number. is_over number (state self.now).held) (state self.now).window }
+    {
+        let Window::Begun(window) = &self.window else {
+            return false;
+        };
+        match &self.held {
+            None => false,
+            Some(Supply::End) => true,
+            Some(Supply::Numbered(number, _)) => window < number,
         }
     }
 
@@ -88,15 +98,7 @@ impl Net {
         requires { lane < length self.now.lanes.items }
         ensures { result ≡ first_need_that_fails (state self.now) (Event.ReadOut lane) }
     {
-        let Window::Begun(window) = &self.window else {
-            return Some(Why::NotReading);
-        };
-        let over = match &self.held {
-            None => false,
-            Some(Supply::End) => true,
-            Some(Supply::Numbered(number, _)) => window < number,
-        };
-        if !over {
+        if !self.is_over() {
             return Some(Why::NotReading);
         }
         if !self.runs(lane) {
@@ -169,5 +171,20 @@ impl Net {
             Event::CloseWindow => self.close_need().is_none(),
             Event::Install => self.install_need().is_none(),
         }
+    }
+
+    /// The lanes that may be read out: bit n is 1 exactly where the read-out of lane n may happen. Takes no memory.
+    pub fn read_outs(&self) -> u64
+        ensures { (lane : ℕ) → bit_at result lane ≡ bit_of (is_none (first_need_that_fails (state self.now) (Event.ReadOut lane))) }
+    {
+        let readable = self.marks.readable;
+        if self.is_over() { readable } else { 0 }
+    }
+
+    /// The lanes whose first frame may be delivered: bit n is 1 exactly where the delivery of lane n may happen. Takes no memory.
+    pub fn deliveries(&self) -> u64
+        ensures { (lane : ℕ) → bit_at result lane ≡ bit_of (is_none (first_need_that_fails (state self.now) (Event.Deliver lane))) }
+    {
+        self.marks.holding
     }
 }

@@ -1,13 +1,15 @@
 //! The net: a switch, its lanes, and an engine.
-ghost use Rattle.std.specs.Prelude.{◌≡◌, ◌<◌, ◌^◌, ◌||◌, length, map, true};
+ghost use Rattle.std.specs.Prelude.{◌≡◌, ◌≤◌, ◌||◌, length, map, true};
 ghost use Rattle.sn_core.specs.Standing.{IsNet};
 ghost use Rattle.sn_engine.specs.Intakes.{emptied};
 ghost use Rattle.sn_core_net.specs.Facts.{are_named, are_own, are_roomy, are_unread, ends_agree, may_be_read, names_of};
 ghost use Rattle.sn_engine_lockstep.specs.Known.{AreKnown, are_known_prop};
+ghost use Rattle.sn_core_net.specs.Marks.{AreMarksFrom, are_marks_prop};
 ghost use Rattle.sn_core_net.specs.Reports.{window_number};
 ghost use Rattle.sn_core_net.specs.States.{last_of, state_of, works_of};
 
 use crate::holder::Holder;
+use crate::marks::Marks;
 use sn_base::members::Members;
 use sn_base::seq::Seq;
 use sn_core::supply::{Supply, Window};
@@ -34,15 +36,18 @@ pub struct Net {
     pub installs: Vec<Members>,
     /// The answers that wait to be taken.
     pub waiting: Option<Answers>,
+    /// What the lanes hold.
+    pub marks: Marks,
     ghost matched: { length lanes.items ≡ length engine.lanes.items },
-    // so that the number of a lane is one for `Full`
-    ghost few: { length lanes.items < 2 ^ 32 },
+    // so that each lane has a bit
+    ghost few: { length lanes.items ≤ 64 },
     ghost roomy: { are_roomy room lanes.items ≡ true },
     ghost named: { are_named (names_of lanes.items) (map emptied engine.lanes.items) ≡ true },
     ghost unread: { (may_be_read window held || are_unread lanes.items) ≡ true },
     ghost own: { are_own (window_number window) lanes.items ≡ true },
     ghost agreed: { ends_agree window engine.lanes.items ≡ true },
     ghost known: { AreKnown engine.t.queries sources } by { are_known_prop engine.t.queries sources },
+    ghost marked: { AreMarksFrom 0 room lanes.items marks } by { are_marks_prop 0 room lanes.items marks },
     ghost standing: { ∥ IsNet (works_of engine.t.queries engine.lanes.items sources)
         (state_of room held window lanes.items engine.lanes.items installs.items (last_of engine.closed engine.kept) waiting) ∥₁ },
 }

@@ -15,6 +15,7 @@ ghost use Rattle.sn_core_net.specs.Steps.{IsOneOf, Steps, takes_memory};
 use crate::fault::StepFault;
 use crate::holder::Holder;
 use crate::lanes::{begin_all, begin_all_bare, take_in_all};
+use crate::marks::Marks;
 use crate::net::Net;
 use crate::prefixes::prefix_sets;
 use sn_base::members::Members;
@@ -100,7 +101,7 @@ impl Net {
     {
         if let Some(held) = &self.held {
             if let Supply::Numbered(_, tuple) = held {
-                take_in_all(&mut self.lanes, tuple);
+                take_in_all(&mut self.lanes, tuple, self.room, &mut self.marks);
                 self.held = None;
             }
         }
@@ -115,6 +116,7 @@ impl Net {
     {
         let window = window_number(&self.window);
         self.lanes[lane as usize].append_next(window);
+        self.marks.see(lane, &self.lanes[lane as usize], self.room);
     }
 
     /// The engine takes the first frame of a lane. The frame stays where memory runs out.
@@ -125,8 +127,9 @@ impl Net {
         ensures err { OnErr result (state self.new ≡ state self.old) }
         ensures works { works self.new ≡ works self.old }
     {
-        self.lanes[lane as usize].deliver(&mut self.engine)?;
-        Ok(())
+        let taken = self.lanes[lane as usize].deliver(&mut self.engine);
+        self.marks.see(lane, &self.lanes[lane as usize], self.room);
+        taken
     }
 
     /// The answers of the window that all lanes have ended, and twice the prefixes that they keep for each lane: to install, and
@@ -192,6 +195,7 @@ impl Net {
                 &self.held,
             );
             self.window = window_of_held(&self.held);
+            self.marks = Marks::of(&self.lanes, self.room);
             self.installs.clear();
         }
     }

@@ -5,6 +5,7 @@ use Rattle.std.proofs.lemmas.List.{length-append}
 use Rattle.sn_base.specs.Bags.{SameBag}
 use Rattle.sn_base.specs.Bags.SameBag.{stays, behind, turned, joined}
 use Rattle.sn_base.specs.Groups.{Row}
+use Rattle.sn_base.proofs.BagLemmas.{bag_filter}
 use Rattle.sn_base.specs.Operators.{Grouping, Op}
 use Rattle.sn_base.specs.Operators.Op.{Filter, Map, Distinct, Reduce}
 use Rattle.sn_report.specs.Items.{Item}
@@ -21,6 +22,7 @@ use Rattle.sn_types.specs.Values.{op_at}
 use Rattle.sn_cost_counts.specs.AnyFlow.{Flow}
 use Rattle.sn_cost_counts.specs.Flows.{counted, held_rows, run, starting, stepped}
 use Rattle.sn_cost_counts.specs.Flows as flows
+use Rattle.sn_cost_counts.proofs.Holding.{held_bag}
 
 bag_long : {A : Type 0} (xs ys : List A) → SameBag xs ys → length xs ≡ length ys
 bag_long _ _ (stays xs) = refl
@@ -39,6 +41,14 @@ some_long (row ∷ rows) = lt-ltb 0 (suc (length rows)) (omega arith)
 later_size : (sizes : List ℕ) (n : ℕ) → slice_index sizes (1 + n) ≡ slice_index (drop 1 sizes) n
 later_size [] n = refl
 later_size (size ∷ sizes) n = let e : 1 + n ≡ suc n = omega arith in ap (slice_index (size ∷ sizes)) e
+
+-- rows in another order pass as many filters
+filters_bag : (depth : ℕ) (size : ℕ → ℕ) (os : List Op) → OnlyFilters os → (i : ℕ) (xs ys : List Row) → SameBag xs ys → length (items_from depth size i false os xs) ≡ length (items_from depth size i false os ys)
+filters_bag depth size [] h i xs ys b = tagged_long (At i) xs ∙ bag_long xs ys b ∙ sym (tagged_long (At i) ys)
+filters_bag depth size (Filter t ∷ os) h i xs ys b = filters_bag depth size os h (suc i) _ _ (bag_filter t xs ys b)
+filters_bag depth size (Map f ∷ os) h i xs ys b = absurd h
+filters_bag depth size (Distinct ∷ os) h i xs ys b = absurd h
+filters_bag depth size (Reduce g ∷ os) h i xs ys b = absurd h
 
 filters_cut : (os : List Op) → OnlyFilters os → IsCut os
 filters_cut [] h = tt
@@ -91,20 +101,24 @@ module _ (depth : ℕ) (size : ℕ → ℕ) (level : ℕ) where
       let g : Grouping = record { places = r.keys; value = r.value; by = r.fold } in
       let over : List Row = over_reduce depth size i g rows in
       let kept : List Row = held depth size i g rows in
+      let stay : List Row = held_rows depth (size i) g rows in
+      let bag : SameBag kept stay = held_bag depth (size i) g rows in
       let front : List Op = take c (map (op_at level) os) in
       let later : Sized (suc i) os (drop 1 sizes) = λ j. moved i j ∙ h (suc j) ∙ later_size sizes (stateful (take j os)) in
       let over_long = tagged_long (At i) over in
       let kept_long = tagged_long (Partial i) kept in
-      (elim spilled as (λ b. n + length (tagged (At i) over ++ cond b (tagged (Partial i) kept) (items_from depth size (suc i) b front kept)) ≡ counted (run depth level (take c os) (drop 1 sizes) (flow_of (n + length over) kept b b))) [
+      let as_many : length kept ≡ length stay = bag_long kept stay bag in
+      (elim spilled as (λ b. n + length (tagged (At i) over ++ cond b (tagged (Partial i) kept) (items_from depth size (suc i) b front kept)) ≡ counted (run depth level (take c os) (drop 1 sizes) (flow_of (n + length over) stay b b))) [
         | true ↦
             (let both = length-append (tagged (At i) over) (tagged (Partial i) kept) in
-            let e : n + length (tagged (At i) over ++ tagged (Partial i) kept) ≡ (n + length over) + length kept = omega (arith, both, over_long, kept_long) in
-            e ∙ sym (ap counted (stays_whole os c (drop 1 sizes) (n + length over) kept true cut)))
+            let e : n + length (tagged (At i) over ++ tagged (Partial i) kept) ≡ (n + length over) + length stay = omega (arith, both, over_long, kept_long, as_many) in
+            e ∙ sym (ap counted (stays_whole os c (drop 1 sizes) (n + length over) stay true cut)))
         | false ↦
             (let rest : List Item = items_from depth size (suc i) false front kept in
             let both = length-append (tagged (At i) over) rest in
-            let e : n + length (tagged (At i) over ++ rest) ≡ (n + length over) + length rest = omega (arith, both, over_long) in
-            e ∙ counts os c (suc i) (drop 1 sizes) later false (n + length over) kept (filters_cut front cut))
+            let same : length rest ≡ length (items_from depth size (suc i) false front stay) = filters_bag depth size front cut (suc i) kept stay bag in
+            let e : n + length (tagged (At i) over ++ rest) ≡ (n + length over) + length (items_from depth size (suc i) false front stay) = omega (arith, both, over_long, same) in
+            e ∙ counts os c (suc i) (drop 1 sizes) later false (n + length over) stay (filters_cut front cut))
       ])
       ∙ ap (λ m. counted (run depth level (take c os) (drop 1 sizes) (stepped depth m (Reduce g) (flow_of n rows spilled false)))) (first_size i (ops.Reduce r ∷ os) sizes h)
 

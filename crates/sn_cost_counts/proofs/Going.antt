@@ -1,5 +1,5 @@
 -- Operators can be evaluated at the rows that come to them.
-use Rattle.std.proofs.Common.{◌≡◌, ℕ, suc, ◌+◌, ◌*◌, ◌≤◌, ◌<◌, List, [], ◌∷◌, ◌++◌, map, filter, length, Bool, true, false, not, cond, slice_index, All, refl, ap, sym, subst, ◌∙◌, arith, fold, nat_le, Option, Some, None, take, drop, get_or, append_assoc, Result, Ok, Err, IfOk}
+use Rattle.std.proofs.Common.{◌≡◌, ℕ, suc, ◌+◌, ◌*◌, ◌≤◌, ◌<◌, List, [], ◌∷◌, ◌++◌, map, filter, length, Bool, true, false, not, cond, slice_index, All, refl, ap, sym, subst, ◌∙◌, arith, take, drop, get_or, append_assoc, Result, Ok, Err, IfOk}
 use Rattle.std.specs.List.{AllByRecursion, flat_map, list_all}
 use Rattle.std.proofs.Math.Seq.{drop-cons}
 use Rattle.std.proofs.lemmas.Grind.{flat_map-append}
@@ -11,11 +11,7 @@ use Rattle.sn_base.specs.Operators.{Grouping, key_of, pair_of, row_for}
 use Rattle.sn_base.proofs.GroupLemmas.{total, total_had}
 use Rattle.sn_base.proofs.Lists.{all_append, all_filter, all_map, all_weaker, filter_short}
 use Rattle.sn_base.proofs.OnceLemmas.{all_once}
-use Rattle.sn_chain.specs.Chain.{has_home, homes_of, places_of}
-use Rattle.sn_chain.specs.Homes.{by_place, homes_by_place, put_by_place}
-use Rattle.sn_chain.specs.Residence.{free_place, seated, seated_at}
-use Rattle.sn_chain.proofs.HomeLemmas.{homes_known}
-use Rattle.sn_pipe_items.proofs.Homes.{all_members, member}
+use Rattle.sn_chain.specs.Chain.{has_home}
 use Rattle.sn_ops.specs.Flow.{AllFit, CondsFit, ExprsFit, Fits, ReduceFits, grouping_of}
 use Rattle.sn_types.specs.declared.typed_op.TOp.{TOp}
 use Rattle.sn_types.specs.declared.typed_op.TOp.TheVariants as ops
@@ -33,39 +29,15 @@ once_fewer : {K : Type 0} (same : K → K → Bool) (ks : List K) → length (on
 once_fewer same [] = omega arith
 once_fewer same (k ∷ ks) = let rest = once_fewer same ks in let less = filter_short (λ x. not (same k x)) (once same ks) in omega (arith, rest, less)
 
-put_long : {K : Type 0} (h : ℕ × K) (hs : List (ℕ × K)) → length (put_by_place h hs) ≡ suc (length hs)
-put_long h [] = refl
-put_long h (g ∷ gs) =
-    let rest = put_long h gs in
-    (elim (nat_le h.0 g.0) as (λ b. length (cond b (h ∷ g ∷ gs) (g ∷ put_by_place h gs)) ≡ suc (suc (length gs))) [ true ↦ refl | false ↦ ap suc rest ])
-
-placed_long : {K : Type 0} (hs : List (ℕ × K)) → length (by_place hs) ≡ length hs
-placed_long [] = refl
-placed_long (h ∷ hs) = put_long h (by_place hs) ∙ ap suc (placed_long hs)
-
-module _ {K : Type 0} (same : K → K → Bool) (places : K → List ℕ) where
-  seated_few : (taken : List (ℕ × K)) (k : K) (o : Option ℕ) → length (seated_at same places taken k o) ≤ suc (length taken)
-  seated_few taken k None = omega arith
-  seated_few taken k (Some p) = omega arith
-
-  all_seated_few : (ks : List K) (taken : List (ℕ × K)) → length (fold (seated same places) taken ks) ≤ length taken + length ks
-  all_seated_few [] taken = omega arith
-  all_seated_few (k ∷ ks) taken =
-      let one = seated_few taken k (free_place same places taken k) in
-      let rest = all_seated_few ks (seated same places taken k) in
-      omega (arith, one, rest)
-
 held_few : (depth slots : ℕ) (g : Grouping) (rows : List Row) → length (held_rows depth slots g rows) ≤ length rows
 held_few depth slots g rows =
     let keys : List Row = map (key_of g) rows in
-    let homes = homes_of depth slots keys in
-    let a = length-map (homes_by_place depth slots keys) (row_for g (map (pair_of g) rows)) in
-    let b = length-map (by_place homes) (λ (h : ℕ × Row). h.1) in
-    let c = placed_long homes in
-    let d = all_seated_few same_row (places_of depth slots) (once same_row keys) [] in
-    let e = once_fewer same_row keys in
-    let f = length-map rows (key_of g) in
-    omega (arith, a, b, c, d, e, f)
+    let homes : List Row = filter (has_home depth slots keys) (once same_row keys) in
+    let a = length-map homes (row_for g (map (pair_of g) rows)) in
+    let b = filter_short (has_home depth slots keys) (once same_row keys) in
+    let c = once_fewer same_row keys in
+    let d = length-map rows (key_of g) in
+    omega (arith, a, b, c, d)
 
 -- ---- rows
 
@@ -116,14 +88,13 @@ held_takes level depth slots r os rows h =
     let g : Grouping = grouping_of r in
     let P : Row → Type 0 = λ k. (a : ℕ) → any_has r.fold a → Takes level os (k ++ a ∷ []) in
     let keys : List Row = map (key_of g) rows in
-    let homes : List Row = homes_by_place depth slots keys in
+    let homes : List Row = filter (has_home depth slots keys) (once same_row keys) in
     let pairs : List (Row × ℕ) = map (pair_of g) rows in
     let had : AllByRecursion (λ (p : Row × ℕ). any_has r.fold p.1) pairs =
     all_map (λ (p : Row × ℕ). any_has r.fold p.1) (pair_of g) rows (all_weaker (Takes level (ops.Reduce r ∷ os)) (λ row. any_has r.fold (slice_index row r.value)) (λ row t. row_fits r row t.0) rows h) in
     let each : AllByRecursion P keys = all_map P (key_of g) rows (all_weaker (Takes level (ops.Reduce r ∷ os)) (λ row. P (key_of g row)) (λ row t. t.1) rows h) in
     all_map (Takes level os) (row_for g pairs) homes
-    (all_members (λ k. Takes level os (row_for g pairs k)) homes
-    (λ k is. member P k keys each (homes_known depth slots keys k is) (total g pairs k) (total_had g pairs k had)))
+    (all_weaker P (λ k. Takes level os (row_for g pairs k)) (λ k takes. takes (total g pairs k) (total_had g pairs k had)) homes (all_filter P (has_home depth slots keys) (once same_row keys) (all_once same_row P keys each)))
 
 -- ---- one operator
 

@@ -1,4 +1,4 @@
-pub mod Offering
+pub mod Settling
 pub mod Holding
 pub mod Going
 pub mod Orders

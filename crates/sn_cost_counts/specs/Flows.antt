@@ -6,7 +6,6 @@ use Rattle.sn_base.specs.Groups.{Row, once, same_row}
 use Rattle.sn_base.specs.Operators.{Op, Grouping, key_of, pair_of, row_for}
 use Rattle.sn_base.specs.Operators.Op.{Filter, Map, Distinct, Reduce}
 use Rattle.sn_chain.specs.Chain.{has_home}
-use Rattle.sn_chain.specs.Homes.{homes_by_place}
 use Rattle.sn_types.specs.declared.typed_op.TOp.{TOp}
 use Rattle.sn_types.specs.Cuts.{is_stateful}
 use Rattle.sn_types.specs.Values.{op_at}
@@ -26,9 +25,9 @@ first_rows depth slots rows = once same_row (filter (λ row. has_home depth slot
 abbrev pub over_reduce : ℕ → ℕ → Grouping → List Row → List Row
 over_reduce depth slots g rows = filter (λ row. not (has_home depth slots (map (key_of g) rows) (key_of g row))) rows
 
--- it holds each resident key by rising place, with the fold of its values
+-- it holds each resident key, here in the order of first places, with the fold of its values
 abbrev pub held_rows : ℕ → ℕ → Grouping → List Row → List Row
-held_rows depth slots g rows = map (row_for g (map (pair_of g) rows)) (homes_by_place depth slots (map (key_of g) rows))
+held_rows depth slots g rows = map (row_for g (map (pair_of g) rows)) (filter (has_home depth slots (map (key_of g) rows)) (once same_row (map (key_of g) rows)))
 
 -- ---- operators one after another
 

@@ -2,5 +2,4 @@ pub mod AnyFlow
 pub mod Flows
 pub mod Fitting
 pub mod Settings
-pub mod Overs
 pub mod Counts

@@ -44,5 +44,5 @@ pub fn counts_of<R: AnyRow>(
     ensures small { IfOk result (λ counts. AllByRecursion (λ n. n ≤ 13 * most_records) counts) }
 {
     let (front, _) = t.operators(q, b).split_at(t.max_cut(q, b) as usize);
-    counts_along(alloc, front, level, chain, slots, rows)
+    counts_along(alloc, t.seed, front, level, chain, slots, rows)
 }

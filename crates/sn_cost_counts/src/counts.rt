@@ -14,7 +14,9 @@ use crate::stateless::pass_all;
 use sn_base::any_row::AnyRow;
 use sn_base::memory::Memory;
 use sn_base::row_seq::RowSeq;
+use sn_base::seed::Seed;
 use sn_base::seq::Seq;
+use sn_cost_tally::room::Room;
 use sn_types::cuts::is_stateful;
 use sn_types::typed_op::TOp;
 use std::alloc::Global;
@@ -33,24 +35,23 @@ fn add_counts<R: AnyRow>(flows: &[FlowOf<R>], counts: &mut Seq<u64>) -> Result<(
 
 /// All rows after an operator.
 fn behind<R: AnyRow>(
-    alloc: Global,
+    room: &mut Room,
     op: &TOp,
     level: u32,
     depth: u32,
     slots: &[u32],
     flows: Vec<FlowOf<R>>,
 ) -> Result<Vec<FlowOf<R>>, Memory>
-    requires some_depth { 1 ≤ depth }
     requires most_depth { depth ≤ 4 }
     requires sizes { All (λ size. (1 ≤ size) × (size ≤ largest_register)) slots.now }
     requires go { (passed : ℕ) × (ahead : List TOp) × (passed < 12) × AllGo level passed (op.now ∷ ahead) flows.items }
     ensures { IfOk result (λ out. out.items ≡ wider depth level slots.now op.now flows.items) }
 {
     if is_stateful(op) {
-        return by_size(alloc, op, depth, slots, flows.as_slice());
+        return by_size(room, op, depth, slots, flows.as_slice());
     }
     let mut flows = flows;
-    pass_all(alloc, op, level, flows.as_mut_slice())?;
+    pass_all(room.alloc, op, level, flows.as_mut_slice())?;
     Ok(flows)
 }
 
@@ -70,13 +71,13 @@ fn at_start<R: AnyRow>(alloc: Global, rows: RowSeq<R>) -> Result<Vec<FlowOf<R>>,
 /// How many items a prefix of these operators sends of these rows, for each cut and all sizes of its registers.
 pub(crate) fn counts_along<R: AnyRow>(
     alloc: Global,
+    seed: Seed,
     ops: &[TOp],
     level: u32,
     depth: u32,
     slots: &[u32],
     rows: RowSeq<R>,
 ) -> Result<Seq<u64>, Memory>
-    requires some_depth { 1 ≤ depth }
     requires most_depth { depth ≤ 4 }
     requires sizes { All (λ size. (1 ≤ size) × (size ≤ largest_register)) slots.now }
     requires operators { length ops.now ≤ 12 }
@@ -85,11 +86,12 @@ pub(crate) fn counts_along<R: AnyRow>(
     requires fits { AllFit level ops.now [] }
     ensures counts { IfOk result (λ counts. counts ≡ counts_from depth level slots.now ops.now (starting rows ∷ [])) }
 {
+    let mut room = Room::new(alloc, seed);
     let mut counts = Seq::new(alloc);
     let mut flows = at_start(alloc, rows)?;
     for op in ops {
         add_counts(flows.as_slice(), &mut counts)?;
-        flows = behind(alloc, op, level, depth, slots, flows)?;
+        flows = behind(&mut room, op, level, depth, slots, flows)?;
     }
     add_counts(flows.as_slice(), &mut counts)?;
     Ok(counts)

@@ -4,7 +4,7 @@
 pub mod branch;
 mod counts;
 pub mod flow;
-mod held;
-mod offers;
+mod grouped;
+mod once;
 mod sizes;
 mod stateless;

@@ -138,7 +138,8 @@ impl Engine {
         share_all(&mut self.lanes);
     }
 
-    fn take_row<R: LaneRow>(&mut self, lane: Lane, item: &Item<R>) -> Result<(), TakeFault>
+    /// Takes an item of a lane as `take` takes its frame, with no frame made of it.
+    pub fn take_item<R: LaneRow>(&mut self, lane: Lane, item: &Item<R>) -> Result<(), TakeFault>
         ensures fault { Refuses result (take_fault self.old.t.queries self.old.lanes.items self.old.closed (Frame.Row lane (item_by R.columns item.now))) }
         ensures taken { OnOk result (self.new.lanes.items ≡ after_frame self.old.lanes.items (Frame.Row lane (item_by R.columns item.now))) }
         ensures kept { OnErr result (self.new.lanes.items ≡ self.old.lanes.items) }
@@ -178,7 +179,7 @@ impl Engine {
         ensures queries { self.new.t.queries ≡ self.old.t.queries }
     {
         match frame {
-            Frame::Row(lane, item) => self.take_row(*lane, item),
+            Frame::Row(lane, item) => self.take_item(*lane, item),
             Frame::End(lane, window) => self.take_end(*lane, *window),
         }
     }

@@ -139,11 +139,9 @@ fn has_columns<R: AnyRow>(schema: &Schema, row: &R) -> bool
     if count != schema.len() {
         return false;
     }
+    let columns = schema.as_slice();
     for place in 0..count {
-        let Some(column) = schema.get(place) else {
-            unreachable!();
-        };
-        if !has_bits(row.column(place as u32), column.width) {
+        if !has_bits(row.column(place as u32), columns[place].width) {
             return false;
         }
     }

@@ -56,7 +56,7 @@ pub(crate) fn value<R: AnyRow>(
     ensures { IfOk result (λ rows. rows ≡ value (map (op_at level) ops.now) (map (item_by R.columns) items.now)) }
 {
     let span = span_of(items);
-    let mut rows = RowSeq::new(alloc);
+    let mut rows = RowSeq::with_room(alloc, items.len())?;
     push_rows_at(&mut rows, items, span, 0)?;
     let mut operator = 0;
     for op in ops {

@@ -1,13 +1,14 @@
 //! What the switches have gathered goes to the one engine.
-ghost use Rattle.std.specs.Prelude.{◌≡◌, ◌<◌, ◌⊎◌, ◌↔◌, IfOk, IfSome, IsNone, None, OnOk, Some, fold, length, map, true};
+ghost use Rattle.std.specs.Prelude.{◌≡◌, ◌<◌, ◌⊎◌, ◌↔◌, IfOk, IfSome, IsNone, None, OnOk, Some, fold, length, map, suc, true};
 ghost use Rattle.std.specs.List.{flat_map, list_all, list_any};
 ghost use Rattle.sn_engine.specs.Answers.{parts_of, window_of};
 ghost use Rattle.sn_engine.specs.Intakes.{AreIntakes, IsIntake, after_frame, emptied, has_ended, lane_at, total};
 ghost use Rattle.sn_engine.specs.Keeping.{gathered};
-ghost use Rattle.sn_engine.specs.Taking.{take_fault};
 ghost use Rattle.sn_engine_lockstep.specs.Work.{lanes_left};
 ghost use Rattle.sn_engine_many.specs.Turns.{end_of, frames_of, lane_tag, turn};
-ghost use Rattle.sn_report.specs.Items.{frame_by, item_by};
+ghost use Rattle.sn_pipe_items.specs.Value.{is_at};
+ghost use Rattle.sn_report.specs.Frames.{operator_of};
+ghost use Rattle.sn_report.specs.Items.{item_by};
 ghost use Rattle.sn_report.specs.declared.frame.Frame.TheVariants as Frame;
 ghost use Rattle.sn_types.specs.Typed.{query_at};
 
@@ -32,22 +33,16 @@ fn lane_tag(t: &Typed, x: &Intake) -> Option<Tag>
     held_tag(front(t, x.query, x.branch, x.cut))
 }
 
-/// An item that stands after the operator of this tag has this tag.
-fn turn<R: LaneRow>(tag: Option<Tag>, item: &Item<R>) -> Item<R>
-    ensures { item_by R.columns result ≡ turn tag (item_by R.columns item.now) }
+/// Whether an item with this tag stands after the operator of a tag.
+fn is_after(held: Tag, own: Tag) -> bool
+    ensures { result ≡ is_at (suc (operator_of held)) own }
 {
-    let after = match (tag, item.tag) {
-        (Some(Tag::At(held)), Tag::At(number)) | (Some(Tag::Partial(held)), Tag::At(number)) => {
-            number as u32 == held as u32 + 1
-        }
-        _ => false,
+    let number = match held {
+        Tag::At(number) | Tag::Partial(number) => number,
     };
-    match tag {
-        Some(held) if after => Item {
-            tag: held,
-            row: item.row,
-        },
-        _ => *item,
+    match own {
+        Tag::At(place) => place as u32 == number as u32 + 1,
+        Tag::Partial(_) => false,
     }
 }
 
@@ -66,17 +61,41 @@ fn name_of(x: &Intake) -> Option<Lane>
     })
 }
 
-/// The engine takes a frame.
-fn take<R: LaneRow>(engine: &mut Engine, frame: &Frame<R>) -> Result<(), Memory>
-    ensures no_fault { OnOk result (take_fault engine.old.t.queries engine.old.lanes.items engine.old.closed (frame_by R.columns frame.now) ≡ None) }
-    ensures taken { OnOk result (engine.new.lanes.items ≡ after_frame engine.old.lanes.items (frame_by R.columns frame.now)) }
+/// The engine takes an item of a lane.
+fn take_item<R: LaneRow>(engine: &mut Engine, lane: Lane, item: &Item<R>) -> Result<(), Memory>
+    ensures taken { OnOk result (engine.new.lanes.items ≡ after_frame engine.old.lanes.items (Frame.Row lane (item_by R.columns item.now))) }
     ensures queries { engine.new.t.queries ≡ engine.old.t.queries }
     ensures closed { engine.new.closed ≡ engine.old.closed }
     ensures prefixes { engine.new.kept ≡ engine.old.kept }
 {
-    match engine.take(frame) {
+    match engine.take_item(lane, item) {
         Ok(()) => Ok(()),
         Err(_) => Err(Memory),
+    }
+}
+
+/// The engine takes an item of a lane: where it stands after the operator of this tag, with this tag.
+fn gather_item<R: LaneRow>(
+    engine: &mut Engine,
+    lane: Lane,
+    tag: Option<Tag>,
+    item: &Item<R>,
+) -> Result<(), Memory>
+    ensures taken { OnOk result (engine.new.lanes.items
+        ≡ after_frame engine.old.lanes.items (Frame.Row lane (turn tag (item_by R.columns item.now)))) }
+    ensures queries { engine.new.t.queries ≡ engine.old.t.queries }
+    ensures closed { engine.new.closed ≡ engine.old.closed }
+    ensures prefixes { engine.new.kept ≡ engine.old.kept }
+{
+    match tag {
+        Some(held) if is_after(held, item.tag) => {
+            let turned = Item {
+                tag: held,
+                row: item.row,
+            };
+            take_item(engine, lane, &turned)
+        }
+        _ => take_item(engine, lane, item),
     }
 }
 
@@ -94,7 +113,7 @@ fn gather_items<R: LaneRow>(
     ensures prefixes { engine.new.kept ≡ engine.old.kept }
 {
     for item in items {
-        take(engine, &Frame::Row(lane, turn(tag, item)))?;
+        gather_item(engine, lane, tag, item)?;
     }
     Ok(())
 }
@@ -143,8 +162,10 @@ fn end_lane(engine: &mut Engine, x: &Intake, window: u64) -> Result<(), Memory>
         return Err(Memory);
     };
     let end: Frame<ShortRow> = Frame::End(lane, window);
-    take(engine, &end)?;
-    Ok(())
+    match engine.take(&end) {
+        Ok(()) => Ok(()),
+        Err(_) => Err(Memory),
+    }
 }
 
 /// The engine takes one End for each of these lanes. `Memory` also where there is none, though each plan has one.

@@ -8,7 +8,7 @@ ghost use Rattle.sn_lanes.specs.Words.{are_words};
 
 use sn_base::any_row::AnyRow;
 use sn_base::number::Number;
-use sn_base::slot::slot_of;
+use sn_base::slot::{remainder, slot_of};
 use std::simd::prelude::*;
 
 const BASIS: u64 = 14695981039346656037;
@@ -159,21 +159,6 @@ fn hashes8<R: AnyRow>(index: u32, keys: &[R]) -> [u64; 8]
         hash = mix_place(hash, column, lengths, place);
     }
     hash.to_array()
-}
-
-/// The remainder of a hash by a number of slots. That is mostly a power of two, and a division takes as long as all else.
-fn remainder(hash: u64, slots: u32) -> u32
-    requires { 1 ≤ slots }
-    ensures { result ≡ hash % slots }
-{
-    let size = u64::from(slots);
-    let zeros = size.trailing_zeros();
-    let left = if zeros < 32 && 1 << zeros == size {
-        hash & (size - 1)
-    } else {
-        hash % size
-    };
-    left as u32
 }
 
 fn fill_slots(hashes: &[u64], slots: u32, out: &mut [u32])

@@ -37,7 +37,7 @@ pub fn distinct_by<R: AnyRow>(
     ensures { IfOk result (λ out. out ≡ apply (op_at 0 TOp.Distinct) rows.now) }
 {
     let mut seen = Rows::new(alloc, seed);
-    let mut out = RowSeq::new(alloc);
+    let mut out = RowSeq::with_room(alloc, rows.len())?;
     for place in 0..rows.len() {
         let row = rows.at(place);
         if seen.insert(row)? {
@@ -52,7 +52,7 @@ pub(crate) fn rows_of<R: AnyRow>(alloc: Global, groups: &Table<R>) -> Result<Row
     requires { All (λ g. length g.0 < 8) groups.now.entries }
     ensures { IfOk result (λ out. out ≡ map (λ g. g.0 ++ g.1 ∷ []) groups.now.entries) }
 {
-    let mut out = RowSeq::new(alloc);
+    let mut out = RowSeq::with_room(alloc, groups.len())?;
     let mut row = R::empty();
     for place in 0..groups.len() {
         let Some(total) = groups.get_into(place, &mut row) else {

@@ -64,11 +64,7 @@ fn add_row<R: AnyRow>(r: &TReduce, groups: &mut Table<R>, row: &R) -> Result<(),
 }
 
 /// What these operators have seen at first: nothing.
-pub(crate) fn unseen<R: AnyRow>(
-    alloc: Global,
-    seed: Seed,
-    ops: &[TOp],
-) -> Result<Vec<Seen<R>>, Memory>
+pub fn unseen<R: AnyRow>(alloc: Global, seed: Seed, ops: &[TOp]) -> Result<Vec<Seen<R>>, Memory>
     ensures { IfOk result (λ seen. (level : ℕ) → Stands level ops.now seen.items [] []) }
 {
     let mut seen = Vec::new(alloc);

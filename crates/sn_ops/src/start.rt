@@ -14,7 +14,7 @@ use sn_types::typed_op::TOp;
 
 /// Takes a packet row through operators as `take` takes a row; `row` changes on the way. None is made of it for the filters
 /// at their front, nor for a map after these.
-pub(crate) fn start<R: AnyRow>(
+pub fn start<R: AnyRow>(
     ops: &[TOp],
     seen: &mut [Seen<R>],
     level: u32,

@@ -114,13 +114,15 @@ fn first_up<R: AnyRow>(
     ensures left { filter (goes_up level spilled behind.now) (rows_left chain.now result.1) ≡
         drop 1 (filter (goes_up level spilled behind.now) (rows_left chain.now place)) }
 {
-    for at in place..chain.places() {
+    let mut at = chain.next_held(place);
+    while at < chain.places() {
         let row = up_at(chain, behind, level, spilled, at, columns);
         if row.is_some() {
             return (row, at + 1);
         }
+        at = chain.next_held(at + 1);
     }
-    (None, place.max(chain.places()))
+    (None, at)
 }
 
 /// The next item that is read out of stages, the first of which has number `first`, from a place of the reduce on;

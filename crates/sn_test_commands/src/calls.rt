@@ -1,7 +1,8 @@
 //! Calls of the commands that answer captures, as a user makes them.
 //!
 //! The rows are worked by hand.
-use crate::bench::{Form, expect};
+use crate::call::Top;
+use sn_test_cases::table::{Form, expect};
 use std::test::Fail;
 
 /// `plain` and `run`, in blocks and as comma-separated values.
@@ -603,11 +604,11 @@ train: 0 1 9, 100000 1 9, 1000000 1 9, 1100000 1 9
 
 #[test]
 fn answers_captures(rt: HostRuntime) -> Result<(), Fail> {
-    expect(rt.alloc(), Form::Body, CALLS)?;
-    expect(rt.alloc(), Form::Whole, TWO)
+    expect::<Top>(rt.alloc(), Form::Body, CALLS)?;
+    expect::<Top>(rt.alloc(), Form::Whole, TWO)
 }
 
 #[test]
 fn traces_events(rt: HostRuntime) -> Result<(), Fail> {
-    expect(rt.alloc(), Form::Whole, TRACED)
+    expect::<Top>(rt.alloc(), Form::Whole, TRACED)
 }

@@ -1,5 +1,6 @@
 //! Commands: their words, the order of their work, and reports that are finished.
-use crate::bench::{Form, expect};
+use crate::call::Top;
+use sn_test_cases::table::{Form, expect};
 use std::test::Fail;
 
 /// Words that spell no command, files that aren't there, and which refusal comes first.
@@ -418,7 +419,7 @@ reports: 0100000000010200 000000000a000009 00000000000000010102000000000100 0000
 #[test]
 fn does_commands(rt: HostRuntime) -> Result<(), Fail> {
     for table in [WORDS, REPORTS, LANES] {
-        expect(rt.alloc(), Form::Body, table)?;
+        expect::<Top>(rt.alloc(), Form::Body, table)?;
     }
     Ok(())
 }

@@ -2,7 +2,8 @@
 //!
 //! The rows are worked by hand. A slot holds the first key that comes to it, and packets of another key go up too early.
 //! Of two slots 10.0.0.1 has the one and 10.0.0.2 the other, by the last bit.
-use crate::bench::{Form, expect};
+use crate::call::Top;
+use sn_test_cases::table::{Form, expect};
 use std::test::Fail;
 
 /// Counts by destination, with room for one key or two. The first plan is made for one key, and in window 0 two packets
@@ -298,7 +299,7 @@ syn: 0 7 9, 1 7 8, 2 7 10, 3 7 1, 1000000 7 9, 2000000 7 9
 #[test]
 fn follows_traffic(rt: HostRuntime) -> Result<(), Fail> {
     for table in [TURNS, LEVELS] {
-        expect(rt.alloc(), Form::Body, table)?;
+        expect::<Top>(rt.alloc(), Form::Body, table)?;
     }
     Ok(())
 }

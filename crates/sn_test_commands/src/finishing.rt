@@ -1,5 +1,6 @@
 //! Reports that are finished: frames that no lane takes, levels, and keys in more than one row.
-use crate::bench::{Form, expect};
+use crate::call::Top;
+use sn_test_cases::table::{Form, expect};
 use std::test::Fail;
 
 /// Of a deeper lane's items those of other prefixes than the window before was answered with are dropped, and counted;
@@ -195,10 +196,10 @@ reports: 020000000000010020010db8000000000000000000000000 020000000000010020010d
 
 #[test]
 fn finishes_reports(rt: HostRuntime) -> Result<(), Fail> {
-    expect(rt.alloc(), Form::Body, FINISHED)
+    expect::<Top>(rt.alloc(), Form::Body, FINISHED)
 }
 
 #[test]
 fn drops_items_of_other_prefixes(rt: HostRuntime) -> Result<(), Fail> {
-    expect(rt.alloc(), Form::Body, DROPPED)
+    expect::<Top>(rt.alloc(), Form::Body, DROPPED)
 }

@@ -3,11 +3,11 @@
 //! The rows are worked by hand. In window 0 two packets each come to 10.0.0.9 and 10.0.0.20, in window 1 to 10.0.0.9 and
 //! 10.0.0.40: three prefixes of 28 bits. Of window 0 level 28 answers 10.0.0.0 and 10.0.0.16, so of window 1 level 32
 //! answers 10.0.0.9 alone, whether the packets to 10.0.0.40 pass or not.
-use crate::bench::{Form, expect};
-use crate::call::call;
+use crate::call::{Top, call};
 use sn_base::seq::Seq;
 use sn_io::mem_inputs::MemInputs;
 use sn_io::mem_sink::MemSink;
+use sn_test_cases::table::{Form, expect};
 use sn_test_inputs::packets::{HEADER, push_syns};
 use std::alloc::Global;
 use std::test::Fail;
@@ -533,7 +533,7 @@ fn finishes_what_an_open_table_sends(rt: HostRuntime) -> Result<(), Fail> {
 #[test]
 fn open_tables_change_no_answer(rt: HostRuntime) -> Result<(), Fail> {
     for table in [UNCUT, CUT, SEVERAL] {
-        expect(rt.alloc(), Form::Body, table)?;
+        expect::<Top>(rt.alloc(), Form::Body, table)?;
     }
     Ok(())
 }
@@ -541,7 +541,7 @@ fn open_tables_change_no_answer(rt: HostRuntime) -> Result<(), Fail> {
 #[test]
 fn installed_prefixes_have_a_price(rt: HostRuntime) -> Result<(), Fail> {
     for table in [WEIGHED, CHECKED, EPOCHS] {
-        expect(rt.alloc(), Form::Body, table)?;
+        expect::<Top>(rt.alloc(), Form::Body, table)?;
     }
     Ok(())
 }

@@ -1,7 +1,8 @@
 //! What refinement sees, and when.
 //!
 //! The rows are worked by hand.
-use crate::bench::{Form, expect};
+use crate::call::Top;
+use sn_test_cases::table::{Form, expect};
 use std::test::Fail;
 
 /// Stays of 10.0.0.9, of which two packets come in a window.
@@ -108,7 +109,7 @@ syn: 0 1 9
 #[test]
 fn tells_stays(rt: HostRuntime) -> Result<(), Fail> {
     for table in [STAYS, BOUNDS] {
-        expect(rt.alloc(), Form::Body, table)?;
+        expect::<Top>(rt.alloc(), Form::Body, table)?;
     }
     Ok(())
 }

@@ -106,3 +106,27 @@ fn clears_in_the_last_round(rt: HostRuntime) -> Result<(), Fail> {
     assert_eq!(rt; chain.get(0), Some((row(&[2]), 3)));
     Ok(())
 }
+
+/// Of the 300 slots key 3 has slot 14, and key 6 slot 287.
+#[test]
+fn goes_from_held_place_to_held_place(rt: HostRuntime) -> Result<(), Fail> {
+    let mut chain = Chain::make(rt.alloc(), SatSum { v: 16 }, 1, 300)?;
+    assert_eq!(rt; chain.next_held(0), 300);
+    assert_eq!(rt; chain.offer(&row(&[6]), 1), Offer::New);
+    assert_eq!(rt; chain.offer(&row(&[3]), 1), Offer::New);
+    for (from, next) in [
+        (0, 14),
+        (14, 14),
+        (15, 287),
+        (287, 287),
+        (288, 300),
+        (1000, 1000),
+    ] {
+        assert_eq!(rt; chain.next_held(from), next);
+    }
+    chain.clear();
+    assert_eq!(rt; chain.next_held(0), 300);
+    assert_eq!(rt; chain.offer(&row(&[6]), 1), Offer::New);
+    assert_eq!(rt; chain.next_held(0), 287);
+    Ok(())
+}

@@ -70,6 +70,14 @@ impl Machine for Twist {
         self.net.enabled(event)
     }
 
+    fn read_outs(&self) -> u64 {
+        self.net.read_outs()
+    }
+
+    fn deliveries(&self) -> u64 {
+        self.net.deliveries()
+    }
+
     fn happen(&mut self, event: Event) -> Result<(), Memory> {
         self.net.happen(event)
     }

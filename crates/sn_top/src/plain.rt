@@ -5,7 +5,6 @@ ghost use Rattle.sn_command.specs.Runs.{WorksFrom};
 ghost use Rattle.sn_top.specs.Plain.{Plain};
 
 use crate::unsplit::Unsplit;
-use sn_base::seq::Seq;
 use sn_command::desk::Desk;
 use sn_command::refusal::Refusal;
 use sn_command_capture::capture::answer_capture;
@@ -26,10 +25,6 @@ pub fn plain<I: Inputs, O: Sink>(
 {
     let typed = read_queries(alloc, desk, queries)?;
     let window_ns = typed.window_ns();
-    let mut unsplit = Unsplit {
-        alloc,
-        typed,
-        tuples: Seq::new(alloc),
-    };
+    let mut unsplit = Unsplit::begin(alloc, &typed)?;
     answer_capture(alloc, window_ns, capture, &mut unsplit, desk)
 }

@@ -14,4 +14,4 @@ loop-op-preserved g c =
     let within : c.loop-op.op-index < length c.args.ops.now = omega arith in
     let more : List Row = rows_with (is_at (n + 1)) items in
     turn level n c.loop-op.op-index c.args.ops.now op items c.loop-op.rows c.push_rows_at-in-loop-op.new.rows within c.op-item.is c.loop-op.invariant
-    (c.in_ok-push_rows_at-2.ensures ∙ ap (λ (out : List Row). out ++ more) c.in_ok-rows.ensures)
+    (c.in_ok-push_rows_at-2.ensures ∙ ap (λ (out : List Row). out ++ more) c.in_ok-rows-2.ensures)

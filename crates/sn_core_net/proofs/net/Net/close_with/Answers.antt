@@ -80,6 +80,7 @@ invariant_of-self c =
       unread = refl;
       own = sym (ap (λ (w : Window). are_own (window_number w) net.lanes.items) c.requires.begun) ∙ net.own;
       agreed = refl;
+      marked = net.marked;
       known = subst (λ (qs : List TypedQuery). AreKnown qs net.sources) (sym c.empty.ensures.queries) net.known;
       standing = event_stands net.engine.t.queries engine.t.queries xs ys net.sources c.empty.ensures.queries empty (state net)
           (state_of net.room net.held (Closed c.args.number) net.lanes.items ys c.args.sets.items (last_of engine.closed engine.kept) (Some c.args.answers)) event.CloseWindow net.standing c.requires.may

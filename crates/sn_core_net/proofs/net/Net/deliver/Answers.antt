@@ -1,6 +1,6 @@
-use Rattle.std.proofs.Common.{◌≡◌, ◌<◌, ◌^◌, ◌∙◌, ◌==◌, ◌||◌, [], ◌∷◌, ap, ap₂, sym, subst, length, map, not, nat_eq, true, get_or, set, slice_get, Option, None, Some, Result, Ok, Err, OnOk, OnErr, ℕ, List, Bool, refl}
+use Rattle.std.proofs.Common.{◌≡◌, ◌<◌, ◌≤◌, ◌∙◌, ◌==◌, ◌||◌, [], ◌∷◌, ap, ap₂, sym, subst, length, map, not, nat_eq, true, get_or, set, slice_get, Option, None, Some, Result, Ok, Err, OnOk, OnErr, ℕ, List, Bool, refl, arith}
 use Rattle.std.proofs.lemmas.Bool.{false≢true}
-use Rattle.std.proofs.lemmas.List.{length-set}
+use Rattle.std.proofs.lemmas.List.{get_or-set_same, length-set}
 use Rattle.sn_core.proofs.Tests.{length_changed}
 use Rattle.std.specs.List.{list_all}
 use Rattle.sn_core.specs.Events.{after_event, change_at}
@@ -10,6 +10,7 @@ use Rattle.sn_core.specs.declared.event.Event.TheVariants as event
 use Rattle.sn_engine_lockstep.specs.Known.{AreKnown}
 use Rattle.sn_engine_lockstep.specs.Work.{taken}
 use Rattle.sn_engine.specs.Intakes.{after_frame, emptied}
+use Rattle.sn_engine.specs.declared.engine.Engine.{Engine}
 use Rattle.sn_engine.specs.declared.intake.Intake.{Intake}
 use Rattle.sn_core_net.specs.PlanWorkings.{workings_of}
 use Rattle.sn_report.specs.Items.{Frame as Report}
@@ -19,11 +20,13 @@ use Rattle.sn_core_net.specs.declared.net.Net.{Net}
 use Rattle.sn_core_net.specs.Facts.{are_named, are_own, are_roomy, are_unread, ends_agree, may_be_read, names_of}
 use Rattle.sn_core_net.specs.Holders.{after_frame_of, without_first}
 use Rattle.sn_core_net.specs.Nets.{last, state, works}
-use Rattle.sn_core_net.specs.States.{last_of, state_of}
+use Rattle.sn_core_net.specs.Marks.{AreMarksFrom, Sees}
+use Rattle.sn_core_net.specs.States.{State, last_of, state_of}
 use Rattle.sn_refine.specs.Steps.{Set}
 use Rattle.sn_core_net.specs.Reports.{frame_of, is_own, report_of, window_number}
 use Rattle.sn_core_net.proofs.Changes.{deliver_changes, deliver_may}
 use Rattle.sn_core_net.proofs.Facts.{event_stands, same_stands}
+use Rattle.sn_core_net.proofs.MarkLemmas.{marks_set}
 use Rattle.sn_core_net.proofs.Named.{frame_taken, names_set, or_kept, own_frame, taken_agrees, taken_emptied}
 use Rattle.sn_core_net.proofs.Zips.{all_at, all_dropped, all_first, all_set, set_same}
 use Rattle.sn_core_net.proofs.net.Net.deliver.Goals as goal
@@ -112,22 +115,26 @@ invariant_of-self c =
     let hs : List Holder = net.lanes.items in
     let xs : List Intake = net.engine.lanes.items in
     let h : Holder = c.index_mut.result.now in
-    let next : Holder = c.deliver.new.self in
-    let ys : List Intake = c.deliver.new.engine.lanes.items in
+    let next : Holder = c.deliver-taken.new.self in
+    let ys : List Intake = c.deliver-taken.new.engine.lanes.items in
     let own : h ≡ get_or hs n h = c.index_mut.ensures.value in
-    let engine = c.deliver.new.engine in
-    let same_last : last_of engine.closed engine.kept ≡ last net = ap₂ last_of c.deliver.ensures.closed c.deliver.ensures.prefixes in
-    either_way (ys ≡ after_frame_of xs (slice_get h.ring.items 0)) (next ≡ without_first h) (ys ≡ xs) (next ≡ h) c.deliver.result c.deliver.ensures.taken c.deliver.ensures.gone c.deliver.ensures.kept c.deliver.ensures.same
+    let engine = c.deliver-taken.new.engine in
+    let seen : c.index.result.now ≡ next = c.index.ensures ∙ get_or-set_same hs n next c.index.result.now c.requires.lane in
+    let marked : AreMarksFrom 0 net.room (set hs n next) c.see.new.self =
+    marks_set net.room n hs next net.marks c.see.new.self c.requires.lane (omega (arith, c.requires.lane, net.few)) (subst (λ (k : Holder). Sees n net.room k net.marks c.see.new.self) seen c.see.ensures) net.marked in
+    let same_last : last_of engine.closed engine.kept ≡ last net = ap₂ last_of c.deliver-taken.ensures.closed c.deliver-taken.ensures.prefixes in
+    either_way (ys ≡ after_frame_of xs (slice_get h.ring.items 0)) (next ≡ without_first h) (ys ≡ xs) (next ≡ h) c.deliver-taken.result c.deliver-taken.ensures.taken c.deliver-taken.ensures.gone c.deliver-taken.ensures.kept c.deliver-taken.ensures.same
     (λ by gone. record {
       matched = matched net n h next ys c.requires.lane c.requires.may own gone by;
-      few = subst (λ (k : ℕ). k < 2 ^ 32) (sym (length-set hs n next)) net.few;
+      few = subst (λ (k : ℕ). k ≤ 64) (sym (length-set hs n next)) net.few;
       roomy = roomy net n h next ys c.requires.lane c.requires.may own gone by;
       named = named net n h next ys c.requires.lane c.requires.may own gone by;
       unread = unread net n h next ys c.requires.lane c.requires.may own gone by;
       own = owned net n h next ys c.requires.lane c.requires.may own gone by;
       agreed = agreed net n h next ys c.requires.lane c.requires.may own gone by;
-      known = subst (λ (qs : List TypedQuery). AreKnown qs net.sources) (sym c.deliver.ensures.queries) net.known;
-      standing = event_stands net.engine.t.queries c.deliver.new.engine.t.queries xs ys net.sources c.deliver.ensures.queries (empty net n h next ys c.requires.lane c.requires.may own gone by) (state net)
+      known = subst (λ (qs : List TypedQuery). AreKnown qs net.sources) (sym c.deliver-taken.ensures.queries) net.known;
+      marked = marked;
+      standing = event_stands net.engine.t.queries c.deliver-taken.new.engine.t.queries xs ys net.sources c.deliver-taken.ensures.queries (empty net n h next ys c.requires.lane c.requires.may own gone by) (state net)
           (state_of net.room net.held net.window (set hs n next) ys net.installs.items (last_of engine.closed engine.kept) net.waiting) (event.Deliver n) net.standing c.requires.may
           (ap (λ (l : Option (ℕ × List Set)). state_of net.room net.held net.window (set hs n next) ys net.installs.items l net.waiting) same_last ∙ changed net n h next ys c.requires.lane c.requires.may own gone by);
     })
@@ -136,43 +143,73 @@ invariant_of-self c =
     let same : set hs n next ≡ hs = set_same hs n h next c.requires.lane own still in
     record {
       matched = ap (λ (ks : List Holder). length ks) same ∙ net.matched ∙ sym (ap (λ (zs : List Intake). length zs) kept);
-      few = subst (λ (ks : List Holder). length ks < 2 ^ 32) (sym same) net.few;
+      few = subst (λ (ks : List Holder). length ks ≤ 64) (sym same) net.few;
       roomy = ap (are_roomy net.room) same ∙ net.roomy;
       named = ap₂ (λ (ks : List Holder) (zs : List Intake). are_named (names_of ks) (map emptied zs)) same kept ∙ net.named;
       unread = ap (λ (ks : List Holder). may_be_read net.window net.held || are_unread ks) same ∙ net.unread;
       own = ap (are_own (window_number net.window)) same ∙ net.own;
       agreed = ap (ends_agree net.window) kept ∙ net.agreed;
-      known = subst (λ (qs : List TypedQuery). AreKnown qs net.sources) (sym c.deliver.ensures.queries) net.known;
-      standing = same_stands net.engine.t.queries c.deliver.new.engine.t.queries xs ys net.sources c.deliver.ensures.queries (ap (λ (zs : List Intake). map emptied zs) kept)
+      known = subst (λ (qs : List TypedQuery). AreKnown qs net.sources) (sym c.deliver-taken.ensures.queries) net.known;
+      marked = marked;
+      standing = same_stands net.engine.t.queries c.deliver-taken.new.engine.t.queries xs ys net.sources c.deliver-taken.ensures.queries (ap (λ (zs : List Intake). map emptied zs) kept)
           (λ zs. state_of net.room net.held net.window (set hs n next) zs net.installs.items (last_of engine.closed engine.kept) net.waiting) kept
           (subst (λ (l : Option (ℕ × List Set)). ∥ IsNet (works net) (state_of net.room net.held net.window (set hs n next) xs net.installs.items l net.waiting) ∥₁) (sym same_last)
           (subst (λ (ks : List Holder). ∥ IsNet (works net) (state_of net.room net.held net.window ks xs net.installs.items (last net) net.waiting) ∥₁) (sym same) net.standing));
     })
 
+-- what holds of one outcome alone
+ok_both : {A E : Type 0} (P Q R : Type 0) (r : Result A E) → OnOk r P → OnOk r Q → (P → Q → R) → OnOk r R
+ok_both P Q R (Ok a) p q then = then p q
+ok_both P Q R (Err e) p q then = tt
+
+err_both : {A E : Type 0} (P Q R : Type 0) (r : Result A E) → OnErr r P → OnErr r Q → (P → Q → R) → OnErr r R
+err_both P Q R (Ok a) p q then = tt
+err_both P Q R (Err e) p q then = then p q
+
+module _ (net : Net) (n : ℕ) (h next : Holder) (engine : Engine) (within : n < length net.lanes.items) (may : first_need_that_fails (state net) (event.Deliver n) ≡ None) (own : h ≡ get_or net.lanes.items n h)
+    (closed : engine.closed ≡ net.engine.closed) (prefixes : engine.kept ≡ net.engine.kept) where
+  abbrev after : State
+  after = state_of net.room net.held net.window (set net.lanes.items n next) engine.lanes.items net.installs.items (last_of engine.closed engine.kept) net.waiting
+
+  delivered_now : engine.lanes.items ≡ after_frame_of net.engine.lanes.items (slice_get h.ring.items 0) → next ≡ without_first h → after ≡ after_event (works net) (state net) (event.Deliver n)
+  delivered_now by gone =
+      ap (λ (l : Option (ℕ × List Set)). state_of net.room net.held net.window (set net.lanes.items n next) engine.lanes.items net.installs.items l net.waiting) (ap₂ last_of closed prefixes)
+      ∙ changed net n h next engine.lanes.items within may own gone by
+
+  not_delivered : engine.lanes.items ≡ net.engine.lanes.items → next ≡ h → after ≡ state net
+  not_delivered kept still =
+      ap (λ (l : Option (ℕ × List Set)). state_of net.room net.held net.window (set net.lanes.items n next) engine.lanes.items net.installs.items l net.waiting) (ap₂ last_of closed prefixes)
+      ∙ ap₂ (λ (ks : List Holder) (zs : List Intake). state_of net.room net.held net.window ks zs net.installs.items (last net) net.waiting) (set_same net.lanes.items n h next within own still) kept
+
 pub returns-clause-ok : goal.returns-clause-ok
 returns-clause-ok c =
     let net : Net = c.args.self.now in
-    ap (λ (l : Option (ℕ × List Set)). state_of net.room net.held net.window (set net.lanes.items c.args.lane c.deliver.new.self) c.deliver.new.engine.lanes.items net.installs.items l net.waiting) (ap₂ last_of c.deliver.ensures.closed c.deliver.ensures.prefixes)
-    ∙ changed c.args.self.now c.args.lane c.index_mut.result.now c.deliver.new.self c.deliver.new.engine.lanes.items c.requires.lane c.requires.may c.index_mut.ensures.value c.in_ok-deliver.ensures.gone c.in_ok-deliver.ensures.taken
+    let h : Holder = c.index_mut.result.now in
+    let next : Holder = c.deliver-taken.new.self in
+    let engine : Engine = c.deliver-taken.new.engine in
+    ok_both (engine.lanes.items ≡ after_frame_of net.engine.lanes.items (slice_get h.ring.items 0)) (next ≡ without_first h)
+    (after net c.args.lane h next engine c.requires.lane c.requires.may c.index_mut.ensures.value c.deliver-taken.ensures.closed c.deliver-taken.ensures.prefixes ≡ after_event (works net) (state net) (event.Deliver c.args.lane))
+    c.deliver-taken.result c.deliver-taken.ensures.taken c.deliver-taken.ensures.gone
+    (delivered_now net c.args.lane h next engine c.requires.lane c.requires.may c.index_mut.ensures.value c.deliver-taken.ensures.closed c.deliver-taken.ensures.prefixes)
 
-on_err : {A E : Type 0} (P : Type 0) (r : Result A E) → P → OnErr r P
-on_err P (Ok a) p = tt
-on_err P (Err e) p = p
-
-pub returns-in_err-deliver-clause-err : goal.returns-in_err-deliver-clause-err
-returns-in_err-deliver-clause-err c =
+pub returns-clause-err : goal.returns-clause-err
+returns-clause-err c =
     let net : Net = c.args.self.now in
-    let hs : List Holder = net.lanes.items in
-    let next : Holder = c.deliver.new.self in
-    let ys : List Intake = c.deliver.new.engine.lanes.items in
-    let same : set hs c.args.lane next ≡ hs = set_same hs c.args.lane c.index_mut.result.now next c.requires.lane c.index_mut.ensures.value c.in_err-deliver.ensures.same in
-    let engine = c.deliver.new.engine in
-    on_err (state_of net.room net.held net.window (set hs c.args.lane next) ys net.installs.items (last_of engine.closed engine.kept) net.waiting ≡ state net) c.from_residual.result
-    (ap (λ (l : Option (ℕ × List Set)). state_of net.room net.held net.window (set hs c.args.lane next) ys net.installs.items l net.waiting) (ap₂ last_of c.deliver.ensures.closed c.deliver.ensures.prefixes)
-    ∙ ap₂ (λ (ks : List Holder) (zs : List Intake). state_of net.room net.held net.window ks zs net.installs.items (last net) net.waiting) same c.in_err-deliver.ensures.kept)
+    let h : Holder = c.index_mut.result.now in
+    let next : Holder = c.deliver-taken.new.self in
+    let engine : Engine = c.deliver-taken.new.engine in
+    err_both (engine.lanes.items ≡ net.engine.lanes.items) (next ≡ h)
+    (after net c.args.lane h next engine c.requires.lane c.requires.may c.index_mut.ensures.value c.deliver-taken.ensures.closed c.deliver-taken.ensures.prefixes ≡ state net)
+    c.deliver-taken.result c.deliver-taken.ensures.kept c.deliver-taken.ensures.same
+    (not_delivered net c.args.lane h next engine c.requires.lane c.requires.may c.index_mut.ensures.value c.deliver-taken.ensures.closed c.deliver-taken.ensures.prefixes)
 
 pub returns-clause-works : goal.returns-clause-works
 returns-clause-works c =
     let net : Net = c.args.self.now in
-    ap₂ (λ (qs : List TypedQuery) (es : List Intake). workings_of qs es net.sources) c.deliver.ensures.queries
-    (empty net c.args.lane c.index_mut.result.now c.deliver.new.self c.deliver.new.engine.lanes.items c.requires.lane c.requires.may c.index_mut.ensures.value c.in_ok-deliver.ensures.gone c.in_ok-deliver.ensures.taken)
+    let h : Holder = c.index_mut.result.now in
+    let next : Holder = c.deliver-taken.new.self in
+    let ys : List Intake = c.deliver-taken.new.engine.lanes.items in
+    ap₂ (λ (qs : List TypedQuery) (es : List Intake). workings_of qs es net.sources) c.deliver-taken.ensures.queries
+    (either_way (ys ≡ after_frame_of net.engine.lanes.items (slice_get h.ring.items 0)) (next ≡ without_first h) (ys ≡ net.engine.lanes.items) (next ≡ h) c.deliver-taken.result c.deliver-taken.ensures.taken c.deliver-taken.ensures.gone c.deliver-taken.ensures.kept
+    c.deliver-taken.ensures.same
+    (λ by gone. empty net c.args.lane h next ys c.requires.lane c.requires.may c.index_mut.ensures.value gone by) (λ kept still. ap (λ (zs : List Intake). map emptied zs) kept))

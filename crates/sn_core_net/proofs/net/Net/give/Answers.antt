@@ -31,6 +31,7 @@ invariant_of-self c =
           (∥∥₁_elim net.standing (Bool-set (are_own (window_number (window_from net.window next)) net.lanes.items) true) (λ h. given_own (works net) net.lanes.items xs net.matched net.held net.window next h.stands net.own));
       agreed = subst (λ (w : Window). ends_agree w xs ≡ true) (sym is)
           (∥∥₁_elim net.standing (Bool-set (ends_agree (window_from net.window next) xs) true) (λ h. given_ends (works net) net.lanes.items xs net.matched net.held net.window next h.stands net.agreed));
+      marked = net.marked;
       known = net.known;
       standing = subst (λ (w : Window). ∥ IsNet (works net) (state_of net.room (Some next) w net.lanes.items xs net.installs.items (last net) net.waiting) ∥₁) (sym is)
           (give_stands net.engine.t.queries xs net.sources (state net) next net.standing c.requires.wants c.requires.rises);

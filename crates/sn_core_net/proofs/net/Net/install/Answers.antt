@@ -1,4 +1,4 @@
-use Rattle.std.proofs.Common.{◌≡◌, ◌<◌, ◌^◌, ◌∙◌, ap, sym, subst, length, map, true, [], ℕ, List, refl}
+use Rattle.std.proofs.Common.{◌≡◌, ◌≤◌, ◌∙◌, ap, sym, subst, length, map, true, [], ℕ, List, refl}
 use Rattle.std.proofs.Math.Bool.{Bool-set}
 use Rattle.std.proofs.Math.Logic.{∥∥₁_elim}
 use Rattle.sn_base.specs.declared.lane.Lane.{Lane}
@@ -12,6 +12,7 @@ use Rattle.sn_core_net.specs.declared.holder.Holder.{Holder}
 use Rattle.sn_core_net.specs.declared.net.Net.{Net}
 use Rattle.sn_core_net.specs.Facts.{are_named, are_own, are_roomy, are_unread, ends_agree, may_be_read, names_of}
 use Rattle.sn_core_net.specs.Holders.{all_begun}
+use Rattle.sn_core_net.specs.Marks.{AreMarksFrom}
 use Rattle.sn_core_net.specs.Nets.{last, state, works}
 use Rattle.sn_core_net.specs.Reports.{window_number}
 use Rattle.sn_core_net.specs.States.{state_of}
@@ -35,6 +36,12 @@ ends net window closed is = ∥∥₁_elim net.standing (Bool-set (ends_agree wi
 own : (net : Net) (n closed : ℕ) → net.window ≡ Closed closed → are_own n net.lanes.items ≡ true
 own net n closed is = ∥∥₁_elim net.standing (Bool-set (are_own n net.lanes.items) true) (λ h. closed_own (works net) net.lanes.items net.engine.lanes.items net.matched net.held net.window n closed is h.stands)
 
+pub of-self-requires : goal.of-self-requires
+of-self-requires c =
+    let net : Net = c.args.self.now in
+    subst (λ (ks : List Holder). length ks ≤ 64) (sym (c.deref.ensures.value ∙ c.begin_next.ensures))
+    (subst (λ (k : ℕ). k ≤ 64) (sym (length_begun net.lanes.items (kept_for_held c.in-Closed.closed net.installs.items net.held))) net.few)
+
 pub invariant_of-self : goal.invariant_of-self
 invariant_of-self c =
     let net : Net = c.args.self.now in
@@ -47,13 +54,14 @@ invariant_of-self c =
     let window : Window = c.window_of_held-self.result in
     record {
       matched = ap (λ (ks : List Holder). length ks) begun ∙ length_begun hs kepts ∙ net.matched;
-      few = subst (λ (k : ℕ). k < 2 ^ 32) (sym (ap (λ (ks : List Holder). length ks) begun ∙ length_begun hs kepts)) net.few;
+      few = subst (λ (k : ℕ). k ≤ 64) (sym (ap (λ (ks : List Holder). length ks) begun ∙ length_begun hs kepts)) net.few;
       roomy = ap (are_roomy net.room) begun ∙ roomy_begun net.room hs kepts ∙ net.roomy;
       named = ap (λ (names : List Lane). are_named names (map emptied xs)) (ap names_of begun ∙ names_begun hs kepts) ∙ net.named;
       unread = right_true (may_be_read window net.held) (are_unread lanes) (ap are_unread begun ∙ unread_begun hs kepts);
       own = ap (are_own (window_number window)) begun ∙ own_begun (window_number window) hs kepts ∙ own net (window_number window) closed c.in-Closed.is;
       agreed = ends net window closed c.in-Closed.is;
       known = net.known;
+      marked = subst (λ (ks : List Holder). AreMarksFrom 0 net.room ks c.of-self.result) c.deref.ensures.value c.of-self.ensures;
       standing = event_stands net.engine.t.queries net.engine.t.queries xs xs net.sources refl refl (state net) (state_of net.room net.held window lanes xs c.clear.new.self.items (last net) net.waiting) event.Install net.standing c.requires
           (changed net window closed lanes c.clear.new.self.items c.in-Closed.is begun c.window_of_held-self.ensures c.clear.ensures.items);
     }

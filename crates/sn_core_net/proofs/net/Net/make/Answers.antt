@@ -1,4 +1,4 @@
-use Rattle.std.proofs.Common.{◌≡◌, ◌≤◌, ◌<◌, ◌^◌, ℕ, List, [], map, length, true, Option, None, refl, ap, ap₂, sym, subst, ◌∙◌, arith}
+use Rattle.std.proofs.Common.{◌≡◌, ◌≤◌, ◌<◌, ℕ, List, [], map, length, true, Option, None, refl, ap, ap₂, sym, subst, ◌∙◌, arith}
 use Rattle.std.specs.FinSet as set
 use Rattle.std.proofs.lemmas.List.{length-map}
 use Rattle.sn_core.specs.Calls.{made}
@@ -12,11 +12,12 @@ use Rattle.sn_engine_lockstep.specs.Known.{AreKnown}
 use Rattle.sn_engine_lockstep.specs.Sources.{source_of, sources_of}
 use Rattle.sn_engine_lockstep.specs.Work.{AreApart, intake_of}
 use Rattle.sn_engine_lockstep.specs.declared.source.Source.{Source}
+use Rattle.sn_emit.proofs.PlanFacts.{all_few}
 use Rattle.sn_emit.proofs.PlanLanes.{lanes_count}
 use Rattle.sn_emit.specs.Plans.{AreNewLanes, Placed, pieces_from, tables_of}
 use Rattle.sn_emit.specs.declared.sender.Sender.{Sender}
 use Rattle.sn_emit.specs.declared.tables.Tables.{Tables}
-use Rattle.sn_engine.proofs.Lanes.{as_many_entries, few_lanes}
+use Rattle.sn_engine.proofs.Lanes.{as_many_entries}
 use Rattle.sn_engine.specs.Intakes.{emptied, intakes_of}
 use Rattle.sn_engine.specs.declared.intake.Intake.{Intake}
 use Rattle.sn_core_net.proofs.PlanSchedules.{plan_due}
@@ -30,6 +31,7 @@ use Rattle.sn_types.specs.declared.typed_query.TypedQuery.{TypedQuery}
 use Rattle.sn_core_net.specs.declared.holder.Holder.{Holder}
 use Rattle.sn_core_net.specs.Facts.{are_named, are_own, are_roomy, are_unread, names_of}
 use Rattle.sn_core_net.specs.Holders.{with_ring}
+use Rattle.sn_core_net.specs.Marks.{AreMarksFrom}
 use Rattle.sn_core_net.specs.States.{State, Works, last_of, lanes_of, state_of, works_of}
 use Rattle.sn_core_net.proofs.Both.{Set}
 use Rattle.sn_core_net.proofs.Makings.{emptied_intakes, fresh_lanes, made_stands, new_lanes_for, new_named, new_own, new_roomy, new_unread, some_pieces}
@@ -116,6 +118,17 @@ sources-requires c =
 pub make-requires : goal.make-requires
 make-requires c = has_shape c.args.t.now.queries c.args.s.now c.args.plan.now.entries c.requires.fits
 
+pub of-marks-requires : goal.of-marks-requires
+of-marks-requires c =
+    let t = c.args.t.now in
+    let s = c.args.s.now in
+    let es : List Entry = c.args.plan.now.entries in
+    let held = c.in_ok-lanes.ensures in
+    let ss : List Sender = c.in_ok-senders.senders.items in
+    let hs : List Holder = c.in_ok-lanes.lanes.items in
+    let many : length hs ≡ length (pieces_from 0 es) = ap (λ (ks : List Holder). length ks) held ∙ length-map ss (with_ring c.args.room) ∙ lanes_count t.queries (tables_of s) (pieces_from 0 es) ss c.in_ok-senders.ensures in
+    subst (λ (ks : List Holder). length ks ≤ 64) (sym c.deref.ensures.value) (subst (λ (n : ℕ). n ≤ 64) (sym many) (all_few t.window_us t.queries s t.typed c.requires.switch es c.requires.fits.paths c.requires.fits.pieces))
+
 pub invariant_of-result : goal.invariant_of-result
 invariant_of-result c =
     let t = c.args.t.now in
@@ -131,17 +144,20 @@ invariant_of-result c =
     let kept : List Set = c.in_ok-engine.engine.kept in
     let m = made_of t.queries (tables_of s) c.args.room es ss hs xs sources others installs closed c.requires.fits.paths c.in_ok-senders.ensures c.in_ok-lanes.ensures c.in_ok-engine.ensures.lanes (c.in_ok-sources.ensures ∙ ap (sources_of 0) c.as_slice.ensures) c.in_ok-engine.ensures.queries c.new-installs.ensures.items c.in_ok-engine.ensures.closed in
     let many : length hs ≡ length xs = as_many t.queries (tables_of s) c.args.room es ss hs xs sources others installs closed kept m in
+    let few : length hs ≤ 64 =
+    subst (λ (n : ℕ). n ≤ 64) (sym (as_many_pieces t.queries (tables_of s) c.args.room es ss hs xs sources others installs closed kept m)) (all_few t.window_us t.queries s t.typed c.requires.switch es c.requires.fits.paths c.requires.fits.pieces) in
     let some = some_pieces t.window_us t.queries es t.typed c.requires.fits.paths in
     let known : AreKnown t.queries (sources_of 0 es) = made_known t.queries es (plan_made t.window_us t.queries s es t.typed c.requires.switch c.requires.fits) in
     record {
       matched = many;
-      few = subst (λ (n : ℕ). n < 2 ^ 32) (sym (many ∙ ap (λ (zs : List Intake). length zs) c.in_ok-engine.ensures.lanes)) (few_lanes t.window_us t.queries es t.typed c.requires.fits.paths);
+      few = few;
       roomy = are_roomy_now t.queries (tables_of s) c.args.room es ss hs xs sources others installs closed kept m;
       named = are_named_now t.queries (tables_of s) c.args.room es ss hs xs sources others installs closed kept m;
       unread = are_unread_now t.queries (tables_of s) c.args.room es ss hs xs sources others installs closed kept m;
       own = are_own_now t.queries (tables_of s) c.args.room es ss hs xs sources others installs closed kept m;
       agreed = refl;
       known = subst (λ (qs : List TypedQuery). AreKnown qs sources) (sym m.same) (subst (AreKnown t.queries) (sym (c.in_ok-sources.ensures ∙ ap (sources_of 0) c.as_slice.ensures)) known);
+      marked = subst (λ (ks : List Holder). AreMarksFrom 0 c.args.room ks c.of-marks.result) c.deref.ensures.value c.of-marks.ensures;
       standing = ∣ stands t.queries (tables_of s) c.args.room es ss hs xs sources others installs closed kept m c.requires.some_room some ∣₁;
     }
 

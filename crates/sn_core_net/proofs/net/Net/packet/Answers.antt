@@ -1,4 +1,4 @@
-use Rattle.std.proofs.Common.{◌≡◌, ◌<◌, ◌^◌, ◌∙◌, ap, sym, subst, length, map, true, None, Some, ℕ, List, refl}
+use Rattle.std.proofs.Common.{◌≡◌, ◌≤◌, ◌∙◌, ap, sym, subst, length, map, true, None, Some, ℕ, List, refl}
 use Rattle.sn_core.specs.Events.{after_event}
 use Rattle.sn_core.specs.Needs.{first_need_that_fails}
 use Rattle.sn_core.specs.declared.event.Event.TheVariants as event
@@ -33,8 +33,8 @@ changed net lanes number tuple is new may =
     ap (λ (hs : List Holder). state_of net.room None net.window hs xs net.installs.items (last net) net.waiting) new
     ∙ packet_changes net.engine.t.queries xs net.sources net.room net.lanes.items xs net.matched net.installs.items (last net) net.waiting net.held net.window number tuple is may net.roomy (unread net may)
 
-pub take_in_all-requires : goal.take_in_all-requires
-take_in_all-requires c = unread c.args.self.now c.requires
+pub take_in_all-requires-clause-unread : goal.take_in_all-requires-clause-unread
+take_in_all-requires-clause-unread c = unread c.args.self.now c.requires
 
 pub invariant_of-self : goal.invariant_of-self
 invariant_of-self c =
@@ -42,20 +42,21 @@ invariant_of-self c =
     let hs : List Holder = net.lanes.items in
     let xs : List Intake = net.engine.lanes.items in
     let tuple : List ℕ = c.in-Numbered.tuple in
-    let new : c.take_in_all.new.lanes.items ≡ all_took tuple hs = c.take_in_all.ensures in
+    let new : c.take_in_all.new.lanes.items ≡ all_took tuple hs = c.take_in_all.ensures.lanes in
     record {
       matched = ap (λ (ks : List Holder). length ks) new ∙ length_took tuple hs ∙ net.matched;
-      few = subst (λ (k : ℕ). k < 2 ^ 32) (sym (ap (λ (ks : List Holder). length ks) new ∙ length_took tuple hs)) net.few;
+      few = subst (λ (k : ℕ). k ≤ 64) (sym (ap (λ (ks : List Holder). length ks) new ∙ length_took tuple hs)) net.few;
       roomy = ap (are_roomy net.room) new ∙ roomy_took net.room tuple hs ∙ net.roomy;
       named = ap (λ (names : List Lane). are_named names (map emptied xs)) (ap names_of new ∙ names_took tuple hs) ∙ net.named;
       unread = right_true (may_be_read net.window None) (are_unread c.take_in_all.new.lanes.items) (ap are_unread new ∙ unread_took tuple hs ∙ unread net c.requires);
       own = ap (are_own (window_number net.window)) new ∙ own_took (window_number net.window) tuple hs net.own;
       agreed = net.agreed;
       known = net.known;
+      marked = c.take_in_all.ensures.marks net.marked;
       standing = event_stands net.engine.t.queries net.engine.t.queries xs xs net.sources refl refl (state net) (state_of net.room None net.window c.take_in_all.new.lanes.items xs net.installs.items (last net) net.waiting) event.Packet net.standing c.requires
           (changed net c.take_in_all.new.lanes.items c.in-Numbered.field-0 tuple (c.in-Some.is ∙ ap (λ (s : Supply (List ℕ)). Some s) c.in-Numbered.is) new c.requires);
     }
 
 pub returns-in-Numbered-clause-state : goal.returns-in-Numbered-clause-state
 returns-in-Numbered-clause-state c =
-    changed c.args.self.now c.take_in_all.new.lanes.items c.in-Numbered.field-0 c.in-Numbered.tuple (c.in-Some.is ∙ ap (λ (s : Supply (List ℕ)). Some s) c.in-Numbered.is) c.take_in_all.ensures c.requires
+    changed c.args.self.now c.take_in_all.new.lanes.items c.in-Numbered.field-0 c.in-Numbered.tuple (c.in-Some.is ∙ ap (λ (s : Supply (List ℕ)). Some s) c.in-Numbered.is) c.take_in_all.ensures.lanes c.requires

@@ -18,6 +18,7 @@ invariant_of-self c =
       unread = net.unread;
       own = net.own;
       agreed = net.agreed;
+      marked = net.marked;
       known = net.known;
       standing = subst (λ (o : Option Answers). ∥ IsNet (works net) (state_of net.room net.held net.window net.lanes.items net.engine.lanes.items net.installs.items (last net) o) ∥₁) (sym c.take.ensures.after)
           (take_stands net.engine.t.queries net.engine.lanes.items net.sources (state net) net.standing);

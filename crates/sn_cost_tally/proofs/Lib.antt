@@ -1,0 +1,4 @@
+mod Bits
+mod Counting
+mod Keeping
+mod Seating

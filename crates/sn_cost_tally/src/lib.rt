@@ -1,0 +1,8 @@
+//! Distinct keys of rows, how often each comes, and which of them find room in registers of a size.
+#![tactic(auto)]
+
+pub mod kept;
+pub mod marks;
+pub mod room;
+pub mod seats;
+pub mod tally;

@@ -1,0 +1,69 @@
+//! Which keys find room in registers of a size.
+ghost use Rattle.std.specs.Prelude.{◌≡◌, ◌≤◌, ◌<◌, ◌*◌, map, length, is_some, OnOk};
+ghost use Rattle.sn_base.specs.Groups.{Apart, same_row};
+ghost use Rattle.sn_chain.specs.Chain.{has_home, place_for};
+ghost use Rattle.sn_chain.specs.Limits.{largest_register};
+ghost use Rattle.sn_cost_seats.specs.Marks.{taken_with};
+ghost use Rattle.sn_cost_tally.specs.Places.{free_for};
+
+use crate::marks::Marks;
+use sn_base::any_row::AnyRow;
+use sn_base::memory::Memory;
+use sn_base::slot::slot_of;
+use std::alloc::Global;
+
+/// A key's place in a register: slot `s` of register `i` is place `i * slots + s`.
+fn place_of<R: AnyRow>(register: u32, slots: u32, key: &R) -> usize
+    requires register { register < 4 }
+    requires some { 1 ≤ slots }
+    requires most { slots ≤ largest_register }
+    ensures { result ≡ place_for slots (R.columns key.now) register }
+{
+    register as usize * slots as usize + slot_of(register, key, slots) as usize
+}
+
+/// Takes the first of a key's places that is free. Whether there is one.
+fn take_seat<R: AnyRow>(marks: &mut Marks, depth: u32, slots: u32, key: &R) -> bool
+    requires most_depth { depth ≤ 4 }
+    requires some_slots { 1 ≤ slots }
+    requires most_slots { slots ≤ largest_register }
+    requires long { length marks.old ≡ depth * slots }
+    ensures home { result ≡ is_some (free_for depth slots marks.old (R.columns key.now)) }
+    ensures taken { marks.new ≡ taken_with marks.old (free_for depth slots marks.old (R.columns key.now)) }
+{
+    for register in 0..depth {
+        if marks.take(place_of(register, slots, key)) {
+            return true;
+        }
+    }
+    false
+}
+
+/// Whether each of some keys, no two the same, resides in a chain of `depth` registers with `slots` slots each, at most 4
+/// registers and 1 to 65536 slots, where they come in this order. `marks` and `homes` lend their memory, whatever they hold
+/// before.
+///
+/// # Errors
+/// Out of memory.
+pub fn seat<R: AnyRow>(
+    alloc: Global,
+    marks: &mut Marks,
+    depth: u32,
+    slots: u32,
+    keys: &[R],
+    homes: &mut Vec<bool>,
+) -> Result<(), Memory>
+    requires most_depth { depth ≤ 4 }
+    requires some_slots { 1 ≤ slots }
+    requires most_slots { slots ≤ largest_register }
+    requires apart { Apart same_row (map R.columns keys.now) }
+    ensures { let rows = map R.columns keys.now in OnOk result (homes.new.items ≡ map (has_home depth slots rows) rows) }
+{
+    marks.clear(alloc, depth as usize * slots as usize)?;
+    homes.clear();
+    for key in keys {
+        let home = take_seat(marks, depth, slots, key);
+        homes.push(home)?;
+    }
+    Ok(())
+}

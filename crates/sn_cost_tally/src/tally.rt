@@ -1,0 +1,112 @@
+//! Distinct keys, and how often each comes.
+ghost use Rattle.std.specs.Prelude.{◌≡◌, ◌≤◌, ◌<◌, All, length, map, IfOk};
+ghost use Rattle.sn_base.specs.Groups.{columns_at, once, same_row};
+ghost use Rattle.sn_cost_seats.specs.Tallies.{tallied};
+ghost use Rattle.sn_cost_tally.specs.Counts.{counted};
+
+use sn_base::any_fold::AnyFold;
+use sn_base::any_row::AnyRow;
+use sn_base::fold::SatSum;
+use sn_base::memory::Memory;
+use sn_base::row_seq::RowSeq;
+use sn_base::seed::Seed;
+use sn_table::table::Table;
+use std::alloc::Global;
+
+/// The fold that counts: each comes with the value 1.
+const COUNT: AnyFold = AnyFold::SatSum(SatSum { v: 64 });
+
+/// Distinct keys in the order of first places, and beside them how often each comes.
+#[derive(Drop)]
+pub struct Tally<R: AnyRow> {
+    pub keys: RowSeq<R>,
+    pub times: Vec<u64>,
+}
+
+/// How often each of these rows comes.
+fn count_rows<R: AnyRow>(alloc: Global, seed: Seed, rows: &RowSeq<R>) -> Result<Table<R>, Memory>
+    requires { length rows.now ≤ 4194304 }
+    ensures { IfOk result (λ table. table.entries ≡ counted rows.now) }
+{
+    let mut table = Table::new(alloc, seed);
+    for place in 0..rows.len() {
+        table.add(COUNT, rows.at(place), 1)?;
+    }
+    Ok(table)
+}
+
+/// How often each key of these rows comes, that stands at these places of a row.
+fn count_keys<R: AnyRow>(
+    alloc: Global,
+    seed: Seed,
+    rows: &RowSeq<R>,
+    places: &[u32],
+) -> Result<Table<R>, Memory>
+    requires few { length rows.now ≤ 4194304 }
+    requires short { length places.now ≤ 8 }
+    requires places { All (λ row. All (λ place. place < length row) places.now) rows.now }
+    ensures { IfOk result (λ table. table.entries ≡ counted (map (columns_at places.now) rows.now)) }
+{
+    let mut table = Table::new(alloc, seed);
+    for place in 0..rows.len() {
+        table.add_at(COUNT, rows.at(place), places, 1)?;
+    }
+    Ok(table)
+}
+
+/// The entries of a table, keys and numbers apart.
+fn entries_of<R: AnyRow>(alloc: Global, table: &Table<R>) -> Result<Tally<R>, Memory>
+    ensures keys { IfOk result (λ tally. tally.keys ≡ map (λ e. e.0) table.now.entries) }
+    ensures times { IfOk result (λ tally. tally.times.items ≡ map (λ e. e.1) table.now.entries) }
+{
+    let mut keys = RowSeq::with_room(alloc, table.len())?;
+    let mut times = Vec::with_capacity(alloc, table.len())?;
+    let mut key = R::empty();
+    for place in 0..table.len() {
+        let Some(count) = table.get_into(place, &mut key) else {
+            unreachable!();
+        };
+        keys.push(&key)?;
+        times.push(count)?;
+    }
+    Ok(Tally { keys, times })
+}
+
+/// The distinct rows of at most 4,194,304, in the order of first places, and how often each comes. The table of rows
+/// hashes from this seed.
+///
+/// # Errors
+/// Out of memory.
+pub fn tally_rows<R: AnyRow>(
+    alloc: Global,
+    seed: Seed,
+    rows: &RowSeq<R>,
+) -> Result<Tally<R>, Memory>
+    requires { length rows.now ≤ 4194304 }
+    ensures keys { IfOk result (λ tally. tally.keys ≡ once same_row rows.now) }
+    ensures times { IfOk result (λ tally. tally.times.items ≡ tallied rows.now) }
+{
+    let table = count_rows(alloc, seed, rows)?;
+    entries_of(alloc, &table)
+}
+
+/// The distinct keys of at most 4,194,304 rows, in the order of first places, and how often each comes. A row's key stands at
+/// these places of it. The table of keys hashes from this seed.
+///
+/// # Errors
+/// Out of memory.
+pub fn tally_keys<R: AnyRow>(
+    alloc: Global,
+    seed: Seed,
+    rows: &RowSeq<R>,
+    places: &[u32],
+) -> Result<Tally<R>, Memory>
+    requires few { length rows.now ≤ 4194304 }
+    requires short { length places.now ≤ 8 }
+    requires places { All (λ row. All (λ place. place < length row) places.now) rows.now }
+    ensures keys { IfOk result (λ tally. tally.keys ≡ once same_row (map (columns_at places.now) rows.now)) }
+    ensures times { IfOk result (λ tally. tally.times.items ≡ tallied (map (columns_at places.now) rows.now)) }
+{
+    let table = count_keys(alloc, seed, rows, places)?;
+    entries_of(alloc, &table)
+}

@@ -1,0 +1,3 @@
+pub mod BranchLemmas
+pub mod QueryLemmas
+pub mod StreamLemmas

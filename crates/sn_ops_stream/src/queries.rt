@@ -1,0 +1,34 @@
+//! All queries of a file, to which tuples come one after another.
+ghost use Rattle.std.specs.Prelude.{◌≡◌, ℕ, List, [], ◌∷◌, ◌++◌, IfOk, OnOk};
+ghost use Rattle.sn_types.specs.declared.typed_query.TypedQuery.{TypedQuery};
+ghost use Rattle.sn_ops_stream.specs.Streams.{AllHaveTaken};
+
+use crate::query::QueryStream;
+use sn_base::memory::Memory;
+use sn_fields::tuple::Tuple;
+use sn_types::typed::Typed;
+use std::alloc::Global;
+
+/// All queries, each at its finest level, to which no tuple has come.
+pub(crate) fn begin_all<'a>(alloc: Global, t: &'a Typed) -> Result<Vec<QueryStream<'a>>, Memory>
+    ensures { IfOk result (λ streams. AllHaveTaken t.now.queries [] streams.items) }
+{
+    let mut streams = Vec::new(alloc);
+    for q in 0..t.queries() {
+        let stream = QueryStream::begin(alloc, t, q, t.finest_level(q))?;
+        streams.push(stream)?;
+    }
+    Ok(streams)
+}
+
+/// All queries take the next tuples, one query after another.
+pub(crate) fn take_all(streams: &mut [QueryStream<'_>], tuples: &[Tuple]) -> Result<(), Memory>
+    requires { (queries : List TypedQuery) × (before : List (List ℕ)) × AllHaveTaken queries before streams.old }
+    ensures { OnOk result ((queries : List TypedQuery) (before : List (List ℕ)) → AllHaveTaken queries before streams.old →
+        AllHaveTaken queries (before ++ tuples.now) streams.new) }
+{
+    for stream in streams.iter_mut() {
+        stream.take(tuples)?;
+    }
+    Ok(())
+}
