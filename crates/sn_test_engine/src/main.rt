@@ -1,6 +1,6 @@
 //! Worked windows, from texts and packets to answers: registers, report frames, the lanes of a switch, the engine, refinement, several
-//! switches, nets and what drives them. It has tests alone, which cross the crates of all these, and a machine that doesn't tell its
-//! answers as they are. It is a program that does nothing, since no crate stands on it.
+//! switches, nets and what drives them. It has tests alone, which cross the crates of all these. It is a program that does nothing, since
+//! no crate stands on it.
 #![tactic(auto)]
 
 #[cfg(test)]
@@ -29,8 +29,5 @@ mod registers;
 mod schedules;
 #[cfg(test)]
 mod texts;
-#[cfg(test)]
-mod told;
-pub mod twist;
 
 fn main() {}

@@ -1,7 +1,7 @@
 use Rattle.std.proofs.Common.{ℕ, subst}
 use Rattle.sn_core_net.specs.Steps.{IsOneOf}
 use Rattle.sn_core_net.proofs.Zips.{length_lanes}
-use Rattle.sn_test_engine.proofs.twist.TwistMachine.happen.Goals as goal
+use Rattle.sn_test_machines.proofs.twist.TwistMachine.happen.Goals as goal
 
 pub happen-requires-clause-lane : goal.happen-requires-clause-lane
 happen-requires-clause-lane c =

@@ -1,6 +1,6 @@
 //! A machine that doesn't tell its answers as they are.
 ghost use Rattle.std.specs.Prelude.{◌≡◌};
-ghost use Rattle.sn_test_engine.specs.Twist.{change_last, shorter, twisted};
+ghost use Rattle.sn_test_machines.specs.Twist.{change_last, shorter, twisted};
 
 use sn_base::memory::Memory;
 use sn_base::seq::Seq;
@@ -45,7 +45,7 @@ fn told(answers: Answers) -> Answers
 impl Machine for Twist {
     ghost use Rattle.sn_core_drive.specs.Telling.{nets_are_lawful};
     ghost use Rattle.sn_core_net.specs.Nets.{state, works};
-    ghost use Rattle.sn_test_engine.specs.Twist.{twisted, twisted_tells};
+    ghost use Rattle.sn_test_machines.specs.Twist.{twisted, twisted_tells};
 
     ghost works = { λ a. works a.net };
 

@@ -1,7 +1,7 @@
 use Rattle.std.proofs.Common.{ℕ, subst}
 use Rattle.sn_core_net.specs.Steps.{IsOneOf}
 use Rattle.sn_core_net.proofs.Zips.{length_lanes}
-use Rattle.sn_test_engine.proofs.twist.TwistMachine.enabled.Goals as goal
+use Rattle.sn_test_machines.proofs.twist.TwistMachine.enabled.Goals as goal
 
 pub enabled-requires : goal.enabled-requires
 enabled-requires c =

@@ -3,7 +3,7 @@ use Rattle.std.proofs.Common.{◌≡◌, ℕ, ◌<◌, ◌-◌, ◌↔◌, List,
 use Rattle.std.specs.Prelude.{IsNone, IfNone, IfSome}
 use Rattle.sn_core.specs.Events.{change_at}
 use Rattle.sn_core.proofs.Tests.{set_changed}
-use Rattle.sn_test_engine.specs.Twist.{all_but_last, change_last}
+use Rattle.sn_test_machines.specs.Twist.{all_but_last, change_last}
 
 last_at : {X : Type 0} (change : X → X) (x : X) (xs : List X) → change_at change (x ∷ xs) (length xs) ≡ change_last change (x ∷ xs)
 last_at change x [] = refl

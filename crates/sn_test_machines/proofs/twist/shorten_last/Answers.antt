@@ -1,9 +1,9 @@
 use Rattle.std.proofs.Common.{List, ap, ◌∙◌}
 use Rattle.sn_base.specs.Groups.{Row}
 use Rattle.sn_types.specs.declared.answers.Part.{Part}
-use Rattle.sn_test_engine.specs.Twist.{shorter}
-use Rattle.sn_test_engine.proofs.TwistLemmas.{last_changed, popped}
-use Rattle.sn_test_engine.proofs.twist.shorten_last.Goals as goal
+use Rattle.sn_test_machines.specs.Twist.{shorter}
+use Rattle.sn_test_machines.proofs.TwistLemmas.{last_changed, popped}
+use Rattle.sn_test_machines.proofs.twist.shorten_last.Goals as goal
 
 pub returns-then-count-gt0 : goal.returns-then-count-gt0
 returns-then-count-gt0 c =
