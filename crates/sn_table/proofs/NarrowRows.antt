@@ -1,12 +1,13 @@
 -- The rows of a set, held as numbers.
 use Rattle.std.proofs.Common.{◌≡◌, ℕ, ◌+◌, ◌<◌, ◌≤◌, List, [], ◌∷◌, ◌++◌, length, map, take, slice_get, cond, Some, nat_eq, ap, sym, subst, ◌∙◌}
-use Rattle.std.specs.List.{AllByRecursion, IsDistinct, list_any}
+use Rattle.std.specs.List.{AllByRecursion, IsDistinct, list_any, position_or_len}
 use Rattle.indexmap.specs.IndexSet.{insert_key}
 use Rattle.sn_base.specs.Groups.{Row, same_row}
 use Rattle.sn_base.proofs.Lists.{map_one}
 use Rattle.sn_table.specs.Narrow.{columns_of, IsShort, AreShort}
 use Rattle.sn_table.proofs.Decoded.{any_decoded, insert_key_decoded, all_inserted_key}
 use Rattle.sn_table.proofs.NarrowKeys.{IsHeldAs, new_as_row, held_back, held_short, held_agrees, nil_of_length}
+use Rattle.sn_table.proofs.Places.{place_decoded}
 
 -- numbers that stand for rows
 pub record StandFor (limit columns : ℕ) (ns : List ℕ) (rows : List Row) : Type 0 where
@@ -32,6 +33,10 @@ module _ (limit columns number : ℕ) (row : Row) (h : IsHeldAs columns row numb
   -- the number is one of them exactly where the row is
   pub member_by_number : list_any (same_row row) rows ≡ list_any (nat_eq number) ns
   member_by_number = ap (list_any (same_row row)) s.rows_are ∙ any_decoded nat_eq same_row (columns_of columns) number row ns (held_agrees columns number row h limit ns s.short.each)
+
+  -- and at the same place
+  pub place_by_number : position_or_len (same_row row) rows ≡ position_or_len (nat_eq number) ns
+  place_by_number = ap (position_or_len (same_row row)) s.rows_are ∙ place_decoded nat_eq same_row (columns_of columns) number row ns (held_agrees columns number row h limit ns s.short.each)
 
   pub inserted_by_number : map (columns_of columns) (insert_key nat_eq ns number) ≡ insert_key same_row rows row
   inserted_by_number =

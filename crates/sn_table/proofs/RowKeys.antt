@@ -2,12 +2,13 @@
 use Rattle.std.proofs.Common.{◌≡◌, ℕ, List, [], ◌∷◌, map, slice_get, Bool, Option, refl, ap, sym, ◌∙◌}
 use Rattle.std.specs.Option.{option_map}
 use Rattle.std.proofs.lemmas.Option.{slice_get-map}
-use Rattle.std.specs.List.{list_any}
+use Rattle.std.specs.List.{list_any, position_or_len}
 use Rattle.std.specs.Map.{lookup}
 use Rattle.indexmap.specs.IndexMap.{insert_entry}
 use Rattle.indexmap.specs.IndexSet.{insert_key}
 use Rattle.sn_base.specs.Groups.{Row, same_row}
 use Rattle.sn_table.proofs.Decoded.{Agree, keys, lookup_decoded, insert_decoded, any_decoded, insert_key_decoded}
+use Rattle.sn_table.proofs.Places.{place_decoded}
 
 -- an entry with its key as its columns
 abbrev row_of : {R : Type 0} → (R → Row) → R × ℕ → Row × ℕ
@@ -31,6 +32,9 @@ module _ {R : Type 0} (eq : R → R → Bool) (seen : R → Row) (same : (a b : 
 
   pub any_by_row : (ks : List R) → list_any (same_row (seen key)) (map seen ks) ≡ list_any (eq key) ks
   any_by_row ks = any_decoded eq same_row seen key (seen key) ks (agree ks)
+
+  pub place_by_row : (ks : List R) → position_or_len (same_row (seen key)) (map seen ks) ≡ position_or_len (eq key) ks
+  place_by_row ks = place_decoded eq same_row seen key (seen key) ks (agree ks)
 
   pub put_key_by_row : (ks : List R) → map seen (insert_key eq ks key) ≡ insert_key same_row (map seen ks) (seen key)
   put_key_by_row ks = insert_key_decoded eq same_row seen key (seen key) refl ks (agree ks)

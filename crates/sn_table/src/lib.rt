@@ -5,5 +5,6 @@ mod entries;
 mod keys;
 pub mod narrow;
 mod number_key;
+pub mod numbers;
 pub mod rows;
 pub mod table;

@@ -55,12 +55,12 @@ impl<R: AnyRow> Rows<R> {
         ensures keys { OnOk result (self.new.keys ≡ insert_key same_row self.old.keys (R.columns row.now)) }
         ensures err { OnErr result (self.new.keys ≡ self.old.keys) }
     {
-        if let Some(new) = put(&mut self.held, row)? {
+        if let Some((_, new)) = put(&mut self.held, row)? {
             return Ok(new);
         }
         widen(&mut self.held)?;
         match put(&mut self.held, row)? {
-            Some(new) => Ok(new),
+            Some((_, new)) => Ok(new),
             None => unreachable!(),
         }
     }

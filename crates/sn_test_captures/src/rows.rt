@@ -13,6 +13,7 @@ use sn_base::seed::Seed;
 use sn_base::seq::Seq;
 use sn_base::short_row::ShortRow;
 use sn_base::slot::slot_of;
+use sn_table::numbers::Numbers;
 use std::hash::BuildHasher;
 use std::test::Fail;
 
@@ -176,5 +177,38 @@ fn other_numbers_give_other_hashes(rt: HostRuntime) -> Result<(), Fail> {
     let (one, two) = (Seed::new(1), Seed::new(2));
     assert_eq!(rt; one.hash_one(7u64), Seed::new(1).hash_one(7u64));
     assert!(rt; one.hash_one(7u64) != two.hash_one(7u64));
+    Ok(())
+}
+
+/// Three columns fit in 128 bits while each is below 2^42, and rows of two columns don't fit beside them.
+#[test]
+fn numbers_rows_by_first_places(rt: HostRuntime) -> Result<(), Fail> {
+    let table: [(&[u64], usize, usize); 8] = [
+        (&[1, 2, 3], 0, 1),
+        (&[1, 2, 4], 1, 2),
+        (&[1, 2, 3], 0, 2),
+        (&[0, 4398046511104, 0], 2, 3),
+        (&[1, 2, 4], 1, 3),
+        (&[1, 2], 3, 4),
+        (&[0, 4398046511104, 0], 2, 4),
+        (&[1, 2, 3], 0, 4),
+    ];
+    let mut numbers = Numbers::new(rt.alloc(), Seed::new(15));
+    let mut held = ShortRow::empty();
+    assert_eq!(rt; numbers.number(&held)?, 0);
+    assert!(rt; numbers.is_narrow());
+    for _window in 0..2 {
+        numbers.clear();
+        assert!(rt; !numbers.get_into(0, &mut held));
+        for (columns, number, count) in table {
+            let row = ShortRow::new(columns).ok_or("no row")?;
+            assert_eq!(rt; numbers.number(&row)?, number);
+            assert_eq!(rt; numbers.len(), count);
+            assert!(rt; numbers.get_into(number, &mut held));
+            assert!(rt; !numbers.get_into(count, &mut held));
+            assert_eq!(rt; held, row);
+        }
+        assert!(rt; !numbers.is_narrow());
+    }
     Ok(())
 }
