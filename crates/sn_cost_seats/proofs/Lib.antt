@@ -3,5 +3,4 @@ pub mod Going
 pub mod Holding
 pub mod Marking
 pub mod Numbering
-pub mod Numbers
 pub mod Tallying

@@ -1,23 +1,22 @@
 -- Marks of taken places, and the residents that took them.
 use Rattle.std.proofs.Common.{◌≡◌, ℕ, zero, suc, ◌+◌, ◌*◌, ◌≤◌, ◌<◌, List, [], ◌∷◌, ◌++◌, map, take, drop, length, Bool, true, false, not, ◌||◌, cond, set, get_or, replicate, nat_eq, nat_lt, is_some, IfSome, Option, Some, None, refl, ap, sym, ◌∙◌, arith, append_assoc}
-use Rattle.std.specs.List.{AllByRecursion, list_any, range_with_len}
-use Rattle.std.specs.Prelude.{All, find}
+use Rattle.std.specs.List.{AllByRecursion, list_any}
+use Rattle.std.specs.Prelude.{All}
 use Rattle.std.specs.Cmp.Lexicographic.{nat_list_eq_equiv}
-use Rattle.std.proofs.lemmas.Bool.{false≢true, lt-ltb}
+use Rattle.std.proofs.lemmas.Bool.{false≢true}
 use Rattle.std.proofs.lemmas.Nat.{mod_below}
 use Rattle.std.proofs.lemmas.List.Elements.{All-from_recursion}
-use Rattle.std.proofs.lemmas.List.{get_or-set_other, get_or-set_same, length-map, map-append, take_more, take_all}
+use Rattle.std.proofs.lemmas.List.{get_or-set_other, get_or-set_same, map-append, take_more, take_all}
 use Rattle.sn_base.specs.Groups.{Apart, Row, same_row}
 use Rattle.sn_base.proofs.Lists.{any_push, by_test, find_among, find_same, nat_same, nat_self, not_true}
 use Rattle.sn_base.proofs.FoldedLemmas.{same_row_exact}
 use Rattle.sn_base.specs.Slot.{row_hash, slot}
-use Rattle.sn_chain.specs.Chain.{AreSlots, has_home, homes_of, place_for, places_of}
+use Rattle.sn_chain.specs.Chain.{has_home, homes_of, places_of}
 use Rattle.sn_chain.specs.Residence.{free_place, seated, seated_at}
 use Rattle.sn_chain.proofs.Places.{within_cells}
 use Rattle.sn_chain.proofs.ResidenceLemmas.{residents_keep, residents_push, resides_later}
-use Rattle.sn_cost_seats.specs.Marks.{free_at, is_free, taken_with}
-use Rattle.sn_cost_seats.specs.Seats.{AreBelow, place_at, places_at, row_at, rows_at, slot_where, slots_for}
-use Rattle.sn_cost_seats.proofs.Numbers.{all_at, key_there, slots_there}
+use Rattle.sn_cost_seats.specs.Marks.{free_for, is_free, taken_with}
+use Rattle.sn_cost_seats.specs.Seats.{AreBelow, slot_where, slots_for}
 
 -- the places that residents took
 abbrev pub places_in : List (ℕ × Row) → List ℕ
@@ -39,12 +38,8 @@ module _ (depth slots : ℕ) where
   pub none_marked : (keys : List Row) (taken homes : List Bool) (n : ℕ) → taken ≡ replicate n false → Marked keys 0 taken homes
   none_marked keys taken homes n e = record { marks = λ p. ap (λ ms. get_or ms p false) e ∙ no_mark n p; done = refl }
 
-  -- the first of a key's places that is free
-  abbrev free_for : List Bool → Row → Option ℕ
-  free_for taken key = find (is_free taken) (places key)
-
   -- the place that is free by the marks is the one that the key takes
-  free_is : (taken : List Bool) (keys : List Row) (key : Row) → ((p : ℕ) → get_or taken p false ≡ list_any (nat_eq p) (places_in (homes_of depth slots keys))) → free_for taken key ≡ free_place same_row places (homes_of depth slots keys) key
+  free_is : (taken : List Bool) (keys : List Row) (key : Row) → ((p : ℕ) → get_or taken p false ≡ list_any (nat_eq p) (places_in (homes_of depth slots keys))) → free_for depth slots taken key ≡ free_place same_row places (homes_of depth slots keys) key
   free_is taken keys key marks = find_same (is_free taken) (λ p. not (list_any (nat_eq p) (places_in (homes_of depth slots keys)))) (λ p. ap not (marks p)) (places key)
 
   abbrev is_seated : List (ℕ × Row) → Row → Bool
@@ -89,8 +84,8 @@ module _ (depth slots : ℕ) where
   marks_next taken keys key (Some p) lt marks q = set_mark taken p q lt ∙ ap (λ b. nat_eq q p || b) (marks q)
 
   -- a free place is one of the chain's
-  pub free_within : 1 ≤ slots → (taken : List Bool) (key : Row) → length taken ≡ depth * slots → IfSome (free_for taken key) (λ p. p < length taken)
-  free_within some taken key long = by_option (free_for taken key) (λ p is. let lt = within_cells slots depth some key p (find_among (is_free taken) (places key) p is) in omega (arith, lt, long))
+  pub free_within : 1 ≤ slots → (taken : List Bool) (key : Row) → length taken ≡ depth * slots → IfSome (free_for depth slots taken key) (λ p. p < length taken)
+  free_within some taken key long = by_option (free_for depth slots taken key) (λ p is. let lt = within_cells slots depth some key p (find_among (is_free taken) (places key) p is) in omega (arith, lt, long))
     where
       by_option : (o : Option ℕ) → ((p : ℕ) → o ≡ Some p → p < length taken) → IfSome o (λ p. p < length taken)
       by_option None h = tt
@@ -115,7 +110,7 @@ module _ (depth slots : ℕ) where
   parted (key ∷ keys) (suc i) lt = ap (λ ks. key ∷ ks) (parted keys i (omega (arith, lt)))
 
   pub one_marked : (keys : List Row) (place : ℕ) (key : Row) (taken later homes new : List Bool) (home : Bool) → place < length keys → key ≡ get_or keys place [] → Apart same_row keys → Marked keys place taken homes
-      → IfSome (free_for taken key) (λ p. p < length taken) → home ≡ is_some (free_for taken key) → later ≡ taken_with taken (free_for taken key)
+      → IfSome (free_for depth slots taken key) (λ p. p < length taken) → home ≡ is_some (free_for depth slots taken key) → later ≡ taken_with taken (free_for depth slots taken key)
       → take (place + 1) new ≡ take place homes ++ home ∷ [] → Marked keys (place + 1) later new
   one_marked keys place key taken later homes new home lt at apart so_far within is after written =
       let before : List Row = take place keys in
@@ -127,7 +122,7 @@ module _ (depth slots : ℕ) where
       record {
         marks = λ q.
             ap (λ ms. get_or ms q false) after
-            ∙ marks_next taken before key (free_for taken key) within so_far.marks q
+            ∙ marks_next taken before key (free_for depth slots taken key) within so_far.marks q
             ∙ ap (λ (o : Option ℕ). list_any (nat_eq q) (places_in (seated_at same_row places (homes_of depth slots before) key o))) free
             ∙ ap (λ (ts : List (ℕ × Row)). list_any (nat_eq q) (places_in ts)) (sym (ap (homes_of depth slots) more ∙ next_homes before key fresh));
         done = written ∙ ap (λ bs. bs ++ home ∷ []) so_far.done ∙ ap (λ b. map (has_home depth slots keys) before ++ b ∷ []) answer ∙ sym (ap (map (has_home depth slots keys)) more ∙ map-append (has_home depth slots keys) before (key ∷ []));
@@ -135,48 +130,6 @@ module _ (depth slots : ℕ) where
 
   pub all_marked : (keys : List Row) (place : ℕ) (taken homes : List Bool) → length keys ≤ place → length homes ≤ place → Marked keys place taken homes → homes ≡ map (has_home depth slots keys) keys
   all_marked keys place taken homes le long so_far = sym (take_all place homes long) ∙ so_far.done ∙ ap (map (has_home depth slots keys)) (take_all place keys le)
-
-  -- ---- by the slots of keys
-
-  slot_there : (register : ℕ) (key : Row) → register < depth → slot_where depth slots register key ≡ slot register key slots
-  slot_there register key lt = ap (λ b. cond b (slot register key slots) 0) (lt-ltb register depth lt)
-
-  -- the slots that are known are those of the key
-  known_at : (key : Row) → depth ≤ 4 → AreSlots depth slots key (slots_for depth slots key)
-  known_at key le zero lt = slot_there 0 key lt
-  known_at key le (suc zero) lt = slot_there 1 key lt
-  known_at key le (suc (suc zero)) lt = slot_there 2 key lt
-  known_at key le (suc (suc (suc zero))) lt = slot_there 3 key lt
-  known_at key le (suc (suc (suc (suc r)))) lt = absurd (omega (arith, lt, le))
-
-  same_places : (f g : ℕ → ℕ) (first count : ℕ) → first + count ≤ depth → ((register : ℕ) → register < depth → f register ≡ g register) → map f (range_with_len first count) ≡ map g (range_with_len first count)
-  same_places f g first zero le same = refl
-  same_places f g first (suc count) le same =
-      ap (λ p. p ∷ map f (range_with_len (first + 1) count)) (same first (omega (arith, le)))
-      ∙ ap (λ ps. g first ∷ ps) (same_places f g (first + 1) count (omega (arith, le)) same)
-
-  places_are : (key : Row) → depth ≤ 4 → places_at depth slots (slots_for depth slots key) ≡ places key
-  places_are key le = same_places (place_at slots (slots_for depth slots key)) (place_for slots key) 0 depth (omega arith) (λ register lt. ap (λ s. register * slots + s) (known_at key le register lt))
-
-  free_is_at : (taken : List Bool) (key : Row) (at : List ℕ) → depth ≤ 4 → at ≡ slots_for depth slots key → free_at depth slots taken at ≡ free_for taken key
-  free_is_at taken key at le is = ap (λ (ss : List ℕ). find (is_free taken) (places_at depth slots ss)) is ∙ ap (find (is_free taken)) (places_are key le)
-
-  -- one key more takes its seat
-  pub one_seated : (rows : List Row) (at : List (List ℕ)) (order : List ℕ) (place : ℕ) (taken later homes new : List Bool) (home : Bool) (here : List ℕ) → depth ≤ 4 → 1 ≤ slots → length taken ≡ depth * slots
-      → at ≡ map (slots_for depth slots) rows → Apart same_row (rows_at rows order) → All (λ id. id < length at) order → place < length order
-      → here ≡ get_or at (get_or order place 0) [] → home ≡ is_some (free_at depth slots taken here) → later ≡ taken_with taken (free_at depth slots taken here)
-      → take (place + 1) new ≡ take place homes ++ home ∷ [] → Marked (rows_at rows order) place taken homes → Marked (rows_at rows order) (place + 1) later new
-  one_seated rows at order place taken later homes new home here le some long known apart within lt is_here is after written so_far =
-      let keys : List Row = rows_at rows order in
-      let id : ℕ = get_or order place 0 in
-      let key : Row = row_at rows id in
-      let id_within : id < length at = all_at (λ i. i < length at) order place lt within in
-      let many : length at ≡ length rows = ap length known ∙ length-map rows (slots_for depth slots) in
-      let slots_are : get_or at id [] ≡ slots_for depth slots key = ap (λ (ss : List (List ℕ)). get_or ss id []) known ∙ slots_there (slots_for depth slots) rows id (omega (arith, id_within, many)) in
-      let free = free_is_at taken key here le (is_here ∙ slots_are) in
-      let count : length keys ≡ length order = length-map order (row_at rows) in
-      one_marked keys place key taken later homes new home (omega (arith, lt, count)) (sym (key_there rows order place lt)) apart so_far
-      (free_within some taken key long) (is ∙ ap is_some free) (after ∙ ap (taken_with taken) free) written
 
 -- ---- slots of known keys are slots
 

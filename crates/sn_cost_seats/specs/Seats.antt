@@ -1,7 +1,6 @@
 -- serves proofs
 -- Keys and their slots in a chain of registers.
-use Rattle.std.specs.Prelude.{ℕ, ◌+◌, ◌*◌, ◌<◌, List, [], ◌∷◌, map, nat_lt, slice_index, slice_index_or, if◌then◌else◌}
-use Rattle.std.specs.List.{range_with_len}
+use Rattle.std.specs.Prelude.{ℕ, ◌<◌, List, [], ◌∷◌, map, nat_lt, slice_index, slice_index_or, if◌then◌else◌}
 use Rattle.sn_base.specs.Groups.{Row}
 use Rattle.sn_base.specs.Slot.{slot}
 
@@ -16,18 +15,6 @@ slots_for depth slots key = slot_where depth slots 0 key ∷ slot_where depth sl
 -- each of these slots is one of its register's
 abbrev pub AreBelow : ℕ → ℕ → List ℕ → Type 0
 AreBelow depth slots at = (register : ℕ) → register < depth → slice_index at register < slots
-
--- the place of the slot in a register
-abbrev pub place_at : ℕ → List ℕ → ℕ → ℕ
-place_at slots at register = register * slots + slice_index at register
-
--- the places in this many registers from this one on
-abbrev pub places_from : ℕ → ℕ → ℕ → List ℕ → List ℕ
-places_from slots register count at = map (place_at slots at) (range_with_len register count)
-
--- the places of a key by its slots, register by register
-abbrev pub places_at : ℕ → ℕ → List ℕ → List ℕ
-places_at depth slots at = places_from slots 0 depth at
 
 -- rows by their numbers
 abbrev pub row_at : List Row → ℕ → Row

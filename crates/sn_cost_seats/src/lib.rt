@@ -1,7 +1,6 @@
-//! Which distinct keys find room in a chain of registers, and what distinct keys say of all rows.
+//! The slots of keys in a chain of registers, and what distinct keys say of all rows.
 #![tactic(auto)]
 
 pub mod law;
-pub mod seats;
 pub mod slots;
 pub mod tally;

@@ -4,9 +4,8 @@ use Rattle.std.proofs.Math.ListN.{get_or-map}
 use Rattle.std.proofs.lemmas.List.{get_or_default, length-append, length-map, length-replicate, length-set, take_all}
 use Rattle.sn_base.specs.Groups.{Apart, Row, same_row}
 use Rattle.sn_chain.specs.Chain.{has_home}
-use Rattle.sn_cost_seats.specs.Marks.{taken_with}
+use Rattle.sn_cost_seats.specs.Marks.{free_for, taken_with}
 use Rattle.sn_cost_seats.proofs.Marking.{Marked, all_marked, free_within, none_marked, one_marked}
-use Rattle.sn_cost_tally.specs.Places.{free_for}
 
 -- what is seen of the item at a place
 pub seen_at : {X : Type 0} (f : X → Row) (xs : List X) (i : ℕ) (x : X) → i < length xs → x ≡ get_or xs i x → f x ≡ get_or (map f xs) i []

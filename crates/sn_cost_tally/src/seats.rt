@@ -3,8 +3,7 @@ ghost use Rattle.std.specs.Prelude.{◌≡◌, ◌≤◌, ◌<◌, ◌*◌, map,
 ghost use Rattle.sn_base.specs.Groups.{Apart, same_row};
 ghost use Rattle.sn_chain.specs.Chain.{has_home, place_for};
 ghost use Rattle.sn_chain.specs.Limits.{largest_register};
-ghost use Rattle.sn_cost_seats.specs.Marks.{taken_with};
-ghost use Rattle.sn_cost_tally.specs.Places.{free_for};
+ghost use Rattle.sn_cost_seats.specs.Marks.{free_for, taken_with};
 
 use crate::marks::Marks;
 use sn_base::any_row::AnyRow;

@@ -1,5 +1,5 @@
-//! Tests of columns of the fields of packets, of the kernels over columns, and of keys by their slots. It has tests alone, and is a program
-//! that does nothing, since no crate stands on it.
+//! Tests of columns of the fields of packets, of the kernels over columns, of the slots of keys, and of which keys find room. It has tests
+//! alone, and is a program that does nothing, since no crate stands on it.
 #![tactic(auto)]
 
 #[cfg(test)]

@@ -5,9 +5,10 @@ use sn_base::fold::SatSum;
 use sn_base::short_row::ShortRow;
 use sn_chain::chain::Chain;
 use sn_chain::offer::Offer;
-use sn_cost_seats::seats::seat;
 use sn_cost_seats::slots::slots_of;
 use sn_cost_seats::tally::over;
+use sn_cost_tally::marks::Marks;
+use sn_cost_tally::seats::seat;
 use std::test::Fail;
 
 fn key(column: u64) -> ShortRow
@@ -27,17 +28,26 @@ fn holds_what_came_at_its_slot(rt: HostRuntime) -> Result<(), Fail> {
     Ok(())
 }
 
+/// The slots are by the formula in whole numbers, worked out elsewhere. A register with one slot has no other than 0.
+#[test]
+fn finds_the_slots_of_keys(rt: HostRuntime) -> Result<(), Fail> {
+    let at = slots_of(rt.alloc(), &[key(0)], 1, 256)?;
+    assert_eq!(rt; at.as_slice(), [[197, 0, 0, 0]].as_slice());
+    let at = slots_of(rt.alloc(), &[key(1), key(2), key(3)], 2, 1)?;
+    assert_eq!(rt; at.as_slice(), [[0; 4]; 3].as_slice());
+    Ok(())
+}
+
 /// One place holds the first key, and two the first two.
 #[test]
 fn seats_the_first_keys(rt: HostRuntime) -> Result<(), Fail> {
     let keys = [key(1), key(2), key(3)];
-    let mut homes = [false; 3];
-    let at = slots_of(rt.alloc(), &keys, 1, 1)?;
-    seat(&mut [false; 1], 1, 1, &at, &[0, 1, 2], &mut homes);
-    assert_eq!(rt; homes, [true, false, false]);
-    let at = slots_of(rt.alloc(), &keys, 2, 1)?;
-    seat(&mut [true; 2], 2, 1, &at, &[0, 1, 2], &mut homes);
-    assert_eq!(rt; homes, [true, true, false]);
+    let mut marks = Marks::new(rt.alloc());
+    let mut homes = Vec::new(rt.alloc());
+    seat(rt.alloc(), &mut marks, 1, 1, &keys, &mut homes)?;
+    assert_eq!(rt; homes.as_slice(), [true, false, false].as_slice());
+    seat(rt.alloc(), &mut marks, 2, 1, &keys, &mut homes)?;
+    assert_eq!(rt; homes.as_slice(), [true, true, false].as_slice());
     Ok(())
 }
 

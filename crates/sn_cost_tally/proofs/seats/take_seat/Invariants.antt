@@ -1,7 +1,6 @@
 use Rattle.std.proofs.Common.{◌≡◌, ◌-◌, find}
 use Rattle.sn_chain.specs.Chain.{places_from}
-use Rattle.sn_cost_seats.specs.Marks.{is_free}
-use Rattle.sn_cost_tally.specs.Places.{free_for}
+use Rattle.sn_cost_seats.specs.Marks.{free_for, is_free}
 use Rattle.sn_cost_tally.proofs.seats.take_seat.Given as goal
 
 abbrev pub invariant-loop-register : goal.invariant-loop-register
