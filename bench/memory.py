@@ -1,9 +1,10 @@
 #!/usr/bin/env python3
-"""Measures the memory that one window of `sonata plain` takes: bytes a packet, a key of each operator, and a printed row.
+"""Measures the memory that one window of `sonata plain` takes: bytes a packet, a key of each operator, and a printed row; and the peak of `sonata finish` over
+reports of many windows.
 
 Generates two captures of one window each, of as many packets as sources: with somewhat fewer than tables and lists have room for before they double, and with
-somewhat more. Tells the peak over that of a window of one packet, divided by the packets; of keys and rows what they take beside the packets. Nothing is left
-behind. Needs a C compiler."""
+somewhat more. Tells the peak over that of a window of one packet, divided by the packets; of keys and rows what they take beside the packets. The reports are
+40 MB of frames in windows of 10,000 rows; what `finish` takes over the first of them alone is told beside it. Nothing is left behind. Needs a C compiler."""
 
 import argparse
 import os
@@ -26,6 +27,10 @@ QUERIES = [
      'packets | map ip.src as s, ip.len as b | reduce s: sum(b) width 32; join s | filter n == 0;'),
     ('a row that is printed', 'packets | map ip.src as s;'),
 ]
+
+
+# Rows of a window of reports, and how many windows there are.
+ROWS, WINDOWS = 10000, 250
 
 
 def capture(packets, folder):
@@ -52,6 +57,23 @@ def peak(program, measurer, text, name, folder):
     return done.peak_bytes
 
 
+def finish_peak(program, measurer, windows, folder):
+    """The peak of `finish` over as many windows of reports, and the bytes of these."""
+    queries, plan, reports = (os.path.join(folder, name) for name in ('one.query', 'one.plan', 'reports'))
+    with open(queries, 'w') as file:
+        file.write('window 1000000\nquery one {\n  packets | map ip.src as s | filter s == 0;\n}\n')
+    with open(plan, 'w') as file:
+        file.write('plan query one path 0; piece 0 0 cut 0;\n')
+    rows = b''.join(struct.pack('>8BQ', 1, 0, 0, 0, 0, 0, 1, 0, 0x0a000000 + number) for number in range(ROWS))
+    with open(reports, 'wb') as file:
+        for window in range(windows):
+            file.write(rows + struct.pack('>8BQ', 1, 2, 0, 0, 0, 0, 1, 0, window))
+    done = run.run_once(measurer, [program, 'finish', queries, plan, reports], os.path.join(folder, 'out'))
+    if done.status:
+        sys.exit('status %d of finish' % done.status)
+    return done.peak_bytes, os.path.getsize(reports)
+
+
 def main():
     words = argparse.ArgumentParser(description=__doc__, formatter_class=argparse.RawDescriptionHelpFormatter)
     words.add_argument('--sonata', default=run.USUAL, help='the program to measure (default: the one that this clone built)')
@@ -72,6 +94,9 @@ def main():
         for name, text in QUERIES:
             over = [most - packet for most, packet in zip(taken(text), bare)]
             print('%-54s %4.0f to %4.0f bytes' % (name, min(over), max(over)))
+        for windows in (1, WINDOWS):
+            most, size = finish_peak(os.path.abspath(given.sonata), measurer, windows, folder)
+            print('%-54s %4.1f MB, %.2f times the reports' % ('`finish`, reports of %d windows, %.1f MB' % (windows, size / 1e6), most / 1e6, most / size))
     return 0
 
 

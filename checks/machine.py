@@ -356,7 +356,7 @@ def sizes(faults):
     answered = calls.answer(*words('finish', faults.names))[1]
     unfinished = 11, answered[:answered.index(b'total')], 'sonata: reports Bad byte %d\n' % len(reports)
     sized(faults, 'finish', '2^30 bytes of reports', {'reports': sparse(faults, 'reports', reports, size)}, unfinished)
-    sized(faults, 'finish', '2^30 + 1 bytes of reports', {'reports': sparse(faults, 'reports', reports, size + 1)}, too_large)
+    sized(faults, 'finish', '2^30 + 1 bytes of reports', {'reports': sparse(faults, 'reports', reports, size + 1)}, unfinished)
     capture = calls.held(faults.names['capture'])
     whole = calls.answer(*words('plan', faults.names))
     sized(faults, 'plan', '2^30 bytes of training', {'training': sparse(faults, 'training', capture + bad, size)}, whole)

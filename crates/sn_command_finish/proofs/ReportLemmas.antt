@@ -87,7 +87,7 @@ framed_same : (framed : Framed) (frames : List Written) → framed.frames ≡ fr
 framed_same framed frames e = ap (λ (fs : List Written). record { frames = fs; left = framed.left }) e
 
 module _ (queries : List TypedQuery) (at size : ℕ) (rest : List ℕ) (s : Standing) where
-  splits : (frame : Frame) (len : ℕ) → Stands rest (Whole frame len) → (files : ByName (List ℕ)) (outcome : Outcome (Unit {0})) → LeftOver queries at size rest s files outcome
+  pub splits : (frame : Frame) (len : ℕ) → Stands rest (Whole frame len) → (files : ByName (List ℕ)) (outcome : Outcome (Unit {0})) → LeftOver queries at size rest s files outcome
       → Then (Does (take_frame queries at frame s)) (λ next. LeftOver queries (at + len) size (drop len rest) next) files outcome
   splits frame len stands files outcome t =
       let c = cut_here rest (λ framed. reported_from queries at size framed s) files outcome t in
@@ -101,7 +101,7 @@ module _ (queries : List TypedQuery) (at size : ℕ) (rest : List ℕ) (s : Stan
       (λ next. left_is queries (at + len) size (drop len rest) next more b.rest files))
 
   -- no frame stands here
-  stops_here : (d : Decoded) → Stands rest d → IsNoFrame d → (files : ByName (List ℕ)) (outcome : Outcome (Unit {0})) → LeftOver queries at size rest s files outcome → outcome ≡ end_at at size d s
+  pub stops_here : (d : Decoded) → Stands rest d → IsNoFrame d → (files : ByName (List ℕ)) (outcome : Outcome (Unit {0})) → LeftOver queries at size rest s files outcome → outcome ≡ end_at at size d s
   stops_here d stands none files outcome t =
       let c = cut_here rest (λ framed. reported_from queries at size framed s) files outcome t in
       let e = no_frames rest d c.framed.frames c.framed.left stands none c.is in
@@ -109,48 +109,6 @@ module _ (queries : List TypedQuery) (at size : ℕ) (rest : List ℕ) (s : Stan
       c.same ∙ ap (λ (f : Framed). reported_from queries at size f s) (framed_same c.framed [] e.0)
       ∙ ap (λ (l : Decoded). end_at (at + 0) size l s) e.1 ∙ ap (λ (k : ℕ). end_at k size d s) here
 
-  module _ {whole : Stage (Unit {0})} {before now : World} (leads : Leads [] (LeftOver queries at size rest s) whole before now) where
-    -- a frame is taken, and the reports go on
-    pub frame_goes : (frame : Frame) (len : ℕ) (next : Standing) {after : World} → Stands rest (Whole frame len) → Runs [] (Does (take_frame queries at frame s)) now (Ok next) after → Leads [] (LeftOver queries (at + len) size (drop len rest) next) whole before after
-    frame_goes frame len next stands r = λ answer later left. leads answer later (runs_as (splits frame len stands) (stage_then r left))
-
-    -- a frame is refused, or its window isn't written
-    pub frame_stops : (frame : Frame) (len : ℕ) {refusal : Refusal} {after : World} → Stands rest (Whole frame len) → Runs [] (Does (take_frame queries at frame s)) now (Err refusal) after → Runs [] whole before (Err refusal) after
-    frame_stops frame len {refusal} {after} stands r = leads (Err refusal) after (runs_as (splits frame len stands) (stage_stops r))
-
-    ends_so : (d : Decoded) (due : Outcome (Unit {0})) {answer : Result (Unit {0}) Refusal} {after : World} → Stands rest d → IsNoFrame d → end_at at size d s ≡ due → Runs [] (Does due) now answer after → Runs [] whole before answer after
-    ends_so d due {answer} {after} stands none is r = leads answer after (runs_as (λ files outcome t. stops_here d stands none files outcome t ∙ is) r)
-
-    -- no frame has this byte
-    pub bad_stops : (n : ℕ) → Stands rest (Bad n) → Runs [] whole before (Err (Refused (fault_at kinds.Bad (at + n)))) now
-    bad_stops n stands = ends_so (Bad n) (refused_at kinds.Bad (at + n)) stands tt refl (runs_gives (Err (fault_at kinds.Bad (at + n))) now tt)
-
-    -- the reports end within a frame
-    pub cut_stops : at < size → Stands rest More → Runs [] whole before (Err (Refused (fault_at kinds.Cut at))) now
-    cut_stops lt stands =
-        let other : (at == size) ≡ false = ne_eqb at size (λ e. omega arith) in
-        ends_so More (refused_at kinds.Cut at) stands tt (ap (λ b. cond b (ended size s) (refused_at kinds.Cut at)) other) (runs_gives (Err (fault_at kinds.Cut at)) now tt)
-
-    -- the reports end after a frame
-    pub end_goes : at ≡ size → rest ≡ [] → {answer : Result (Unit {0}) Refusal} {after : World} → Runs [] (Does (ended size s)) now answer after → Runs [] whole before answer after
-    end_goes is none r =
-        ends_so More (ended size s) (subst (λ (xs : List ℕ). Stands xs More) (sym none) nothing_left) tt (ap (λ b. cond b (ended size s) (refused_at kinds.Cut at)) (eq-eqb at size is)) r
-
--- the whole of the reports is left at first
-pub leads_first : {whole : Stage (Unit {0})} (w : World) → Leads [] whole whole w w
-leads_first w = λ answer later r. r
-
--- a whole frame has some bytes
-pub whole_long : (rest : List ℕ) (frame : Frame) (len : ℕ) → Stands rest (Whole frame len) → 1 ≤ len
-whole_long rest frame len h =
-    let long = frame_long h.1 frame in
-    let spelled = ap length h.2.spelled in
-    omega (arith, long, spelled, length-take len rest)
-
--- the bytes after it
+-- the bytes after a frame
 pub rest_behind : (bytes : List ℕ) (at len : ℕ) → drop len (drop at bytes) ≡ drop (at + len) bytes
 rest_behind bytes at len = drop-drop len at bytes ∙ ap (λ n. drop n bytes) (omega arith)
-
--- what stands at the front of the slice from a byte on
-pub sliced : (bytes : List ℕ) (at : ℕ) (d : Decoded) → Stands (take (length bytes - at) (drop at bytes)) d → Stands (drop at bytes) d
-sliced bytes at d h = subst (λ (xs : List ℕ). Stands xs d) (take_all (length bytes - at) (drop at bytes) (omega (arith, length-drop at bytes))) h

@@ -1,8 +1,8 @@
 -- The reports of whole windows are answered.
-use Rattle.std.proofs.Common.{◌≡◌, ℕ, ◌+◌, ◌<◌, ◌==◌, List, [], ◌∷◌, ◌++◌, map, length, get_or, drop, sum_by, true, false, cond, Option, None, Some, is_none, Result, Ok, Err, refl, ap, sym, ◌∙◌, arith, append_assoc, append-nil}
+use Rattle.std.proofs.Common.{◌≡◌, ℕ, ◌+◌, ◌<◌, ◌≤◌, ◌^◌, nat_eq, ◌==◌, List, [], ◌∷◌, ◌++◌, map, length, get_or, drop, sum_by, true, false, cond, Option, None, Some, is_none, Result, Ok, Err, refl, ap, sym, subst, ◌∙◌, arith, append_assoc, append-nil}
 use Rattle.std.specs.List.{AllByRecursion, list_any}
-use Rattle.std.proofs.lemmas.Bool.{eq-eqb}
-use Rattle.std.proofs.lemmas.List.{length-append}
+use Rattle.std.proofs.lemmas.Bool.{eq-eqb, le-ltb}
+use Rattle.std.proofs.lemmas.List.{length-append, take_all}
 use Rattle.sn_base.proofs.Lists.{all_append}
 use Rattle.sn_engine.specs.declared.intake.Intake.{Intake}
 use Rattle.sn_engine.specs.Answers.{parts_of, window_of}
@@ -10,7 +10,7 @@ use Rattle.sn_engine.specs.Intakes.{after_frame, first_open, has_started, intake
 use Rattle.sn_engine.specs.Keeping.{all_left, gathered, kept_for, prefixes_for}
 use Rattle.sn_engine.specs.Taking.{is_above}
 use Rattle.sn_engine.proofs.Firsts.{sum_cons}
-use Rattle.sn_report.specs.Framed.{Framed, IsWritten, Written, bytes_in, bytes_of}
+use Rattle.sn_report.specs.Framed.{AreReports, Framed, IsWritten, Written, bytes_in, bytes_of}
 use Rattle.sn_io.specs.Counts.{ByName}
 use Rattle.sn_report.proofs.Cutting.{cut_once, frames_again}
 use Rattle.sn_out.specs.Text.{block_text, total_line}
@@ -21,7 +21,11 @@ use Rattle.sn_report.specs.Items.{Frame}
 use Rattle.sn_report.specs.declared.frame.Frame.TheVariants.{Row, End}
 use Rattle.sn_command.specs.declared.fault.ReportKind.TheVariants as kinds
 use Rattle.sn_command.specs.declared.refusal.Refusal.{Refusal}
+use Rattle.sn_command.specs.declared.fault.Fault.TheVariants.{TooLarge}
+use Rattle.sn_command.specs.declared.refusal.Refusal.TheVariants.{Refused}
 use Rattle.sn_command.specs.Outcomes.{Outcome, silent}
+use Rattle.sn_command.specs.Stages.{most_text}
+use Rattle.sn_report_reader.specs.Within.{within}
 use Rattle.sn_refine.specs.Steps.{Set}
 use Rattle.sn_types.specs.declared.answers.Answers.{Answers}
 use Rattle.sn_types.specs.declared.answers.Part.{Part}
@@ -206,9 +210,9 @@ module _ (queries : List TypedQuery) (lanes : List Intake) (names : HaveNames la
       let found : List Answers = answers_from queries lanes s.closed s.kept windows in
       record { text = blocks_of queries found ++ total_line (length windows) (Some (sum_by (λ (a : Answers). a.emitted) found)); end = Ok tt }
 
-  whole_reports : (windows : List Sent) (written : List Written) (s : Standing) → map frame_of written ≡ frames_in windows → s.lanes ≡ lanes → s.windows ≡ 0 → s.emitted ≡ 0 → Rise s.closed windows → AllByRecursion (IsWindow queries lanes) windows
+  whole_reports : (windows : List Sent) (written : List Written) (s : Standing) → map frame_of written ≡ frames_in windows → length (bytes_of written) ≤ most_text → s.lanes ≡ lanes → s.windows ≡ 0 → s.emitted ≡ 0 → Rise s.closed windows → AllByRecursion (IsWindow queries lanes) windows
       → reported_from queries 0 (length (bytes_of written)) (record { frames = written; left = More }) s ≡ all_reported s windows
-  whole_reports windows written s frames same none zero rise each =
+  whole_reports windows written s frames few same none zero rise each =
       let size : ℕ = length (bytes_of written) in
       let last : Standing = behind_all s windows in
       let found : List Answers = answers_from queries lanes s.closed s.kept windows in
@@ -223,7 +227,8 @@ module _ (queries : List TypedQuery) (lanes : List Intake) (names : HaveNames la
       ∙ ap (λ (n : ℕ). record { text = total_line n (Some last.emitted); end = Ok tt }) counted
       ∙ ap (λ (n : ℕ). record { text = total_line (length windows) (Some n); end = Ok tt }) sent_is in
       ap (λ (o : Outcome Standing). followed o (λ l. end_at (0 + size) size More l)) (all_windows 0 windows written s frames same rise each)
-      ∙ ap (λ (o : Outcome (Unit {0})). record { text = blocks ++ o.text; end = o.end }) (ap (λ b. cond b (ended size last) (refused_at kinds.Cut (0 + size))) at_end ∙ total_is)
+      ∙ ap (λ (o : Outcome (Unit {0})). record { text = blocks ++ o.text; end = o.end }) (ap (λ b. cond b (silent (Err (Refused TooLarge))) (cond (nat_eq (0 + size) size) (ended size last) (refused_at kinds.Cut (0 + size)))) (le-ltb most_text size few)
+      ∙ ap (λ b. cond b (ended size last) (refused_at kinds.Cut (0 + size))) at_end ∙ total_is)
 
 -- ---- the reports of a plan
 
@@ -236,11 +241,13 @@ entries_idle q [] = tt
 entries_idle q (e ∷ es) = all_append IsIdle (map (intake_for q e.levels) e.pieces) (intakes_of (q + 1) es) (pieces_idle q e.levels e.pieces) (entries_idle (q + 1) es)
 
 pub windows_answered : (queries : List TypedQuery) (entries : List Entry) (windows : List Sent) → 0 < length (intakes_of 0 entries) → HaveNames (intakes_of 0 entries) → Rise None windows → AllByRecursion (IsWindow queries (intakes_of 0 entries)) windows
-    → (written : List Written) → map frame_of written ≡ frames_in windows → AllByRecursion IsWritten written
+    → (written : List Written) → map frame_of written ≡ frames_in windows → AllByRecursion IsWritten written → length (bytes_of written) ≤ most_text
     → (files : ByName (List ℕ)) (outcome : Outcome (Unit {0})) → Reported queries entries (bytes_of written) files outcome → outcome ≡ record { text = answered_text queries (intakes_of 0 entries) windows; end = Ok tt }
-windows_answered queries entries windows some names rise each written are frames files outcome t =
+windows_answered queries entries windows some names rise each written are frames few files outcome t =
     let bytes : List ℕ = bytes_of written in
-    let c = cut_here bytes (λ framed. reported_from queries 0 (length bytes) framed (begun entries)) files outcome t in
-    let same : c.framed ≡ record { frames = written; left = More } = cut_once bytes c.framed (record { frames = written; left = More }) c.is (frames_again written frames) in
+    let all : within bytes ≡ bytes = take_all (2 ^ 30) bytes few in
+    let c = cut_here (within bytes) (λ framed. reported_from queries 0 (length bytes) framed (begun entries)) files outcome t in
+    let is : AreReports bytes c.framed.frames c.framed.left = subst (λ (xs : List ℕ). AreReports xs c.framed.frames c.framed.left) all c.is in
+    let same : c.framed ≡ record { frames = written; left = More } = cut_once bytes c.framed (record { frames = written; left = More }) is (frames_again written frames) in
     c.same ∙ ap (λ (f : Framed). reported_from queries 0 (length bytes) f (begun entries)) same
-    ∙ whole_reports queries (intakes_of 0 entries) names (entries_idle 0 entries) some windows written (begun entries) are refl refl refl rise each
+    ∙ whole_reports queries (intakes_of 0 entries) names (entries_idle 0 entries) some windows written (begun entries) are few refl refl refl rise each

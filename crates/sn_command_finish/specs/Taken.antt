@@ -1,6 +1,6 @@
 -- to be believed
 -- What frames of reports leave of an engine, and the text that they add.
-use Rattle.std.specs.Prelude.{ℕ, ◌+◌, List, [], ◌∷◌, ◌++◌, map, length, true, ◌==◌, is_none, Option, None, Some, Result, Ok, Err, if◌then◌else◌}
+use Rattle.std.specs.Prelude.{ℕ, ◌+◌, List, [], ◌∷◌, ◌++◌, map, length, true, ◌==◌, nat_lt, is_none, Option, None, Some, Result, Ok, Err, if◌then◌else◌}
 use Rattle.std.specs.List.{list_any}
 use Rattle.sn_engine.specs.declared.fault.TakeFault.{TakeFault}
 use Rattle.sn_engine.specs.declared.fault.TakeFault.TheVariants as takes
@@ -22,6 +22,7 @@ use Rattle.sn_command.specs.declared.fault.ReportKind.TheVariants as kinds
 use Rattle.sn_command.specs.declared.refusal.Refusal.{Refusal}
 use Rattle.sn_command.specs.declared.refusal.Refusal.TheVariants.{Refused}
 use Rattle.sn_command.specs.Outcomes.{Outcome, silent}
+use Rattle.sn_command.specs.Stages.{most_text}
 use Rattle.sn_refine.specs.Steps.{Set}
 use Rattle.sn_types.specs.declared.answers.Answers.{Answers}
 use Rattle.sn_types.specs.declared.typed_query.TypedQuery.{TypedQuery}
@@ -115,7 +116,9 @@ take_frames queries at (w ∷ later) s = followed (take_frame queries at w.frame
 abbrev pub ended : ℕ → Standing → Outcome (Unit {0})
 ended size s = if list_any has_started s.lanes then refused_at kinds.Unfinished size else record { text = total_line s.windows (Some s.emitted); end = Ok tt }
 
--- what stands after the last frame, from this byte on
+-- What stands after the last frame, from this byte on, in a file of this many bytes. One with more than 2^30 is too large, unless a
+-- byte of the first 2^30 is bad.
 abbrev pub end_at : ℕ → ℕ → Decoded → Standing → Outcome (Unit {0})
 end_at at size (decoded.Bad n) s = refused_at kinds.Bad (at + n)
-end_at at size left s = if at == size then ended size s else refused_at kinds.Cut at
+end_at at size left s =
+    if nat_lt most_text size then silent (Err (Refused faults.TooLarge)) else (if at == size then ended size s else refused_at kinds.Cut at)

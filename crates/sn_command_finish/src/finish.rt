@@ -6,7 +6,6 @@ ghost use Rattle.sn_command.specs.Runs.{WorksFrom};
 
 use crate::reports::answer_reports;
 use sn_command::desk::Desk;
-use sn_command::files::{MOST_TEXT, read_file};
 use sn_command::refusal::Refusal;
 use sn_command_texts::fit::test_shape;
 use sn_command_texts::queries::read_queries;
@@ -15,8 +14,8 @@ use sn_io::inputs::Inputs;
 use sn_io::sink::Sink;
 use std::alloc::Global;
 
-/// `finish QUERIES PLAN REPORTS`: reads the queries, the plan and the reports, and writes the answers of each window that
-/// the reports hold.
+/// `finish QUERIES PLAN REPORTS`: reads the queries and the plan, and then the reports frame by frame, and writes the answers of
+/// each window as soon as the reports have ended it.
 pub fn finish<I: Inputs, O: Sink>(
     alloc: Global,
     queries: &str,
@@ -30,6 +29,5 @@ pub fn finish<I: Inputs, O: Sink>(
     let typed = read_queries(alloc, desk, queries)?;
     let chosen = read_plan(alloc, desk, plan)?;
     test_shape(&typed, &chosen)?;
-    let bytes = read_file(alloc, desk, reports, MOST_TEXT)?;
-    answer_reports(alloc, &typed, &chosen, bytes.as_slice(), desk)
+    answer_reports(alloc, &typed, &chosen, reports, desk)
 }

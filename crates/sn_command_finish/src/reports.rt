@@ -1,17 +1,18 @@
-//! The stage of reports: their frames are taken one after another, and the block of each window is written as soon as all
-//! lanes have ended it. Nothing is kept of the frames but what the engine keeps.
-ghost use Rattle.std.specs.Prelude.{◌≡◌, ◌≤◌, ◌+◌, ◌^◌, [], Some, length};
+//! The stage of reports: their frames are read and taken one after another, and the block of each window is written as soon as all
+//! lanes have ended it. Nothing is kept of the frames but what the engine keeps, and of the file no more than one buffer.
+ghost use Rattle.std.specs.Prelude.{◌≡◌, ◌+◌, [], ◌∷◌, Some};
 ghost use Rattle.sn_engine.specs.Intakes.{total};
-ghost use Rattle.sn_command_finish.specs.Reported.{Answered, Reported};
+ghost use Rattle.sn_command_finish.specs.Reported.{Answered, ReportedIn};
 ghost use Rattle.sn_command_finish.specs.Standings.{standing};
 ghost use Rattle.sn_command_finish.specs.Taken.{ended};
 ghost use Rattle.sn_plan_fit.specs.Fits.{HasShape};
 ghost use Rattle.sn_out.specs.Text.{total_line};
 ghost use Rattle.sn_command.specs.Desks.{world};
 ghost use Rattle.sn_command.specs.Runs.{Runs};
-ghost use Rattle.sn_command.specs.Stages.{Adds, Does};
+ghost use Rattle.sn_command.specs.Stages.{Adds, Does, Then};
+ghost use Rattle.sn_command_capture.specs.Capture.{Whole};
 
-use crate::taking::refusal_at;
+use crate::taking::{refusal_at, refusal_of};
 use crate::tally::Tally;
 use crate::window::take_frame;
 use sn_command::desk::Desk;
@@ -23,7 +24,7 @@ use sn_io::inputs::Inputs;
 use sn_io::sink::Sink;
 use sn_out::lines::total;
 use sn_plan_grammar::plan::Plan;
-use sn_report::decode::{Decoded, decode};
+use sn_report_reader::reader::{Next, Reader};
 use sn_types::typed::Typed;
 use std::alloc::Global;
 
@@ -40,11 +41,11 @@ fn write_total<I: Inputs, O: Sink>(
     write_text(line.as_slice(), desk)
 }
 
-/// Ends reports of this many bytes, after their last frame.
+/// Ends a file of this many bytes, after the last frame.
 fn end_reports<I: Inputs, O: Sink>(
     alloc: Global,
     tally: &Tally,
-    size: usize,
+    size: u64,
     desk: &mut Desk<'_, I, O>,
 ) -> Result<(), Refusal>
     ensures { Runs [] (Does (ended size (standing tally.now))) (world I.Inputs O.Sink desk.old) result (world I.Inputs O.Sink desk.new) }
@@ -55,44 +56,42 @@ fn end_reports<I: Inputs, O: Sink>(
     write_total(alloc, tally.windows, tally.emitted, desk)
 }
 
-/// Takes the frames of these bytes, one after another.
+/// Takes the frames of a file, one after another.
 fn take_frames<I: Inputs, O: Sink>(
     alloc: Global,
     begun: Tally,
-    bytes: &[u8],
+    name: &str,
     desk: &mut Desk<'_, I, O>,
 ) -> Result<(), Refusal>
-    requires few { length bytes.now ≤ 2 ^ 30 }
     requires windows { begun.windows ≡ 0 }
     requires emitted { begun.emitted + total begun.engine.lanes.items ≡ 0 }
-    ensures { Runs [] (Answered begun.engine.t.queries (standing begun) bytes.now) (world I.Inputs O.Sink desk.old) result (world I.Inputs O.Sink desk.new) }
+    ensures { Runs (name.now ∷ []) (Then (Whole name.now) (λ file. Answered begun.engine.t.queries (standing begun) file)) (world I.Inputs O.Sink desk.old)
+        result (world I.Inputs O.Sink desk.new) }
 {
+    let mut reader = Reader::make(alloc)?;
     let mut tally = begun;
-    let mut at = 0;
-    'frames: while at < bytes.len() {
-        match decode(&bytes[at..]) {
-            Decoded::Whole(frame, len) => {
-                tally = take_frame(alloc, tally, &frame, at, desk)?;
-                at += len;
-            }
-            Decoded::More => return Err(refusal_at(ReportKind::Cut, at)),
-            Decoded::Bad(n) => return Err(refusal_at(ReportKind::Bad, at + n)),
+    'frames: loop {
+        let at = reader.offset();
+        match reader.next(desk.files, name) {
+            Ok(Next::Frame(frame)) => tally = take_frame(alloc, tally, &frame, at, desk)?,
+            Ok(Next::Bad(place)) => return Err(refusal_at(ReportKind::Bad, place)),
+            Ok(Next::Cut) => return Err(refusal_at(ReportKind::Cut, at)),
+            Ok(Next::End) => return end_reports(alloc, &tally, at, desk),
+            Err(error) => return Err(refusal_of(error)),
         }
     }
-    end_reports(alloc, &tally, bytes.len(), desk)
 }
 
-/// Answers reports of a plan that has the shape of the queries.
+/// Answers the reports of a plan that has the shape of the queries.
 pub(crate) fn answer_reports<I: Inputs, O: Sink>(
     alloc: Global,
     t: &Typed,
     plan: &Plan,
-    bytes: &[u8],
+    name: &str,
     desk: &mut Desk<'_, I, O>,
 ) -> Result<(), Refusal>
-    requires shape { HasShape t.now.queries plan.now.entries }
-    requires few { length bytes.now ≤ 2 ^ 30 }
-    ensures { Runs [] (Reported t.now.queries plan.now.entries bytes.now) (world I.Inputs O.Sink desk.old) result (world I.Inputs O.Sink desk.new) }
+    requires { HasShape t.now.queries plan.now.entries }
+    ensures { Runs (name.now ∷ []) (ReportedIn t.now.queries plan.now.entries name.now) (world I.Inputs O.Sink desk.old) result (world I.Inputs O.Sink desk.new) }
 {
     let engine = Engine::make(alloc, t, plan)?;
     let begun = Tally {
@@ -100,5 +99,5 @@ pub(crate) fn answer_reports<I: Inputs, O: Sink>(
         windows: 0,
         emitted: 0,
     };
-    take_frames(alloc, begun, bytes, desk)
+    take_frames(alloc, begun, name, desk)
 }

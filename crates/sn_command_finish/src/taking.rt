@@ -1,30 +1,41 @@
-//! Frames that the engine takes, and the faults of reports.
+//! Frames that the engine takes, and why reports are refused.
 ghost use Rattle.std.specs.Prelude.{◌≡◌, OnOk};
 ghost use Rattle.sn_engine.specs.Intakes.{after_frame};
 ghost use Rattle.sn_engine.specs.Taking.{take_fault};
 ghost use Rattle.sn_command_finish.specs.Taken.{fault_at, take_verdict};
 ghost use Rattle.sn_command.specs.declared.refusal.Refusal.TheVariants.{Refused};
 ghost use Rattle.sn_command.specs.Runs.{Answers};
+ghost use Rattle.sn_command_capture.specs.Capture.{read_refusal};
 
 use sn_base::row::Row;
 use sn_command::fault::{Fault, ReportFault, ReportKind};
 use sn_command::refusal::Refusal;
 use sn_engine::engine::Engine;
 use sn_engine::fault::TakeFault;
+use sn_io::inputs::ReadError;
 use sn_report::frame::Frame;
 
 /// The refusal of reports for this, at this byte.
-pub(crate) fn refusal_at(kind: ReportKind, at: usize) -> Refusal
+pub(crate) fn refusal_at(kind: ReportKind, at: u64) -> Refusal
     ensures { result ≡ Refused (fault_at kind at) }
 {
-    Refusal::Refused(Fault::Reports(ReportFault {
-        kind,
-        at: at as u64,
-    }))
+    Refusal::Refused(Fault::Reports(ReportFault { kind, at }))
+}
+
+/// The refusal of reports that can't be read on.
+pub(crate) fn refusal_of(error: ReadError) -> Refusal
+    ensures { result ≡ read_refusal error }
+{
+    match error {
+        ReadError::Missing => Refusal::Missing,
+        ReadError::ReadFault => Refusal::ReadFault,
+        ReadError::TooLarge => Refusal::Refused(Fault::TooLarge),
+        ReadError::Memory => Refusal::Memory,
+    }
 }
 
 /// The engine takes a frame that begins at this byte.
-pub(crate) fn take(engine: &mut Engine, frame: &Frame<Row>, at: usize) -> Result<(), Refusal>
+pub(crate) fn take(engine: &mut Engine, frame: &Frame<Row>, at: u64) -> Result<(), Refusal>
     ensures verdict { Answers (λ verdict. verdict ≡
         take_verdict at (take_fault engine.old.t.queries engine.old.lanes.items engine.old.closed frame.now)) result }
     ensures taken { OnOk result (engine.new.lanes.items ≡ after_frame engine.old.lanes.items frame.now) }

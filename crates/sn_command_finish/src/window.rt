@@ -81,7 +81,7 @@ pub(crate) fn take_frame<I: Inputs, O: Sink>(
     alloc: Global,
     tally: Tally,
     frame: &Frame<Row>,
-    at: usize,
+    at: u64,
     desk: &mut Desk<'_, I, O>,
 ) -> Result<Tally, Refusal>
     requires windows { tally.windows < 2 ^ 62 }

@@ -1,10 +1,6 @@
-use Rattle.std.proofs.Common.{ℕ, List, [], subst}
 use Rattle.std.proofs.lemmas.Result.{err_from_is_err_and}
-use Rattle.sn_command.specs.Desks.{world}
-use Rattle.sn_command.specs.Runs.{Runs}
 use Rattle.sn_command.proofs.StageLemmas.{file_stops, file_then, stage_stops, stage_then, works_stops, works_then}
 use Rattle.sn_command_texts.proofs.Verdicts.{gives_misfit}
-use Rattle.sn_command_finish.specs.Reported.{Reported}
 use Rattle.sn_command_finish.proofs.finish.finish.Goals as goal
 
 pub returns-in_err-typed : goal.returns-in_err-typed
@@ -18,14 +14,5 @@ returns-in_err-test_shape g c =
     let p = err_from_is_err_and c.from_residual-in_err-test_shape.result c.from_residual-in_err-test_shape.ensures.1 in
     rw (p.1, p.2) (works_then c.in_ok-typed.ensures (file_then c.in_ok-chosen.ensures.runs (stage_stops (gives_misfit _ c.in_err-test_shape.ensures.verdict))))
 
-pub returns-in_err-bytes : goal.returns-in_err-bytes
-returns-in_err-bytes g c =
-    let p = err_from_is_err_and c.from_residual-in_err-bytes.result c.from_residual-in_err-bytes.ensures.1 in
-    rw (p.1, p.2) (works_then c.in_ok-typed.ensures (file_then c.in_ok-chosen.ensures.runs (stage_then (gives_misfit _ c.in_ok-test_shape.ensures.verdict) (file_stops c.in_err-bytes.ensures.works.runs))))
-
 pub returns : goal.returns
-returns g c =
-    let here = world g.I.Inputs g.O.Sink c.read_file.new.desk in
-    let there = world g.I.Inputs g.O.Sink c.answer_reports.new.desk in
-    works_then c.in_ok-typed.ensures (file_then c.in_ok-chosen.ensures.runs (stage_then (gives_misfit _ c.in_ok-test_shape.ensures.verdict) (file_then c.in_ok-bytes.ensures.works.runs
-    (subst (λ (bytes : List ℕ). Runs [] (Reported c.in_ok-typed.typed.queries c.in_ok-chosen.chosen.entries bytes) here c.answer_reports.result there) c.as_slice.ensures c.answer_reports.ensures))))
+returns g c = works_then c.in_ok-typed.ensures (file_then c.in_ok-chosen.ensures.runs (stage_then (gives_misfit _ c.in_ok-test_shape.ensures.verdict) c.answer_reports.ensures))

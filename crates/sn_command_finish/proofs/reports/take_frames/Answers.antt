@@ -1,64 +1,129 @@
-use Rattle.std.proofs.Common.{◌≡◌, ◌≤◌, ℕ, ◌+◌, List, [], length, drop, Ok, Err, ◌∙◌, subst, arith}
-use Rattle.std.proofs.lemmas.List.{drop_all, length-drop}
+use Rattle.std.proofs.Common.{◌≡◌, ◌≢◌, ◌<◌, ◌≤◌, ◌+◌, ℕ, List, [], ◌∷◌, None, Ok, Err, length, is_some, true, refl, ap, sym, ◌∙◌, subst, arith}
 use Rattle.std.proofs.lemmas.Result.{err_from_is_err_and}
-use Rattle.sn_report.specs.declared.decode.Decoded.TheVariants.{Bad, More, Whole}
-use Rattle.sn_command.specs.Desks.{world}
+use Rattle.std.specs.FinMap.{get}
+use Rattle.sn_pcap.proofs.ToldLemmas.{not_err, told_still}
+use Rattle.sn_report_reader.specs.Reading.{Follows, ReaderState}
+use Rattle.sn_command.specs.Desks.{files_of, world}
 use Rattle.sn_command.specs.Runs.{Leads, Runs}
-use Rattle.sn_command.specs.Stages.{Does}
+use Rattle.sn_command.specs.Stages.{Does, Then}
+use Rattle.sn_command_capture.specs.Capture.{Whole}
+use Rattle.sn_command_capture.proofs.StreamLemmas.{runs_memory}
+use Rattle.sn_command_capture.proofs.TurnLemmas.{read_on}
 use Rattle.sn_types.specs.declared.typed_query.TypedQuery.{TypedQuery}
 use Rattle.sn_command_finish.specs.Reported.{Answered}
 use Rattle.sn_command_finish.specs.Standings.{standing}
-use Rattle.sn_command_finish.specs.Taken.{Standing, take_frame}
-use Rattle.sn_command_finish.proofs.ReportLemmas.{LeftOver, bad_stops, cut_stops, end_goes, frame_goes, frame_stops, rest_behind, sliced, whole_long}
+use Rattle.sn_command_finish.specs.Taken.{Standing, ended, take_frame}
+use Rattle.sn_command_finish.proofs.TurnLemmas.{LeftIn, bad_stops, cut_stops, end_goes, error_stops, follows_first, frame_goes, frame_stops, leads_first}
 use Rattle.sn_command_finish.proofs.reports.take_frames.Goals as goal
 
-pub returns-in_err-tally-in-Whole : goal.returns-in_err-tally-in-Whole
-returns-in_err-tally-in-Whole g c =
+pub returns-in_err-reader : goal.returns-in_err-reader
+returns-in_err-reader g c = let p = err_from_is_err_and c.from_residual.result c.from_residual.ensures.1 in rw (p.1, p.2) (runs_memory _ _ _)
+
+pub frames-init : goal.frames-init
+frames-init g c =
+    let here = world g.I.Inputs g.O.Sink c.args.desk.now in
+    let name = c.args.name.now in
     let queries = c.args.begun.engine.t.queries in
-    let bytes = c.args.bytes.now in
+    let s : Standing = standing c.args.begun in
+    let reader = c.in_ok-reader.reader in
+    let offset : reader.offset ≡ 0 = ap (λ (r : ReaderState). r.offset) c.in_ok-reader.ensures in
+    let none : length reader.held ≡ 0 = ap (λ (r : ReaderState). length r.held) c.in_ok-reader.ensures in
+    record {
+      queries = refl;
+      leads = subst (λ (n : ℕ). Leads (name ∷ []) (LeftIn queries name n s) (Then (Whole name) (λ file. Answered queries s file)) here here) (sym offset) (leads_first here);
+      follows = follows_first _ reader c.in_ok-reader.ensures;
+      known = λ some. absurd (omega (arith, some, none));
+      most = omega (arith, offset);
+      windows = omega (arith, c.requires.windows);
+      emitted = omega (arith, c.requires.emitted);
+    }
+
+pub returns-in_err-tally-in-Ok-Frame : goal.returns-in_err-tally-in-Ok-Frame
+returns-in_err-tally-in-Ok-Frame g c =
+    let I = g.I.Inputs in
+    let here = world I g.O.Sink c.frames.desk in
+    let begin = world I g.O.Sink c.args.desk.now in
+    let mid = c.frames.invariant in
+    let name = c.args.name.now in
+    let queries = c.args.begun.engine.t.queries in
     let s : Standing = standing c.frames.tally in
-    let here = world g.I.Inputs g.O.Sink c.frames.desk in
-    let there = world g.I.Inputs g.O.Sink c.take_frame.new.desk in
-    let refusal = c.in_err-tally-in-Whole.field-0.0 in
-    let p = err_from_is_err_and c.from_residual.result c.from_residual.ensures.1 in
-    rw (p.1, p.2) (frame_stops queries c.frames.at (length bytes) (drop c.frames.at bytes) s c.frames.invariant.leads c.in-Whole.frame c.in-Whole.len (sliced bytes c.frames.at (Whole c.in-Whole.frame c.in-Whole.len) c.in-Whole.ensures.stands)
-    (subst (λ (qs : List TypedQuery). Runs [] (Does (take_frame qs c.frames.at c.in-Whole.frame s)) here (Err refusal) there) c.frames.invariant.queries c.in_err-tally-in-Whole.ensures.runs))
+    let files = files_of I c.next.new.files in
+    let e = rw c.in-Ok-Frame.field-0-is at c.in-Ok-Frame.ensures in
+    let there = world I g.O.Sink c.take_frame.new.desk in
+    let refusal = c.in_err-tally-in-Ok-Frame.field-0.0 in
+    let p = err_from_is_err_and c.from_residual-in_err-tally-in-Ok-Frame.result c.from_residual-in_err-tally-in-Ok-Frame.ensures.1 in
+    let runs = subst (λ (n : ℕ). Runs [] (Does (take_frame queries n c.in-Ok-Frame.frame s)) (read_on here files) (Err refusal) there) c.offset-at.ensures
+    (subst (λ (qs : List TypedQuery). Runs [] (Does (take_frame qs c.offset-at.result c.in-Ok-Frame.frame s)) (read_on here files) (Err refusal) there) mid.queries c.in_err-tally-in-Ok-Frame.ensures.runs) in
+    rw (p.1, p.2) (frame_stops queries name c.frames.reader c.next.new.self s _ begin here files e.told e.faults (g.met.I.Inputs.same_names c.frames.desk.files.now) mid.leads c.in-Ok-Frame.frame refusal there (λ none. not_err (e.missing.1 none)) e.step runs)
 
 pub frames-preserved : goal.frames-preserved
 frames-preserved g c =
+    let I = g.I.Inputs in
+    let here = world I g.O.Sink c.frames.desk in
+    let begin = world I g.O.Sink c.args.desk.now in
+    let mid = c.frames.invariant in
+    let name = c.args.name.now in
     let queries = c.args.begun.engine.t.queries in
-    let bytes = c.args.bytes.now in
     let s : Standing = standing c.frames.tally in
-    let next : Standing = standing c.in_ok-tally-in-Whole.tally in
-    let begin = world g.I.Inputs g.O.Sink c.args.desk.now in
-    let here = world g.I.Inputs g.O.Sink c.frames.desk in
-    let there = world g.I.Inputs g.O.Sink c.take_frame.new.desk in
-    let stands = sliced bytes c.frames.at (Whole c.in-Whole.frame c.in-Whole.len) c.in-Whole.ensures.stands in
-    let long = whole_long (drop c.frames.at bytes) c.in-Whole.frame c.in-Whole.len stands in
-    let within : c.in-Whole.len ≤ length (drop c.frames.at bytes) = stands.0 in
+    let later : Standing = standing c.in_ok-tally-in-Ok-Frame.tally in
+    let files = files_of I c.next.new.files in
+    let now = c.next.new.self in
+    let e = rw c.in-Ok-Frame.field-0-is at c.in-Ok-Frame.ensures in
+    let there = world I g.O.Sink c.take_frame.new.desk in
+    let after = c.in_ok-tally-in-Ok-Frame.ensures in
+    let runs = subst (λ (n : ℕ). Runs [] (Does (take_frame queries n c.in-Ok-Frame.frame s)) (read_on here files) (Ok later) there) c.offset-at.ensures
+    (subst (λ (qs : List TypedQuery). Runs [] (Does (take_frame qs c.offset-at.result c.in-Ok-Frame.frame s)) (read_on here files) (Ok later) there) mid.queries after.runs) in
+    let moves = e.moves in
     record {
-      queries = c.in_ok-tally-in-Whole.ensures.queries ∙ c.frames.invariant.queries;
-      leads = subst (λ (rest : List ℕ). Leads [] (LeftOver queries (c.frames.at + c.in-Whole.len) (length bytes) rest next) (Answered queries (standing c.args.begun) bytes) begin there) (rest_behind bytes c.frames.at c.in-Whole.len)
-          (frame_goes queries c.frames.at (length bytes) (drop c.frames.at bytes) s c.frames.invariant.leads c.in-Whole.frame c.in-Whole.len next stands
-          (subst (λ (qs : List TypedQuery). Runs [] (Does (take_frame qs c.frames.at c.in-Whole.frame s)) here (Ok next) there) c.frames.invariant.queries c.in_ok-tally-in-Whole.ensures.runs));
-      within = omega (arith, within, c.frames.invariant.within, length-drop c.frames.at bytes);
-      windows = omega (arith, c.in_ok-tally-in-Whole.ensures.windows, c.frames.invariant.windows, long);
-      emitted = omega (arith, c.in_ok-tally-in-Whole.ensures.emitted, c.frames.invariant.emitted, long);
+      queries = after.queries ∙ mid.queries;
+      leads = frame_goes queries name c.frames.reader now s _ begin here files e.told e.faults (g.met.I.Inputs.same_names c.frames.desk.files.now) mid.leads c.in-Ok-Frame.frame later there (λ none. not_err (e.missing.1 none)) e.step runs;
+      follows = told_still (I.told c.next.new.files) (I.told c.take_frame.new.desk.files.now) name (λ file. Follows file now) runs.follows.told e.follows;
+      known = λ some. runs.follows.known name ∙ e.known some;
+      most = moves.1;
+      windows = omega (arith, after.windows, mid.windows, moves.0);
+      emitted = omega (arith, after.emitted, mid.emitted, moves.0);
     }
 
-pub returns-in-More : goal.returns-in-More
-returns-in-More g c =
-    let bytes = c.args.bytes.now in
-    rw c.refusal_at.ensures (cut_stops c.args.begun.engine.t.queries c.frames.at (length bytes) (drop c.frames.at bytes) (standing c.frames.tally) c.frames.invariant.leads c.frames-test.true (sliced bytes c.frames.at More c.in-More.ensures.stands))
+pub returns-in-Ok-Bad : goal.returns-in-Ok-Bad
+returns-in-Ok-Bad g c =
+    let I = g.I.Inputs in
+    let here = world I g.O.Sink c.frames.desk in
+    let begin = world I g.O.Sink c.args.desk.now in
+    let mid = c.frames.invariant in
+    let e = rw c.in-Ok-Bad.field-0-is at c.in-Ok-Bad.ensures in
+    rw c.refusal_at.ensures (bad_stops c.args.begun.engine.t.queries c.args.name.now c.frames.reader c.next.new.self (standing c.frames.tally) _ begin here (files_of I c.next.new.files) e.told e.faults (g.met.I.Inputs.same_names c.frames.desk.files.now) mid.leads
+    c.in-Ok-Bad.place (λ none. not_err (e.missing.1 none)) e.step)
 
-pub returns-in-Bad : goal.returns-in-Bad
-returns-in-Bad g c =
-    let bytes = c.args.bytes.now in
-    rw c.refusal_at-in-Bad.ensures (bad_stops c.args.begun.engine.t.queries c.frames.at (length bytes) (drop c.frames.at bytes) (standing c.frames.tally) c.frames.invariant.leads c.in-Bad.n (sliced bytes c.frames.at (Bad c.in-Bad.n) c.in-Bad.ensures.stands))
+pub returns-in-Ok-Cut : goal.returns-in-Ok-Cut
+returns-in-Ok-Cut g c =
+    let I = g.I.Inputs in
+    let here = world I g.O.Sink c.frames.desk in
+    let begin = world I g.O.Sink c.args.desk.now in
+    let mid = c.frames.invariant in
+    let e = rw c.in-Ok-Cut.field-0-is at c.in-Ok-Cut.ensures in
+    rw (c.refusal_at-in-Ok-Cut.ensures, c.offset-at.ensures) (cut_stops c.args.begun.engine.t.queries c.args.name.now c.frames.reader c.next.new.self (standing c.frames.tally) _ begin here (files_of I c.next.new.files) e.told e.faults (g.met.I.Inputs.same_names c.frames.desk.files.now) mid.leads
+    (λ none. not_err (e.missing.1 none)) e.step)
 
-pub returns : goal.returns
-returns g c =
-    let bytes = c.args.bytes.now in
-    let past : length bytes ≤ c.frames.at = omega (arith, c.frames-test.false) in
-    let is : c.frames.at ≡ length bytes = omega (arith, past, c.frames.invariant.within) in
-    end_goes c.args.begun.engine.t.queries c.frames.at (length bytes) (drop c.frames.at bytes) (standing c.frames.tally) c.frames.invariant.leads is (drop_all c.frames.at bytes past) c.end_reports.ensures
+pub returns-in-Ok-End : goal.returns-in-Ok-End
+returns-in-Ok-End g c =
+    let I = g.I.Inputs in
+    let here = world I g.O.Sink c.frames.desk in
+    let begin = world I g.O.Sink c.args.desk.now in
+    let mid = c.frames.invariant in
+    let s : Standing = standing c.frames.tally in
+    let files = files_of I c.next.new.files in
+    let e = rw c.in-Ok-End.field-0-is at c.in-Ok-End.ensures in
+    let there = world I g.O.Sink c.end_reports.new.desk in
+    let runs = subst (λ (n : ℕ). Runs [] (Does (ended n s)) (read_on here files) c.end_reports.result there) c.offset-at.ensures c.end_reports.ensures in
+    end_goes c.args.begun.engine.t.queries c.args.name.now c.frames.reader c.next.new.self s _ begin here files e.told e.faults (g.met.I.Inputs.same_names c.frames.desk.files.now) mid.leads
+    c.end_reports.result there (λ none. not_err (e.missing.1 none)) e.step runs
+
+pub returns-in-Err : goal.returns-in-Err
+returns-in-Err g c =
+    let I = g.I.Inputs in
+    let here = world I g.O.Sink c.frames.desk in
+    let begin = world I g.O.Sink c.args.desk.now in
+    let mid = c.frames.invariant in
+    let e = c.in-Err.ensures in
+    rw c.refusal_of.ensures (error_stops c.args.begun.engine.t.queries c.args.name.now c.frames.reader c.next.new.self (standing c.frames.tally) _ begin here (files_of I c.next.new.files) e.told e.faults (g.met.I.Inputs.same_names c.frames.desk.files.now) mid.leads
+    c.in-Err.error e.missing.0 e.missing.1 e.fault e.step)

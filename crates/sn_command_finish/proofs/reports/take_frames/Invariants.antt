@@ -1,20 +1,30 @@
-use Rattle.std.proofs.Common.{◌≡◌, ◌≤◌, ◌+◌, ◌-◌, [], length, drop}
+use Rattle.std.proofs.Common.{◌≡◌, ◌<◌, ◌≤◌, ◌+◌, ◌-◌, ◌^◌, [], ◌∷◌, IfSome, is_some, true, length}
+use Rattle.std.specs.FinMap.{get}
 use Rattle.sn_engine.specs.Intakes.{total}
-use Rattle.sn_command_finish.proofs.ReportLemmas.{LeftOver}
+use Rattle.sn_io.specs.Inputs.{told_file}
+use Rattle.sn_report_reader.specs.Reading.{Follows}
+use Rattle.sn_command_finish.proofs.TurnLemmas.{LeftIn}
 use Rattle.sn_command_finish.specs.Reported.{Answered}
 use Rattle.sn_command_finish.specs.Standings.{standing}
 use Rattle.sn_command.specs.Desks.{world}
 use Rattle.sn_command.specs.Runs.{Leads}
+use Rattle.sn_command.specs.Stages.{Then}
+use Rattle.sn_command_capture.specs.Capture.{Whole}
 use Rattle.sn_command_finish.proofs.reports.take_frames.Given as goal
 
 abbrev pub invariant-frames : goal.invariant-frames
-invariant-frames g l = record {
-  queries : l.tally.engine.t.queries ≡ l.fn.begun.engine.t.queries;
-  leads : Leads [] (LeftOver l.fn.begun.engine.t.queries l.at (length l.bytes) (drop l.at l.bytes) (standing l.tally)) (Answered l.fn.begun.engine.t.queries (standing l.fn.begun) l.bytes) (world g.I.Inputs g.O.Sink l.initial.desk) (world g.I.Inputs g.O.Sink l.desk);
-  within : l.at ≤ length l.bytes;
-  windows : l.tally.windows ≤ l.at;
-  emitted : l.tally.emitted + total l.tally.engine.lanes.items ≤ l.at;
-}
+invariant-frames g l =
+    let here = world g.I.Inputs g.O.Sink l.desk in
+    record {
+      queries : l.tally.engine.t.queries ≡ l.fn.begun.engine.t.queries;
+      leads : Leads (l.name ∷ []) (LeftIn l.fn.begun.engine.t.queries l.name l.reader.offset (standing l.tally)) (Then (Whole l.name) (λ file. Answered l.fn.begun.engine.t.queries (standing l.fn.begun) file))
+          (world g.I.Inputs g.O.Sink l.initial.desk) here;
+      follows : IfSome (told_file here.files.told l.name) (λ file. Follows file l.reader);
+      known : 0 < length l.reader.held → is_some (get here.files.faults l.name) ≡ true;
+      most : l.reader.offset ≤ 2 ^ 30;
+      windows : l.tally.windows ≤ l.reader.offset;
+      emitted : l.tally.emitted + total l.tally.engine.lanes.items ≤ l.reader.offset;
+    }
 
 abbrev pub decreases-frames : goal.decreases-frames
-decreases-frames g l = length l.bytes - l.at
+decreases-frames g l = 2 ^ 30 - l.reader.offset

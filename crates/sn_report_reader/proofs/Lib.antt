@@ -1,0 +1,3 @@
+mod RestLemmas
+mod ToldLemmas
+mod StepLemmas

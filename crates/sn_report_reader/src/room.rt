@@ -1,0 +1,60 @@
+//! The bytes of a file that are held while it is read from front to back.
+ghost use Rattle.std.specs.Prelude.{◌≡◌, ◌<◌, ◌≤◌, ◌-◌, ◌++◌, ◌↔◌, None, length, take, drop, IfOk, IfSome, IsErrOf};
+ghost use Rattle.std.specs.FinMap.{get};
+ghost use Rattle.std.specs.Vec.{vec_len};
+ghost use Rattle.sn_io.specs.Counts.{OnlyRises, RoseAt};
+ghost use Rattle.sn_io.specs.Inputs.{told_file};
+
+use sn_io::inputs::{InputFault, Inputs, ReadError};
+
+/// How many bytes are held at most.
+pub const BUFFER_BYTES: usize = 65536;
+
+/// What a read gave.
+#[derive(Clone, Copy, Debug, PartialEq, Eq)]
+pub enum Reached {
+    /// Bytes, which are held now.
+    Bytes,
+    /// The end of the file.
+    End,
+    /// A byte past those that are read.
+    Past,
+}
+
+/// Takes the first bytes off.
+pub(crate) fn take_off(bytes: &mut Vec<u8>, count: usize)
+    requires { count ≤ vec_len bytes.old }
+    ensures { bytes.new.items ≡ drop count bytes.old.items }
+{
+    let rest = bytes.len() - count;
+    bytes.copy_within(count.., 0);
+    bytes.truncate(rest);
+}
+
+/// Reads bytes of a file from the place `at` on into the first ones of a piece, as many as there is room for.
+pub(crate) fn read_piece<I: Inputs>(
+    piece: &mut [u8],
+    room: usize,
+    files: &mut I,
+    name: &str,
+    at: u64,
+) -> Result<usize, ReadError>
+    requires some { 0 < room }
+    requires within { room ≤ length piece.old }
+    ensures within { IfOk result (λ n. n ≤ room) }
+    ensures bytes { IfOk result (λ n. IfSome (told_file (I.told files.old) name.now) (λ file. take n piece.new ≡ take n (drop at file))) }
+    ensures stand { IfOk result (λ n. IfSome (told_file (I.told files.old) name.now) (λ file. n ≤ length file - at)) }
+    ensures none { IfOk result (λ n. IfSome (told_file (I.told files.old) name.now) (λ file. (n ≡ 0) ↔ (length file ≤ at))) }
+    ensures told { I.told files.new ≡ I.told files.old }
+    ensures faults { OnlyRises name.now (I.faults files.old) (I.faults files.new) }
+    ensures not_large { ¬ IsErrOf result ReadError.TooLarge }
+    ensures missing { IsErrOf result ReadError.Missing ↔ (get (I.faults files.old) name.now ≡ None) }
+    ensures fault { IsErrOf result ReadError.ReadFault → RoseAt name.now (I.faults files.old) (I.faults files.new) }
+{
+    let (front, _) = piece.split_at_mut(room);
+    match files.read_at(name, at, front) {
+        Ok(count) => Ok(count),
+        Err(InputFault::Failed) => Err(ReadError::ReadFault),
+        Err(InputFault::Missing) => Err(ReadError::Missing),
+    }
+}
