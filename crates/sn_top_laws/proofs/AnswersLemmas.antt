@@ -1,5 +1,5 @@
 -- The answers to what `emit` wrote are those along the plan.
-use Rattle.std.proofs.Common.{◌≡◌, ℕ, ◌<◌, List, [], ◌∷◌, ◌++◌, map, length, sum, sum_by, true, Option, Some, None, Ok, refl, ap, sym, ◌∙◌, subst, append_assoc}
+use Rattle.std.proofs.Common.{◌≡◌, ℕ, ◌<◌, ◌≤◌, List, [], ◌∷◌, ◌++◌, map, length, sum, sum_by, true, Option, Some, None, Ok, refl, ap, sym, ◌∙◌, subst, append_assoc}
 use Rattle.std.specs.List.{AllByRecursion, flat_map}
 use Rattle.std.proofs.lemmas.Bool.{lt-ltb}
 use Rattle.std.proofs.lemmas.Grind.{flat_map-append}
@@ -35,6 +35,7 @@ use Rattle.sn_command_run.specs.Along.{last_of}
 use Rattle.sn_command_run.specs.Planned.{Planned, answers_at, emitted_in, plan_block, plan_lines}
 use Rattle.sn_command_run.proofs.AlongLemmas.{last_more, next_answers, rising_front}
 use Rattle.sn_command.specs.Outcomes.{Outcome}
+use Rattle.sn_command.specs.Stages.{most_text}
 use Rattle.sn_switch.specs.declared.switch.Switch.{Switch}
 use Rattle.sn_switch.specs.Texts.{IsSwitch}
 use Rattle.sn_types.specs.declared.answers.Answers.{Answers}
@@ -159,20 +160,21 @@ module _ (typed_for : ℕ) (p : Planned) (t : ∥ IsTyped typed_for p.queries �
       ∙ flat_flat (λ w. window_frames p windows w.0 w.1) windows
 
   -- the frames of the windows are answered as the windows are along the plan
-  pub replayed : 0 < length lanes → (files : ByName (List ℕ)) (outcome : Outcome (Unit {0})) → Reported p.queries p.entries (flat_map (λ w. frames_block p windows w.0 w.1) windows) files outcome
+  pub replayed : 0 < length lanes → length (flat_map (λ w. frames_block p windows w.0 w.1) windows) ≤ most_text → (files : ByName (List ℕ)) (outcome : Outcome (Unit {0})) → Reported p.queries p.entries (flat_map (λ w. frames_block p windows w.0 w.1) windows) files outcome
       → outcome ≡ record { text = flat_map (λ w. plan_block p windows w.0 w.1) windows ++ total_line (length windows) (Some (emitted_in p windows)); end = Ok tt }
-  replayed some files outcome is =
+  replayed some few files outcome is =
       windows_answered p.queries p.entries sents some
       (subst HaveNames (sym (intakes_are 0 p.entries)) (have_names pieces (pieces_apart p.queries 0 p.entries entries)))
       (rise_of p windows None windows rising)
       (all_map (IsWindow p.queries lanes) (sent_of p windows) windows all_are_windows)
       (map as_sent (frames_in sents)) (frames_sent (frames_in sents))
       (all_map IsWritten as_sent (frames_in sents) (all_flat (IsFrame 2) (λ sent. sent.frames) sents (all_map (λ sent. AllByRecursion (IsFrame 2) sent.frames) (sent_of p windows) windows all_are_frames)))
+      (subst (λ (bytes : List ℕ). length bytes ≤ most_text) (sym bytes_are) few)
       files outcome (subst (λ bytes. Reported p.queries p.entries bytes files outcome) (sym bytes_are) is)
       ∙ ap (λ (ts : List ℕ). record { text = ts; end = Ok tt }) text_is
 
 pub fits_replayed : (typed_for : ℕ) (s : Switch) (p : Planned) (windows : List Window) → ∥ IsTyped typed_for p.queries ∥₁ → IsSwitch s → Fits p.queries s p.entries → 0 < length (intakes_of 0 p.entries) → AreRising None windows → AllByRecursion IsReal windows
-    → (files : ByName (List ℕ)) (outcome : Outcome (Unit {0})) → Reported p.queries p.entries (flat_map (λ w. frames_block p windows w.0 w.1) windows) files outcome
+    → length (flat_map (λ w. frames_block p windows w.0 w.1) windows) ≤ most_text → (files : ByName (List ℕ)) (outcome : Outcome (Unit {0})) → Reported p.queries p.entries (flat_map (λ w. frames_block p windows w.0 w.1) windows) files outcome
     → outcome ≡ record { text = flat_map (λ w. plan_block p windows w.0 w.1) windows ++ plan_lines p windows Clean; end = Ok tt }
-fits_replayed typed_for s p windows t is fits some rising real files outcome reported =
-    replayed typed_for p t fits.paths (plan_made typed_for p.queries s p.entries t is fits) windows rising real some files outcome reported
+fits_replayed typed_for s p windows t is fits some rising real few files outcome reported =
+    replayed typed_for p t fits.paths (plan_made typed_for p.queries s p.entries t is fits) windows rising real some few files outcome reported

@@ -1,9 +1,8 @@
 -- From file to file, `finish` prints of what `emit` wrote what `run` writes.
-use Rattle.std.proofs.Common.{◌≡◌, ℕ, ◌≤◌, ◌<◌, ◌^◌, ◌⊎◌, List, [], ◌∷◌, ◌++◌, length, drop, false, cond, Option, None, Some, Result, Ok, Err, refl, ap, ◌∙◌, subst, append-nil, inl, inr}
+use Rattle.std.proofs.Common.{◌≡◌, ℕ, ◌≤◌, ◌<◌, ◌^◌, ◌⊎◌, List, [], ◌∷◌, ◌++◌, length, drop, false, Option, None, Some, Ok, refl, ap, ◌∙◌, subst, append-nil, inl, inr}
 use Rattle.std.specs.FinMap.{get}
 use Rattle.std.specs.List.{AllByRecursion, flat_map}
-use Rattle.std.proofs.lemmas.Bool.{le-ltb}
-use Rattle.sn_command_capture.specs.Capture.{ending_verdict, windows_in}
+use Rattle.sn_command_capture.specs.Capture.{ending_verdict, known_bytes, windows_in}
 use Rattle.sn_windows.specs.Rising.{AreRising, Window}
 use Rattle.sn_base.proofs.Lists.{all_weaker}
 use Rattle.sn_command_emit.specs.Emit.{Emit}
@@ -31,13 +30,10 @@ use Rattle.sn_command_texts.proofs.Accepted.{switch_limits, typed_in}
 use Rattle.sn_types_read.specs.Texts.{Queries}
 use Rattle.sn_command_run.specs.Planned.{Planned, as_they_are, emitted_in, plan_block, plan_lines, plan_wording}
 use Rattle.sn_command_run.specs.Run.{Run, planned, window_ns}
-use Rattle.sn_command.specs.declared.fault.Fault.TheVariants as faults
-use Rattle.sn_command.specs.declared.refusal.Refusal.{Refusal}
-use Rattle.sn_command.specs.declared.refusal.Refusal.TheVariants.{Refused}
 use Rattle.sn_command.specs.Ends.{end_status}
 use Rattle.sn_command.specs.Outcomes.{Outcome, silent}
 use Rattle.sn_command.specs.Refusals.{refusing}
-use Rattle.sn_command.specs.Stages.{most_text, within_limit}
+use Rattle.sn_command.specs.Stages.{most_text}
 use Rattle.sn_switch.specs.Texts.{IsSwitch}
 use Rattle.sn_switch.specs.declared.switch.Switch.{Switch}
 use Rattle.sn_types.specs.declared.typed_query.TypedBranch.{TypedBranch}
@@ -97,7 +93,7 @@ module _ (window : ℕ) (header : Header) (file : List ℕ) (are : AreBytes file
 module _ (read : Queries) (limits : Switch) (chosen : Plan) (typed : ∥ IsTyped read.window_us read.queries ∥₁) (is : IsSwitch limits) (fits : Fits read.queries limits chosen.entries) (later : ByName (List ℕ)) (emitted ran finished : Outcome (Unit {0}))
     (held : Option (List ℕ)) (bytes : (file : List ℕ) → held ≡ Some file → AreBytes file)
     (emitted_is : emitted ≡ capture_due (frames_wording (planned read limits chosen)) (window_ns read) held) (ran_is : ran ≡ capture_due (plan_wording (planned read limits chosen)) (window_ns read) held)
-    (reported : Reported read.queries chosen.entries emitted.text later finished) where
+    (few : length emitted.text ≤ most_text) (reported : Reported read.queries chosen.entries emitted.text later finished) where
   abbrev p : Planned
   p = planned read limits chosen
 
@@ -107,7 +103,7 @@ module _ (read : Queries) (limits : Switch) (chosen : Plan) (typed : ∥ IsTyped
   replayed_of : (windows : List Window) → AreRising None windows → AllByRecursion IsReal windows → emitted.text ≡ flat_map (λ w. frames_block p windows w.0 w.1) windows
       → finished ≡ record { text = flat_map (λ w. plan_block p windows w.0 w.1) windows ++ plan_lines p windows Clean; end = Ok tt }
   replayed_of windows rising real text =
-      fits_replayed read.window_us limits p windows typed is fits some rising real later finished (subst (λ ts. Reported read.queries chosen.entries ts later finished) text reported)
+      fits_replayed read.window_us limits p windows typed is fits some rising real (subst (λ (ts : List ℕ). length ts ≤ most_text) text few) later finished (subst (λ ts. Reported read.queries chosen.entries ts later finished) text reported)
 
   no_head : HasNoHead (window_ns read) held → FinishesSo emitted ran finished
   no_head none =
@@ -149,10 +145,6 @@ module _ (read : Queries) (limits : Switch) (chosen : Plan) (typed : ∥ IsTyped
 
 -- ---- from file to file
 
-within_most : (text : List ℕ) (held : Option (List ℕ)) → held ≡ Some text → length text ≤ most_text → within_limit most_text held ≡ Ok text
-within_most text held e few =
-    ap (within_limit most_text) e ∙ ap (λ b. cond b (Err (Refused faults.TooLarge)) (Ok text)) (le-ltb most_text (length text) few)
-
 pub finish_follows : (switch queries plan capture reports : List ℕ) (files later : ByName (List ℕ)) (emitted ran finished : Outcome (Unit {0})) → HoldsBytes capture files
     → Emit switch queries plan capture files emitted → HasWritten emitted → length emitted.text ≤ most_text → IsKept queries plan reports emitted.text files later
     → Run as_they_are false switch queries plan capture files ran → Finish queries plan reports later finished → FinishesSo emitted ran finished
@@ -171,5 +163,5 @@ finish_follows switch queries plan capture reports files later emitted ran finis
     let finish_queries = read_goes queries_once q.0 (reads_there queries QueriesIn files later q.0 kept.same_queries q.1) finishing in
     let finish_plan = read_goes plan_once c.0 (reads_there plan PlanIn files later c.0 kept.same_plan c.1) finish_queries in
     let finish_shape = passed_goes (shape_misfit q.0.queries c.0.entries) (has_shape q.0.queries s.0 c.0.entries fits) finish_plan in
-    let reported = goes_silent emitted.text (λ begun is. is ∙ ap (λ (r : Result (List ℕ) Refusal). silent r) (within_most emitted.text (get later reports) kept.held few)) finish_shape in
-    finishes q.0 s.0 c.0 (typed_in q.1.bytes q.0 q.1.is) is fits later emitted ran finished (get files capture) bytes (capture_is (frames_wording (planned q.0 s.0 c.0)) (λ windows number tuples. refl) (window_ns q.0) capture files emitted f.1) (capture_is (plan_wording (planned q.0 s.0 c.0)) (λ windows number tuples. refl) (window_ns q.0) capture files ran run_fit) reported written
+    let reported = goes_silent emitted.text (λ begun is. is ∙ ap (λ (held : Option (List ℕ)). silent (known_bytes held)) kept.held) finish_shape in
+    finishes q.0 s.0 c.0 (typed_in q.1.bytes q.0 q.1.is) is fits later emitted ran finished (get files capture) bytes (capture_is (frames_wording (planned q.0 s.0 c.0)) (λ windows number tuples. refl) (window_ns q.0) capture files emitted f.1) (capture_is (plan_wording (planned q.0 s.0 c.0)) (λ windows number tuples. refl) (window_ns q.0) capture files ran run_fit) few reported written
