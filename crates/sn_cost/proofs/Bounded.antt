@@ -25,7 +25,7 @@ use Rattle.sn_cost.specs.Entries.{entry_count, front_of, held_of, installed_in, 
 use Rattle.sn_cost.specs.Runs.{equal_ahead}
 use Rattle.sn_cost.specs.Training.{NeverFall}
 use Rattle.sn_cost.proofs.Few.{with_field}
-use Rattle.sn_cost.proofs.Fronts.{front_path}
+use Rattle.sn_cost.proofs.Paths.{front_path}
 use Rattle.sn_cost.proofs.Installed.{installed_few}
 use Rattle.sn_cost.proofs.Running.{later_fall, some_ahead, windows_rise, windows_step}
 

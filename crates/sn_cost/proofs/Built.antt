@@ -27,7 +27,7 @@ use Rattle.sn_refine.specs.Steps.{windows_of}
 use Rattle.sn_cost.specs.Adding.{Adds, where_so}
 use Rattle.sn_cost.specs.Entries.{IsPiece, cost_in, entry_count, front_of, installed_in, sent_of}
 use Rattle.sn_cost.specs.Training.{IsFresh, added, at_prefix, counts_in, of_fronts, of_queries, window_counts}
-use Rattle.sn_cost.proofs.Fronts.{few_fronts, four_levels}
+use Rattle.sn_cost.proofs.Paths.{few_fronts, four_levels}
 use Rattle.sn_cost.proofs.Growing.{fee_within, next_where, none_where}
 use Rattle.sn_windows.specs.Rising.{Window}
 use Rattle.sn_base.proofs.Tests.{not_less}

@@ -1,14 +1,12 @@
 -- Tables that grow step by step.
-use Rattle.std.proofs.Common.{◌≡◌, ℕ, zero, suc, ◌+◌, ◌*◌, ◌^◌, ◌≤◌, ◌<◌, List, [], ◌∷◌, length, Bool, true, false, cond, nat_eq, nat_lt, slice_index, get_or, refl, ap, sym, subst, ◌∙◌, arith, zero-add, ◌++◌, ◌/◌, ◌%◌, drop, append_assoc, filter, Option}
-use Rattle.std.specs.Prelude.{◌==◌}
-use Rattle.std.proofs.Math.Seq.{drop-cons}
+use Rattle.std.proofs.Common.{◌≡◌, ℕ, zero, suc, ◌+◌, ◌*◌, ◌^◌, ◌≤◌, ◌<◌, List, [], ◌∷◌, length, Bool, true, false, nat_eq, nat_lt, slice_index, refl, ap, sym, subst, ◌∙◌, arith, zero-add, filter, Option}
+use Rattle.std.specs.Prelude.{Result, Ok, Err, OnOk}
 use Rattle.std.proofs.lemmas.List.{length-map}
 use Rattle.sn_ops.specs.Packets.{is_kept, packet_rows}
 use Rattle.sn_ops.specs.declared.packets.Kept.{Kept}
 use Rattle.sn_types.specs.declared.typed_query.TypedQuery.{TypedQuery}
 use Rattle.sn_types.specs.Typed.{branch_of, packet_row}
 use Rattle.std.proofs.lemmas.Bool.{false≢true, lt-ltb, ltb-false, ltb-true}
-use Rattle.sn_cost.specs.Entries.{front_of}
 use Rattle.sn_base.proofs.Lists.{by_test, nat_same, nat_self, filter_short}
 use Rattle.sn_plan_choices.specs.declared.costs.CostTable.{CostTable}
 use Rattle.sn_plan_choices.specs.Costs.{HasPlaces, IsPlace, OthersStay, entry_in}
@@ -218,21 +216,6 @@ small_more P i below here b lt = by_test (nat_eq i b) (λ is. subst P (nat_same 
     less : (i b : ℕ) → b < i + 1 → (i ≡ b → ⊥) → b < i
     less i b lt apart = omega (arith, lt, apart)
 
--- ---- fronts
-
-pub level_more : (levels : List ℕ) (i left : ℕ) (front more : List ℕ) (b : Bool) → i < length levels → b ≡ (left % 2 == 1) → more ≡ front ++ cond b (get_or levels i 0 ∷ []) [] → more ++ front_of (left / 2) (drop (i + 1) levels) ≡ front ++ front_of left (drop i levels)
-level_more levels i left front more b lt is grown =
-    let next : suc i ≡ i + 1 = omega arith in
-    let ahead : drop i levels ≡ get_or levels i 0 ∷ drop (i + 1) levels = drop-cons levels i 0 lt ∙ ap (λ n. get_or levels i 0 ∷ drop n levels) next in
-    let rest : List ℕ = front_of (left / 2) (drop (i + 1) levels) in
-    ap (λ xs. xs ++ rest) grown ∙ append_assoc front (cond b (get_or levels i 0 ∷ []) []) rest
-    ∙ ap (λ xs. front ++ xs) (by_bit b (get_or levels i 0) rest ∙ ap (λ c. cond c (get_or levels i 0 ∷ rest) rest) is)
-    ∙ sym (ap (λ xs. front ++ front_of left xs) ahead)
-  where
-    by_bit : (b : Bool) (level : ℕ) (rest : List ℕ) → cond b (level ∷ []) [] ++ rest ≡ cond b (level ∷ rest) rest
-    by_bit true level rest = refl
-    by_bit false level rest = refl
-
 -- ---- packet rows
 
 pub packets_few : (query : TypedQuery) (b level : ℕ) (kept : Option Kept) (tuples : List (List ℕ)) → length (packet_rows query b level kept tuples) ≤ length tuples
@@ -240,3 +223,9 @@ packets_few query b level kept tuples =
     let a = filter_short (is_kept query.field kept) tuples in
     let e = length-map (filter (is_kept query.field kept) tuples) (packet_row query.field level (branch_of query b).fields) in
     omega (arith, a, e)
+
+-- ---- answers of calls
+
+pub always : {A E : Type 0} (r : Result A E) (P : Type 0) → P → OnOk r P
+always (Ok x) P p = p
+always (Err e) P p = tt

@@ -1,50 +1,19 @@
 //! The cost table of training windows.
-ghost use Rattle.std.specs.Prelude.{◌≡◌, ◌≤◌, ◌<◌, ◌+◌, ◌^◌, ℕ, length, IfOk, OnOk};
+ghost use Rattle.std.specs.Prelude.{◌≡◌, ◌≤◌, ℕ, length, IfOk};
 ghost use Rattle.sn_plan_choices.specs.Costs.{HasPlaces, entry_in};
 ghost use Rattle.sn_plan_choices.specs.Options.{option_at};
-ghost use Rattle.sn_cost.specs.Adding.{Adds};
 ghost use Rattle.sn_cost.specs.Entries.{IsPiece, entry_count, trained};
-ghost use Rattle.sn_cost.specs.Training.{IsFresh, NeverFall, of_fronts};
+ghost use Rattle.sn_cost.specs.Training.{NeverFall};
 ghost use Rattle.sn_switch.specs.Texts.{IsSwitch};
 ghost use Rattle.sn_types.specs.Typed.{branch_at, query_at};
 ghost use Rattle.sn_windows.specs.Blocks.{most_records};
 
-use crate::front::front_of;
-use crate::train::add_front;
+use crate::train::add_query;
 use sn_base::memory::Memory;
 use sn_fields::tuple::Tuple;
 use sn_plan_choices::costs::CostTable;
 use sn_switch::switch::Switch;
 use sn_types::typed::Typed;
-
-/// Adds the counts of all training windows at all fronts of a query.
-fn add_query(
-    t: &Typed,
-    s: &Switch,
-    q: u32,
-    tuples: &[Tuple],
-    numbers: &[u64],
-    table: &mut CostTable,
-) -> Result<(), Memory>
-    requires switch { IsSwitch s.now }
-    requires query { q < length t.now.queries }
-    requires same { length tuples.now ≡ length numbers.now }
-    requires few { length numbers.now ≤ most_records }
-    requires never_fall { NeverFall numbers.now }
-    requires places { HasPlaces table.old (q + 1) }
-    requires fresh { (prefix : ℕ) → IsFresh table.old q prefix }
-    ensures { let query = query_at t.now.queries q in OnOk result
-        (Adds table.old table.new (of_fronts s.now q query (2 ^ length query.levels) (trained numbers.now tuples.now))) }
-{
-    let levels = t.levels(q);
-    for prefix in 0..1u32 << levels.len() {
-        let front = front_of(t.alloc, prefix, levels)?;
-        if !front.as_slice().is_empty() {
-            add_front(t, s, q, prefix, front.as_slice(), tuples, numbers, table)?;
-        }
-    }
-    Ok(())
-}
 
 /// The cost table of training windows. Each entry, of a query, a front of a path, a branch and an option, is the number of items
 /// that the piece sends over all windows, and the switch's weight for each prefix that is installed in them. What passes at a level

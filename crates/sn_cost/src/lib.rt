@@ -5,5 +5,7 @@ mod adding;
 mod branches;
 pub mod build;
 mod front;
+mod fronts;
 mod run;
 mod train;
+mod window;
