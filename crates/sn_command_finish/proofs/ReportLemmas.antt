@@ -1,27 +1,21 @@
 -- What is left of reports while their frames are taken one after another, over plain values.
-use Rattle.std.proofs.Common.{◌≡◌, ℕ, ◌+◌, ◌-◌, ◌<◌, ◌≤◌, ◌==◌, List, [], ◌∷◌, ◌++◌, length, take, drop, false, cond, Result, Ok, Err, refl, ap, sym, ◌∙◌, subst, arith, append_assoc}
-use Rattle.std.proofs.lemmas.Bool.{eq-eqb, ne_eqb}
-use Rattle.std.proofs.lemmas.List.{drop-drop, length-append, length-drop, length-take, take_all}
+use Rattle.std.proofs.Common.{◌≡◌, ℕ, ◌+◌, List, [], ◌∷◌, ◌++◌, length, drop, Result, Ok, Err, refl, ap, sym, ◌∙◌, subst, arith, append_assoc}
+use Rattle.std.proofs.lemmas.List.{drop-drop, length-append}
 use Rattle.sn_io.specs.Counts.{ByName}
 use Rattle.sn_report.specs.Framed.{AreReports, Framed, IsNoFrame, Written, bytes_in, bytes_of}
-use Rattle.sn_report.proofs.Cutting.{first_frame, frame_long, no_frames, nothing_left}
+use Rattle.sn_report.proofs.Cutting.{first_frame, no_frames}
 use Rattle.sn_report.specs.declared.decode.Decoded.{Decoded}
-use Rattle.sn_report.specs.declared.decode.Decoded.TheVariants.{Whole, More, Bad}
+use Rattle.sn_report.specs.declared.decode.Decoded.TheVariants.{Whole}
 use Rattle.sn_report.specs.Items.{Frame}
 use Rattle.sn_report.specs.Decoding.{Stands}
 use Rattle.sn_command.specs.declared.fault.Fault.{Fault}
-use Rattle.sn_command.specs.declared.fault.ReportKind.TheVariants as kinds
 use Rattle.sn_command.specs.declared.refusal.Refusal.{Refusal}
-use Rattle.sn_command.specs.declared.refusal.Refusal.TheVariants.{Refused}
 use Rattle.sn_command.specs.Outcomes.{Outcome, Stage, silent}
 use Rattle.sn_command.specs.Refusals.{refusing}
-use Rattle.sn_command.specs.Runs.{Leads, Runs}
 use Rattle.sn_command.specs.Stages.{Does, GoesOn, Judges, Then}
-use Rattle.sn_command.specs.Worlds.{World}
-use Rattle.sn_command.proofs.StageLemmas.{runs_as, runs_gives, stage_stops, stage_then}
 use Rattle.sn_types.specs.declared.typed_query.TypedQuery.{TypedQuery}
 use Rattle.sn_command_finish.specs.Reported.{FramedIn, reported_from}
-use Rattle.sn_command_finish.specs.Taken.{Standing, end_at, ended, fault_at, followed, goes_on, refused_at, take_frame, take_frames}
+use Rattle.sn_command_finish.specs.Taken.{Standing, end_at, followed, goes_on, take_frame, take_frames}
 
 -- ---- outcomes after one another
 

@@ -1,14 +1,14 @@
 -- The turns of the loop that reads reports and takes their frames, over plain values.
-use Rattle.std.proofs.Common.{◌≡◌, ℕ, ◌+◌, ◌<◌, ◌≤◌, ◌^◌, nat_eq, List, [], ◌∷◌, ◌++◌, length, drop, min, false, true, cond, Option, Some, None, Result, Ok, Err, IfSome, IsErrOf, is_some, inl, refl, ap, sym, ◌∙◌, subst, arith}
+use Rattle.std.proofs.Common.{◌≡◌, ℕ, ◌+◌, ◌≤◌, ◌^◌, nat_eq, List, [], ◌∷◌, length, drop, cond, Option, Some, None, Result, Ok, Err, IfSome, IsErrOf, is_some, inl, refl, ap, sym, ◌∙◌, subst, arith}
 use Rattle.std.specs.FinMap.{get}
-use Rattle.std.proofs.lemmas.Bool.{eq-eqb, ne_eqb, le-ltb, lt-ltb}
+use Rattle.std.proofs.lemmas.Bool.{true≢false, eq-eqb, ne_eqb, le-ltb, lt-ltb}
 use Rattle.std.proofs.lemmas.List.{drop_all, length-take}
 use Rattle.sn_io.specs.Counts.{ByName, OnlyRises, RoseAt}
 use Rattle.sn_io.specs.Inputs.{told_file}
 use Rattle.sn_io.specs.declared.inputs.ReadError.{ReadError}
 use Rattle.sn_io.specs.declared.inputs.ReadError.TheVariants as errors
 use Rattle.sn_pcap.proofs.ToldLemmas.{at_told}
-use Rattle.sn_report.specs.declared.decode.Decoded.TheVariants.{Whole as WholeFrame, More, Bad}
+use Rattle.sn_report.specs.declared.decode.Decoded.TheVariants.{More, Bad}
 use Rattle.sn_report.specs.Decoding.{Stands}
 use Rattle.sn_report.specs.Items.{Frame}
 use Rattle.sn_report.proofs.Cutting.{nothing_left}
@@ -16,7 +16,6 @@ use Rattle.sn_report_reader.specs.Within.{within}
 use Rattle.sn_report_reader.specs.Reading.{Follows as ReaderFollows, IsStep, ReaderState, made, rest_of}
 use Rattle.sn_report_reader.specs.declared.reader.Next.{Next}
 use Rattle.sn_report_reader.specs.declared.reader.Next.TheVariants as next
-use Rattle.sn_command.specs.declared.fault.Fault.{Fault}
 use Rattle.sn_command.specs.declared.fault.Fault.TheVariants.{TooLarge}
 use Rattle.sn_command.specs.declared.fault.ReportKind.TheVariants as kinds
 use Rattle.sn_command.specs.declared.refusal.Refusal.{Refusal}
@@ -28,10 +27,14 @@ use Rattle.sn_command.specs.Worlds.{Files, Follows, Spares, World}
 use Rattle.sn_command.proofs.FileLemmas.{none_other, some_if}
 use Rattle.sn_command.proofs.StageLemmas.{runs_earlier, runs_gives, runs_read_fault}
 use Rattle.sn_command_capture.specs.Capture.{Whole, known_bytes, read_refusal}
-use Rattle.sn_command_capture.proofs.StreamLemmas.{file_known, none_like, read_follows, runs_memory, runs_read, turn_ends, turn_goes, turn_stops}
+use Rattle.sn_command_capture.proofs.StreamLemmas.{file_known, read_follows, runs_memory, runs_read, turn_ends, turn_goes, turn_stops}
 use Rattle.sn_command_capture.proofs.TurnLemmas.{read_on}
+use Rattle.sn_engine.specs.declared.intake.Intake.{Intake}
+use Rattle.sn_engine.specs.Intakes.{intakes_of}
+use Rattle.sn_plan_grammar.specs.declared.plan.Entry.{Entry}
+use Rattle.sn_refine.specs.Steps.{Set}
 use Rattle.sn_types.specs.declared.typed_query.TypedQuery.{TypedQuery}
-use Rattle.sn_command_finish.specs.Taken.{Standing, end_at, ended, fault_at, refused_at, take_frame}
+use Rattle.sn_command_finish.specs.Taken.{Standing, begun, end_at, ended, fault_at, refused_at, take_frame}
 use Rattle.sn_command_finish.proofs.ReportLemmas.{LeftOver, rest_behind, splits, stops_here}
 
 -- ---- stages over a known file
@@ -149,6 +152,11 @@ module _ (queries : List TypedQuery) (name : List ℕ) (before now : ReaderState
 
 -- ---- the turns
 
+-- an engine that was made stands as before any frame
+pub begun_is : (entries : List Entry) (lanes : List Intake) (closed : Option ℕ) (kept : List Set) → lanes ≡ intakes_of 0 entries → closed ≡ None → kept ≡ []
+    → ◌≡◌ {A = Standing} (record { lanes = lanes; closed = closed; kept = kept; windows = 0; emitted = 0 }) (begun entries)
+begun_is entries lanes closed kept are none empty = rw (are, none, empty) refl
+
 -- a reader that was made follows every file
 pub follows_first : (told : Option (List ℕ)) (reader : ReaderState) → reader ≡ made → IfSome told (λ file. ReaderFollows file reader)
 follows_first told reader is = rw is (of told)
@@ -156,6 +164,11 @@ follows_first told reader is = rw is (of told)
     of : (told : Option (List ℕ)) → IfSome told (λ file. ReaderFollows file made)
     of None = tt
     of (Some file) = record { within_file = omega arith; held = refl }
+
+-- over files with known contents, a name that isn't known has no file
+unknown_there : (held : Option (List ℕ)) (count : Option ℕ) → is_some held ≡ is_some count → count ≡ None → held ≡ None
+unknown_there None count law none = refl
+unknown_there (Some file) count law none = absurd (true≢false (law ∙ ap is_some none))
 
 -- before any frame, the whole is left
 pub leads_first : {names : List (List ℕ)} {whole : Stage (Unit {0})} (w : World) → Leads names whole whole w w
@@ -204,7 +217,7 @@ module _ (queries : List TypedQuery) (name : List ℕ) (before now : ReaderState
 
   missing_left : get last.files.faults name ≡ None → (held : ByName (List ℕ)) → last.files.told ≡ Some held → (outcome : Outcome (Unit {0})) → LeftIn queries name before.offset s held outcome → outcome ≡ silent (Err Missing)
   missing_left none held same outcome t =
-      no_file (λ file. LeftOver queries before.offset (length file) (drop before.offset (within file)) s) held name outcome (none_like (get last.files.faults name) (get held name) (sym (law held name same)) none) t
+      no_file (λ file. LeftOver queries before.offset (length file) (drop before.offset (within file)) s) held name outcome (unknown_there (get held name) (get last.files.faults name) (law held name same) none) t
 
   missing_stops : get last.files.faults name ≡ None → Runs (name ∷ []) whole first (Err Missing) (read_on last files)
   missing_stops none =

@@ -1,6 +1,5 @@
-use Rattle.std.proofs.Common.{◌≡◌, ◌≢◌, ◌<◌, ◌≤◌, ◌+◌, ℕ, List, [], ◌∷◌, None, Ok, Err, length, is_some, true, refl, ap, sym, ◌∙◌, subst, arith}
+use Rattle.std.proofs.Common.{◌≡◌, ℕ, List, [], ◌∷◌, Ok, Err, length, refl, ap, sym, ◌∙◌, subst, arith}
 use Rattle.std.proofs.lemmas.Result.{err_from_is_err_and}
-use Rattle.std.specs.FinMap.{get}
 use Rattle.sn_pcap.proofs.ToldLemmas.{not_err, told_still}
 use Rattle.sn_report_reader.specs.Reading.{Follows, ReaderState}
 use Rattle.sn_command.specs.Desks.{files_of, world}
