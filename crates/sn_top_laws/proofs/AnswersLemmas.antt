@@ -160,7 +160,7 @@ module _ (typed_for : ℕ) (p : Planned) (t : ∥ IsTyped typed_for p.queries �
       ∙ flat_flat (λ w. window_frames p windows w.0 w.1) windows
 
   -- the frames of the windows are answered as the windows are along the plan
-  pub replayed : 0 < length lanes → length (flat_map (λ w. frames_block p windows w.0 w.1) windows) ≤ most_text → (files : ByName (List ℕ)) (outcome : Outcome (Unit {0})) → Reported p.queries p.entries (flat_map (λ w. frames_block p windows w.0 w.1) windows) files outcome
+  pub replayed : 0 < length lanes → length (flat_map (λ (w : Window). frames_block p windows w.0 w.1) windows) ≤ most_text → (files : ByName (List ℕ)) (outcome : Outcome (Unit {0})) → Reported p.queries p.entries (flat_map (λ w. frames_block p windows w.0 w.1) windows) files outcome
       → outcome ≡ record { text = flat_map (λ w. plan_block p windows w.0 w.1) windows ++ total_line (length windows) (Some (emitted_in p windows)); end = Ok tt }
   replayed some few files outcome is =
       windows_answered p.queries p.entries sents some
@@ -174,7 +174,7 @@ module _ (typed_for : ℕ) (p : Planned) (t : ∥ IsTyped typed_for p.queries �
       ∙ ap (λ (ts : List ℕ). record { text = ts; end = Ok tt }) text_is
 
 pub fits_replayed : (typed_for : ℕ) (s : Switch) (p : Planned) (windows : List Window) → ∥ IsTyped typed_for p.queries ∥₁ → IsSwitch s → Fits p.queries s p.entries → 0 < length (intakes_of 0 p.entries) → AreRising None windows → AllByRecursion IsReal windows
-    → length (flat_map (λ w. frames_block p windows w.0 w.1) windows) ≤ most_text → (files : ByName (List ℕ)) (outcome : Outcome (Unit {0})) → Reported p.queries p.entries (flat_map (λ w. frames_block p windows w.0 w.1) windows) files outcome
+    → length (flat_map (λ (w : Window). frames_block p windows w.0 w.1) windows) ≤ most_text → (files : ByName (List ℕ)) (outcome : Outcome (Unit {0})) → Reported p.queries p.entries (flat_map (λ w. frames_block p windows w.0 w.1) windows) files outcome
     → outcome ≡ record { text = flat_map (λ w. plan_block p windows w.0 w.1) windows ++ plan_lines p windows Clean; end = Ok tt }
 fits_replayed typed_for s p windows t is fits some rising real few files outcome reported =
     replayed typed_for p t fits.paths (plan_made typed_for p.queries s p.entries t is fits) windows rising real some few files outcome reported

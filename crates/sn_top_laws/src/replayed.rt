@@ -27,7 +27,7 @@ pub fn finish_answers_what_emit_writes()
     ensures { (typed_for : ℕ) (s : Switch) (p : Planned) (windows : List Window) → ∥ IsTyped typed_for p.queries ∥₁ → IsSwitch s → Fits p.queries s p.entries →
         0 < length (intakes_of 0 p.entries) →
         AreRising None windows → AllByRecursion IsReal windows →
-        length (flat_map (λ w. frames_block p windows w.0 w.1) windows) ≤ most_text →
+        length (flat_map (λ (w : Window). frames_block p windows w.0 w.1) windows) ≤ most_text →
         (files : ByName (List ℕ)) (outcome : Outcome (Unit {0})) →
         Reported p.queries p.entries (flat_map (λ w. frames_block p windows w.0 w.1) windows) files outcome →
         outcome ≡ record { text = flat_map (λ w. plan_block p windows w.0 w.1) windows ++ plan_lines p windows Clean; end = Ok tt } }
