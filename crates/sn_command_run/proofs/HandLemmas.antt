@@ -95,13 +95,12 @@ module _ {M : Type 0} (machine : MachineOf M) (a : Along M) where
   s = machine.state a.machine
 
   abbrev with_machine : M → Draws → ℕ → Along M
-  with_machine m d emitted = record { alloc = a.alloc; typed = a.typed; plan = a.plan; tables = a.tables; machine = m; lanes = a.lanes; draws = d; form = a.form; emitted = emitted }
+  with_machine m d emitted = record { alloc = a.alloc; typed = a.typed; plan = a.plan; tables = a.tables; machine = m; draws = d; form = a.form; emitted = emitted }
 
   -- what a machine found that was given one supply more
   pub record Found (next : Supply (List ℕ)) (found : List Answers) (m : M) : Type 0 where
     pub works : machine.works m ≡ machine.works a.machine
     pub stands : IsNet (machine.works a.machine) (machine.state m)
-    pub lanes : length (machine.state m).lanes ≡ a.lanes
     pub taken : (machine.state m).waiting ≡ None
     pub moves : (following : List (Supply (List ℕ))) → map told (due (machine.works a.machine) s (next ∷ following)) ≡ found ++ map told (due (machine.works a.machine) (machine.state m) following)
 
@@ -111,7 +110,6 @@ module _ {M : Type 0} (machine : MachineOf M) (a : Along M) where
     typed_for = h.typed_for;
     typed = h.typed;
     entries = h.entries;
-    lanes = sym f.lanes;
     stands = subst (λ (w : Works). IsNet w (machine.state m)) (sym f.works) f.stands;
     taken = f.taken;
     sound = sound;

@@ -71,7 +71,6 @@ pub record IsFed {M : Type 0} (machine : MachineOf M) (a : Along M) (given close
   pub typed_for : ℕ
   pub typed : ∥ IsTyped typed_for a.typed.queries ∥₁
   pub entries : AreEntriesOf a.typed.queries a.plan.entries
-  pub lanes : a.lanes ≡ length (machine.state a.machine).lanes
   pub stands : IsNet (machine.works a.machine) (machine.state a.machine)
   pub taken : (machine.state a.machine).waiting ≡ None
   pub sound : AllByRecursion IsSound given

@@ -16,8 +16,6 @@ pub struct Along<M: Drop> {
     /// The room of the switch for registers and prefixes.
     pub tables: Tables,
     pub machine: M,
-    /// How many lanes the machine has.
-    pub lanes: u32,
     /// They pick what happens next in the machine.
     pub draws: Draws,
     /// How its answers are written.

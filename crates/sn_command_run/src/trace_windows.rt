@@ -68,7 +68,6 @@ impl<M: Machine> Traced<M> {
         let notes = advance(
             self.along.alloc,
             &mut self.along.machine,
-            self.along.lanes,
             &mut self.along.draws,
             next,
         )?;
@@ -103,7 +102,6 @@ impl<M: Machine> Traced<M> {
         let notes = advance(
             self.along.alloc,
             &mut self.along.machine,
-            self.along.lanes,
             &mut self.along.draws,
             first,
         )?;
@@ -135,7 +133,6 @@ impl<M: Machine> Traced<M> {
         let notes = advance(
             self.along.alloc,
             &mut self.along.machine,
-            self.along.lanes,
             &mut self.along.draws,
             end,
         )?;

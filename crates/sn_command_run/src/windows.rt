@@ -17,7 +17,7 @@ use crate::form::Form;
 use crate::told::last_told;
 use sn_base::memory::Memory;
 use sn_core::supply::Supply;
-use sn_core_drive::driving::{advance, start};
+use sn_core_drive::driving::advance;
 use sn_core_drive::machine::Machine;
 use sn_emit::tables::Tables;
 use sn_fields::tuple::Tuple;
@@ -52,14 +52,13 @@ impl<M: Machine> Along<M> {
         ensures new { IfOk result (λ a. M.state a.machine ≡ made (M.works a.machine) 64 (M.state a.machine).lanes) }
         ensures pipes { IfOk result (λ a. AreLanesFor typed.queries (tables_of switch.now) (pieces_from 0 plan.entries) (M.state a.machine).lanes) }
     {
-        let (machine, lanes) = start(&typed, switch, &plan, ROOM)?;
+        let machine = M::make(&typed, switch, &plan, ROOM)?;
         Ok(Along {
             alloc: typed.alloc,
             typed,
             plan,
             tables: Tables::of(switch),
             machine,
-            lanes,
             draws: Draws { number: 0 },
             form,
             emitted: 0,
@@ -76,13 +75,7 @@ impl<M: Machine> Along<M> {
     {
         tuple.widths();
         let next = Supply::Numbered(number, *tuple);
-        advance(
-            self.alloc,
-            &mut self.machine,
-            self.lanes,
-            &mut self.draws,
-            next,
-        )?;
+        advance(self.alloc, &mut self.machine, &mut self.draws, next)?;
         Ok(())
     }
 
@@ -106,13 +99,7 @@ impl<M: Machine> Along<M> {
     {
         tuple.widths();
         let first = Supply::Numbered(number, *tuple);
-        let notes = advance(
-            self.alloc,
-            &mut self.machine,
-            self.lanes,
-            &mut self.draws,
-            first,
-        )?;
+        let notes = advance(self.alloc, &mut self.machine, &mut self.draws, first)?;
         let Some(answers) = last_told(notes.up_to_answers()) else {
             unreachable!();
         };
@@ -133,13 +120,7 @@ impl<M: Machine> Along<M> {
         ensures form { self.new.form ≡ self.old.form }
     {
         let end = Supply::End;
-        let notes = advance(
-            self.alloc,
-            &mut self.machine,
-            self.lanes,
-            &mut self.draws,
-            end,
-        )?;
+        let notes = advance(self.alloc, &mut self.machine, &mut self.draws, end)?;
         let Some(answers) = last_told(notes.up_to_answers()) else {
             unreachable!();
         };

@@ -1,42 +1,14 @@
 -- The bits of a word that are 1.
-use Rattle.std.proofs.Common.{◌≡◌, ℕ, zero, suc, ◌+◌, ◌-◌, ◌/◌, ◌%◌, ◌^◌, ◌<◌, ◌≤◌, ◌==◌, List, [], ◌∷◌, filter, length, drop, slice_get, Bool, true, false, cond, Some, inl, inr, refl, ap, ap₂, sym, ◌∙◌, arith, w64, count_ones, pow-suc}
+use Rattle.std.proofs.Common.{◌≡◌, ℕ, zero, suc, ◌+◌, ◌-◌, ◌*◌, ◌/◌, ◌%◌, ◌^◌, ◌<◌, ◌≤◌, ◌==◌, List, [], ◌∷◌, filter, length, drop, get_or, slice_get, Bool, true, false, cond, Some, inl, inr, refl, ap, ap₂, sym, subst, ◌∙◌, arith, w64, count_ones, pow-suc}
 use Rattle.std.specs.Int.{bit_at, trailing_zeros}
 use Rattle.std.specs.Int.Count.{ones_step}
 use Rattle.std.specs.List.{range_with_len}
 use Rattle.std.proofs.lemmas.Bool.{cases_eq, cases_lt, eqb-true, eqb-false}
-use Rattle.std.proofs.lemmas.Nat.{shr-shr, ones_le_self}
-use Rattle.std.proofs.lemmas.Nat.Bits.{bit_at-suc, bit_at-trailing_zeros, bit_at-zero, bit_at_above, bit_at_lowest}
+use Rattle.std.proofs.lemmas.Nat.{ones_le_self}
+use Rattle.std.proofs.lemmas.Nat.Bits.{bit_at-suc, bit_at_lowest}
+use Rattle.sn_chain.specs.Marks.{IsFirst, mark_at}
+use Rattle.sn_chain.proofs.MarkLemmas.{NoneBefore, bit_within, first_in_word, none_in_word}
 use Rattle.sn_core_drive.specs.Picking.{marked, marked_from}
-
--- a bit of what is left of a word after a shift
-bit_shifted : (word k b : ℕ) → bit_at (word / 2 ^ k) b ≡ bit_at word (k + b)
-bit_shifted word k b = ap (λ x. x % 2) (shr-shr word k b)
-
--- nothing is left: no bit from k on
-no_bit : (word k i : ℕ) → word / 2 ^ k ≡ 0 → k ≤ i → bit_at word i ≡ 0
-no_bit word k i none low =
-    let at : k + (i - k) ≡ i = omega arith in
-    ap (bit_at word) (sym at) ∙ sym (bit_shifted word k (i - k)) ∙ ap (λ x. bit_at x (i - k)) none ∙ bit_at-zero (i - k)
-
--- the lowest bit from k on
-first_bit : (word k : ℕ) → word < 2 ^ 64 → word / 2 ^ k < 2 ^ 64 → 0 < word / 2 ^ k → let t = trailing_zeros w64 (word / 2 ^ k) in
-    (k + t < 64) × (bit_at word (k + t) ≡ 1) × ((i : ℕ) → k ≤ i → i < k + t → bit_at word i ≡ 0)
-first_bit word k whole left some =
-    let t : ℕ = trailing_zeros w64 (word / 2 ^ k) in
-    let lowest = bit_at-trailing_zeros w64 (word / 2 ^ k) some left in
-    let one : bit_at word (k + t) ≡ 1 = sym (bit_shifted word k t) ∙ lowest.1 in
-    (within t one, one, below t lowest.2)
-  where
-    within : (t : ℕ) → bit_at word (k + t) ≡ 1 → k + t < 64
-    within t one = elim (cases_lt (k + t) 64) [
-      | inl small ↦ small
-      | inr large ↦ absurd (let zero_there : bit_at word (k + t) ≡ 0 = bit_at_above word 64 (k + t) whole large in omega (arith, one, zero_there))
-    ]
-
-    below : (t : ℕ) → ((i : ℕ) → i < t → bit_at (word / 2 ^ k) i ≡ 0) → (i : ℕ) → k ≤ i → i < k + t → bit_at word i ≡ 0
-    below t zeros i low high =
-        let at : k + (i - k) ≡ i = omega arith in
-        ap (bit_at word) (sym at) ∙ sym (bit_shifted word k (i - k)) ∙ zeros (i - k) (omega arith)
 
 -- ---- numbers that pass
 
@@ -86,7 +58,7 @@ is_marked word place = bit_at word place == 1
 bit_fails : (word i : ℕ) → bit_at word i ≡ 0 → is_marked word i ≡ false
 bit_fails word i none = ap (λ n. n == 1) none
 
-pub marked_past : (word from place : ℕ) → from ≤ place → place < 64 → ((i : ℕ) → from ≤ i → i < place → bit_at word i ≡ 0) → marked_from word from ≡ marked_from word place
+pub marked_past : (word from place : ℕ) → from ≤ place → place ≤ 64 → ((i : ℕ) → from ≤ i → i < place → bit_at word i ≡ 0) → marked_from word from ≡ marked_from word place
 unfolding marked_from
 marked_past word from place low high none =
     let long : 64 - from ≡ (place - from) + (64 - place) = omega arith in
@@ -102,6 +74,13 @@ marked_head word place within one =
     ap (λ n. filter (is_marked word) (range_with_len place n)) long
     ∙ ap (λ b. cond b (place ∷ marked_from word (place + 1)) (marked_from word (place + 1))) (ap (λ n. n == 1) one)
 
+-- of the marks of one word
+bit_alone : (word place : ℕ) → place < 64 → mark_at (word ∷ []) place ≡ bit_at word place
+bit_alone word place within =
+    let first : place / 64 ≡ 0 = omega (arith, within) in
+    let own : place % 64 ≡ place = omega (arith, within) in
+    ap (λ n. bit_at (get_or (word ∷ []) n 0) (place % 64)) first ∙ ap (bit_at word) own
+
 -- where there is one from a place on
 module _ (word from : ℕ) (some : 0 < length (marked_from word from)) where
   pub from_within : from < 64
@@ -114,13 +93,17 @@ module _ (word from : ℕ) (some : 0 < length (marked_from word from)) where
         omega (arith, some, empty))
   ]
 
+  none_before : NoneBefore (word ∷ []) from (0 * 64 + from)
+  none_before place low high = absurd (omega (arith, low, high))
+
   pub some_left : 0 < word / 2 ^ from
   unfolding marked_from
   some_left = elim (cases_lt 0 (word / 2 ^ from)) [
     | inl left ↦ left
     | inr gone ↦ absurd (
-        let zero_left : word / 2 ^ from ≡ 0 = omega (arith, gone) in
-        let empty : length (marked_from word from) ≡ 0 = ap (λ (xs : List ℕ). length xs) (none_from (is_marked word) from (64 - from) (λ i low. bit_fails word i (no_bit word from i zero_left low))) in
+        let none = none_in_word (word ∷ []) from 0 from (omega arith) from_within none_before (omega (arith, gone)) in
+        let over : marked_from word from ≡ marked_from word 64 = marked_past word from 64 (omega (arith, from_within)) (omega arith) (λ place low high. sym (bit_alone word place high) ∙ none place low (omega (arith, high))) in
+        let empty : length (marked_from word from) ≡ 0 = ap (λ (xs : List ℕ). length xs) over in
         omega (arith, some, empty))
   ]
 
@@ -129,13 +112,18 @@ module _ (word from : ℕ) (some : 0 < length (marked_from word from)) where
     next = from + trailing_zeros w64 (word / 2 ^ from)
 
     pub next_within : next < 64
-    next_within = (first_bit word from whole left some_left).0
+    next_within = bit_within (word ∷ []) from 0 from (omega arith) from_within none_before whole left some_left
+
+    lowest : IsFirst (word ∷ []) from next
+    lowest =
+        let same : 0 * 64 + from + trailing_zeros w64 (word / 2 ^ from) ≡ next = omega arith in
+        subst (IsFirst (word ∷ []) from) same (first_in_word (word ∷ []) from 0 from (omega arith) from_within none_before whole left some_left)
 
     pub next_is : bit_at word next ≡ 1
-    next_is = (first_bit word from whole left some_left).1
+    next_is = sym (bit_alone word next next_within) ∙ lowest.marked
 
     pub next_same : marked_from word from ≡ marked_from word next
-    next_same = marked_past word from next (omega arith) next_within (first_bit word from whole left some_left).2
+    next_same = marked_past word from next (omega arith) (omega (arith, next_within)) (λ place low high. sym (bit_alone word place (omega (arith, high, next_within))) ∙ lowest.first place low high)
 
 -- ---- the one of a number
 

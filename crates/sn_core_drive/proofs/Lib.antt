@@ -2,7 +2,6 @@ mod Owing
 mod Listing
 pub mod Running
 mod Behind
-mod Counting
 mod BitLemmas
 mod Found
 mod Noting

@@ -1,16 +1,14 @@
 -- What is due over the turns of a driver.
-use Rattle.std.proofs.Common.{◌≡◌, ℕ, suc, ◌<◌, ◌||◌, List, [], ◌∷◌, length, Bool, true, false, not, is_none, slice_get, zero, IsSome, Option, None, Some, refl, ap, sym, ◌∙◌, subst, arith, inl, inr}
+use Rattle.std.proofs.Common.{◌≡◌, ℕ, suc, ◌<◌, ◌||◌, List, [], ◌∷◌, length, Bool, true, false, not, is_none, slice_get, zero, IsSome, Option, None, ap, sym, ◌∙◌, subst, arith, inl, inr}
 use Rattle.std.specs.Option.{option_map_or}
 use Rattle.std.proofs.lemmas.Bool.{false≢true}
-use Rattle.std.proofs.lemmas.List.{length-map}
 use Rattle.sn_base.proofs.Lists.{or_none, none_is}
 use Rattle.sn_core.proofs.Falls.{step_works}
 use Rattle.sn_core.proofs.GoesOn.{can_go_on}
-use Rattle.sn_core.proofs.StandingKept.{event_keeps_net, give_keeps_net, length_started, take_keeps_net}
-use Rattle.sn_core.proofs.Tests.{length_changed, need_holds}
+use Rattle.sn_core.proofs.StandingKept.{event_keeps_net, give_keeps_net, take_keeps_net}
+use Rattle.sn_core.proofs.Tests.{need_holds}
 use Rattle.sn_core.specs.Debt.{CanGoOn, work}
-use Rattle.sn_core.specs.Events.{after_close, after_event, after_install, after_packet, given, kept_for_held, delivered, with_next, with_tuple, without_answers}
-use Rattle.sn_core.specs.Events as core
+use Rattle.sn_core.specs.Events.{after_event, given, without_answers}
 use Rattle.sn_core.specs.Needs.{first_need_that_fails, has_room, is_begun_with, is_done, is_empty, is_over, needs, passes, wants}
 use Rattle.sn_core.specs.Standing.{IsNet, IsNoEarlier}
 use Rattle.sn_core.specs.Workings.{AreLawful}
@@ -18,9 +16,6 @@ use Rattle.sn_core.specs.declared.event.Event.{Event}
 use Rattle.sn_core.specs.declared.event.Event.TheVariants.{Packet, ReadOut, Deliver, CloseWindow, Install}
 use Rattle.sn_core.specs.declared.event.Why.TheVariants.{Empty, Ended, Full, NotReading}
 use Rattle.sn_core.specs.declared.supply.Supply.{Supply}
-use Rattle.sn_core.specs.declared.supply.Supply.TheVariants.{Numbered, End}
-use Rattle.sn_core.specs.declared.supply.Window.{Window}
-use Rattle.sn_core.specs.declared.supply.Window.TheVariants.{Idle, Begun, Closed}
 use Rattle.sn_core_net.specs.States.{State, Works}
 use Rattle.sn_core_net.specs.Steps.{IsOneOf}
 use Rattle.sn_types.specs.declared.answers.Answers.{Answers}
@@ -35,34 +30,6 @@ pub turn_work : (w : Works) (law : AreLawful w) (s one two : State) (event : Eve
 turn_work w law s one two event net may happened taken =
     let same : work w two [] ≡ work w (after_event w s event) [] = ap (λ (x : State). work w x []) taken ∙ ap (λ (x : State). work w (without_answers x) []) happened in
     omega (arith, same, step_works w law s event [] net may)
-
--- ---- lanes
-
-after_packet_lanes : (w : Works) (s : State) (held : Option (Supply (List ℕ))) → length (after_packet w s held).lanes ≡ length s.lanes
-after_packet_lanes w s None = refl
-after_packet_lanes w s (Some End) = refl
-after_packet_lanes w s (Some (Numbered number tuple)) = length-map s.lanes (with_tuple w tuple)
-
-after_close_lanes : (w : Works) (s : State) (window : Window) → length (after_close w s window).lanes ≡ length s.lanes
-after_close_lanes w s Idle = refl
-after_close_lanes w s (Begun number) = length-map s.lanes core.emptied
-after_close_lanes w s (Closed number) = refl
-
-after_install_lanes : (w : Works) (law : AreLawful w) (s : State) (window : Window) → length (after_install w s window).lanes ≡ length s.lanes
-after_install_lanes w law s Idle = refl
-after_install_lanes w law s (Begun number) = refl
-after_install_lanes w law s (Closed number) = length_started w law s.lanes (kept_for_held number s.installs s.held)
-
-event_lanes : (w : Works) (law : AreLawful w) (s : State) (event : Event) → length (after_event w s event).lanes ≡ length s.lanes
-event_lanes w law s Packet = after_packet_lanes w s s.held
-event_lanes w law s (ReadOut lane) = length_changed (with_next w) s.lanes lane
-event_lanes w law s (Deliver lane) = length_changed delivered s.lanes lane
-event_lanes w law s CloseWindow = after_close_lanes w s s.window
-event_lanes w law s Install = after_install_lanes w law s s.window
-
-pub turn_lanes : (w : Works) (law : AreLawful w) (s one two : State) (event : Event) → one ≡ after_event w s event → two ≡ without_answers one → length two.lanes ≡ length s.lanes
-turn_lanes w law s one two event happened taken =
-    ap (λ (x : State). length x.lanes) taken ∙ ap (λ (x : State). length x.lanes) happened ∙ event_lanes w law s event
 
 -- ---- an event may happen
 
@@ -84,8 +51,8 @@ may_within s CloseWindow may = tt
 may_within s Install may = tt
 
 -- where no event may happen, a machine that stands still wants a supply or is done
-pub goes_on : {G : Type 0} (w : Works) (law : AreLawful w) (s : State) (lanes : ℕ) → lanes ≡ length s.lanes → IsNet w s → (wants s || is_done s) ≡ false → s.waiting ≡ None → ((event : Event) → IsOneOf lanes event → is_none (first_need_that_fails s event) ≡ false) → G
-goes_on {G} w law s lanes many net going taken none = by (can_go_on w s net parts.1)
+pub goes_on : {G : Type 0} (w : Works) (law : AreLawful w) (s : State) → IsNet w s → (wants s || is_done s) ≡ false → s.waiting ≡ None → ((event : Event) → IsOneOf (length s.lanes) event → is_none (first_need_that_fails s event) ≡ false) → G
+goes_on {G} w law s net going taken none = by (can_go_on w s net parts.1)
   where
     parts : (wants s ≡ false) × (is_done s ≡ false)
     parts = or_none (wants s) (is_done s) going
@@ -93,7 +60,7 @@ goes_on {G} w law s lanes many net going taken none = by (can_go_on w s net part
     by : CanGoOn s → G
     by (inl held) = absurd (false≢true (sym parts.0 ∙ ap is_none held))
     by (inr (inl waits)) = absurd (false≢true (subst (λ (o : Option Answers). IsSome o) taken waits))
-    by (inr (inr found)) = absurd (false≢true (sym (none found.0 (subst (λ (n : ℕ). IsOneOf n found.0) (sym many) (may_within s found.0 found.1))) ∙ ap is_none found.1))
+    by (inr (inr found)) = absurd (false≢true (sym (none found.0 (may_within s found.0 found.1)) ∙ ap is_none found.1))
 
 -- ---- supplies
 

@@ -1,25 +1,15 @@
 //! What drives a machine from one supply to the next.
-ghost use Rattle.std.specs.Prelude.{◌≡◌, ◌<◌, ◌≤◌, ◌++◌, ◌∷◌, [], ℕ, List, IfOk, OnOk, None, false, true, length, map};
-ghost use Rattle.std.specs.Option.{option_map};
+ghost use Rattle.std.specs.Prelude.{◌≡◌, ◌<◌, ◌++◌, ◌∷◌, [], ℕ, List, IfOk, OnOk, None, false, true, length, map};
 ghost use Rattle.sn_core.specs.Debt.{work};
-ghost use Rattle.sn_core.specs.Calls.{made};
-ghost use Rattle.sn_core.specs.Due.{due, windows_of};
+ghost use Rattle.sn_core.specs.Due.{due};
 ghost use Rattle.sn_core.specs.Events.{after_event, given, without_answers};
 ghost use Rattle.sn_core.specs.Needs.{first_need_that_fails, wants};
-ghost use Rattle.sn_core.specs.Numbers.{DontFall};
 ghost use Rattle.sn_core.specs.Standing.{IsNet, IsNoEarlier};
 ghost use Rattle.sn_core.specs.declared.supply.Supply.{Supply as Given};
 ghost use Rattle.sn_core_drive.specs.Schedules.{IsBehind, IsRun, Leads, answers_in, is_still};
-ghost use Rattle.sn_core_drive.specs.declared.note.Note.{Note as Noted};
 ghost use Rattle.sn_core_drive.specs.declared.note.Note.TheVariants as Note;
-ghost use Rattle.sn_engine_lockstep.specs.Windows.{plan_answers};
-ghost use Rattle.sn_emit.specs.Plans.{pieces_from, tables_of};
-ghost use Rattle.sn_plan_fit.specs.Fits.{Fits};
 ghost use Rattle.sn_core_net.specs.States.{State};
 ghost use Rattle.sn_core_net.specs.Steps.{IsOneOf};
-ghost use Rattle.sn_core_net.specs.PlanWorkings.{AreLanesFor, HaveWidths, given_of, workings};
-ghost use Rattle.sn_refine.specs.Steps.{windows_of as given_windows};
-ghost use Rattle.sn_switch.specs.Texts.{IsSwitch};
 
 use crate::machine::Machine;
 use crate::notes::Notes;
@@ -29,9 +19,6 @@ use sn_core::event::Event;
 use sn_core::supply::Supply;
 use sn_fields::tuple::Tuple;
 use sn_gen::draws::Draws;
-use sn_plan_grammar::plan::Plan;
-use sn_switch::switch::Switch;
-use sn_types::typed::Typed;
 use std::alloc::Global;
 
 /// Whether a supply is wanted, or all is done.
@@ -67,13 +54,7 @@ fn gather<M: Machine>(machine: &mut M, notes: &mut Notes) -> Result<(), Memory>
 }
 
 /// The event that the next draw picks happens, and its answers are taken.
-fn turn<M: Machine>(
-    machine: &mut M,
-    lanes: u32,
-    draws: &mut Draws,
-    notes: &mut Notes,
-) -> Result<(), Memory>
-    requires lanes { lanes ≡ length (M.state machine.old).lanes }
+fn turn<M: Machine>(machine: &mut M, draws: &mut Draws, notes: &mut Notes) -> Result<(), Memory>
     requires stands { IsNet (M.works machine.old) (M.state machine.old) }
     requires going { is_still (M.state machine.old) ≡ false }
     requires taken { (M.state machine.old).waiting ≡ None }
@@ -82,23 +63,16 @@ fn turn<M: Machine>(
     ensures work { OnOk result (work (M.works machine.old) (M.state machine.new) [] < work (M.works machine.old) (M.state machine.old) []) }
     ensures stands { OnOk result (IsNet (M.works machine.old) (M.state machine.new)) }
     ensures taken { OnOk result ((M.state machine.new).waiting ≡ None) }
-    ensures lanes { OnOk result (length (M.state machine.new).lanes ≡ lanes) }
     ensures works { M.works machine.new ≡ M.works machine.old }
 {
-    let event = pick(machine, lanes, draws);
+    let event = pick(machine, draws);
     happen(machine, event, notes)?;
     gather(machine, notes)?;
     Ok(())
 }
 
 /// Events happen until a supply is wanted, or all is done.
-fn settle<M: Machine>(
-    alloc: Global,
-    machine: &mut M,
-    lanes: u32,
-    draws: &mut Draws,
-) -> Result<Notes, Memory>
-    requires lanes { lanes ≡ length (M.state machine.old).lanes }
+fn settle<M: Machine>(alloc: Global, machine: &mut M, draws: &mut Draws) -> Result<Notes, Memory>
     requires stands { IsNet (M.works machine.old) (M.state machine.old) }
     requires taken { (M.state machine.old).waiting ≡ None }
     ensures run { IfOk result (λ notes. IsRun (M.works machine.old) M.told draws.old.number (M.state machine.old) notes draws.new.number
@@ -106,7 +80,6 @@ fn settle<M: Machine>(
     ensures stands { OnOk result (IsNet (M.works machine.old) (M.state machine.new)) }
     ensures still { OnOk result (is_still (M.state machine.new) ≡ true) }
     ensures taken { OnOk result ((M.state machine.new).waiting ≡ None) }
-    ensures lanes { OnOk result (length (M.state machine.new).lanes ≡ lanes) }
     ensures works { M.works machine.new ≡ M.works machine.old }
 {
     let mut notes = Notes::new(alloc);
@@ -114,7 +87,7 @@ fn settle<M: Machine>(
         if is_still(machine) {
             return Ok(notes);
         }
-        turn(machine, lanes, draws, &mut notes)?;
+        turn(machine, draws, &mut notes)?;
     }
 }
 
@@ -125,11 +98,9 @@ fn settle<M: Machine>(
 pub fn advance<M: Machine>(
     alloc: Global,
     machine: &mut M,
-    lanes: u32,
     draws: &mut Draws,
     next: Supply<Tuple>,
 ) -> Result<Notes, Memory>
-    requires lanes { lanes ≡ length (M.state machine.old).lanes }
     requires stands { IsNet (M.works machine.old) (M.state machine.old) }
     requires wants { wants (M.state machine.old) ≡ true }
     requires rises { IsNoEarlier next (M.state machine.old).window }
@@ -142,42 +113,9 @@ pub fn advance<M: Machine>(
     ensures stands { OnOk result (IsNet (M.works machine.old) (M.state machine.new)) }
     ensures behind { OnOk result (IsBehind next (M.state machine.new)) }
     ensures taken { OnOk result ((M.state machine.new).waiting ≡ None) }
-    ensures lanes { OnOk result (length (M.state machine.new).lanes ≡ lanes) }
     ensures works { M.works machine.new ≡ M.works machine.old }
 {
     machine.give(next);
-    let notes = settle(alloc, machine, lanes, draws)?;
+    let notes = settle(alloc, machine, draws)?;
     Ok(notes)
-}
-
-/// How many lanes a plan has: one for each piece.
-fn lane_count(plan: &Plan) -> u32
-    requires { length (pieces_from 0 plan.now.entries) ≤ 64 }
-    ensures { result ≡ length (pieces_from 0 plan.now.entries) }
-{
-    let mut count = 0u32;
-    for entry in plan.entries.as_slice() {
-        let pieces = entry.pieces.as_slice();
-        count += pieces.len() as u32;
-    }
-    count
-}
-
-/// The machine of a plan that fits, and how many lanes it has: it wants the first supply.
-pub fn start<M: Machine>(t: &Typed, s: &Switch, plan: &Plan, room: u32) -> Result<(M, u32), Memory>
-    requires switch { IsSwitch s.now }
-    requires fits { Fits t.now.queries s.now plan.now.entries }
-    requires some_room { 1 ≤ room }
-    ensures lanes { IfOk result (λ found. found.1 ≡ length (M.state found.0).lanes) }
-    ensures works { IfOk result (λ found. M.works found.0 ≡ workings t.now.queries plan.now.entries) }
-    ensures stands { IfOk result (λ found. IsNet (M.works found.0) (M.state found.0)) }
-    ensures pipes { IfOk result (λ found. AreLanesFor t.now.queries (tables_of s.now) (pieces_from 0 plan.now.entries) (M.state found.0).lanes) }
-    ensures new { IfOk result (λ found. M.state found.0 ≡ made (M.works found.0) room (M.state found.0).lanes) }
-    // Whatever follows, what is due are the answers of the plan for each window that is given.
-    ensures due { IfOk result (λ found. (following : List (Given (List ℕ))) → let windows = windows_of following in DontFall 0 following → HaveWidths windows →
-        due (M.works found.0) (M.state found.0) following ≡ map
-        (λ x. plan_answers t.now.queries (tables_of s.now) plan.now.entries (given_windows (map given_of windows)) x.number) windows) }
-{
-    let machine = M::make(t, s, plan, room)?;
-    Ok((machine, lane_count(plan)))
 }

@@ -119,13 +119,12 @@ fn place_of(drawn: u64, count: u32) -> u32
 }
 
 /// The event that the next draw picks, in a machine that goes on and whose answers were taken: there is one that may happen.
-pub(crate) fn pick<M: Machine>(machine: &M, lanes: u32, draws: &mut Draws) -> Event
-    requires lanes { lanes ≡ length (M.state machine.now).lanes }
+pub(crate) fn pick<M: Machine>(machine: &M, draws: &mut Draws) -> Event
     requires stands { IsNet (M.works machine.now) (M.state machine.now) }
     requires going { is_still (M.state machine.now) ≡ false }
     requires taken { (M.state machine.now).waiting ≡ None }
     ensures picked { picked (M.state machine.now) (drawn (next_number draws.old.number)) ≡ Some result }
-    ensures lane { IsOneOf lanes result }
+    ensures lane { IsOneOf (length (M.state machine.now).lanes) result }
     ensures may { first_need_that_fails (M.state machine.now) result ≡ None }
     ensures draws { draws.new.number ≡ next_number draws.old.number }
 {

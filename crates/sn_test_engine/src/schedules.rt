@@ -31,8 +31,7 @@ fn go_on(
     if !net.wants() || net.waiting.is_some() {
         return Ok(None);
     }
-    let lanes = net.lanes();
-    let notes = advance(alloc, net, lanes, draws, next)?;
+    let notes = advance(alloc, net, draws, next)?;
     Ok(told(notes.up_to_answers()))
 }
 

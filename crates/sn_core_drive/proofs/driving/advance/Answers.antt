@@ -1,4 +1,4 @@
-use Rattle.std.proofs.Common.{◌∙◌, refl, ap, sym, subst, length}
+use Rattle.std.proofs.Common.{◌∙◌, refl, ap, subst}
 use Rattle.sn_core.specs.Events.{given}
 use Rattle.sn_core.specs.Standing.{IsNet}
 use Rattle.sn_core_net.specs.States.{State, Works}
@@ -6,9 +6,6 @@ use Rattle.sn_core_drive.proofs.Behind.{run_behind}
 use Rattle.sn_core_drive.proofs.Owing.{given_net}
 use Rattle.sn_core_drive.proofs.Running.{same_run, supplied_due}
 use Rattle.sn_core_drive.proofs.driving.advance.Goals as goal
-
-pub settle-requires-clause-lanes : goal.settle-requires-clause-lanes
-settle-requires-clause-lanes g c = c.requires.lanes ∙ sym (ap (λ (s : State). length s.lanes) c.give.ensures.state)
 
 pub settle-requires-clause-stands : goal.settle-requires-clause-stands
 settle-requires-clause-stands g c =

@@ -18,7 +18,6 @@ events-preserved g c =
     let start = c.args.machine.now in
     record {
       works = c.turn.ensures.works ∙ c.events.invariant.works;
-      lanes = sym c.in_ok-turn.ensures.lanes;
       stands = subst (λ (w : Works). IsNet w (g.M.Machine.state next)) c.events.invariant.works c.in_ok-turn.ensures.stands;
       taken = c.in_ok-turn.ensures.taken;
       leads = same_leads (g.M.Machine.works m) (g.M.Machine.works start) g.M.Machine.told g.M.Machine.told c.args.draws.now.number c.turn.new.draws.number (g.M.Machine.state start) (g.M.Machine.state next) c.turn.new.notes

@@ -1,4 +1,4 @@
-use Rattle.std.proofs.Common.{◌≡◌, [], None, length}
+use Rattle.std.proofs.Common.{◌≡◌, [], None}
 use Rattle.sn_core.specs.Debt.{work}
 use Rattle.sn_core.specs.Standing.{IsNet}
 use Rattle.sn_core_drive.specs.Schedules.{Leads}
@@ -7,7 +7,6 @@ use Rattle.sn_core_drive.proofs.driving.settle.Given as goal
 abbrev pub invariant-events : goal.invariant-events
 invariant-events g l = record {
   works : g.M.Machine.works l.machine ≡ g.M.Machine.works l.initial.machine;
-  lanes : l.lanes ≡ length (g.M.Machine.state l.machine).lanes;
   stands : IsNet (g.M.Machine.works l.initial.machine) (g.M.Machine.state l.machine);
   taken : (g.M.Machine.state l.machine).waiting ≡ None;
   leads : Leads (g.M.Machine.works l.initial.machine) g.M.Machine.told l.initial.draws.number (g.M.Machine.state l.initial.machine) l.notes l.draws.number (g.M.Machine.state l.machine);

@@ -1,7 +1,7 @@
-use Rattle.std.proofs.Common.{◌∙◌, ℕ, refl, sym, subst}
+use Rattle.std.proofs.Common.{ℕ, refl, sym, subst}
 use Rattle.sn_gen.specs.Generated.{next_number}
 use Rattle.sn_core_drive.specs.Schedules.{Leads}
-use Rattle.sn_core_drive.proofs.Owing.{turn_lanes, turn_net, turn_work}
+use Rattle.sn_core_drive.proofs.Owing.{turn_net, turn_work}
 use Rattle.sn_core_drive.proofs.Running.{event_leads, same_leads}
 use Rattle.sn_core_drive.proofs.driving.turn.Goals as goal
 
@@ -29,9 +29,3 @@ returns-clause-stands g c =
     let m = c.args.machine.now in
     turn_net (g.M.Machine.works m) (g.met.M.Machine.lawful m) (g.M.Machine.state m) (g.M.Machine.state c.happen.new.machine) (g.M.Machine.state c.gather.new.machine) c.pick-event.result
     c.requires.stands c.pick-event.ensures.may c.in_ok-happen.ensures.after c.gather.ensures.rest
-
-pub returns-clause-lanes : goal.returns-clause-lanes
-returns-clause-lanes g c =
-    let m = c.args.machine.now in
-    turn_lanes (g.M.Machine.works m) (g.met.M.Machine.lawful m) (g.M.Machine.state m) (g.M.Machine.state c.happen.new.machine) (g.M.Machine.state c.gather.new.machine) c.pick-event.result c.in_ok-happen.ensures.after c.gather.ensures.rest
-    ∙ sym c.requires.lanes

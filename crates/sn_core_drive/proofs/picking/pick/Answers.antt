@@ -1,7 +1,6 @@
 use Rattle.std.proofs.Common.{◌≡◌, ◌<◌, ◌∙◌, ◌%◌, zero, suc, refl, ap, ap₂, sym, subst, length, slice_get, ℕ, List, arith}
 use Rattle.std.proofs.Math.Nat.{mod-lt}
 use Rattle.sn_core.specs.declared.event.Event.{Event}
-use Rattle.sn_core_net.specs.Steps.{IsOneOf}
 use Rattle.sn_core_drive.specs.Schedules.{enabled_events, events_of, may_happen}
 use Rattle.sn_core_drive.specs.Picking.{events_found}
 use Rattle.sn_core_drive.proofs.Found.{all_found}
@@ -20,8 +19,7 @@ place_of-n-requires g c =
     let s = g.M.Machine.state m in
     let count : c.count_found.result ≡ length (enabled_events s) = c.count_found.ensures ∙ ap (λ (es : List Event). length es) (sym (all_found s c.look-found.result c.look-found.ensures)) in
     some_number c.count_found.result (λ e.
-    goes_on (g.M.Machine.works m) (g.met.M.Machine.lawful m) s c.args.lanes c.requires.lanes c.requires.stands c.requires.going c.requires.taken
-    (λ event known. none_enabled s (sym count ∙ e) event (subst (λ (n : ℕ). IsOneOf n event) c.requires.lanes known)))
+    goes_on (g.M.Machine.works m) (g.met.M.Machine.lawful m) s c.requires.stands c.requires.going c.requires.taken (none_enabled s (sym count ∙ e)))
 
 pub nth_found-requires : goal.nth_found-requires
 nth_found-requires g c =
@@ -31,8 +29,7 @@ nth_found-requires g c =
     let count : c.count_found.result ≡ length (enabled_events s) = c.count_found.ensures ∙ ap (λ (es : List Event). length es) (sym (all_found s found c.look-found.ensures)) in
     subst (λ (n : ℕ). c.place_of-n.result < n) c.count_found.ensures
     (subst (λ (n : ℕ). n < c.count_found.result) (sym c.place_of-n.ensures) (mod-lt c.draw.result (some_number c.count_found.result (λ e.
-    goes_on (g.M.Machine.works m) (g.met.M.Machine.lawful m) s c.args.lanes c.requires.lanes c.requires.stands c.requires.going c.requires.taken
-    (λ event known. none_enabled s (sym count ∙ e) event (subst (λ (n : ℕ). IsOneOf n event) c.requires.lanes known))))))
+    goes_on (g.M.Machine.works m) (g.met.M.Machine.lawful m) s c.requires.stands c.requires.going c.requires.taken (none_enabled s (sym count ∙ e))))))
 
 pub returns-clause-picked : goal.returns-clause-picked
 returns-clause-picked g c =
@@ -47,8 +44,7 @@ pub returns-clause-lane : goal.returns-clause-lane
 returns-clause-lane g c =
     let s = g.M.Machine.state c.args.machine.now in
     let all : enabled_events s ≡ events_found c.look-found.result = all_found s c.look-found.result c.look-found.ensures in
-    subst (λ (n : ℕ). IsOneOf n c.nth_found.result) (sym c.requires.lanes)
-    (got_known s c.place_of-n.result c.nth_found.result (ap (λ (es : List Event). slice_get es c.place_of-n.result) all ∙ c.nth_found.ensures))
+    got_known s c.place_of-n.result c.nth_found.result (ap (λ (es : List Event). slice_get es c.place_of-n.result) all ∙ c.nth_found.ensures)
 
 pub returns-clause-may : goal.returns-clause-may
 returns-clause-may g c =

@@ -12,15 +12,14 @@ returns-clause-begun g c =
         typed_for = c.args.typed.window_us;
         typed = c.args.typed.typed;
         entries = c.requires.fits.paths;
-        lanes = e.lanes;
         stands = e.stands;
-        taken = ap (λ (s : State). s.waiting) e.new;
+        taken = ap (λ (s : State). s.waiting) e.state;
         sound = tt;
         owes = λ following falls widths.
             ap (map g.M.Machine.told)
             (e.due following falls widths ∙ ap (λ (tables : Tables). answers_for (record { queries = c.args.typed.queries; tables = tables; entries = c.args.plan.entries }) following) (sym c.of.ensures));
         emitted = refl;
       };
-      used = (ap (λ (s : State). s.held) e.new, ap (λ (s : State). s.window) e.new);
+      used = (ap (λ (s : State). s.held) e.state, ap (λ (s : State). s.window) e.state);
       rising = (tt, tt);
     }

@@ -2,9 +2,6 @@ use Rattle.std.proofs.Common.{arith}
 use Rattle.sn_command_run.proofs.HandLemmas.{given_hand, used_earlier, used_wants}
 use Rattle.sn_command_run.proofs.along.Along.take_tuple.Goals as goal
 
-pub advance-requires-clause-lanes : goal.advance-requires-clause-lanes
-advance-requires-clause-lanes g c = c.requires.2.fed.lanes
-
 pub advance-requires-clause-stands : goal.advance-requires-clause-stands
 advance-requires-clause-stands g c = c.requires.2.fed.stands
 
@@ -21,4 +18,4 @@ pub returns-clause-given : goal.returns-clause-given
 returns-clause-given g c = λ closed tuples h.
     let e = c.in_ok-advance.ensures in
     given_hand g.M.Machine c.args.self.now closed c.args.number tuples c.args.tuple.now _ c.advance.new.machine c.advance.new.draws h c.widths.ensures
-    (record { works = c.advance.ensures.works; stands = e.stands; lanes = e.lanes; taken = e.taken; moves = e.due }) e.behind
+    (record { works = c.advance.ensures.works; stands = e.stands; taken = e.taken; moves = e.due }) e.behind

@@ -10,9 +10,6 @@ use Rattle.sn_command_run.proofs.HandLemmas.{Found, answers_fit, answers_right, 
 use Rattle.sn_command_run.proofs.AtWork.{Came, ended, ended_front}
 use Rattle.sn_command_run.proofs.traced.Traced.close_window.Goals as goal
 
-pub advance-requires-clause-lanes : goal.advance-requires-clause-lanes
-advance-requires-clause-lanes g c = c.requires.3.along.fed.lanes
-
 pub advance-requires-clause-stands : goal.advance-requires-clause-stands
 advance-requires-clause-stands g c = c.requires.3.along.fed.stands
 
@@ -29,13 +26,13 @@ pub unreachable-requires : goal.unreachable-requires
 unreachable-requires g c =
     let h = c.requires in
     let e = c.in_ok-notes.ensures in
-    let found : Found g.M.Machine c.args.self.now.along End (answers_in c.in_ok-notes.notes) c.advance.new.machine = record { works = c.advance.ensures.works; stands = e.stands; lanes = e.lanes; taken = e.taken; moves = e.due } in
+    let found : Found g.M.Machine c.args.self.now.along End (answers_in c.in_ok-notes.notes) c.advance.new.machine = record { works = c.advance.ensures.works; stands = e.stands; taken = e.taken; moves = e.due } in
     none_told _ _ _ (c.last_told.ensures ∙ ap (λ (notes : List Note). last_from None (answers_in notes)) c.in_ok-all.ensures) c.in_default.is (end_found g.M.Machine c.args.self.now.along h.0 c.args.number h.1 h.2 h.3.along (g.met.M.Machine.lawful c.args.self.now.along.machine) _ c.advance.new.machine found e.behind)
 
 pub returns-clause-answers : goal.returns-clause-answers
 returns-clause-answers g c = λ closed tuples some h.
     let e = c.in_ok-notes.ensures in
-    let found : Found g.M.Machine c.args.self.now.along End (answers_in c.in_ok-notes.notes) c.advance.new.machine = record { works = c.advance.ensures.works; stands = e.stands; lanes = e.lanes; taken = e.taken; moves = e.due } in
+    let found : Found g.M.Machine c.args.self.now.along End (answers_in c.in_ok-notes.notes) c.advance.new.machine = record { works = c.advance.ensures.works; stands = e.stands; taken = e.taken; moves = e.due } in
     one_told _ _ _ _ (c.last_told.ensures ∙ ap (λ (notes : List Note). last_from None (answers_in notes)) c.in_ok-all.ensures) c.in-Some.is (end_found g.M.Machine c.args.self.now.along closed c.args.number tuples some h.along (g.met.M.Machine.lawful c.args.self.now.along.machine) _ c.advance.new.machine found e.behind)
     ∙ answers_right g.M.Machine c.args.self.now.along closed c.args.number tuples some h.along
 
@@ -43,7 +40,7 @@ pub returns-clause-fit : goal.returns-clause-fit
 returns-clause-fit g c =
     let h = c.requires in
     let e = c.in_ok-notes.ensures in
-    let found : Found g.M.Machine c.args.self.now.along End (answers_in c.in_ok-notes.notes) c.advance.new.machine = record { works = c.advance.ensures.works; stands = e.stands; lanes = e.lanes; taken = e.taken; moves = e.due } in
+    let found : Found g.M.Machine c.args.self.now.along End (answers_in c.in_ok-notes.notes) c.advance.new.machine = record { works = c.advance.ensures.works; stands = e.stands; taken = e.taken; moves = e.due } in
     subst (λ (answers : Answers). AllByRecursion (IsPartOf c.args.self.now.along.typed.queries) answers.parts)
     (sym (one_told _ _ _ _ (c.last_told.ensures ∙ ap (λ (notes : List Note). last_from None (answers_in notes)) c.in_ok-all.ensures) c.in-Some.is (end_found g.M.Machine c.args.self.now.along h.0 c.args.number h.1 h.2 h.3.along (g.met.M.Machine.lawful c.args.self.now.along.machine) _ c.advance.new.machine found e.behind)))
     (answers_fit g.M.Machine c.args.self.now.along h.0 c.args.number h.1 h.2 h.3.along g.met.M.Machine.tells)
@@ -51,7 +48,7 @@ returns-clause-fit g c =
 pub returns-clause-closed : goal.returns-clause-closed
 returns-clause-closed g c = λ closed tuples some h.
     let e = c.in_ok-notes.ensures in
-    let found : Found g.M.Machine c.args.self.now.along End (answers_in c.in_ok-notes.notes) c.advance.new.machine = record { works = c.advance.ensures.works; stands = e.stands; lanes = e.lanes; taken = e.taken; moves = e.due } in
+    let found : Found g.M.Machine c.args.self.now.along End (answers_in c.in_ok-notes.notes) c.advance.new.machine = record { works = c.advance.ensures.works; stands = e.stands; taken = e.taken; moves = e.due } in
     let same = one_told _ _ _ _ (c.last_told.ensures ∙ ap (λ (notes : List Note). last_from None (answers_in notes)) c.in_ok-all.ensures) c.in-Some.is (end_found g.M.Machine c.args.self.now.along closed c.args.number tuples some h.along (g.met.M.Machine.lawful c.args.self.now.along.machine) _ c.advance.new.machine found e.behind) in
     let came : Came g.M.Machine c.args.self.now closed c.args.number tuples h End c.advance.new.machine c.advance.new.draws.number c.follow.new.lines.items c.in_ok-lines.lines.items c.in_ok-notes.notes = record { run = e.run; seen = c.as_slice.result.now; same = c.as_slice.ensures ∙ c.in_ok-all.ensures; lines = c.in_ok-lines.ensures } in
     record {

@@ -16,7 +16,7 @@ returns-clause-begun g c =
     let works = e.works ∙ sym (ap (λ (q : Planned). works_of q) e.plan) in
     record {
       along = record {
-        fed = record { typed_for = h.fed.typed_for; typed = h.fed.typed; entries = h.fed.entries; lanes = h.fed.lanes; stands = h.fed.stands; taken = h.fed.taken; sound = h.fed.sound; owes = h.fed.owes; emitted = h.fed.emitted };
+        fed = record { typed_for = h.fed.typed_for; typed = h.fed.typed; entries = h.fed.entries; stands = h.fed.stands; taken = h.fed.taken; sound = h.fed.sound; owes = h.fed.owes; emitted = h.fed.emitted };
         used = h.used;
         rising = h.rising;
       };
