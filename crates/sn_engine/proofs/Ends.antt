@@ -78,7 +78,7 @@ emptied_agree lanes = open_agree (map emptied lanes) (open_emptied lanes)
 
 -- ---- after an item
 
-any_same : (p test : Intake → Bool) (change : Intake → Intake) → ((x : Intake) → p (change x) ≡ p x) → (xs : List Intake) → list_any p (with_first test change xs) ≡ list_any p xs
+pub any_same : (p test : Intake → Bool) (change : Intake → Intake) → ((x : Intake) → p (change x) ≡ p x) → (xs : List Intake) → list_any p (with_first test change xs) ≡ list_any p xs
 any_same p test change keeps [] = refl
 any_same p test change keeps (x ∷ xs) =
     elim (test x) as (λ b. list_any p (cond b (change x ∷ xs) (x ∷ with_first test change xs)) ≡ (p x || list_any p xs)) [
@@ -86,7 +86,7 @@ any_same p test change keeps (x ∷ xs) =
       | false ↦ ap (λ b. p x || b) (any_same p test change keeps xs)
     ]
 
-all_same : (p test : Intake → Bool) (change : Intake → Intake) → ((x : Intake) → p (change x) ≡ p x) → (xs : List Intake) → list_all p (with_first test change xs) ≡ list_all p xs
+pub all_same : (p test : Intake → Bool) (change : Intake → Intake) → ((x : Intake) → p (change x) ≡ p x) → (xs : List Intake) → list_all p (with_first test change xs) ≡ list_all p xs
 all_same p test change keeps [] = refl
 all_same p test change keeps (x ∷ xs) =
     elim (test x) as (λ b. list_all p (cond b (change x ∷ xs) (x ∷ with_first test change xs)) ≡ (p x && list_all p xs)) [

@@ -152,13 +152,12 @@ shared_same (x ∷ lanes) =
     ∙ sym (sum_cons (λ (y : Intake). length y.items) x lanes)
 
 -- all items of a vector, changed in place
+pub whole : {X : Type 0} (n : ℕ) (xs ys : List X) → length xs ≡ length ys → n ≡ length ys → take n (xs ++ drop (length xs) ys) ≡ xs
+whole n xs ys same long =
+    ap (λ zs. take n (xs ++ zs)) (drop_all (length xs) ys (omega (arith, same))) ∙ ap (take n) (append-nil xs) ∙ take_all n xs (omega (arith, same, long))
+
 pub whole_again : (change : Intake → Intake) (lanes : List Intake) (n : ℕ) → n ≡ length lanes → take n (map change lanes ++ drop (length (map change lanes)) lanes) ≡ map change lanes
-whole_again change lanes n count =
-    let same = length-map lanes change in
-    let all : length lanes ≤ length (map change lanes) = omega (arith, same) in
-    let most : length (map change lanes) ≤ n = omega (arith, same, count) in
-    ap (λ (xs : List Intake). take n (map change lanes ++ xs)) (drop_all (length (map change lanes)) lanes all)
-    ∙ ap (take n) (append-nil (map change lanes)) ∙ take_all n (map change lanes) most
+whole_again change lanes n count = whole n (map change lanes) lanes (length-map lanes change) count
 
 -- ---- lanes after a frame that is taken
 

@@ -7,6 +7,7 @@ pub mod Frames
 pub mod Lanes
 pub mod Lefts
 pub mod OfKinds
+mod Moves
 pub mod Orders
 pub mod FitLemmas
 pub mod Steps

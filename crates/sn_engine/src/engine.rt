@@ -1,5 +1,5 @@
 //! The engine.
-ghost use Rattle.std.specs.Prelude.{◌≡◌, ◌<◌, ◌^◌, [], length, map, position, slice_get, is_some, true, false, Some, None, IfOk, OnOk, OnErr};
+ghost use Rattle.std.specs.Prelude.{◌≡◌, ◌<◌, ◌^◌, [], length, map, position, slice_get, is_some, fold, true, false, Some, None, IfOk, OnOk, OnErr};
 ghost use Rattle.std.specs.List.{list_all, list_any};
 ghost use Rattle.std.specs.Option.{option_map_or};
 ghost use Rattle.sn_engine.specs.Intakes.{AreIntakes, are_intakes_prop, EndsAgree, ends_agree_prop, total, with_item, with_end};
@@ -7,6 +7,7 @@ ghost use Rattle.sn_engine.specs.Intakes.{is_lane, after_frame, emptied, shared}
 ghost use Rattle.sn_engine.specs.Intakes.{has_ended, has_started, intakes_of};
 ghost use Rattle.sn_base.specs.Changed.{with_first};
 ghost use Rattle.sn_engine.specs.Taking.{take_fault, Refuses};
+ghost use Rattle.sn_engine.specs.Moving.{after_lane, has_lane_for};
 ghost use Rattle.sn_engine.specs.Answers.{Closes, window_of};
 ghost use Rattle.sn_engine.specs.Keeping.{gathered, kept_for};
 ghost use Rattle.sn_plan_fit.specs.Fits.{HasShape};
@@ -19,6 +20,7 @@ use crate::intake::Intake;
 use crate::keep::{gather, kept_for};
 use crate::lane_row::LaneRow;
 use crate::make::intakes;
+use crate::moving::{has_lanes_for, move_counted};
 use crate::refuse::{place_for_end, place_for_item};
 use sn_base::lane::Lane;
 use sn_base::members::Members;
@@ -138,8 +140,7 @@ impl Engine {
         share_all(&mut self.lanes);
     }
 
-    /// Takes an item of a lane as `take` takes its frame, with no frame made of it.
-    pub fn take_item<R: LaneRow>(&mut self, lane: Lane, item: &Item<R>) -> Result<(), TakeFault>
+    fn take_item<R: LaneRow>(&mut self, lane: Lane, item: &Item<R>) -> Result<(), TakeFault>
         ensures fault { Refuses result (take_fault self.old.t.queries self.old.lanes.items self.old.closed (Frame.Row lane (item_by R.columns item.now))) }
         ensures taken { OnOk result (self.new.lanes.items ≡ after_frame self.old.lanes.items (Frame.Row lane (item_by R.columns item.now))) }
         ensures kept { OnErr result (self.new.lanes.items ≡ self.old.lanes.items) }
@@ -182,6 +183,42 @@ impl Engine {
             Frame::Row(lane, item) => self.take_item(*lane, item),
             Frame::End(lane, window) => self.take_end(*lane, *window),
         }
+    }
+
+    /// Whether this engine has a lane for each lane of the engine of one of several switches, of the same name and of the columns of its
+    /// rows. It has, where both are of one plan and its queries.
+    pub fn has_lanes_of(&self, switch: &Engine) -> bool
+        ensures { result ≡ list_all (has_lane_for self.now.t.queries self.now.lanes.items switch.now.t.queries) switch.now.lanes.items }
+    {
+        has_lanes_for(&self.t, &self.lanes, &switch.t, &switch.lanes)
+    }
+
+    /// Moves all items of the engine of one of several switches to the lanes of the same names, after those that they have. An item that
+    /// stands after the operator whose rows its lane keeps gets the tag of these. The other engine is then empty, without Ends, and
+    /// both keep a room for the next window. Out of memory, what came to this engine since the last close is dropped too.
+    pub fn take_all(&mut self, switch: &mut Engine) -> Result<(), Memory>
+        requires { list_all (has_lane_for self.old.t.queries self.old.lanes.items switch.old.t.queries) switch.old.lanes.items ≡ true }
+        ensures taken { OnOk result (self.new.lanes.items ≡ fold (after_lane switch.old.t.queries) self.old.lanes.items switch.old.lanes.items) }
+        ensures dropped { OnErr result (self.new.lanes.items ≡ map emptied self.old.lanes.items) }
+        ensures closed { self.new.closed ≡ self.old.closed }
+        ensures prefixes { self.new.kept ≡ self.old.kept }
+        ensures queries { self.new.t.queries ≡ self.old.t.queries }
+        ensures switch_emptied { switch.new.lanes.items ≡ map emptied switch.old.lanes.items }
+        ensures switch_closed { switch.new.closed ≡ switch.old.closed }
+        ensures switch_prefixes { switch.new.kept ≡ switch.old.kept }
+        ensures switch_queries { switch.new.t.queries ≡ switch.old.t.queries }
+    {
+        let lanes = &mut switch.lanes;
+        let counted = move_counted(&mut self.lanes, self.count, &switch.t, lanes, switch.count);
+        empty_all(&mut switch.lanes);
+        switch.count = 0;
+        let Ok(count) = counted else {
+            empty_all(&mut self.lanes);
+            self.count = 0;
+            return Err(Memory);
+        };
+        self.count = count;
+        Ok(())
     }
 
     /// What `close_window` would answer. Nothing changes.

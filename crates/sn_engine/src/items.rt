@@ -1,15 +1,19 @@
 //! The items of a lane.
-ghost use Rattle.std.specs.Prelude.{◌≡◌, ◌++◌, ◌∷◌, [], length, OnOk, OnErr};
+ghost use Rattle.std.specs.Prelude.{◌≡◌, ◌++◌, ◌∷◌, [], length, map, OnOk, OnErr};
+ghost use Rattle.sn_engine.specs.AnyItems.{items_in};
+ghost use Rattle.sn_engine.specs.Turns.{turn};
 ghost use Rattle.sn_report.specs.Items.{item_by};
 
-use crate::lane_row::LaneRow;
+use crate::lane_row::{LaneRow, all_widened};
+use crate::turned::turn_all;
 use sn_base::memory::Memory;
 use sn_base::row::Row;
 use sn_base::seq::Seq;
 use sn_base::short_row::ShortRow;
-use sn_report::frame::Item;
+use sn_report::frame::{Item, Tag};
 use std::alloc::Global;
 use std::marker::Model;
+use std::mem;
 
 /// Items over rows of one kind.
 #[derive(Drop)]
@@ -35,6 +39,60 @@ impl Model for Items {
     ghost use Rattle.sn_engine.specs.AnyItems.{items_in};
 
     ghost view = { λ a. items_in a.held };
+}
+
+/// Moves the items of a list after those of another. An `Err` changes nothing.
+fn append<T: Drop>(alloc: Global, items: &mut Seq<T>, more: &mut Seq<T>) -> Result<(), Memory>
+    ensures ok { OnOk result (items.new ≡ items.old ++ more.old) }
+    ensures moved { OnOk result (more.new ≡ []) }
+    ensures err { OnErr result (items.new ≡ items.old) }
+    ensures left { OnErr result (more.new ≡ more.old) }
+{
+    let mut all = mem::replace(items, Seq::new(alloc)).into_vec();
+    let mut others = mem::replace(more, Seq::new(alloc)).into_vec();
+    let moved = all.append(&mut others);
+    *items = Seq::from_vec(all);
+    *more = Seq::from_vec(others);
+    moved?;
+    Ok(())
+}
+
+/// Moves items over short rows after others of either kind. An `Err` changes nothing.
+fn append_short(
+    alloc: Global,
+    items: &mut AnyItems,
+    more: &mut Seq<Item<ShortRow>>,
+) -> Result<(), Memory>
+    ensures ok { OnOk result (items_in items.new ≡ items_in items.old ++ more.old) }
+    ensures moved { OnOk result (more.new ≡ []) }
+    ensures err { OnErr result (items_in items.new ≡ items_in items.old) }
+    ensures left { OnErr result (more.new ≡ more.old) }
+{
+    match items {
+        AnyItems::Short(items) => append(alloc, items, more),
+        AnyItems::Wide(items) => {
+            let mut wide = all_widened(alloc, more.as_slice())?;
+            append(alloc, items, &mut wide)?;
+            more.clear();
+            Ok(())
+        }
+    }
+}
+
+/// Moves items over wide rows after others of either kind. An `Err` changes nothing.
+fn append_wide(alloc: Global, items: &mut AnyItems, more: &mut Seq<Item<Row>>) -> Result<(), Memory>
+    ensures ok { OnOk result (items_in items.new ≡ items_in items.old ++ more.old) }
+    ensures moved { OnOk result (more.new ≡ []) }
+    ensures err { OnErr result (items_in items.new ≡ items_in items.old) }
+    ensures left { OnErr result (more.new ≡ more.old) }
+{
+    let mut wide = match items {
+        AnyItems::Wide(items) => return append(alloc, items, more),
+        AnyItems::Short(items) => all_widened(alloc, items.as_slice())?,
+    };
+    append(alloc, &mut wide, more)?;
+    *items = AnyItems::Wide(wide);
+    Ok(())
 }
 
 impl Items {
@@ -63,6 +121,36 @@ impl Items {
         ensures err { OnErr result (self.new ≡ self.old) }
     {
         R::push_to(self.alloc, item, &mut self.held)
+    }
+
+    /// Moves all items of another list after these. Where there are none yet, the lists change places, so that both keep a room. An `Err`
+    /// changes nothing.
+    pub(crate) fn append(&mut self, from: &mut Items) -> Result<(), Memory>
+        ensures ok { OnOk result (self.new ≡ self.old ++ from.old) }
+        ensures moved { OnOk result (from.new ≡ []) }
+        ensures err { OnErr result (self.new ≡ self.old) }
+        ensures left { OnErr result (from.new ≡ from.old) }
+    {
+        if self.len() == 0 {
+            mem::swap(&mut self.held, &mut from.held);
+            return Ok(());
+        }
+        match &mut from.held {
+            AnyItems::Short(more) => append_short(self.alloc, &mut self.held, more),
+            AnyItems::Wide(more) => append_wide(self.alloc, &mut self.held, more),
+        }
+    }
+
+    /// Gives the tag to the items that stand after its operator. Takes no memory.
+    pub(crate) fn turn(&mut self, held: Option<Tag>)
+        ensures { self.new ≡ map (turn held) self.old }
+    {
+        if let Some(tag) = held {
+            match &mut self.held {
+                AnyItems::Short(items) => turn_all(self.alloc, items, tag),
+                AnyItems::Wide(items) => turn_all(self.alloc, items, tag),
+            }
+        }
     }
 
     /// How many items there are.

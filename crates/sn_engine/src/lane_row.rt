@@ -45,7 +45,7 @@ fn widened(item: &Item<ShortRow>) -> Item<Row>
 }
 
 /// The items over wide rows.
-fn all_widened(alloc: Global, items: &[Item<ShortRow>]) -> Result<Seq<Item<Row>>, Memory>
+pub(crate) fn all_widened(alloc: Global, items: &[Item<ShortRow>]) -> Result<Seq<Item<Row>>, Memory>
     ensures { IfOk result (λ wide. wide ≡ items.now) }
 {
     let mut wide = Seq::new(alloc);

@@ -19,7 +19,7 @@ use Rattle.sn_engine_many.proofs.Sent.{Left, gathered, left_gathered, left_own, 
 use Rattle.sn_engine_many.proofs.Taking.{all_ended, all_gathered, ended, ended_emptied, nothing_held, sent_in_all}
 use Rattle.sn_engine_many.specs.Answers.{shared_sent}
 use Rattle.sn_engine_many.specs.Switches.{shorts_of}
-use Rattle.sn_engine_many.specs.Turns.{end_of, frames_of}
+use Rattle.sn_engine_many.specs.Frames.{end_of, frames_of}
 use Rattle.sn_multi.specs.Branches.{together}
 use Rattle.sn_plan_fit.specs.Fits.{AreEntriesOf}
 use Rattle.sn_plan_grammar.specs.declared.plan.Entry.{Entry}

@@ -5,7 +5,7 @@ use Rattle.sn_base.specs.Groups.{Row}
 use Rattle.sn_base.specs.Operators.{Op}
 use Rattle.sn_base.specs.Operators.Op.{Filter as Passing, Map as Mapping, Distinct as Once, Reduce as Grouped}
 use Rattle.sn_engine_many.specs.Shorts.{up_to_stateful}
-use Rattle.sn_engine_many.specs.Turns.{held_tag, turn}
+use Rattle.sn_engine.specs.Turns.{held_tag, turn}
 use Rattle.sn_multi.specs.Switches.{switch_items}
 use Rattle.sn_multi.specs.Turned.{short, turned}
 use Rattle.sn_report.specs.Items.{Item}

@@ -19,7 +19,7 @@ use Rattle.sn_engine_lockstep.specs.declared.source.Source.{Source}
 use Rattle.sn_engine_many.proofs.Cutting.{cut_is, cut_short, switch_short, turn_is}
 use Rattle.sn_engine_many.specs.Answers.{shared_items}
 use Rattle.sn_engine_many.specs.Shorts.{short_placed, up_to_stateful}
-use Rattle.sn_engine_many.specs.Turns.{held_tag, turn}
+use Rattle.sn_engine.specs.Turns.{held_tag, turn}
 use Rattle.sn_engine_split.specs.Branches.{query_value}
 use Rattle.sn_engine_split.specs.Opened.{Prefixes, left_in, let_in, tabled}
 use Rattle.sn_multi.proofs.Pipes.{pipe_turned}

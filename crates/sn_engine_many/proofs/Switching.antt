@@ -60,8 +60,3 @@ pub all_set : (P : Driver → Type 0) (ds : List Driver) (i : ℕ) (e : Driver) 
 all_set P [] i e new h = tt
 all_set P (d ∷ ds) zero e new h = (new, h.1)
 all_set P (d ∷ ds) (suc i) e new h = (h.0, all_set P ds i e new h.1)
-
--- all items of a vector, changed in place
-pub whole : {X : Type 0} (n : ℕ) (xs ys : List X) → length xs ≡ length ys → n ≡ length ys → take n (xs ++ drop (length xs) ys) ≡ xs
-whole n xs ys same long =
-    ap (λ zs. take n (xs ++ zs)) (drop_all (length xs) ys (omega (arith, same))) ∙ ap (take n) (append-nil xs) ∙ take_all n xs (omega (arith, same, long))

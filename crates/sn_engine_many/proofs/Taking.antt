@@ -1,13 +1,16 @@
 -- The engine takes what all switches have gathered, lane by lane.
-use Rattle.std.proofs.Common.{◌≡◌, ℕ, ◌+◌, List, [], ◌∷◌, ◌++◌, map, fold, length, true, false, Some, refl, ap, sym, ◌∙◌, append_assoc, append-nil}
+use Rattle.std.proofs.Common.{◌≡◌, ℕ, ◌+◌, List, [], ◌∷◌, ◌++◌, map, fold, length, Bool, true, false, Some, refl, ap, sym, ◌∙◌, append_assoc, append-nil}
 use Rattle.std.specs.List.{AllByRecursion, flat_map}
 use Rattle.std.proofs.lemmas.List.Sums.{sum_by-cons}
-use Rattle.sn_base.proofs.Lists.{all_append, all_weaker, map_both}
+use Rattle.sn_base.proofs.Lists.{all_append, all_weaker, by_test, map_both}
 use Rattle.sn_base.specs.declared.lane.Lane.{Lane}
 use Rattle.sn_emit.specs.Plans.{Placed, items_of, pieces_from}
 use Rattle.sn_emit.specs.declared.tables.Tables.{Tables}
 use Rattle.sn_engine.proofs.Frames.{here, later}
-use Rattle.sn_engine.specs.Intakes.{after_frame, emptied, intakes_of, is_lane, shared, total}
+use Rattle.sn_base.specs.Changed.{with_first}
+use Rattle.sn_engine.specs.Intakes.{after_frame, emptied, intakes_of, is_lane, shared, total, with_item}
+use Rattle.sn_engine.specs.Moving.{after_lane, name_of as lane_name, with_items}
+use Rattle.sn_engine.specs.Turns.{lane_tag, turn}
 use Rattle.sn_engine.specs.declared.intake.Intake.{Intake}
 use Rattle.sn_engine_lockstep.proofs.Changes.{after_is, own_name, same_name, same_names}
 use Rattle.sn_engine_lockstep.proofs.Laws.{intakes_are}
@@ -17,7 +20,7 @@ use Rattle.sn_engine_lockstep.specs.declared.source.Source.{Source}
 use Rattle.sn_engine_many.proofs.Sent.{all_sent, gathered, own_items}
 use Rattle.sn_engine_many.specs.Answers.{shared_items, shared_sent}
 use Rattle.sn_engine_many.specs.Shorts.{short_placed}
-use Rattle.sn_engine_many.specs.Turns.{end_of, frames_of}
+use Rattle.sn_engine_many.specs.Frames.{end_of, frames_of}
 use Rattle.sn_plan_grammar.specs.declared.plan.Entry.{Entry}
 use Rattle.sn_refine.specs.Steps.{Set}
 use Rattle.sn_report.specs.Frames.{lane_of as lane_in}
@@ -47,6 +50,40 @@ other_frames l ls [] h = refl
 other_frames l ls (f ∷ fs) h =
     ap (λ zs. fold after_frame zs fs) (after_is (l ∷ ls) f ∙ later (is_lane (lane_in f)) (λ m. taken m f) l ls h.0 ∙ ap (λ zs. l ∷ zs) (sym (after_is ls f)))
     ∙ other_frames l (after_frame ls f) fs h.1
+
+-- ---- the frames of all items of a lane
+
+one_then : (n : Lane) (item : Item) (items : List Item) (ls : List Intake) → with_first (is_lane n) (with_items items) (with_first (is_lane n) (with_item item) ls) ≡ with_first (is_lane n) (with_items (item ∷ items)) ls
+one_then n item items [] = refl
+one_then n item items (l ∷ ls) =
+    by_test (is_lane n l)
+    (λ is. ap (with_first (is_lane n) (with_items items)) (here (is_lane n) (with_item item) l ls is)
+    ∙ here (is_lane n) (with_items items) (with_item item l) ls is
+    ∙ ap (λ (is : List Item). record l { items = is } ∷ ls) (append_assoc l.items (item ∷ []) items)
+    ∙ sym (here (is_lane n) (with_items (item ∷ items)) l ls is))
+    (λ isnt. ap (with_first (is_lane n) (with_items items)) (later (is_lane n) (with_item item) l ls isnt)
+    ∙ later (is_lane n) (with_items items) l (with_first (is_lane n) (with_item item) ls) isnt
+    ∙ ap (λ zs. l ∷ zs) (one_then n item items ls)
+    ∙ sym (later (is_lane n) (with_items (item ∷ items)) l ls isnt))
+
+none_more : (test : Intake → Bool) (ls : List Intake) → ls ≡ with_first test (with_items []) ls
+none_more test [] = refl
+none_more test (l ∷ ls) =
+    by_test (test l)
+    (λ is. ap (λ (is : List Item). record l { items = is } ∷ ls) (sym (append-nil l.items)) ∙ sym (here test (with_items []) l ls is))
+    (λ isnt. ap (λ zs. l ∷ zs) (none_more test ls) ∙ sym (later test (with_items []) l ls isnt))
+
+rows_at : (n : Lane) (t : Item → Item) (items : List Item) (ls : List Intake) → fold after_frame ls (map (λ item. Row n (t item)) items) ≡ with_first (is_lane n) (with_items (map t items)) ls
+rows_at n t [] ls = none_more (is_lane n) ls
+rows_at n t (item ∷ items) ls = rows_at n t items (with_first (is_lane n) (with_item (t item)) ls) ∙ one_then n (t item) (map t items) ls
+
+-- lane by lane, or frame by frame
+pub lanes_by_frames : (queries : List TypedQuery) (ls xs : List Intake) → fold (after_lane queries) ls xs ≡ fold after_frame ls (flat_map (frames_of queries) xs)
+lanes_by_frames queries ls [] = refl
+lanes_by_frames queries ls (x ∷ xs) =
+    lanes_by_frames queries (after_lane queries ls x) xs
+    ∙ ap (λ zs. fold after_frame zs (flat_map (frames_of queries) xs)) (sym (rows_at (lane_name x) (turn (lane_tag queries x)) x.items ls))
+    ∙ sym (fold_append after_frame ls (frames_of queries x) (flat_map (frames_of queries) xs))
 
 -- ---- each lane takes its own frames
 

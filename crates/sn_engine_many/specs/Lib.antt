@@ -1,5 +1,5 @@
 pub mod Shorts
-pub mod Turns
+pub mod Frames
 pub mod Switches
 pub mod Answers
 pub mod Phases

@@ -2,7 +2,6 @@
 #![tactic(auto)]
 
 mod copies;
-mod fronts;
 mod gather;
 pub mod law;
 pub mod many;

@@ -3,16 +3,32 @@ ghost use Rattle.std.specs.Prelude.{◌≡◌, ◌<◌, ◌≤◌, IfOk, length,
 ghost use Rattle.std.specs.List.{AllByRecursion};
 ghost use Rattle.sn_emit.specs.Making.{CanMake};
 ghost use Rattle.sn_emit.specs.Plans.{pieces_from};
-ghost use Rattle.sn_engine_many.specs.Shorts.{short_entries, short_entry, short_piece};
+ghost use Rattle.sn_engine_many.specs.Shorts.{short_entries, short_entry, short_piece, up_to_stateful};
 ghost use Rattle.sn_types.specs.Typed.{query_at};
 
-use crate::fronts::{front, up_to_stateful};
 use sn_base::memory::Memory;
 use sn_base::seq::Seq;
+use sn_engine::fronts::front;
 use sn_plan_grammar::plan::{Entry, Piece, Plan};
 use sn_plan_grammar::short::Short;
 use sn_types::typed::Typed;
+use sn_types::typed_op::TOp;
 use std::alloc::Global;
+
+/// How many operators stand up to the first that has registers, this one too; all, where none has.
+fn up_to_stateful(ops: &[TOp]) -> u32
+    requires { length ops.now ≤ 12 }
+    ensures { result ≡ up_to_stateful ops.now }
+{
+    let mut count = 0;
+    for op in ops {
+        match op {
+            TOp::Filter(_) | TOp::Map(_) => count += 1,
+            TOp::Distinct | TOp::Reduce(_) => return count + 1,
+        }
+    }
+    count
+}
 
 fn copy_short(alloc: Global, short: &Short) -> Short
     ensures { result ≡ short.now }

@@ -9,7 +9,7 @@ ghost use Rattle.sn_engine_lockstep.specs.Sources.{kept_in};
 ghost use Rattle.sn_engine_lockstep.specs.Work.{done};
 ghost use Rattle.sn_engine_lockstep.specs.declared.source.Source.{Source};
 ghost use Rattle.sn_engine_many.specs.Switches.{AreWorking, CanBegin, CanTake, IsResting, IsWorking, given_to, no_tuples};
-ghost use Rattle.sn_engine_many.specs.Turns.{frames_of};
+ghost use Rattle.sn_engine_many.specs.Frames.{frames_of};
 ghost use Rattle.sn_refine.specs.Steps.{Set};
 ghost use Rattle.sn_types.specs.Typed.{HasWidths, IsTyped};
 ghost use Rattle.sn_types.specs.declared.typed_query.TypedQuery.{TypedQuery};
@@ -80,9 +80,7 @@ fn drain_one(switch: &mut Driver, engine: &mut Engine, window: u64) -> Result<()
     ensures prefixes { engine.new.kept ≡ engine.old.kept }
 {
     switch.drain(&mut Nobody, window)?;
-    let gathered = &switch.engine;
-    gather(engine, &gathered.t, &gathered.lanes)?;
-    switch.engine.clear();
+    gather(engine, &mut switch.engine)?;
     Ok(())
 }
 

@@ -1,7 +1,7 @@
 use Rattle.std.proofs.Common.{◌≡◌, ◌<◌, fold, map, take, true}
 use Rattle.std.specs.List.{list_any}
 use Rattle.sn_engine.specs.Intakes.{after_frame, has_ended}
-use Rattle.sn_engine_many.specs.Turns.{end_of}
+use Rattle.sn_engine_many.specs.Frames.{end_of}
 use Rattle.sn_engine_many.proofs.gather.end_lanes.Given as goal
 
 abbrev pub invariant-loop-x : goal.invariant-loop-x

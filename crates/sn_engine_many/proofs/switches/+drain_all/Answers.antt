@@ -3,7 +3,7 @@ use Rattle.std.specs.List.{flat_map}
 use Rattle.sn_engine_lockstep.specs.Work.{done}
 use Rattle.sn_engine_many.proofs.Switching.{drain_more, drain_none}
 use Rattle.sn_engine_many.specs.Switches.{AreWorking}
-use Rattle.sn_engine_many.specs.Turns.{frames_of}
+use Rattle.sn_engine_many.specs.Frames.{frames_of}
 use Rattle.sn_engine_many.proofs.switches.+drain_all.Goals as goal
 
 pub returns-in_ok-drain_all-clause-work : goal.returns-in_ok-drain_all-clause-work

@@ -2,7 +2,7 @@ use Rattle.std.proofs.Common.{◌≡◌, List, length, ap, sym, ◌∙◌, subst
 use Rattle.std.specs.List.{AllByRecursion}
 use Rattle.sn_engine_lockstep.specs.Sources.{kept_in}
 use Rattle.sn_engine_lockstep.specs.declared.driver.Driver.{Driver}
-use Rattle.sn_engine_many.proofs.Switching.{whole}
+use Rattle.sn_engine.proofs.Lanes.{whole}
 use Rattle.sn_engine_many.specs.Switches.{AreWorking, IsResting, no_tuples, shorts_of}
 use Rattle.sn_engine_many.proofs.many.Many.begin.Goals as goal
 

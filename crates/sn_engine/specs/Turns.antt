@@ -1,13 +1,10 @@
 -- serves proofs
--- The frames of what a switch of several has gathered in a window.
-use Rattle.std.specs.Prelude.{ℕ, suc, List, [], ◌∷◌, map, take, Option, None, Some}
-use Rattle.sn_engine.specs.Intakes.{lane_at}
+-- The tags of items among several switches.
+use Rattle.std.specs.Prelude.{ℕ, suc, List, [], ◌∷◌, take, Option, None, Some, if◌then◌else◌}
 use Rattle.sn_engine.specs.declared.intake.Intake.{Intake}
-use Rattle.sn_multi.specs.Turned.{retagged}
+use Rattle.sn_pipe_items.specs.Value.{is_at}
 use Rattle.sn_report.specs.Frames.{operator_of}
-use Rattle.sn_report.specs.Items.{Frame}
-use Rattle.sn_report.specs.declared.frame.Frame.TheVariants.{Row, End}
-use Rattle.sn_report.specs.Items.{Item}
+use Rattle.sn_report.specs.declared.frame.Item.{Item as ItemOf}
 use Rattle.sn_report.specs.declared.frame.Tag.{Tag}
 use Rattle.sn_report.specs.declared.frame.Tag.TheVariants.{At, Partial}
 use Rattle.sn_types.specs.Typed.{branch_at}
@@ -24,19 +21,11 @@ held_tag i (Map exprs ∷ ops) = held_tag (suc i) ops
 held_tag i (Distinct ∷ ops) = Some (At i)
 held_tag i (Reduced r ∷ ops) = Some (Partial i)
 
--- an item that stands after the operator of this tag has this tag
-abbrev pub turn : Option Tag → Item → Item
+-- an item that stands after the operator of this tag has this tag, whatever kind of row it holds
+abbrev pub turn : {R : Type 0} → Option Tag → ItemOf R → ItemOf R
 turn None item = item
-turn (Some tag) item = retagged (operator_of tag) tag item
+turn (Some tag) item = if is_at (suc (operator_of tag)) item.tag then record { tag = tag; row = item.row } else item
 
 -- the tag of what a lane keeps
 abbrev pub lane_tag : List TypedQuery → Intake → Option Tag
 lane_tag queries x = held_tag 0 (take x.cut (branch_at queries x.query x.branch).ops)
-
--- the frames of a lane's items
-abbrev pub frames_of : List TypedQuery → Intake → List Frame
-frames_of queries x = map (λ item. Row (lane_at x.query x.place x.branch) (turn (lane_tag queries x) item)) x.items
-
--- the End of a lane
-abbrev pub end_of : ℕ → Intake → Frame
-end_of window x = End (lane_at x.query x.place x.branch) window

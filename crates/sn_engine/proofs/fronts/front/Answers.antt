@@ -2,7 +2,7 @@ use Rattle.std.proofs.Common.{◌≤◌, List, length, ap, sym, subst, arith}
 use Rattle.std.proofs.lemmas.List.{length-take}
 use Rattle.sn_types.proofs.Facts.{few_ops}
 use Rattle.sn_types.specs.declared.typed_op.TOp.{TOp}
-use Rattle.sn_engine_many.proofs.fronts.front.Goals as goal
+use Rattle.sn_engine.proofs.fronts.front.Goals as goal
 
 pub returns-then-count-ops-clause-few : goal.returns-then-count-ops-clause-few
 returns-then-count-ops-clause-few c =

@@ -1,0 +1,49 @@
+//! Items that get another tag.
+ghost use Rattle.std.specs.Prelude.{◌≡◌, Some, map, suc};
+ghost use Rattle.sn_engine.specs.Turns.{turn};
+ghost use Rattle.sn_pipe_items.specs.Value.{is_at};
+ghost use Rattle.sn_report.specs.Frames.{operator_of};
+
+use sn_base::seq::Seq;
+use sn_report::frame::{Item, Tag};
+use std::alloc::Global;
+use std::mem;
+
+/// Whether an item with this tag stands after the operator of a tag.
+fn is_after(held: Tag, own: Tag) -> bool
+    ensures { result ≡ is_at (suc (operator_of held)) own }
+{
+    let number = match held {
+        Tag::At(number) | Tag::Partial(number) => number,
+    };
+    match own {
+        Tag::At(place) => place as u32 == number as u32 + 1,
+        Tag::Partial(_) => false,
+    }
+}
+
+/// Gives an item this tag, if it stands after its operator.
+fn turn<R>(item: &mut Item<R>, held: Tag)
+    ensures { item.new ≡ turn (Some held) item.old }
+{
+    if is_after(held, item.tag) {
+        item.tag = held;
+    }
+}
+
+fn turn_each<R>(items: &mut [Item<R>], held: Tag)
+    ensures { items.new ≡ map (turn (Some held)) items.old }
+{
+    for item in items.iter_mut() {
+        turn(item, held);
+    }
+}
+
+/// Gives this tag to the items that stand after its operator. Takes no memory.
+pub(crate) fn turn_all<R: Drop>(alloc: Global, items: &mut Seq<Item<R>>, held: Tag)
+    ensures { items.new ≡ map (turn (Some held)) items.old }
+{
+    let mut taken = mem::replace(items, Seq::new(alloc)).into_vec();
+    turn_each(&mut taken, held);
+    *items = Seq::from_vec(taken);
+}
