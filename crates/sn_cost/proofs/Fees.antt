@@ -1,5 +1,5 @@
 -- What installed prefixes cost.
-use Rattle.std.proofs.Common.{◌≡◌, ℕ, zero, suc, ◌-◌, ◌*◌, ◌<◌, ◌≤◌, ◌^◌, List, [], ◌∷◌, length, true, false, cond, nat_eq, slice_get, slice_index, unwrap_or, Option, None, Some, ap, subst}
+use Rattle.std.proofs.Common.{◌≡◌, ℕ, zero, suc, ◌-◌, ◌*◌, ◌<◌, ◌≤◌, ◌^◌, List, [], ◌∷◌, length, true, false, cond, nat_eq, slice_get, slice_index, unwrap_or, Option, None, Some, refl, ap, subst}
 use Rattle.std.proofs.Common.{sym, ◌∙◌, arith}
 use Rattle.std.specs.FinSet as set
 use Rattle.std.specs.FinSet.{len-empty}
@@ -14,7 +14,7 @@ use Rattle.sn_switch.specs.declared.switch.Switch.{Switch}
 use Rattle.sn_types.specs.declared.typed_query.TypedQuery.{TypedQuery}
 use Rattle.sn_types.specs.Typed.{IsTyped, query_at}
 use Rattle.sn_cost.specs.Entries.{front_of}
-use Rattle.sn_cost.specs.Training.{HaveAtMost, IsKept, admitted, fee_of, kept_size}
+use Rattle.sn_cost.specs.Training.{HaveAtMost, IsKept, admitted, fee_of, kept_size, stays_open}
 use Rattle.sn_cost.proofs.Bits.{front_last, some_level}
 use Rattle.sn_cost.proofs.Paths.{front_path, several_refined}
 
@@ -51,6 +51,16 @@ size_kept levels last sets w (suc m) (Some k) is =
     let e = ap (λ (members : Set). set.len members) is.1 in
     let most = at_most last sets w (suc m) in
     omega (arith, e, most)
+
+-- what prefixes cost, by how many there are
+pub fee_size : (s : Switch) (o : Option Kept) → fee_of s o ≡ s.weight * kept_size o
+fee_size s None = sym (no_fee s.weight)
+fee_size s (Some k) = refl
+
+-- unless it stays open, a table admits tuples by the prefixes that are kept
+pub admitted_closed : (limit : Option ℕ) (o : Option Kept) → stays_open limit o ≡ false → admitted limit o ≡ o
+admitted_closed limit None e = refl
+admitted_closed limit (Some k) e = ap (λ b. cond b None (Some k)) e
 
 -- the prefixes that are installed cost no more than those that are kept
 pub fee_kept : (s : Switch) (o : Option Kept) → fee_of s (admitted s.entries o) ≤ s.weight * kept_size o

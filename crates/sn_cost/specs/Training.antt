@@ -57,6 +57,11 @@ abbrev pub admitted : Option ℕ → Option Kept → Option Kept
 admitted limit None = None
 admitted limit (Some kept) = if is_open limit kept.members.now then None else Some kept
 
+-- a table with so many entries stays open, since there are more prefixes
+abbrev pub stays_open : Option ℕ → Option Kept → Bool
+stays_open limit None = false
+stays_open limit (Some kept) = is_open limit kept.members.now
+
 -- what installed prefixes cost
 abbrev pub fee_of : Switch → Option Kept → ℕ
 fee_of s None = 0

@@ -17,6 +17,7 @@ use sn_base::row_seq::RowSeq;
 use sn_base::seq::Seq;
 use sn_base::short_row::ShortRow;
 use sn_cost_counts::branch::counts_of;
+use sn_cost_tally::room::Room;
 use sn_fields::tuple::Tuple;
 use sn_ops::packets::{Kept, packet_rows};
 use sn_plan_choices::costs::CostTable;
@@ -26,6 +27,7 @@ use sn_types::typed::Typed;
 
 /// The counts of a branch at a level, over the tuples of a window that are kept, whose packet rows are of a kind.
 fn counts_over<R: AnyRow>(
+    room: &mut Room,
     t: &Typed,
     s: &Switch,
     q: u32,
@@ -44,14 +46,14 @@ fn counts_over<R: AnyRow>(
     ensures counts { IfOk result (λ counts. counts ≡ kept_counts s.now (query_at t.now.queries q) level kept.entry tuples.now b) }
     ensures small { IfOk result (λ counts. AreSmall counts) }
 {
-    let alloc = t.alloc;
-    let rows: RowSeq<R> = packet_rows(alloc, t, q, b, level, kept, tuples)?;
-    counts_of(alloc, t, q, b, level, s.chain, s.slots.as_slice(), rows)
+    let rows: RowSeq<R> = packet_rows(t.alloc, t, q, b, level, kept, tuples)?;
+    counts_of(room, t, q, b, level, s.chain, s.slots.as_slice(), rows)
 }
 
 /// The counts of a branch at a level, over the tuples of a window that are kept. Its packet rows are short where it isn't wide: that
 /// is asked once, and then no row is.
 fn kept_counts(
+    room: &mut Room,
     t: &Typed,
     s: &Switch,
     q: u32,
@@ -70,14 +72,15 @@ fn kept_counts(
     ensures small { IfOk result (λ counts. AreSmall counts) }
 {
     if t.is_wide(q, b) {
-        counts_over::<Row>(t, s, q, b, level, kept, tuples)
+        counts_over::<Row>(room, t, s, q, b, level, kept, tuples)
     } else {
-        counts_over::<ShortRow>(t, s, q, b, level, kept, tuples)
+        counts_over::<ShortRow>(room, t, s, q, b, level, kept, tuples)
     }
 }
 
 /// Adds the counts of all branches at a level, over the tuples of a window that are kept, each with a fee, to their entries at a front.
 pub(crate) fn add_branches(
+    room: &mut Room,
     t: &Typed,
     s: &Switch,
     q: u32,
@@ -102,7 +105,7 @@ pub(crate) fn add_branches(
         (Adds table.old table.new (of_branches q prefix (length query.branches) (λ b. with_fee fee (kept_counts s.now query level kept.entry tuples.now b)))) }
 {
     for b in 0..t.branches(q) {
-        let counts = kept_counts(t, s, q, b, level, kept, tuples)?;
+        let counts = kept_counts(room, t, s, q, b, level, kept, tuples)?;
         add_counts(
             table,
             q,

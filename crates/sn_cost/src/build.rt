@@ -10,6 +10,7 @@ ghost use Rattle.sn_windows.specs.Blocks.{most_records};
 
 use crate::train::add_query;
 use sn_base::memory::Memory;
+use sn_cost_tally::room::Room;
 use sn_fields::tuple::Tuple;
 use sn_plan_choices::costs::CostTable;
 use sn_switch::switch::Switch;
@@ -35,8 +36,9 @@ pub fn build(t: &Typed, s: &Switch, tuples: &[Tuple], numbers: &[u64]) -> Result
         (option_at s.now (branch_at t.now.queries q b) n)) }
 {
     let mut table = CostTable::make(t, s)?;
+    let mut room = Room::new(t.alloc, t.seed);
     for q in 0..t.queries() {
-        add_query(t, s, q, tuples, numbers, &mut table)?;
+        add_query(&mut room, t, s, q, tuples, numbers, &mut table)?;
     }
     Ok(table)
 }

@@ -5,7 +5,7 @@ ghost use Rattle.std.specs.FinSet as set;
 ghost use Rattle.sn_base.specs.Sorted.{sorted_rows};
 ghost use Rattle.sn_plan_choices.specs.Costs.{HasPlaces};
 ghost use Rattle.sn_cost.specs.Adding.{Adds, AreSmall, HasRoom, kept_counts, of_branches, with_fee};
-ghost use Rattle.sn_cost.specs.Training.{AddsFront, HasFrontRoom, IsNext, admitted, answered_by, fee_of, kept_size, sees_nothing};
+ghost use Rattle.sn_cost.specs.Training.{AddsFront, HasFrontRoom, IsNext, admitted, answered_by, fee_of, kept_size, sees_nothing, stays_open};
 ghost use Rattle.sn_engine_split.specs.Opened.{is_open};
 ghost use Rattle.sn_ops.specs.Packets.{OfALevel};
 ghost use Rattle.sn_ops.specs.Plain.{query_rows};
@@ -18,8 +18,10 @@ ghost use Rattle.sn_windows.specs.Blocks.{most_records};
 
 use crate::branches::add_branches;
 use crate::fronts::Fronts;
+use crate::rows::add_query_rows;
 use sn_base::members::Members;
 use sn_base::memory::Memory;
+use sn_cost_tally::room::Room;
 use sn_fields::tuple::Tuple;
 use sn_ops::lists::plain_list;
 use sn_ops::packets::Kept;
@@ -35,6 +37,16 @@ fn is_open(entries: Option<u32>, members: &Members) -> bool
 {
     match entries {
         Some(entries) => (entries as u64) < members.len(),
+        None => false,
+    }
+}
+
+/// Whether a table with this many entries stays open for these prefixes.
+fn stays_open(entries: Option<u32>, kept: Option<Kept>) -> bool
+    ensures { result ≡ stays_open entries kept.entry }
+{
+    match kept {
+        Some(kept) => is_open(entries, kept.members),
         None => false,
     }
 }
@@ -75,6 +87,7 @@ fn fee_of(s: &Switch, installed: Option<Kept>) -> u64
 
 /// Adds the counts of a window at a level to the entries of a front, of the tuples that a table admits by the prefixes that are kept.
 fn count_front(
+    room: &mut Room,
     t: &Typed,
     s: &Switch,
     q: u32,
@@ -99,7 +112,7 @@ fn count_front(
 {
     let installed = admitted(s.entries, kept);
     let fee = fee_of(s, installed);
-    add_branches(t, s, q, front, level, installed, tuples, fee, table)
+    add_branches(room, t, s, q, front, level, installed, tuples, fee, table)
 }
 
 /// The prefixes that a level answers of the tuples of a window that are kept.
@@ -120,10 +133,49 @@ fn answered(
     members(t.alloc, t, q, &AnswerRows::sorted(rows)?)
 }
 
+/// Adds the counts of a window at a level to the entries of a front, of the tuples that a table admits by the prefixes that are kept, and
+/// gives the prefixes that the level answers of the tuples that are kept. Unless the table stays open these are the same tuples, and one
+/// pass over them finds both.
+fn count_and_answer(
+    room: &mut Room,
+    t: &Typed,
+    s: &Switch,
+    q: u32,
+    front: u32,
+    level: u32,
+    kept: Option<Kept>,
+    tuples: &[Tuple],
+    table: &mut CostTable,
+) -> Result<Members, Memory>
+    requires switch { IsSwitch s.now }
+    requires query { q < length t.now.queries }
+    requires level { list_any (nat_eq level) (query_at t.now.queries q).levels ≡ true }
+    requires kept { OfALevel (query_at t.now.queries q) kept }
+    requires few { length tuples.now ≤ most_records }
+    requires places { HasPlaces table.old (q + 1) }
+    requires front { front < 16 }
+    requires room { (b : ℕ) → b < 2 → HasRoom table.old q front b (s.now.weight * kept_size kept) }
+    ensures small { let query = query_at t.now.queries q in OnOk result ((b : ℕ) → b < length query.branches →
+        AreSmall (kept_counts s.now query level (admitted s.now.entries kept.entry) tuples.now b)) }
+    ensures adds { let query = query_at t.now.queries q in let installed = admitted s.now.entries kept.entry in OnOk result
+        (Adds table.old table.new (of_branches q front (length query.branches) (λ b. with_fee (fee_of s.now installed) (kept_counts s.now query level installed tuples.now b)))) }
+    ensures answers { let query = query_at t.now.queries q in IfOk result
+        (λ answered. answered ≡ prefixes_of query (sorted_rows (query_rows query level kept.entry tuples.now))) }
+{
+    if stays_open(s.entries, kept) {
+        count_front(room, t, s, q, front, level, kept, tuples, table)?;
+        return answered(t, q, level, kept, tuples);
+    }
+    let fee = fee_of(s, kept);
+    let rows = add_query_rows(room, t, s, q, front, level, kept, tuples, fee, table)?;
+    members(t.alloc, t, q, &AnswerRows::sorted(rows)?)
+}
+
 /// Adds the counts of a window at a front to its entries, and gives the prefixes that the front answers. Its last level sees the tuples whose
 /// prefix the front without that level answered in the window before. Where there is none it sends nothing and answers nothing. No one asks what
 /// the finest level answers.
 pub(crate) fn add_front(
+    room: &mut Room,
     t: &Typed,
     s: &Switch,
     q: u32,
@@ -154,9 +206,9 @@ pub(crate) fn add_front(
     if sees_nothing(kept) {
         return Ok(Members::new(t.alloc));
     }
-    count_front(t, s, q, front, level, kept, tuples, table)?;
     if top as usize + 1 == levels.len() {
+        count_front(room, t, s, q, front, level, kept, tuples, table)?;
         return Ok(Members::new(t.alloc));
     }
-    answered(t, q, level, kept, tuples)
+    count_and_answer(room, t, s, q, front, level, kept, tuples, table)
 }

@@ -6,6 +6,7 @@ mod branches;
 pub mod build;
 mod front;
 mod fronts;
+mod rows;
 mod run;
 mod train;
 mod window;

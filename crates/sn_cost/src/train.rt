@@ -12,6 +12,7 @@ use crate::fronts::Fronts;
 use crate::run::first_run;
 use crate::window::add_window;
 use sn_base::memory::Memory;
+use sn_cost_tally::room::Room;
 use sn_fields::tuple::Tuple;
 use sn_plan_choices::costs::CostTable;
 use sn_switch::switch::Switch;
@@ -19,6 +20,7 @@ use sn_types::typed::Typed;
 
 /// Adds the counts of all training windows at all fronts of a query, window by window.
 pub(crate) fn add_query(
+    room: &mut Room,
     t: &Typed,
     s: &Switch,
     q: u32,
@@ -41,6 +43,7 @@ pub(crate) fn add_query(
     while done < numbers.len() {
         let end = done + first_run(&numbers[done..]);
         add_window(
+            room,
             t,
             s,
             q,

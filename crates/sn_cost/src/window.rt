@@ -13,6 +13,7 @@ use crate::fronts::Fronts;
 use sn_base::members::Members;
 use sn_base::memory::Memory;
 use sn_base::seq::Seq;
+use sn_cost_tally::room::Room;
 use sn_fields::tuple::Tuple;
 use sn_plan_choices::costs::CostTable;
 use sn_switch::switch::Switch;
@@ -20,6 +21,7 @@ use sn_types::typed::Typed;
 
 /// Adds the counts of a window at all fronts of a query. What the fronts answered in the window before is replaced once all of them are done.
 pub(crate) fn add_window(
+    room: &mut Room,
     t: &Typed,
     s: &Switch,
     q: u32,
@@ -44,7 +46,7 @@ pub(crate) fn add_window(
     let mut sets = Seq::new(t.alloc);
     sets.push(Members::new(t.alloc))?;
     for front in 1..1u32 << t.levels(q).len() {
-        sets.push(add_front(t, s, q, front, fronts, w, tuples, table)?)?;
+        sets.push(add_front(room, t, s, q, front, fronts, w, tuples, table)?)?;
     }
     fronts.sets = sets;
     fronts.last = Some(w);

@@ -184,7 +184,7 @@ pub record Along (depth level : ℕ) (slots : List ℕ) (os : List TOp) (first :
   pub told : counts ++ counts_from depth level slots (drop i os) fs ≡ counts_from depth level slots os first
   pub go : AllGo level i (drop i os) fs
 
-operators_ahead : (os : List TOp) (i : ℕ) (op : TOp) → i < length os → op ≡ get_or os i op → drop i os ≡ op ∷ drop (i + 1) os
+pub operators_ahead : (os : List TOp) (i : ℕ) (op : TOp) → i < length os → op ≡ get_or os i op → drop i os ≡ op ∷ drop (i + 1) os
 operators_ahead os i op lt at =
     let next : suc i ≡ i + 1 = omega arith in
     drop-cons os i op lt ∙ ap (λ x. x ∷ drop (suc i) os) (sym at) ∙ ap (λ n. op ∷ drop n os) next

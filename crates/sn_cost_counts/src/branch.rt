@@ -1,21 +1,60 @@
-//! The counts of a branch.
-ghost use Rattle.std.specs.Prelude.{◌≡◌, ◌≤◌, ◌<◌, ◌*◌, All, length, map, nat_eq, true, IfOk};
+//! The counts of a branch, and its rows.
+ghost use Rattle.std.specs.Prelude.{◌≡◌, ◌≤◌, ◌<◌, ◌*◌, All, Some, None, length, map, take, nat_eq, true, IfOk, if◌then◌else◌};
 ghost use Rattle.std.specs.List.{AllByRecursion, list_any};
 ghost use Rattle.sn_base.specs.Columns.{IsOf};
+ghost use Rattle.sn_base.specs.Operators.{through};
 ghost use Rattle.sn_cost_counts.specs.Counts.{counts_of, setting_count};
 ghost use Rattle.sn_cost_counts.specs.Settings.{settings};
-ghost use Rattle.sn_types.specs.Typed.{branch_at, branch_of, first_columns, query_at};
+ghost use Rattle.sn_types.specs.Typed.{branch_at, branch_of, end_columns, first_columns, query_at};
 ghost use Rattle.sn_types.specs.Values.{op_at};
 ghost use Rattle.sn_chain.specs.Limits.{largest_register};
 ghost use Rattle.sn_windows.specs.Blocks.{most_records};
 
-use crate::counts::counts_along;
+use crate::counts::{Along, counts_along};
 use sn_base::any_row::AnyRow;
 use sn_base::memory::Memory;
 use sn_base::row_seq::RowSeq;
 use sn_base::seq::Seq;
+use sn_cost_tally::room::Room;
+use sn_ops::flow::run;
 use sn_types::typed::Typed;
-use std::alloc::Global;
+
+/// The counts of a branch, and the rows that it gives with no switch.
+#[derive(Drop)]
+pub struct Counted<R: AnyRow> {
+    /// How many items it sends, as `counts_of` says.
+    pub counts: Seq<u64>,
+    /// What all its operators give of the same packet rows.
+    pub rows: RowSeq<R>,
+}
+
+/// What comes of a window's packet rows along the longest prefix of a branch.
+fn along_prefix<R: AnyRow>(
+    room: &mut Room,
+    t: &Typed,
+    q: u32,
+    b: u32,
+    level: u32,
+    chain: u32,
+    slots: &[u32],
+    rows: RowSeq<R>,
+    kept: bool,
+) -> Result<Along<R>, Memory>
+    requires query { q < length t.now.queries }
+    requires branch { b < length (query_at t.now.queries q).branches }
+    requires some_depth { 1 ≤ chain }
+    requires most_depth { chain ≤ 4 }
+    requires sizes { All (λ size. (1 ≤ size) × (size ≤ largest_register)) slots.now }
+    requires few { length rows ≤ most_records }
+    requires columns { AllByRecursion (IsOf (first_columns (branch_at t.now.queries q b))) rows }
+    ensures counts { IfOk result (λ along. along.counts ≡ counts_of (branch_at t.now.queries q b) level chain slots.now rows) }
+    ensures small { IfOk result (λ along. AllByRecursion (λ n. n ≤ 13 * most_records) along.counts) }
+    ensures unsplit { let branch = branch_at t.now.queries q b in IfOk result (λ along.
+        along.unsplit ≡ (if kept then Some (through (map (op_at level) (take branch.max_cut branch.ops)) rows) else None)) }
+{
+    let (front, _) = t.operators(q, b).split_at(t.max_cut(q, b) as usize);
+    counts_along(room, front, level, chain, slots, rows, kept)
+}
 
 /// How many items a branch at a level sends of a window's packet rows, for each cut and all sizes of its registers: by
 /// cut, and within a cut by the sizes of the stateful operators before it, in lexicographic order of `slots`. Each of them
@@ -24,7 +63,7 @@ use std::alloc::Global;
 /// # Errors
 /// Out of memory.
 pub fn counts_of<R: AnyRow>(
-    alloc: Global,
+    room: &mut Room,
     t: &Typed,
     q: u32,
     b: u32,
@@ -43,6 +82,42 @@ pub fn counts_of<R: AnyRow>(
     ensures counts { IfOk result (λ counts. counts ≡ counts_of (branch_at t.now.queries q b) level chain slots.now rows) }
     ensures small { IfOk result (λ counts. AllByRecursion (λ n. n ≤ 13 * most_records) counts) }
 {
-    let (front, _) = t.operators(q, b).split_at(t.max_cut(q, b) as usize);
-    counts_along(alloc, t.seed, front, level, chain, slots, rows)
+    let along = along_prefix(room, t, q, b, level, chain, slots, rows, false)?;
+    Ok(along.counts)
+}
+
+/// `counts_of`, and beside it the rows that the branch gives of these packet rows with no switch. They cost little more than the
+/// counts alone: the first distinct or reduce finds them by the way, and only the operators after it are run for them.
+///
+/// # Errors
+/// Out of memory.
+pub fn counts_and_rows<R: AnyRow>(
+    room: &mut Room,
+    t: &Typed,
+    q: u32,
+    b: u32,
+    level: u32,
+    chain: u32,
+    slots: &[u32],
+    rows: RowSeq<R>,
+) -> Result<Counted<R>, Memory>
+    requires query { q < length t.now.queries }
+    requires branch { b < length (query_at t.now.queries q).branches }
+    requires some_depth { 1 ≤ chain }
+    requires most_depth { chain ≤ 4 }
+    requires sizes { All (λ size. (1 ≤ size) × (size ≤ largest_register)) slots.now }
+    requires few { length rows ≤ most_records }
+    requires columns { AllByRecursion (IsOf (first_columns (branch_at t.now.queries q b))) rows }
+    ensures counts { IfOk result (λ c. c.counts ≡ counts_of (branch_at t.now.queries q b) level chain slots.now rows) }
+    ensures small { IfOk result (λ c. AllByRecursion (λ n. n ≤ 13 * most_records) c.counts) }
+    ensures rows { IfOk result (λ c. c.rows ≡ through (map (op_at level) (branch_at t.now.queries q b).ops) rows) }
+    ensures columns { IfOk result (λ c. AllByRecursion (IsOf (end_columns (branch_at t.now.queries q b))) c.rows) }
+{
+    let Along { counts, unsplit } = along_prefix(room, t, q, b, level, chain, slots, rows, true)?;
+    let Some(unsplit) = unsplit else {
+        unreachable!();
+    };
+    let (_, rest) = t.operators(q, b).split_at(t.max_cut(q, b) as usize);
+    let rows = run(room.alloc, room.seed, rest, level, unsplit)?;
+    Ok(Counted { counts, rows })
 }

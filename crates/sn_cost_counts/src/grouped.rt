@@ -67,7 +67,7 @@ fn groups_of<R: AnyRow>(room: &Room, rows: &RowSeq<R>, r: &TReduce) -> Result<Gr
     Ok(Groups { tally, rows })
 }
 
-/// Adds the rows after a reduce for each size, in order.
+/// Adds the rows after a reduce for each size, in order. What it gives of all rows.
 pub(crate) fn add_reduce<R: AnyRow>(
     room: &mut Room,
     r: &TReduce,
@@ -75,13 +75,14 @@ pub(crate) fn add_reduce<R: AnyRow>(
     slots: &[u32],
     flow: &FlowOf<R>,
     out: &mut Vec<FlowOf<R>>,
-) -> Result<(), Memory>
+) -> Result<RowSeq<R>, Memory>
     requires most_depth { depth ≤ 4 }
     requires sizes { All (λ size. (1 ≤ size) × (size ≤ largest_register)) slots.now }
     requires fits { ReduceFits r.now flow.now.rows }
     requires sent { flow.now.sent ≤ 12 * most_records }
     requires few { length flow.now.rows ≤ most_records }
-    ensures { OnOk result (out.new.items ≡ out.old.items ++ map (λ size. stepped depth size (op_at 0 (TOp.Reduce r.now)) flow.now) slots.now) }
+    ensures rows { IfOk result (λ rows. rows ≡ apply (op_at 0 (TOp.Reduce r.now)) flow.now.rows) }
+    ensures flows { OnOk result (out.new.items ≡ out.old.items ++ map (λ size. stepped depth size (op_at 0 (TOp.Reduce r.now)) flow.now) slots.now) }
 {
     let groups = groups_of(room, &flow.rows, r)?;
     for size in slots {
@@ -90,5 +91,5 @@ pub(crate) fn add_reduce<R: AnyRow>(
             return Err(Memory);
         }
     }
-    Ok(())
+    Ok(groups.rows)
 }

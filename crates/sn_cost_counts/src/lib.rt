@@ -6,5 +6,6 @@ mod counts;
 pub mod flow;
 mod grouped;
 mod once;
+mod passing;
 mod sizes;
 mod stateless;

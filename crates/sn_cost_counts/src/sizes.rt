@@ -1,6 +1,7 @@
 //! Stateful operators, with registers of each size.
 ghost use Rattle.std.specs.Prelude.{◌≡◌, ◌*◌, ◌≤◌, ◌++◌, All, length, map, true, IfOk, OnOk};
 ghost use Rattle.std.specs.List.{flat_map};
+ghost use Rattle.sn_base.specs.Operators.{apply};
 ghost use Rattle.sn_chain.specs.Limits.{largest_register};
 ghost use Rattle.sn_cost_counts.specs.Flows.{stepped};
 ghost use Rattle.sn_ops.specs.Flow.{Fits};
@@ -13,25 +14,27 @@ use crate::grouped::add_reduce;
 use crate::once::add_distinct;
 use sn_base::any_row::AnyRow;
 use sn_base::memory::Memory;
+use sn_base::row_seq::RowSeq;
 use sn_cost_tally::room::Room;
 use sn_types::typed_op::TOp;
 
-/// Adds the rows after a distinct or a reduce for each size, in order.
-fn add_sizes<R: AnyRow>(
+/// Adds the rows after a distinct or a reduce for each size, in order. What it gives of all rows.
+pub(crate) fn add_sizes<R: AnyRow>(
     room: &mut Room,
     op: &TOp,
     depth: u32,
     slots: &[u32],
     flow: &FlowOf<R>,
     out: &mut Vec<FlowOf<R>>,
-) -> Result<(), Memory>
+) -> Result<RowSeq<R>, Memory>
     requires stateful { is_stateful op.now ≡ true }
     requires most_depth { depth ≤ 4 }
     requires sizes { All (λ size. (1 ≤ size) × (size ≤ largest_register)) slots.now }
     requires fits { Fits op.now flow.now.rows }
     requires sent { flow.now.sent ≤ 12 * most_records }
     requires few { length flow.now.rows ≤ most_records }
-    ensures { OnOk result (out.new.items ≡ out.old.items ++ map (λ size. stepped depth size (op_at 0 op.now) flow.now) slots.now) }
+    ensures rows { IfOk result (λ rows. rows ≡ apply (op_at 0 op.now) flow.now.rows) }
+    ensures flows { OnOk result (out.new.items ≡ out.old.items ++ map (λ size. stepped depth size (op_at 0 op.now) flow.now) slots.now) }
 {
     match op {
         TOp::Distinct => add_distinct(room, depth, slots, flow, out),

@@ -16,7 +16,8 @@ use sn_base::seed::Seed;
 use sn_cost_seats::tally::over;
 use std::alloc::Global;
 
-/// What the registers of one size after another, and the tables of their keys, share.
+/// What the registers of one size after another, and the tables of their keys, share. One is made for a whole cost table, so
+/// that what one window took serves the next.
 #[derive(Drop)]
 pub struct Room {
     /// Whence memory comes.

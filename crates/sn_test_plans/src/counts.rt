@@ -11,6 +11,7 @@ use sn_base::row_seq::RowSeq;
 use sn_base::seq::Seq;
 use sn_base::short_row::ShortRow;
 use sn_cost_counts::branch::counts_of;
+use sn_cost_tally::room::Room;
 use sn_fields::tuple::Tuple;
 use sn_ops::packets::packet_rows;
 use sn_types::typed::Typed;
@@ -35,7 +36,8 @@ fn counts_over<R: AnyRow>(
     if rows.len() > 1000 {
         return Err(Memory);
     }
-    counts_of(alloc, t, 0, 0, level, chain, &[1], rows)
+    let mut room = Room::new(alloc, t.seed);
+    counts_of(&mut room, t, 0, 0, level, chain, &[1], rows)
 }
 
 /// The counts of the one query of a text, in chains of registers with one slot each.

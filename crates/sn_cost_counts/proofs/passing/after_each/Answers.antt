@@ -6,7 +6,7 @@ use Rattle.sn_types.specs.Values.{op_at}
 use Rattle.sn_cost_counts.specs.AnyFlow.{Flow}
 use Rattle.sn_cost_counts.specs.Flows.{stepped}
 use Rattle.sn_cost_counts.proofs.Going.{all_fit, if_ok, wide_one, wide_sizes, written_back}
-use Rattle.sn_cost_counts.proofs.counts.behind.Goals as goal
+use Rattle.sn_cost_counts.proofs.passing.after_each.Goals as goal
 
 pub by_size-requires-clause-fits : goal.by_size-requires-clause-fits
 by_size-requires-clause-fits g c =

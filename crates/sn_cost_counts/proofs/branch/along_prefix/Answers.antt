@@ -1,4 +1,4 @@
-use Rattle.std.proofs.Common.{◌≡◌, ℕ, ◌*◌, ◌≤◌, List, [], ◌∷◌, take, length, ap, sym, subst, ◌∙◌, arith, ◌+◌}
+use Rattle.std.proofs.Common.{◌≡◌, ◌*◌, ◌≤◌, List, [], ◌∷◌, take, length, ap, sym, subst, ◌∙◌, arith, ◌+◌}
 use Rattle.std.specs.List.{AllByRecursion}
 use Rattle.std.proofs.lemmas.List.{length-take}
 use Rattle.sn_ops.specs.Flow.{AllFit}
@@ -14,7 +14,8 @@ use Rattle.sn_cost_counts.proofs.Going.{if_ok}
 use Rattle.sn_pipe.proofs.Fronts.{cut_within}
 use Rattle.sn_pipe.proofs.Takes.{fit_front}
 use Rattle.sn_engine_split.proofs.Typed.{cut_of}
-use Rattle.sn_cost_counts.proofs.branch.counts_of.Goals as goal
+use Rattle.sn_cost_counts.proofs.Unsplit.{given}
+use Rattle.sn_cost_counts.proofs.branch.along_prefix.Goals as goal
 use Rattle.sn_windows.specs.Blocks.{most_records}
 
 pub split_at-requires : goal.split_at-requires
@@ -41,6 +42,14 @@ counts_along-requires-clause-fits g c =
     subst (λ (os : List TOp). AllFit c.args.level os []) (sym front)
     (fit_front c.args.level c.max_cut.result (branch_at t.queries c.args.q c.args.b).ops [] (branch_fit t.window_us t.queries c.args.q c.args.b c.args.level [] t.typed c.requires.query c.requires.branch tt))
 
+pub counts_along-requires-clause-fits_all : goal.counts_along-requires-clause-fits_all
+counts_along-requires-clause-fits_all g c =
+    let a = c.args in
+    let t = a.t.now in
+    let front : c.split_at.result.0.now ≡ take c.max_cut.result (branch_at t.queries a.q a.b).ops = c.split_at.ensures.front ∙ ap (take c.max_cut.result) c.operators.ensures in
+    subst (λ (os : List TOp). AllFit a.level os a.rows) (sym front)
+    (fit_front a.level c.max_cut.result (branch_at t.queries a.q a.b).ops a.rows (branch_fit t.window_us t.queries a.q a.b a.level a.rows t.typed c.requires.query c.requires.branch c.requires.columns))
+
 pub returns-clause-counts : goal.returns-clause-counts
 returns-clause-counts g c =
     let a = c.args in
@@ -50,8 +59,8 @@ returns-clause-counts g c =
     let within = cut_within t.window_us t.queries a.q a.b t.typed c.requires.query c.requires.branch in
     let most = cut_of t.window_us t.queries a.q a.b branch.max_cut t.typed c.requires.query c.requires.branch (omega arith) in
     let long : length (take branch.max_cut branch.ops) ≡ branch.max_cut = omega (arith, length-take branch.max_cut branch.ops, within) in
-    if_ok c.counts_along.result (λ (counts : List ℕ). counts ≡ counts_from a.chain a.level a.slots.now c.split_at.result.0.now (starting a.rows ∷ [])) _
-    (λ counts is. is ∙ ap (λ (os : List TOp). counts_from a.chain a.level a.slots.now os (starting a.rows ∷ [])) front ∙ all_counts a.chain a.level a.slots.now branch a.rows most long)
+    if_ok c.counts_along.result (λ along. along.counts ≡ counts_from a.chain a.level a.slots.now c.split_at.result.0.now (starting a.rows ∷ [])) _
+    (λ along is. is ∙ ap (λ (os : List TOp). counts_from a.chain a.level a.slots.now os (starting a.rows ∷ [])) front ∙ all_counts a.chain a.level a.slots.now branch a.rows most long)
     c.counts_along.ensures.counts
 
 pub returns-clause-small : goal.returns-clause-small
@@ -64,7 +73,14 @@ returns-clause-small g c =
     let few : 0 + length os ≤ 12 = omega (arith, few_ops t.window_us t.queries a.q a.b t.typed c.requires.query c.requires.branch, length-take c.max_cut.result branch.ops) in
     let takes = branch_takes t.window_us t.queries a.q a.b a.level c.max_cut.result a.rows t.typed c.requires.query c.requires.branch c.requires.columns in
     let fits = fit_front a.level c.max_cut.result branch.ops [] (branch_fit t.window_us t.queries a.q a.b a.level [] t.typed c.requires.query c.requires.branch tt) in
-    if_ok c.counts_along.result (λ (counts : List ℕ). counts ≡ counts_from a.chain a.level a.slots.now c.split_at.result.0.now (starting a.rows ∷ [])) _
-    (λ counts is. subst (AllByRecursion (λ n. n ≤ 13 * most_records)) (sym (is ∙ ap (λ (xs : List TOp). counts_from a.chain a.level a.slots.now xs (starting a.rows ∷ [])) front))
+    if_ok c.counts_along.result (λ along. along.counts ≡ counts_from a.chain a.level a.slots.now c.split_at.result.0.now (starting a.rows ∷ [])) _
+    (λ along is. subst (AllByRecursion (λ n. n ≤ 13 * most_records)) (sym (is ∙ ap (λ (xs : List TOp). counts_from a.chain a.level a.slots.now xs (starting a.rows ∷ [])) front))
     (counts_small a.chain a.level a.slots.now os 0 (starting a.rows ∷ []) few (started a.level os a.rows c.requires.few takes fits)))
     c.counts_along.ensures.counts
+
+pub returns-clause-unsplit : goal.returns-clause-unsplit
+returns-clause-unsplit g c =
+    let a = c.args in
+    let branch : TypedBranch = branch_at a.t.now.queries a.q a.b in
+    let front : c.split_at.result.0.now ≡ take branch.max_cut branch.ops = c.split_at.ensures.front ∙ ap (take c.max_cut.result) c.operators.ensures ∙ ap (λ n. take n branch.ops) c.max_cut.ensures in
+    if_ok c.counts_along.result (λ along. along.unsplit ≡ given a.kept a.level c.split_at.result.0.now a.rows) _ (λ along is. is ∙ ap (λ (os : List TOp). given a.kept a.level os a.rows) front) c.counts_along.ensures.unsplit

@@ -1,0 +1,108 @@
+-- What operators give of all rows, beside those for each list of sizes.
+use Rattle.std.proofs.Common.{◌≡◌, ℕ, zero, suc, ◌+◌, ◌≤◌, ◌<◌, List, [], ◌∷◌, map, take, drop, length, get_or, Bool, true, false, cond, Option, Some, None, IfSome, refl, ap, sym, subst, ◌∙◌}
+use Rattle.std.specs.Option.{option_map}
+use Rattle.std.proofs.lemmas.List.{append-nil, drop_all}
+use Rattle.sn_base.specs.Groups.{Row}
+use Rattle.sn_base.specs.Operators.{apply, through}
+use Rattle.sn_ops.specs.Flow.{AllFit, Fits}
+use Rattle.sn_types.specs.declared.typed_op.TOp.{TOp}
+use Rattle.sn_types.specs.declared.typed_op.TOp.TheVariants as ops
+use Rattle.sn_types.specs.Cuts.{is_stateful}
+use Rattle.sn_types.specs.Values.{op_at}
+use Rattle.sn_cost_counts.specs.AnyFlow.{Flow}
+use Rattle.sn_cost_counts.specs.Flows.{starting, stepped, wider}
+use Rattle.sn_cost_counts.proofs.Going.{operators_ahead, wide_sizes}
+
+-- ---- the first distinct or reduce, and what is before it
+
+-- a filter or a map leaves one list
+pub same_one : (depth level : ℕ) (slots : List ℕ) (op : TOp) (rows next : List Row) → is_stateful op ≡ false → next ≡ apply (op_at level op) rows → starting next ∷ [] ≡ wider depth level slots op (starting rows ∷ [])
+same_one depth level slots (ops.Filter conds) rows next isnt is = ap (λ (xs : List Row). starting xs ∷ []) is
+same_one depth level slots (ops.Map exprs) rows next isnt is = ap (λ (xs : List Row). starting xs ∷ []) is
+same_one depth level slots ops.Distinct rows next isnt is = absurd cc
+same_one depth level slots (ops.Reduce r) rows next isnt is = absurd cc
+
+pub same_sizes : (depth level : ℕ) (slots : List ℕ) (op : TOp) (rows : List Row) (flow : Flow) (out : List Flow) → is_stateful op ≡ true → flow ≡ starting rows → out ≡ map (λ size. stepped depth size (op_at 0 op) flow) slots
+    → out ≡ wider depth level slots op (starting rows ∷ [])
+same_sizes depth level slots op rows flow out stateful at is =
+    is ∙ ap (λ (f : Flow). map (λ size. stepped depth size (op_at 0 op) f) slots) at
+    ∙ sym (append-nil (map (λ size. stepped depth size (op_at 0 op) (starting rows)) slots))
+    ∙ wide_sizes depth level slots op (starting rows ∷ []) stateful
+
+-- a distinct and a reduce are the same at all levels
+pub at_all_levels : (level : ℕ) (op : TOp) → is_stateful op ≡ true → op_at 0 op ≡ op_at level op
+at_all_levels level (ops.Filter conds) is = absurd cc
+at_all_levels level (ops.Map exprs) is = absurd cc
+at_all_levels level ops.Distinct is = refl
+at_all_levels level (ops.Reduce r) is = refl
+
+pub all_at : (level : ℕ) (op : TOp) (rows all : List Row) (flow : Flow) → is_stateful op ≡ true → flow ≡ starting rows → all ≡ apply (op_at 0 op) flow.rows → all ≡ apply (op_at level op) rows
+all_at level op rows all flow stateful at is = is ∙ ap (λ (f : Flow). apply (op_at 0 op) f.rows) at ∙ ap (λ o. apply o rows) (at_all_levels level op stateful)
+
+-- ---- one operator after another
+
+if_some : {A : Type 0} (o : Option A) (P Q : A → Type 0) → ((x : A) → P x → Q x) → IfSome o P → IfSome o Q
+if_some None P Q f h = tt
+if_some (Some x) P Q f h = f x h
+
+map_same : {A : Type 0} (o : Option A) → option_map (λ x. x) o ≡ o
+map_same None = refl
+map_same (Some x) = refl
+
+map_twice : {A : Type 0} (f g : A → A) (o : Option A) → option_map g (option_map f o) ≡ option_map (λ x. g (f x)) o
+map_twice f g None = refl
+map_twice f g (Some x) = refl
+
+if_mapped : {A : Type 0} (f : A → A) (o : Option A) (P : A → Type 0) → IfSome o (λ x. P (f x)) → IfSome (option_map f o) P
+if_mapped f None P h = tt
+if_mapped f (Some x) P h = h
+
+-- what operators give of all rows, where that is kept
+abbrev pub given : Bool → ℕ → List TOp → List Row → Option (List Row)
+given kept level os rows = cond kept (Some (through (map (op_at level) os) rows)) None
+
+-- the operators ahead give of what is kept what all of them give of the rows
+pub record Follows (kept : Bool) (level : ℕ) (os : List TOp) (rows : List Row) (i : ℕ) (o : Option (List Row)) : Type 0 where
+  pub fit : IfSome o (AllFit level (drop i os))
+  pub same : option_map (through (map (op_at level) (drop i os))) o ≡ given kept level os rows
+
+pub follows_first : (kept : Bool) (level : ℕ) (os : List TOp) (rows : List Row) → AllFit level os rows → Follows kept level os rows 0 (cond kept (Some rows) None)
+follows_first true level os rows h = record { fit = h; same = refl }
+follows_first false level os rows h = record { fit = tt; same = refl }
+
+fits_ahead : (kept : Bool) (level : ℕ) (os : List TOp) (rows : List Row) (i : ℕ) (op : TOp) (o : Option (List Row)) → i < length os → op ≡ get_or os i op → Follows kept level os rows i o → IfSome o (AllFit level (op ∷ drop (i + 1) os))
+fits_ahead kept level os rows i op o lt at h = subst (λ (xs : List TOp). IfSome o (AllFit level xs)) (operators_ahead os i op lt at) h.fit
+
+pub fits_one : (kept : Bool) (level : ℕ) (os : List TOp) (rows : List Row) (i : ℕ) (op : TOp) (o : Option (List Row)) → i < length os → op ≡ get_or os i op → Follows kept level os rows i o → IfSome o (Fits op)
+fits_one kept level os rows i op o lt at h = if_some o (AllFit level (op ∷ drop (i + 1) os)) (Fits op) (λ x f. f.0) (fits_ahead kept level os rows i op o lt at h)
+
+pub follows_next : (kept : Bool) (level : ℕ) (os : List TOp) (rows : List Row) (i : ℕ) (op : TOp) (o next : Option (List Row)) → i < length os → op ≡ get_or os i op → Follows kept level os rows i o
+    → next ≡ option_map (apply (op_at level op)) o → Follows kept level os rows (i + 1) next
+follows_next kept level os rows i op o next lt at h is =
+    let behind : List TOp = drop (i + 1) os in
+    record {
+      fit = subst (λ (x : Option (List Row)). IfSome x (AllFit level behind)) (sym is)
+          (if_mapped (apply (op_at level op)) o (AllFit level behind)
+          (if_some o (AllFit level (op ∷ behind)) (λ (x : List Row). AllFit level behind (apply (op_at level op) x)) (λ x f. f.1) (fits_ahead kept level os rows i op o lt at h)));
+      same =
+          ap (option_map (through (map (op_at level) behind))) is
+          ∙ map_twice (apply (op_at level op)) (through (map (op_at level) behind)) o
+          ∙ sym (ap (λ (xs : List TOp). option_map (through (map (op_at level) xs)) o) (operators_ahead os i op lt at))
+          ∙ h.same;
+    }
+
+pub follows_all : (kept : Bool) (level : ℕ) (os : List TOp) (rows : List Row) (i : ℕ) (o : Option (List Row)) → length os ≤ i → Follows kept level os rows i o → o ≡ given kept level os rows
+follows_all kept level os rows i o le h =
+    sym (map_same o) ∙ sym (ap (λ (xs : List TOp). option_map (through (map (op_at level) xs)) o) (drop_all i os le)) ∙ h.same
+
+-- ---- the operators after a cut
+
+pub fit_rest : (level n : ℕ) (os : List TOp) (rows : List Row) → AllFit level os rows → AllFit level (drop n os) (through (map (op_at level) (take n os)) rows)
+fit_rest level zero os rows h = h
+fit_rest level (suc n) [] rows h = tt
+fit_rest level (suc n) (op ∷ os) rows h = fit_rest level n os (apply (op_at level op) rows) h.1
+
+pub through_rest : (level n : ℕ) (os : List TOp) (rows : List Row) → through (map (op_at level) (drop n os)) (through (map (op_at level) (take n os)) rows) ≡ through (map (op_at level) os) rows
+through_rest level zero os rows = refl
+through_rest level (suc n) [] rows = refl
+through_rest level (suc n) (op ∷ os) rows = through_rest level n os (apply (op_at level op) rows)
