@@ -1,8 +1,8 @@
 -- serves proofs
 -- The tags of items among several switches.
-use Rattle.std.specs.Prelude.{ℕ, suc, List, [], ◌∷◌, take, Option, None, Some, if◌then◌else◌}
+use Rattle.std.specs.Prelude.{ℕ, suc, List, [], ◌∷◌, take, Option, None, Some}
 use Rattle.sn_engine.specs.declared.intake.Intake.{Intake}
-use Rattle.sn_pipe_items.specs.Value.{is_at}
+use Rattle.sn_pipe_items.specs.Retagged.{retagged}
 use Rattle.sn_report.specs.Frames.{operator_of}
 use Rattle.sn_report.specs.declared.frame.Item.{Item as ItemOf}
 use Rattle.sn_report.specs.declared.frame.Tag.{Tag}
@@ -24,7 +24,7 @@ held_tag i (Reduced r ∷ ops) = Some (Partial i)
 -- an item that stands after the operator of this tag has this tag, whatever kind of row it holds
 abbrev pub turn : {R : Type 0} → Option Tag → ItemOf R → ItemOf R
 turn None item = item
-turn (Some tag) item = if is_at (suc (operator_of tag)) item.tag then record { tag = tag; row = item.row } else item
+turn (Some tag) item = retagged (operator_of tag) tag item
 
 -- the tag of what a lane keeps
 abbrev pub lane_tag : List TypedQuery → Intake → Option Tag

@@ -7,6 +7,7 @@ use Rattle.sn_base.specs.Groups.{Row}
 use Rattle.sn_base.specs.Operators.{Op}
 use Rattle.sn_base.specs.Operators.Op.{Filter, Map, Distinct, Reduce}
 use Rattle.sn_pipe_items.specs.Items.{held, items, tagged}
+use Rattle.sn_pipe_items.specs.Retagged.{retagged}
 use Rattle.sn_pipe_items.specs.Value.{is_at}
 use Rattle.sn_pipe_items.proofs.Bagged.{bagged, items_from, over_distinct, over_reduce}
 use Rattle.sn_pipe_items.proofs.Cuts.{IsCut}
@@ -17,7 +18,7 @@ use Rattle.sn_report.specs.Items.{Item}
 use Rattle.sn_report.specs.declared.frame.Tag.{Tag}
 use Rattle.sn_report.specs.declared.frame.Tag.TheVariants.{At, Partial}
 use Rattle.sn_multi.specs.Switches.{beyond, firsts, switch_items}
-use Rattle.sn_multi.specs.Turned.{retagged, short, turned}
+use Rattle.sn_multi.specs.Turned.{short, turned}
 use Rattle.sn_multi.proofs.Merging.{tagged_append}
 
 abbrev item_of : Tag → Row → Item

@@ -1,11 +1,10 @@
 -- serves proofs
 -- The items of several switches, by a pipe.
-use Rattle.std.specs.Prelude.{ℕ, suc, List, [], ◌∷◌, if◌then◌else◌}
+use Rattle.std.specs.Prelude.{ℕ, suc, List, [], ◌∷◌}
 use Rattle.sn_base.specs.Operators.{Op}
 use Rattle.sn_base.specs.Operators.Op.{Filter, Map, Distinct, Reduce}
-use Rattle.sn_pipe_items.specs.Value.{is_at}
+use Rattle.sn_pipe_items.specs.Retagged.{retagged}
 use Rattle.sn_report.specs.Items.{Item}
-use Rattle.sn_report.specs.declared.frame.Tag.{Tag}
 use Rattle.sn_report.specs.declared.frame.Tag.TheVariants.{At, Partial}
 
 -- a prefix up to its first stateful operator
@@ -15,10 +14,6 @@ short (Filter t ∷ ops) = Filter t ∷ short ops
 short (Map f ∷ ops) = Map f ∷ short ops
 short (Distinct ∷ ops) = Distinct ∷ []
 short (Reduce g ∷ ops) = Reduce g ∷ []
-
--- an item that stands after operator i is given this tag
-abbrev pub retagged : ℕ → Tag → Item → Item
-retagged i tag item = if is_at (suc i) item.tag then record { tag = tag; row = item.row } else item
 
 -- the items of a pipe that ends right after its first stateful operator, with the tags of many switches; the first operator has number i
 abbrev pub turned : ℕ → List Op → Item → Item
