@@ -2,12 +2,13 @@
 ghost use Rattle.std.specs.Prelude.{◌≡◌, ◌<◌, ◌^◌, length, None, []};
 ghost use Rattle.std.specs.FinSet as set;
 ghost use Rattle.sn_cost.specs.Training.{IsKept};
-ghost use Rattle.sn_refine.specs.Steps.{follows, kept_at};
+ghost use Rattle.sn_refine.specs.Steps.{kept_at};
 ghost use Rattle.sn_windows.specs.Rising.{IsAbove};
 
 use sn_base::members::Members;
 use sn_base::seq::Seq;
 use sn_ops::packets::Kept;
+use sn_refine::refined::follows;
 use std::alloc::Global;
 
 /// What the fronts of a query answered in the window that was trained last.
@@ -17,17 +18,6 @@ pub(crate) struct Fronts {
     pub last: Option<u64>,
     /// The prefixes that each front answered in it, by the front's number: bit i for level i. Only those are asked for that end before the finest level.
     pub sets: Seq<Members>,
-}
-
-/// Whether a window is the next one after the last.
-fn follows(last: Option<u64>, w: u64) -> bool
-    requires { IsAbove last w }
-    ensures { result ≡ follows last w }
-{
-    match last {
-        Some(last) => last + 1 == w,
-        None => false,
-    }
 }
 
 impl Fronts {

@@ -31,8 +31,8 @@ pub struct Refined {
     pub kept: Seq<Members>,
 }
 
-/// Whether a window is the next one after the last.
-fn follows(last: Option<u64>, w: u64) -> bool
+/// Whether window `w` is the next one after the one that was given last: no, where none was given.
+pub fn follows(last: Option<u64>, w: u64) -> bool
     requires { IsAbove last w }
     ensures { result ≡ follows last w }
 {
@@ -221,24 +221,5 @@ impl Refined {
         let (parts, kept) = self.answers(t, w, tuples)?;
         self.keep(w, kept);
         Ok(parts)
-    }
-
-    /// Takes a window whose answers no one asks for. Only the levels but the last answer it, since the next window needs
-    /// no more. An `Err` changes nothing.
-    pub fn pass(&mut self, t: &Typed, w: u64, tuples: &[Tuple]) -> Result<(), Memory>
-        requires path { IsPathOf t.now.queries self.old.query self.old.path }
-        requires above { IsAbove self.old.last w }
-        ensures kept { let query = query_at t.now.queries self.old.query in OnOk result
-            (self.new.kept ≡ kept_of query self.old.path (parts_in self.old.query query self.old.path (kept_at self.old.last self.old.kept w) tuples.now)) }
-        ensures last { OnOk result (self.new.last ≡ Some w) }
-        ensures err { OnErr result ((self.new.last ≡ self.old.last) × (self.new.kept ≡ self.old.kept)) }
-        ensures query { self.new.query ≡ self.old.query }
-        ensures path { self.new.path ≡ self.old.path }
-    {
-        let coarser = self.path.as_slice().len().saturating_sub(1);
-        let parts = self.parts(t, w, tuples, coarser)?;
-        self.kept = prefixes_of(self.alloc, t, self.query, parts.as_slice())?;
-        self.last = Some(w);
-        Ok(())
     }
 }
