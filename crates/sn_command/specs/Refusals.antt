@@ -1,10 +1,13 @@
 -- to be believed
--- The status of each refusal, and which refusals are chances.
+-- The status of each refusal, which refusals are chances, and the refusal of each read that gives nothing.
 use Rattle.std.specs.Prelude.{ℕ, Bool, true, false, Result, Ok, Err}
 use Rattle.sn_command.specs.declared.refusal.Refusal.{Refusal}
 use Rattle.sn_command.specs.declared.refusal.Refusal.TheVariants.{Memory, Usage, Missing, ReadFault, WriteFault, Refused}
 use Rattle.sn_command.specs.declared.fault.Fault.{Fault}
+use Rattle.sn_command.specs.declared.fault.Fault.TheVariants as faults
 use Rattle.sn_command.specs.Faults.{fault_status}
+use Rattle.sn_io.specs.declared.inputs.ReadError.{ReadError}
+use Rattle.sn_io.specs.declared.inputs.ReadError.TheVariants as errors
 
 abbrev pub status_of : Refusal → ℕ
 status_of Memory = 1
@@ -25,6 +28,13 @@ is_chance refusal = false
 abbrev pub by_chance : {A : Type 0} → Result A Refusal → Bool
 by_chance (Ok a) = false
 by_chance (Err refusal) = is_chance refusal
+
+-- the refusal where a file can't be read, or can't be read on
+abbrev pub read_refusal : ReadError → Refusal
+read_refusal errors.Missing = Missing
+read_refusal errors.ReadFault = ReadFault
+read_refusal errors.TooLarge = Refused faults.TooLarge
+read_refusal errors.Memory = Memory
 
 -- a fault is a refusal
 abbrev pub refusing : {A : Type 0} → Result A Fault → Result A Refusal

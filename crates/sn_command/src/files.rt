@@ -1,6 +1,7 @@
 //! The bytes of files.
-ghost use Rattle.std.specs.Prelude.{◌≤◌, List, [], ◌∷◌, IfOk, length};
+ghost use Rattle.std.specs.Prelude.{◌≡◌, ◌≤◌, List, [], ◌∷◌, IfOk, length};
 ghost use Rattle.sn_command.specs.Desks.{world};
+ghost use Rattle.sn_command.specs.Refusals.{read_refusal};
 ghost use Rattle.sn_command.specs.Runs.{Works};
 ghost use Rattle.sn_command.specs.Stages.{Bytes};
 
@@ -15,6 +16,18 @@ use std::alloc::Global;
 /// The most bytes of a text.
 pub const MOST_TEXT: u64 = 1 << 30;
 
+/// The refusal where a file isn't read whole.
+pub fn read_refusal(error: ReadError) -> Refusal
+    ensures { result ≡ read_refusal error }
+{
+    match error {
+        ReadError::Missing => Refusal::Missing,
+        ReadError::ReadFault => Refusal::ReadFault,
+        ReadError::TooLarge => Refusal::Refused(Fault::TooLarge),
+        ReadError::Memory => Refusal::Memory,
+    }
+}
+
 /// Reads a file of at most this many bytes whole.
 pub fn read_file<I: Inputs, O: Sink>(
     alloc: Global,
@@ -27,9 +40,6 @@ pub fn read_file<I: Inputs, O: Sink>(
 {
     match read_whole(alloc, desk.files, name, most) {
         Ok(bytes) => Ok(bytes),
-        Err(ReadError::Missing) => Err(Refusal::Missing),
-        Err(ReadError::ReadFault) => Err(Refusal::ReadFault),
-        Err(ReadError::TooLarge) => Err(Refusal::Refused(Fault::TooLarge)),
-        Err(ReadError::Memory) => Err(Refusal::Memory),
+        Err(error) => Err(read_refusal(error)),
     }
 }

@@ -18,6 +18,7 @@ use Rattle.sn_pcap.specs.Reading.{ReaderState, made, Follows as ReaderFollows, L
 use Rattle.sn_command.specs.declared.refusal.Refusal.{Refusal}
 use Rattle.sn_command.specs.declared.refusal.Refusal.TheVariants.{ReadFault}
 use Rattle.sn_command.specs.Outcomes.{Outcome, Stage}
+use Rattle.sn_command.specs.Refusals.{read_refusal}
 use Rattle.sn_command.specs.Runs.{Runs, Leads}
 use Rattle.sn_command.specs.Stages.{Does}
 use Rattle.sn_command.specs.Worlds.{Files, World, Spares, Follows}
@@ -33,6 +34,13 @@ use Rattle.sn_windows.specs.Rising.{Window}
 if_all : (told : Option (List ℕ)) (P : List ℕ → Type 0) → ((file : List ℕ) → P file) → IfSome told P
 if_all None P all = tt
 if_all (Some file) P all = all file
+
+-- a capture that can't be read on is refused, with no more text, where it hasn't too many bytes
+pub stops_unread : (hand : List Window → ℕ → List (List ℕ) → Type 0) (wording : Wording) (kept : Gathered) (error : ReadError) (refusal : Refusal) (w : World) → (error ≡ errors.TooLarge → ⊥) → refusal ≡ read_refusal error → Stops hand wording kept error w refusal w
+stops_unread hand wording kept errors.Missing refusal w other is = (is, refl)
+stops_unread hand wording kept errors.ReadFault refusal w other is = (is, refl)
+stops_unread hand wording kept errors.TooLarge refusal w other is = absurd (other refl)
+stops_unread hand wording kept errors.Memory refusal w other is = (is, refl)
 
 -- before any record
 module _ (wording : Wording) (causal : IsCausal wording) (in_time : StopsInTime wording) (window : ℕ) (header : Header) (capture : List ℕ) (reader : ReaderState) (g : Gathering) (before : World) (made_is : reader ≡ made header) (none_is : g ≡ none_gathered window) where

@@ -7,8 +7,6 @@ use Rattle.std.specs.List.{flat_map}
 use Rattle.std.specs.Option.{option_or}
 use Rattle.sn_base.specs.declared.link.Link.{Link}
 use Rattle.sn_fields.specs.Tuples.{tuple}
-use Rattle.sn_io.specs.declared.inputs.ReadError.{ReadError}
-use Rattle.sn_io.specs.declared.inputs.ReadError.TheVariants as errors
 use Rattle.sn_pcap.specs.Capture.{bytes_of, head_of, Records}
 use Rattle.sn_pcap.specs.declared.header.Header.{Header}
 use Rattle.sn_pcap.specs.declared.packet.Packet.{Packet}
@@ -20,20 +18,13 @@ use Rattle.sn_pcap.specs.Reading.{within, last_of}
 use Rattle.sn_command.specs.declared.fault.Fault.{Fault}
 use Rattle.sn_command.specs.declared.fault.Fault.TheVariants as faults
 use Rattle.sn_command.specs.declared.refusal.Refusal.{Refusal}
-use Rattle.sn_command.specs.declared.refusal.Refusal.TheVariants.{Memory, Missing, ReadFault, Refused}
+use Rattle.sn_command.specs.declared.refusal.Refusal.TheVariants.{Missing, Refused}
 use Rattle.sn_command.specs.Outcomes.{Outcome, silent, Stage}
 use Rattle.sn_command.specs.Stages.{Does, Adds, Gives, Judges, named, Then}
 use Rattle.sn_windows.specs.Windows.{in_window, numbered, windows_of}
 use Rattle.sn_windows.specs.Blocks.{answered, blocks, all_few, most_records, while_holds}
 use Rattle.sn_command_capture.specs.Wording.{Wording}
 use Rattle.sn_windows.specs.Rising.{Window}
-
--- the refusal of a capture that can't be read on
-abbrev pub read_refusal : ReadError → Refusal
-read_refusal errors.Missing = Missing
-read_refusal errors.ReadFault = ReadFault
-read_refusal errors.TooLarge = Refused faults.TooLarge
-read_refusal errors.Memory = Memory
 
 -- the bytes of a file, if its name is known
 abbrev pub known_bytes : Option (List ℕ) → Result (List ℕ) Refusal

@@ -10,12 +10,12 @@ use Rattle.sn_command.specs.declared.fault.Fault.TheVariants.{TooLarge}
 use Rattle.sn_command.specs.declared.refusal.Refusal.{Refusal}
 use Rattle.sn_command.specs.declared.refusal.Refusal.TheVariants.{Refused}
 use Rattle.sn_command.specs.Outcomes.{Outcome, silent}
+use Rattle.sn_command.specs.Refusals.{read_refusal}
 use Rattle.sn_command.specs.Runs.{Runs}
 use Rattle.sn_command.specs.Stages.{Does}
 use Rattle.sn_command.specs.Worlds.{World}
 use Rattle.sn_windows.specs.Numbering.{Numbering, begun, next_number, next_count, stepped}
 use Rattle.sn_windows.specs.NumberingOf.{numbering}
-use Rattle.sn_command_capture.specs.Capture.{read_refusal}
 use Rattle.sn_command_capture.specs.Wording.{Wording}
 use Rattle.sn_command_capture.specs.declared.gathered.Gathered.{Gathered}
 use Rattle.sn_windows.specs.Rising.{AreRising, Window}

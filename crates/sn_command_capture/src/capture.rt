@@ -17,6 +17,7 @@ use crate::gathered::Gathered;
 use sn_base::link::Link;
 use sn_command::desk::Desk;
 use sn_command::fault::Fault;
+use sn_command::files::read_refusal;
 use sn_command::refusal::Refusal;
 use sn_command::texts::write_text;
 use sn_fields::tuple::{Tuple, tuple_of};
@@ -182,10 +183,8 @@ fn refuse_capture<A: Answering, I: Inputs, O: Sink>(
     ensures { Stops (A.hand answering.now) (A.wording answering.now) gathered error (world I.Inputs O.Sink desk.old) result (world I.Inputs O.Sink desk.new) }
 {
     match error {
-        ReadError::Missing => Refusal::Missing,
-        ReadError::ReadFault => Refusal::ReadFault,
         ReadError::TooLarge => refuse_large(answering, gathered, desk),
-        ReadError::Memory => Refusal::Memory,
+        _ => read_refusal(error),
     }
 }
 

@@ -21,12 +21,13 @@ use Rattle.sn_command.specs.declared.fault.ReportKind.TheVariants as kinds
 use Rattle.sn_command.specs.declared.refusal.Refusal.{Refusal}
 use Rattle.sn_command.specs.declared.refusal.Refusal.TheVariants.{Missing, Refused}
 use Rattle.sn_command.specs.Outcomes.{Outcome, Stage, silent}
+use Rattle.sn_command.specs.Refusals.{read_refusal}
 use Rattle.sn_command.specs.Runs.{Leads, Runs}
 use Rattle.sn_command.specs.Stages.{Does, GoesOn, Then, most_text}
 use Rattle.sn_command.specs.Worlds.{Files, Follows, Spares, World}
 use Rattle.sn_command.proofs.FileLemmas.{none_other, some_if}
 use Rattle.sn_command.proofs.StageLemmas.{runs_earlier, runs_gives, runs_read_fault}
-use Rattle.sn_command_capture.specs.Capture.{Whole, known_bytes, read_refusal}
+use Rattle.sn_command_capture.specs.Capture.{Whole, known_bytes}
 use Rattle.sn_command_capture.proofs.StreamLemmas.{file_known, read_follows, runs_memory, runs_read, turn_ends, turn_goes, turn_stops}
 use Rattle.sn_command_capture.proofs.TurnLemmas.{read_on}
 use Rattle.sn_engine.specs.declared.intake.Intake.{Intake}

@@ -12,11 +12,12 @@ ghost use Rattle.sn_command.specs.Runs.{Runs};
 ghost use Rattle.sn_command.specs.Stages.{Adds, Does, Then};
 ghost use Rattle.sn_command_capture.specs.Capture.{Whole};
 
-use crate::taking::{refusal_at, refusal_of};
+use crate::taking::refusal_at;
 use crate::tally::Tally;
 use crate::window::take_frame;
 use sn_command::desk::Desk;
 use sn_command::fault::ReportKind;
+use sn_command::files::read_refusal;
 use sn_command::refusal::Refusal;
 use sn_command::texts::write_text;
 use sn_engine::engine::Engine;
@@ -77,7 +78,7 @@ fn take_frames<I: Inputs, O: Sink>(
             Ok(Next::Bad(place)) => return Err(refusal_at(ReportKind::Bad, place)),
             Ok(Next::Cut) => return Err(refusal_at(ReportKind::Cut, at)),
             Ok(Next::End) => return end_reports(alloc, &tally, at, desk),
-            Err(error) => return Err(refusal_of(error)),
+            Err(error) => return Err(read_refusal(error)),
         }
     }
 }

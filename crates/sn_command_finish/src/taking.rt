@@ -5,14 +5,12 @@ ghost use Rattle.sn_engine.specs.Taking.{take_fault};
 ghost use Rattle.sn_command_finish.specs.Taken.{fault_at, take_verdict};
 ghost use Rattle.sn_command.specs.declared.refusal.Refusal.TheVariants.{Refused};
 ghost use Rattle.sn_command.specs.Runs.{Answers};
-ghost use Rattle.sn_command_capture.specs.Capture.{read_refusal};
 
 use sn_base::row::Row;
 use sn_command::fault::{Fault, ReportFault, ReportKind};
 use sn_command::refusal::Refusal;
 use sn_engine::engine::Engine;
 use sn_engine::fault::TakeFault;
-use sn_io::inputs::ReadError;
 use sn_report::frame::Frame;
 
 /// The refusal of reports for this, at this byte.
@@ -20,18 +18,6 @@ pub(crate) fn refusal_at(kind: ReportKind, at: u64) -> Refusal
     ensures { result ≡ Refused (fault_at kind at) }
 {
     Refusal::Refused(Fault::Reports(ReportFault { kind, at }))
-}
-
-/// The refusal of reports that can't be read on.
-pub(crate) fn refusal_of(error: ReadError) -> Refusal
-    ensures { result ≡ read_refusal error }
-{
-    match error {
-        ReadError::Missing => Refusal::Missing,
-        ReadError::ReadFault => Refusal::ReadFault,
-        ReadError::TooLarge => Refusal::Refused(Fault::TooLarge),
-        ReadError::Memory => Refusal::Memory,
-    }
 }
 
 /// The engine takes a frame that begins at this byte.

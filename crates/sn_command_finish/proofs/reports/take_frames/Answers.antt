@@ -124,5 +124,5 @@ returns-in-Err g c =
     let begin = world I g.O.Sink c.args.desk.now in
     let mid = c.frames.invariant in
     let e = c.in-Err.ensures in
-    rw c.refusal_of.ensures (error_stops c.args.begun.engine.t.queries c.args.name.now c.frames.reader c.next.new.self (standing c.frames.tally) _ begin here (files_of I c.next.new.files) e.told e.faults (g.met.I.Inputs.same_names c.frames.desk.files.now) mid.leads
+    rw c.read_refusal.ensures (error_stops c.args.begun.engine.t.queries c.args.name.now c.frames.reader c.next.new.self (standing c.frames.tally) _ begin here (files_of I c.next.new.files) e.told e.faults (g.met.I.Inputs.same_names c.frames.desk.files.now) mid.leads
     c.in-Err.error e.missing.0 e.missing.1 e.fault e.step)
