@@ -45,6 +45,14 @@ one_less n m rest same =
     let both : suc n ≡ suc m = nat_same (suc n) (suc m) parts.0 in
     (eq-eqb n m (omega (arith, both)), parts.1)
 
+-- columns have their own widths
+pub own_widths : (cs : List Column) → same_widths cs cs ≡ true
+own_widths cs = and_both (length cs == length cs) (list_all same_width (zip cs cs)) (eq-eqb (length cs) (length cs) refl) (each cs)
+  where
+    each : (ds : List Column) → list_all same_width (zip ds ds) ≡ true
+    each [] = refl
+    each (d ∷ ds) = and_both (same_width (d, d)) (list_all same_width (zip ds ds)) (eq-eqb d.width d.width refl) (each ds)
+
 -- a row of columns is one of others of the same widths
 of_same : (cs ds : List Column) (row : Row) → same_widths cs ds ≡ true → IsOf cs row → IsOf ds row
 of_same [] [] row same h = h

@@ -65,10 +65,8 @@ fn keeps_columns(schemas: &[Schema], tag: Option<Tag>) -> bool
             let after = schema_at(schemas, number as usize + 1);
             same_widths(after.as_slice(), before.as_slice())
         }
-        Some(Tag::Partial(number)) => {
-            let after = schema_at(schemas, number as usize + 1);
-            same_widths(after.as_slice(), after.as_slice())
-        }
+        // A part has the columns of the rows after its operator.
+        Some(Tag::Partial(_)) => true,
     }
 }
 
