@@ -1,6 +1,6 @@
 -- serves proofs
 -- Items that go from the lanes of the engine of one of several switches to those of the engine of all.
-use Rattle.std.specs.Prelude.{ℕ, suc, List, ◌++◌, map, length, zip, Bool, true, false, ◌&&◌, ◌==◌, Option, None, Some}
+use Rattle.std.specs.Prelude.{suc, List, ◌++◌, map, length, zip, Bool, true, false, ◌&&◌, ◌==◌, Option, None, Some}
 use Rattle.std.specs.List.{find, list_all, list_any}
 use Rattle.std.specs.Option.{option_map_or}
 use Rattle.sn_base.specs.Changed.{with_first}

@@ -1,7 +1,6 @@
 -- One switch more begins, takes a tuple, or is read out.
-use Rattle.std.proofs.Common.{◌≡◌, ℕ, zero, suc, ◌<◌, List, [], ◌∷◌, ◌++◌, fold, take, drop, length, slice_set, slice_get, Some, append-nil, refl, ap, sym, ◌∙◌, subst, arith}
+use Rattle.std.proofs.Common.{◌≡◌, ℕ, zero, suc, ◌<◌, List, [], ◌∷◌, ◌++◌, fold, length, slice_set, slice_get, Some, refl, ap, sym, ◌∙◌, subst, arith}
 use Rattle.std.specs.List.{AllByRecursion, flat_map}
-use Rattle.std.proofs.lemmas.List.{drop_all, take_all}
 use Rattle.sn_base.proofs.Lists.{none_some, some_same}
 use Rattle.sn_emit.specs.Plans.{Placed}
 use Rattle.sn_emit.specs.declared.tables.Tables.{Tables}

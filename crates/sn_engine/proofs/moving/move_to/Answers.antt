@@ -1,4 +1,4 @@
-use Rattle.std.proofs.Common.{◌≡◌, List, OnOk, ap, sym, ◌∙◌, slice_set, map}
+use Rattle.std.proofs.Common.{◌≡◌, List, ap, ◌∙◌, slice_set, map}
 use Rattle.sn_base.specs.Changed.{with_first}
 use Rattle.sn_engine.specs.Intakes.{is_lane}
 use Rattle.sn_engine.specs.Moving.{name_of, with_items}

@@ -1,4 +1,4 @@
-use Rattle.std.proofs.Common.{◌≡◌, List, map, fold, ap, sym, ◌∙◌, subst}
+use Rattle.std.proofs.Common.{◌≡◌, List, map, fold, ap, ◌∙◌}
 use Rattle.std.specs.List.{flat_map}
 use Rattle.sn_engine.specs.Intakes.{after_frame, emptied}
 use Rattle.sn_engine.specs.declared.intake.Intake.{Intake}
