@@ -381,3 +381,30 @@ fn answers_reports_of_which_any_bit_is_another(rt: HostRuntime) -> Result<(), Fa
     }
     Ok(())
 }
+
+/// The block of the one window of the reports, by hand.
+const BLOCK: &str = "window 0 emitted 2\nquery q level 0 rows 1\n10.0.0.9 2\n";
+
+/// `finish` over the reports, of which the read of this number fails.
+fn finish_with_a_failed_read(alloc: Global, number: u64) -> Result<Ran, Fail> {
+    let mut files = MemInputs::new(alloc);
+    files.put("q", file_of(alloc, SPREAD.as_bytes())?)?;
+    files.put("p", file_of(alloc, SPREAD_PLAN.as_bytes())?)?;
+    files.put("r", file_of(alloc, &REPORTS)?)?;
+    files.fail_at(number)?;
+    let out = MemSink::new(alloc, 1000)?;
+    call(alloc, "finish q p r", &mut files, out)
+}
+
+#[test]
+fn writes_the_blocks_before_a_failed_read_of_reports(rt: HostRuntime) -> Result<(), Fail> {
+    let alloc = rt.alloc();
+    // Each text is read twice: its bytes, and its end. The fifth read is that of the reports' bytes, the sixth that of their end.
+    for (number, text) in [(4, ""), (5, BLOCK)] {
+        let ran = finish_with_a_failed_read(alloc, number)?;
+        assert_eq!(rt; ran.status, 9);
+        assert_eq!(rt; ran.out.bytes(), text.as_bytes());
+        assert_eq!(rt; ran.err.bytes(), b"sonata: read fault\n".as_slice());
+    }
+    Ok(())
+}
