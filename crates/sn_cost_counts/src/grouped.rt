@@ -13,17 +13,9 @@ use crate::flow::{Flow, FlowOf};
 use sn_base::any_row::AnyRow;
 use sn_base::memory::Memory;
 use sn_base::row_seq::RowSeq;
+use sn_cost_tally::groups::{Groups, group_rows};
 use sn_cost_tally::room::Room;
-use sn_cost_tally::tally::{Tally, tally_keys};
-use sn_ops::group::reduce_by;
 use sn_types::typed_op::{TOp, TReduce};
-
-/// The keys of rows, how often each comes, and the row of each with the fold of its values.
-#[derive(Drop)]
-struct Groups<R: AnyRow> {
-    tally: Tally<R>,
-    rows: RowSeq<R>,
-}
 
 /// Rows after a reduce with `depth` registers of this many slots each, where the rows are grouped: each resident key with the
 /// fold of its values.
@@ -62,9 +54,14 @@ fn groups_of<R: AnyRow>(room: &Room, rows: &RowSeq<R>, r: &TReduce) -> Result<Gr
     ensures times { IfOk result (λ groups. groups.tally.times.items ≡ tallied (map (columns_at r.now.keys) rows.now)) }
     ensures rows { IfOk result (λ groups. groups.rows ≡ apply (op_at 0 (TOp.Reduce r.now)) rows.now) }
 {
-    let tally = tally_keys(room.alloc, room.seed, rows, r.keys.as_slice())?;
-    let rows = reduce_by(room.alloc, room.seed, rows, r)?;
-    Ok(Groups { tally, rows })
+    group_rows(
+        room.alloc,
+        room.seed,
+        rows,
+        r.keys.as_slice(),
+        r.value,
+        r.fold,
+    )
 }
 
 /// Adds the rows after a reduce for each size, in order. What it gives of all rows.

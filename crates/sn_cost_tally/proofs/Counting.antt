@@ -13,7 +13,7 @@ use Rattle.sn_base.proofs.Lists.{all_filter, all_map, all_of, map_agree, map_bot
 use Rattle.sn_cost_seats.specs.Tallies.{tallied, times_in}
 use Rattle.sn_cost_tally.specs.Counts.{counted, one}
 
-insert_is_put : (es : List (Row × ℕ)) (k : Row) (n : ℕ) → insert_entry same_row es k n ≡ put_entry same_row es k n
+pub insert_is_put : (es : List (Row × ℕ)) (k : Row) (n : ℕ) → insert_entry same_row es k n ≡ put_entry same_row es k n
 insert_is_put [] k n = refl
 insert_is_put (e ∷ es) k n = ap (λ rest. cond (same_row k e.0) ((e.0, n) ∷ es) (e ∷ rest)) (insert_is_put es k n)
 

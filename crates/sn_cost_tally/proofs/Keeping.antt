@@ -3,7 +3,8 @@ use Rattle.std.proofs.Common.{◌≡◌, ℕ, zero, suc, ◌+◌, ◌≤◌, ◌
 use Rattle.std.proofs.lemmas.List.{append-nil, drop_all, get_or_default}
 use Rattle.std.proofs.lemmas.Option.{unwrap_or-slice_get}
 use Rattle.sn_base.specs.Groups.{Row}
-use Rattle.sn_cost_seats.specs.Tallies.{marked}
+use Rattle.sn_cost_seats.specs.Tallies.{marked, sum_unmarked}
+use Rattle.sn_cost_tally.specs.Places.{homes_among}
 
 -- what is marked from a place on
 abbrev ahead : List Bool → List Row → ℕ → List Row
@@ -40,3 +41,13 @@ all_kept marks rows i out le so_far = sym (append-nil out) ∙ ap (λ ms. out ++
 -- the row that was read at a place
 pub row_read : (rows : List Row) (i : ℕ) (row : Row) → i < length rows → slice_get rows i ≡ Some row → row ≡ get_or rows i []
 row_read rows i row lt is = ap (λ o. unwrap_or o row) (sym is) ∙ unwrap_or-slice_get rows i row ∙ get_or_default rows i row [] lt
+
+-- ---- no key
+
+pub none_over : (depth slots : ℕ) (keys : List Row) (times : List ℕ) → length keys ≡ 0 → 0 ≡ sum_unmarked (homes_among depth slots keys) times
+none_over depth slots [] times none = refl
+none_over depth slots (key ∷ keys) times none = absurd cc
+
+pub none_marked : (depth slots : ℕ) (keys rows : List Row) → length keys ≡ 0 → [] ≡ marked (homes_among depth slots keys) rows
+none_marked depth slots [] rows none = refl
+none_marked depth slots (key ∷ keys) rows none = absurd cc

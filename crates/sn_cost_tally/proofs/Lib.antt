@@ -1,4 +1,6 @@
 mod Bits
 mod Counting
+mod Folding
+mod Grouping
 mod Keeping
 mod Seating

@@ -1,3 +1,4 @@
 pub mod Counts
 pub mod Marks
+pub mod Numbered
 pub mod Places

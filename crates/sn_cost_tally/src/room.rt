@@ -49,7 +49,7 @@ impl Room {
     }
 
     /// Puts keys, no two the same, into a chain of `depth` registers with `slots` slots each, at most 4 registers and 1 to
-    /// 65536 slots. For each key there is a row that stands for it.
+    /// 65536 slots. For each key there is a row that stands for it. Without a key no register is touched.
     ///
     /// # Errors
     /// Out of memory.
@@ -70,6 +70,12 @@ impl Room {
         ensures over { IfOk result (λ settled. settled.over ≡ sum_unmarked (homes_among depth slots tally.now.keys) tally.now.times.items) }
         ensures rows { IfOk result (λ settled. settled.rows ≡ marked (homes_among depth slots tally.now.keys) rows.now) }
     {
+        if tally.keys.len() == 0 {
+            return Ok(Settled {
+                over: 0,
+                rows: RowSeq::new(self.alloc),
+            });
+        }
         seat(
             self.alloc,
             &mut self.marks,

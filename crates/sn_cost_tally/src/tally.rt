@@ -1,6 +1,6 @@
 //! Distinct keys, and how often each comes.
-ghost use Rattle.std.specs.Prelude.{◌≡◌, ◌≤◌, ◌<◌, All, length, map, IfOk};
-ghost use Rattle.sn_base.specs.Groups.{columns_at, once, same_row};
+ghost use Rattle.std.specs.Prelude.{◌≡◌, ◌≤◌, length, map, IfOk};
+ghost use Rattle.sn_base.specs.Groups.{once, same_row};
 ghost use Rattle.sn_cost_seats.specs.Tallies.{tallied};
 ghost use Rattle.sn_cost_tally.specs.Counts.{counted};
 
@@ -14,7 +14,7 @@ use sn_table::table::Table;
 use std::alloc::Global;
 
 /// The fold that counts: each comes with the value 1.
-const COUNT: AnyFold = AnyFold::SatSum(SatSum { v: 64 });
+pub(crate) const COUNT: AnyFold = AnyFold::SatSum(SatSum { v: 64 });
 
 /// Distinct keys in the order of first places, and beside them how often each comes.
 #[derive(Drop)]
@@ -31,25 +31,6 @@ fn count_rows<R: AnyRow>(alloc: Global, seed: Seed, rows: &RowSeq<R>) -> Result<
     let mut table = Table::new(alloc, seed);
     for place in 0..rows.len() {
         table.add(COUNT, rows.at(place), 1)?;
-    }
-    Ok(table)
-}
-
-/// How often each key of these rows comes, that stands at these places of a row.
-fn count_keys<R: AnyRow>(
-    alloc: Global,
-    seed: Seed,
-    rows: &RowSeq<R>,
-    places: &[u32],
-) -> Result<Table<R>, Memory>
-    requires few { length rows.now ≤ 4194304 }
-    requires short { length places.now ≤ 8 }
-    requires places { All (λ row. All (λ place. place < length row) places.now) rows.now }
-    ensures { IfOk result (λ table. table.entries ≡ counted (map (columns_at places.now) rows.now)) }
-{
-    let mut table = Table::new(alloc, seed);
-    for place in 0..rows.len() {
-        table.add_at(COUNT, rows.at(place), places, 1)?;
     }
     Ok(table)
 }
@@ -87,26 +68,5 @@ pub fn tally_rows<R: AnyRow>(
     ensures times { IfOk result (λ tally. tally.times.items ≡ tallied rows.now) }
 {
     let table = count_rows(alloc, seed, rows)?;
-    entries_of(alloc, &table)
-}
-
-/// The distinct keys of at most 4,194,304 rows, in the order of first places, and how often each comes. A row's key stands at
-/// these places of it. The table of keys hashes from this seed.
-///
-/// # Errors
-/// Out of memory.
-pub fn tally_keys<R: AnyRow>(
-    alloc: Global,
-    seed: Seed,
-    rows: &RowSeq<R>,
-    places: &[u32],
-) -> Result<Tally<R>, Memory>
-    requires few { length rows.now ≤ 4194304 }
-    requires short { length places.now ≤ 8 }
-    requires places { All (λ row. All (λ place. place < length row) places.now) rows.now }
-    ensures keys { IfOk result (λ tally. tally.keys ≡ once same_row (map (columns_at places.now) rows.now)) }
-    ensures times { IfOk result (λ tally. tally.times.items ≡ tallied (map (columns_at places.now) rows.now)) }
-{
-    let table = count_keys(alloc, seed, rows, places)?;
     entries_of(alloc, &table)
 }

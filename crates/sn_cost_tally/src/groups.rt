@@ -1,0 +1,146 @@
+//! Groups of rows: distinct keys, how often each comes, and the fold of its values.
+ghost use Rattle.std.specs.Prelude.{◌≡◌, ◌≤◌, ◌<◌, ◌++◌, ◌∷◌, [], All, length, map, slice_index, slice_index_or, IfOk, OnOk};
+ghost use Rattle.sn_base.specs.AnyFold.{any_has, any_step, any_unit};
+ghost use Rattle.sn_base.specs.Groups.{columns_at, folded, keyed, once, same_row};
+ghost use Rattle.sn_base.specs.Operators.{grouped};
+ghost use Rattle.sn_cost_seats.specs.Tallies.{tallied};
+ghost use Rattle.sn_cost_tally.specs.Counts.{counted};
+ghost use Rattle.sn_cost_tally.specs.Numbered.{folded_into, zipped};
+
+use crate::tally::{COUNT, Tally};
+use sn_base::any_fold::AnyFold;
+use sn_base::any_row::AnyRow;
+use sn_base::columns::Columns;
+use sn_base::fold::Fold;
+use sn_base::memory::Memory;
+use sn_base::number::Number;
+use sn_base::row_seq::RowSeq;
+use sn_base::seed::Seed;
+use sn_table::numbers::Numbers;
+use std::alloc::Global;
+
+/// Distinct keys in the order of first places, how often each comes, and beside them their rows: each key, and the fold of its
+/// values after it.
+#[derive(Drop)]
+pub struct Groups<R: AnyRow> {
+    pub tally: Tally<R>,
+    pub rows: RowSeq<R>,
+}
+
+/// Distinct keys, how often each comes, and the fold of its values.
+#[derive(Drop)]
+struct Folded<R: AnyRow> {
+    tally: Tally<R>,
+    totals: Vec<u64>,
+}
+
+/// The key that stands at these places of a row.
+fn key_at<R: AnyRow>(row: &R, places: &[u32]) -> R
+    requires places { All (λ place. place < length (R.columns row.now)) places.now }
+    requires few { length places.now ≤ 8 }
+    ensures { R.columns result ≡ columns_at places.now (R.columns row.now) }
+{
+    let mut key = R::empty();
+    for place in places {
+        key.push(row.column(*place));
+    }
+    key
+}
+
+/// Folds a value into the number at a place, or, after the last one, into one more.
+fn fold_in(fold: AnyFold, numbers: &mut Vec<u64>, place: usize, value: u64) -> Result<(), Memory>
+    requires so_far { any_has fold (slice_index_or numbers.old.items place (any_unit fold)) }
+    requires value { any_has fold value }
+    ensures { OnOk result (numbers.new.items ≡ folded_into (any_step fold) (any_unit fold) numbers.old.items place value) }
+{
+    if place < numbers.len() {
+        numbers[place] = fold.step(numbers[place], value);
+    } else {
+        numbers.push(fold.step(fold.unit(), value))?;
+    }
+    Ok(())
+}
+
+/// The distinct keys of rows, each of them looked up once.
+fn fold_keys<R: AnyRow>(
+    alloc: Global,
+    seed: Seed,
+    rows: &RowSeq<R>,
+    places: &[u32],
+    value: u32,
+    fold: AnyFold,
+) -> Result<Folded<R>, Memory>
+    requires few { length rows.now ≤ 4194304 }
+    requires short { length places.now ≤ 8 }
+    requires places { All (λ row. All (λ place. place < length row) places.now) rows.now }
+    requires value { All (λ row. value < length row) rows.now }
+    requires had { All (λ row. any_has fold (slice_index row value)) rows.now }
+    ensures times { IfOk result (λ found. zipped found.tally.keys found.tally.times.items ≡ counted (map (columns_at places.now) rows.now)) }
+    ensures totals { IfOk result (λ found. zipped found.tally.keys found.totals.items ≡
+        folded same_row (any_step fold) (any_unit fold) (map (keyed places.now value) rows.now)) }
+    ensures times_long { IfOk result (λ found. length found.tally.times.items ≡ length found.tally.keys) }
+    ensures totals_long { IfOk result (λ found. length found.totals.items ≡ length found.tally.keys) }
+{
+    let mut numbers = Numbers::new(alloc, seed);
+    let mut keys = RowSeq::new(alloc);
+    let mut times = Vec::new(alloc);
+    let mut totals = Vec::new(alloc);
+    for place in 0..rows.len() {
+        let row = rows.at(place);
+        let key = key_at(row, places);
+        let number = numbers.number(&key)?;
+        if number == keys.len() {
+            keys.push(&key)?;
+        }
+        fold_in(COUNT, &mut times, number, 1)?;
+        fold_in(fold, &mut totals, number, row.column(value).word())?;
+    }
+    let tally = Tally { keys, times };
+    Ok(Folded { tally, totals })
+}
+
+/// Rows of keys, each with its number after it.
+fn rows_of<R: AnyRow>(alloc: Global, keys: &RowSeq<R>, numbers: &[u64]) -> Result<RowSeq<R>, Memory>
+    requires short { All (λ key. length key < 8) keys.now }
+    requires long { length numbers.now ≡ length keys.now }
+    ensures { IfOk result (λ out. out ≡ map (λ e. e.0 ++ e.1 ∷ []) (zipped keys.now numbers.now)) }
+{
+    let mut out = RowSeq::with_room(alloc, keys.len())?;
+    for place in 0..keys.len() {
+        let mut row = *keys.at(place);
+        row.push(R::Number::of_word(numbers[place]));
+        out.push(&row)?;
+    }
+    Ok(out)
+}
+
+/// Groups at most 4,194,304 rows by keys of at most 7 columns, which stand at these places of a row, with the fold of the values at
+/// another. The keys are numbered by hashes from this seed, and each row's key is looked up once.
+///
+/// # Errors
+/// Out of memory.
+pub fn group_rows<R: AnyRow>(
+    alloc: Global,
+    seed: Seed,
+    rows: &RowSeq<R>,
+    places: &[u32],
+    value: u32,
+    fold: AnyFold,
+) -> Result<Groups<R>, Memory>
+    requires few { length rows.now ≤ 4194304 }
+    requires short { length places.now < 8 }
+    requires places { All (λ row. All (λ place. place < length row) places.now) rows.now }
+    requires value { All (λ row. value < length row) rows.now }
+    requires had { All (λ row. any_has fold (slice_index row value)) rows.now }
+    ensures keys { IfOk result (λ groups. groups.tally.keys ≡ once same_row (map (columns_at places.now) rows.now)) }
+    ensures times { IfOk result (λ groups. groups.tally.times.items ≡ tallied (map (columns_at places.now) rows.now)) }
+    ensures rows { IfOk result (λ groups. groups.rows ≡
+        grouped (record { places = places.now; value = value; by = fold }) (map (keyed places.now value) rows.now)) }
+{
+    let found = fold_keys(alloc, seed, rows, places, value, fold)?;
+    let rows = rows_of(alloc, &found.tally.keys, found.totals.as_slice())?;
+    Ok(Groups {
+        tally: found.tally,
+        rows,
+    })
+}
