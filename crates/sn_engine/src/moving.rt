@@ -58,15 +58,17 @@ fn schema_at(schemas: &[Schema], number: usize) -> Schema
 fn keeps_columns(schemas: &[Schema], tag: Option<Tag>) -> bool
     ensures { result ≡ keeps_columns schemas.now tag }
 {
+    let Some(tag) = tag else {
+        return true;
+    };
     match tag {
-        None => true,
-        Some(Tag::At(number)) => {
+        Tag::At(number) => {
             let before = schema_at(schemas, number as usize);
             let after = schema_at(schemas, number as usize + 1);
             same_widths(after.as_slice(), before.as_slice())
         }
         // A part has the columns of the rows after its operator.
-        Some(Tag::Partial(_)) => true,
+        Tag::Partial(_) => true,
     }
 }
 
