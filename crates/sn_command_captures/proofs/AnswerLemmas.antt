@@ -1,5 +1,5 @@
 -- Windows that are answered one after another, over plain values.
-use Rattle.std.proofs.Common.{◌≡◌, ℕ, suc, ◌+◌, ◌≤◌, List, [], ◌∷◌, ◌++◌, None, Some, Result, Ok, Err, map, drop, length, ap, sym, ◌∙◌, subst, append_assoc, append-nil, length-append}
+use Rattle.std.proofs.Common.{◌≡◌, ℕ, suc, ◌+◌, List, [], ◌∷◌, ◌++◌, None, Some, Result, Ok, Err, map, length, ap, sym, ◌∙◌, subst, append_assoc, append-nil, length-append}
 use Rattle.std.specs.List.{AllByRecursion, flat_map}
 use Rattle.sn_command.proofs.StageLemmas.{MayCome, gives_as, runs_chance, text_stops, text_then}
 use Rattle.sn_command.specs.declared.fault.Fault.{Fault}
@@ -11,13 +11,12 @@ use Rattle.sn_command.specs.Runs.{Leads, Runs}
 use Rattle.sn_command.specs.Stages.{Adds, Does}
 use Rattle.sn_command.specs.Worlds.{World}
 use Rattle.sn_command_captures.specs.Answered.{JointWording, Shared, damage_from, damage_or, rest_outcome, windows_in}
-use Rattle.sn_command_captures.specs.Counted.{left_of, shown_of}
+use Rattle.sn_command_captures.specs.Counted.{left_of}
 use Rattle.sn_command_captures.specs.declared.share.Share.{Share}
 use Rattle.sn_command_captures.specs.Shares.{IsSound}
 use Rattle.sn_pcap.specs.declared.packet.Ending.{Ending}
 use Rattle.sn_pcap.specs.declared.packet.Ending.TheVariants as endings
-use Rattle.sn_pcap.specs.declared.packet.Packet.{Packet}
-use Rattle.sn_windows.proofs.RunLemmas.{Rises, drop_rises}
+use Rattle.sn_windows.proofs.RunLemmas.{Rises}
 use Rattle.sn_windows.specs.Windows.{in_window}
 use Rattle.sn_windows_together.proofs.MergeLemmas.{windows_end, windows_step}
 use Rattle.sn_windows_together.specs.Merging.{after_window, next_in}
@@ -25,17 +24,8 @@ use Rattle.sn_windows_together.specs.Together.{windows_of}
 
 -- ---- what is left rises
 
-module _ (s : Share) where
-  above_shown : (n : ℕ) (ps : List (ℕ × Packet)) → AllByRecursion (λ (q : ℕ × Packet). n ≤ q.0) ps → AllByRecursion (λ (q : ℕ × List ℕ). n ≤ q.0) (map (shown_of s) ps)
-  above_shown n [] all = tt
-  above_shown n (p ∷ ps) all = (all.0, above_shown n ps all.1)
-
-  shown_rises : (ps : List (ℕ × Packet)) → Rises ps → Rises (map (shown_of s) ps)
-  shown_rises [] rises = tt
-  shown_rises (p ∷ ps) rises = (above_shown p.0 ps rises.0, shown_rises ps rises.1)
-
 pub left_rises : (s : Share) → IsSound s → Rises (left_of s)
-left_rises s sound = shown_rises s (drop s.taken s.records) (drop_rises s.taken s.records sound.rises)
+left_rises s sound = sound
 
 pub all_rise : (shares : List Share) → AllByRecursion IsSound shares → AllByRecursion Rises (map left_of shares)
 all_rise [] sound = tt

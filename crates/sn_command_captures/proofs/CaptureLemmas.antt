@@ -12,6 +12,8 @@ use Rattle.sn_command.specs.declared.refusal.Refusal.{Refusal}
 use Rattle.sn_command.specs.declared.refusal.Refusal.TheVariants.{Memory}
 use Rattle.sn_command_capture.proofs.StreamLemmas.{runs_memory}
 use Rattle.sn_command_captures.specs.Captures.{CaptureIn, Captures, CapturesAfter, JudgedAs, NextCapture, bytes_in}
+use Rattle.sn_command_captures.proofs.WalkLemmas.{found_records}
+use Rattle.sn_command_captures.specs.Walks.{ending_from, packets_from, recorded}
 use Rattle.sn_command_captures.specs.declared.capture.Capture.{Capture}
 use Rattle.sn_pcap.proofs.OneCapture.{records_once, records_some}
 use Rattle.sn_pcap.specs.Capture.{head_of}
@@ -37,6 +39,12 @@ module _ (number : ℕ) (file : List ℕ) where
         once = judged_once (Ok header);
       }
   judged_some (Err fault) = record { verdict = Err (faults.HeadOf fault number); is = refl; once = judged_once (Err fault) }
+
+  -- a file with a header
+  pub judged_whole : (header : Header) (bytes : List ℕ) (capture : Capture) → bytes ≡ file → Ok header ≡ head_of bytes → capture ≡ recorded header file → CaptureIn number file (Ok capture)
+  judged_whole header bytes capture same first is =
+      subst (λ (h : Result Header HeadFault). JudgedAs number file h (Ok capture)) (first ∙ ap head_of same)
+      (record { packets = packets_from header file 24; ending = ending_from header file 24; are = found_records header file 24; same = ap (λ (c : Capture). Ok c) is })
 
   pub capture_once : (first second : Result Capture Fault) → CaptureIn number file first → CaptureIn number file second → first ≡ second
   capture_once = judged_once (head_of file)

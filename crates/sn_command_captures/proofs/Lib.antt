@@ -1,4 +1,4 @@
 pub mod AnswerLemmas
 pub mod CaptureLemmas
 pub mod CountLemmas
-mod RecordLemmas
+pub mod WalkLemmas

@@ -1,7 +1,7 @@
 -- to be believed
 -- Several captures, each read whole.
-use Rattle.std.specs.Prelude.{◌≡◌, ℕ, ◌+◌, ◌-◌, List, [], ◌∷◌, ◌++◌, All, map, sum, length, Result, Ok, Err}
-use Rattle.sn_pcap.specs.Capture.{head_of, IsWithin, Records}
+use Rattle.std.specs.Prelude.{◌≡◌, ℕ, ◌+◌, ◌-◌, List, [], ◌∷◌, ◌++◌, map, sum, length, Result, Ok, Err}
+use Rattle.sn_pcap.specs.Capture.{head_of, Records}
 use Rattle.sn_pcap.specs.declared.header.Header.{Header}
 use Rattle.sn_pcap.specs.declared.header.HeadFault.{HeadFault}
 use Rattle.sn_pcap.specs.declared.packet.Packet.{Packet}
@@ -45,7 +45,3 @@ CapturesAfter before (name ∷ names) =
 -- the captures of these names, one after another
 abbrev pub Captures : List (List ℕ) → Stage (List Capture)
 Captures names = CapturesAfter [] names
-
--- each packet stands within the file
-abbrev pub IsWhole : Capture → Type 0
-IsWhole c = All (IsWithin c.file) c.packets

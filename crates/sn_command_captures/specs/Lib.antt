@@ -1,3 +1,5 @@
+pub mod Recorded
+pub mod Walks
 pub mod Captures
 pub mod Windows
 pub mod Counted

@@ -35,7 +35,7 @@ fn damage(shares: &[Share]) -> Result<(), Refusal>
 {
     for (place, share) in shares.iter().enumerate() {
         let file = place as u64 + 1;
-        match share.ending {
+        match share.ending() {
             Ending::Clean => {}
             Ending::Cut(at) => return Err(Refusal::Refused(Fault::CutOf { at, file })),
             Ending::Bad(at) => return Err(Refusal::Refused(Fault::BadOf { at, file })),

@@ -6,6 +6,6 @@ pub mod capture;
 pub mod count;
 pub mod law;
 pub mod read;
-pub mod records;
+mod record;
 pub mod share;
 pub mod team;

@@ -1,11 +1,10 @@
 //! Captures are read whole, one after another.
-ghost use Rattle.std.specs.Prelude.{◌≡◌, ◌≤◌, ◌-◌, ◌+◌, List, [], ◌∷◌, All, IfOk, length};
-ghost use Rattle.std.specs.List.{AllByRecursion};
+ghost use Rattle.std.specs.Prelude.{◌≡◌, ◌≤◌, ◌-◌, ◌+◌, List, [], ◌∷◌, IfOk, length};
 ghost use Rattle.sn_cli.specs.Words.{texts};
 ghost use Rattle.sn_command.specs.Desks.{world};
 ghost use Rattle.sn_command.specs.Runs.{Answers, Runs, Works};
 ghost use Rattle.sn_command.specs.Stages.{most_text};
-ghost use Rattle.sn_command_captures.specs.Captures.{Captures, CapturesAfter, CaptureIn, IsWhole, NextCapture, bytes_in};
+ghost use Rattle.sn_command_captures.specs.Captures.{Captures, CapturesAfter, CaptureIn, NextCapture, bytes_in};
 
 use crate::capture::Capture;
 use sn_base::seq::Seq;
@@ -16,13 +15,11 @@ use sn_command::refusal::Refusal;
 use sn_io::inputs::Inputs;
 use sn_io::sink::Sink;
 use sn_pcap::header::head;
-use sn_pcap::packet::packets;
 use std::alloc::Global;
 
 /// What a file is, as the capture of this number.
-fn judge_capture(alloc: Global, number: u64, file: Seq<u8>) -> Result<Capture, Refusal>
+fn judge_capture(number: u64, file: Seq<u8>) -> Result<Capture, Refusal>
     ensures judged { Answers (CaptureIn number file) result }
-    ensures whole { IfOk result IsWhole }
     ensures file { IfOk result (λ capture. capture.file ≡ file) }
 {
     let header = match head(file.as_slice()) {
@@ -34,13 +31,7 @@ fn judge_capture(alloc: Global, number: u64, file: Seq<u8>) -> Result<Capture, R
             }));
         }
     };
-    let (packets, ending) = packets(alloc, &header, file.as_slice())?;
-    Ok(Capture {
-        link: header.link,
-        file,
-        packets,
-        ending,
-    })
+    Ok(Capture::of(header, file))
 }
 
 /// Reads the capture of this number whole, which may have this many bytes.
@@ -52,11 +43,10 @@ fn read_capture<I: Inputs, O: Sink>(
     name: &str,
 ) -> Result<Capture, Refusal>
     ensures works { Works (name.now ∷ []) (NextCapture number most name.now) (world I.Inputs O.Sink desk.old) result (world I.Inputs O.Sink desk.new) }
-    ensures whole { IfOk result IsWhole }
     ensures within { IfOk result (λ capture. length capture.file ≤ most) }
 {
     let file = read_file(alloc, desk, name, most)?;
-    judge_capture(alloc, number, file)
+    judge_capture(number, file)
 }
 
 /// Reads captures after others, all of which may have this many bytes together.
@@ -67,10 +57,8 @@ fn read_after<I: Inputs, O: Sink>(
     most: u64,
     before: Seq<Capture>,
 ) -> Result<Seq<Capture>, Refusal>
-    requires left { most ≡ most_text - bytes_in before }
-    requires whole { AllByRecursion IsWhole before }
+    requires { most ≡ most_text - bytes_in before }
     ensures runs { Runs (texts names.now) (CapturesAfter before (texts names.now)) (world I.Inputs O.Sink desk.old) result (world I.Inputs O.Sink desk.new) }
-    ensures whole { IfOk result (AllByRecursion IsWhole) }
     ensures count { IfOk result (λ captures. length captures ≡ length before + length names.now) }
 {
     let Some((name, rest)) = names.split_first() else {
@@ -79,7 +67,7 @@ fn read_after<I: Inputs, O: Sink>(
     let mut captures = before;
     let number = captures.as_slice().len() as u64 + 1;
     let capture = read_capture(alloc, desk, number, most, name.as_str())?;
-    let left = most - capture.file.as_slice().len() as u64;
+    let left = most - capture.len() as u64;
     captures.push(capture)?;
     read_after(alloc, desk, rest, left, captures)
 }
@@ -92,7 +80,6 @@ pub fn read_captures<I: Inputs, O: Sink>(
     names: &[String],
 ) -> Result<Seq<Capture>, Refusal>
     ensures runs { Runs (texts names.now) (Captures (texts names.now)) (world I.Inputs O.Sink desk.old) result (world I.Inputs O.Sink desk.new) }
-    ensures whole { IfOk result (AllByRecursion IsWhole) }
     ensures count { IfOk result (λ captures. length captures ≡ length names.now) }
 {
     read_after(alloc, desk, names, MOST_TEXT, Seq::new(alloc))

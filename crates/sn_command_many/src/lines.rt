@@ -16,7 +16,7 @@ fn push_damages(alloc: Global, text: &mut Vec<u8>, shares: &[Share]) -> Result<(
     ensures { OnOk result (text.new.items ≡ text.old.items ++ damage_lines 1 (map ending_of shares.now)) }
 {
     for (place, share) in shares.iter().enumerate() {
-        let line = damage_of(alloc, place as u64 + 1, share.ending)?;
+        let line = damage_of(alloc, place as u64 + 1, share.ending())?;
         push_bytes(text, line.as_slice())?;
     }
     Ok(())

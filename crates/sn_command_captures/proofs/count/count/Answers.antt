@@ -4,7 +4,7 @@ use Rattle.std.proofs.lemmas.Result.{err_from_is_err_and}
 use Rattle.std.specs.List.{AllByRecursion}
 use Rattle.std.specs.Vec.Iter.{into_iter_items}
 use Rattle.sn_base.proofs.Lists.{all_append}
-use Rattle.sn_command_captures.proofs.CountLemmas.{all_more, capture_whole, count_stops, is_countable, share_found, share_sound}
+use Rattle.sn_command_captures.proofs.CountLemmas.{all_more, count_stops, is_countable, share_found, share_sound}
 use Rattle.sn_command_captures.specs.Counted.{share_of}
 use Rattle.sn_command_captures.specs.Shares.{IsSound}
 use Rattle.sn_command_captures.specs.Windows.{start_of}
@@ -33,7 +33,7 @@ loop-capture-preserved c =
     let window = c.args.window_ns in
     let share : Share = c.in_ok-share.field-0 in
     let found = share_found window start one share c.in_ok-share.ensures in
-    let sound = share_sound window start one (capture_whole window start c.args.captures at.yielded one rest (c.start-start.ensures ∙ ap start_of c.as_slice.ensures) parts c.requires.whole) in
+    let sound = share_sound window start one in
     let count = at.invariant.count in
     let gone = c.in-Some.ensures.steps.1 in
     let short = ap length c.in-Some.ensures.steps.0 in
