@@ -39,8 +39,8 @@ returns-in_err-captures g c =
     let p = err_from_is_err_and c.from_residual-in_err-captures.result c.from_residual-in_err-captures.ensures.1 in
     rw (p.1, p.2) (texts_then c.in_ok-typed.ensures (file_then c.in_ok-limits.ensures.works.runs (file_then c.in_ok-entries.ensures.runs (stage_then (gives_misfit _ c.in_ok-test_fit.ensures.verdict) (files_stop c.in_err-captures.ensures.runs)))))
 
-pub count-requires-clause-some : goal.count-requires-clause-some
-count-requires-clause-some g c =
+pub count-requires : goal.count-requires
+count-requires g c =
     let t = c.in_ok-typed.typed in
     let some = window_some t.window_us t.queries t.typed in
     omega (arith, c.window_ns.ensures, some)
