@@ -1,6 +1,5 @@
 pub mod Verdicts
 pub mod CheckLemmas
-pub mod Orders
 pub mod Stopping
 pub mod Leasts
 pub mod Saying

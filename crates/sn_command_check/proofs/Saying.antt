@@ -18,7 +18,7 @@ use Rattle.sn_command.specs.Stages.{Adds, Bytes, Judges, Text, Then, most_text, 
 use Rattle.sn_switch.specs.declared.switch.Switch.{Switch}
 use Rattle.sn_command_training.specs.Training.{TrainingIn}
 use Rattle.sn_command_texts.proofs.Accepted.{ok_err, switch_limits, typed_in, value_same}
-use Rattle.sn_command_training.specs.declared.training.Training.{Training}
+use Rattle.sn_cost_training.specs.Trained.{Training}
 use Rattle.sn_command_check.specs.Check.{Check, PlanTree, Showing, yes_line}
 use Rattle.sn_command_check.specs.Least.{ShowsLeast}
 use Rattle.sn_command_check.specs.PlanTrees.{PlanBefore, TreeBehind}

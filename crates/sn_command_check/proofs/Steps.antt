@@ -7,7 +7,7 @@ use Rattle.sn_command.specs.Worlds.{World}
 use Rattle.sn_command.specs.declared.refusal.Refusal.{Refusal}
 use Rattle.sn_switch.specs.declared.switch.Switch.{Switch}
 use Rattle.sn_command_training.specs.Training.{TrainingIn}
-use Rattle.sn_command_training.specs.declared.training.Training.{Training}
+use Rattle.sn_cost_training.specs.Trained.{Training}
 use Rattle.sn_command_check.specs.Check.{PlanTree, yes_line}
 
 pub of_window : {w v : ℕ} {name : List ℕ} {before now : World} {answer : Result Training Refusal} → w ≡ v → Works (name ∷ []) (Text name (TrainingIn w)) before answer now

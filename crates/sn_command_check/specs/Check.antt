@@ -14,7 +14,7 @@ use Rattle.sn_command.specs.Outcomes.{Stage}
 use Rattle.sn_command.specs.Stages.{Adds, Bytes, Judges, Text, Then, most_text}
 use Rattle.sn_switch.specs.declared.switch.Switch.{Switch}
 use Rattle.sn_command_training.specs.Training.{TrainingIn}
-use Rattle.sn_command_training.specs.declared.training.Training.{Training}
+use Rattle.sn_cost_training.specs.Trained.{Training}
 use Rattle.sn_command_check.specs.PlanTrees.{PlanBefore, TreeBehind}
 use Rattle.sn_command_check.specs.Shown.{ShownFor}
 

@@ -14,7 +14,7 @@ use Rattle.sn_types_read.specs.Texts.{Queries}
 use Rattle.sn_command_run.specs.Run.{window_ns}
 use Rattle.sn_switch.specs.declared.switch.Switch.{Switch}
 use Rattle.sn_command_training.specs.Training.{TrainingIn}
-use Rattle.sn_command_training.specs.declared.training.Training.{Training}
+use Rattle.sn_cost_training.specs.Trained.{Training}
 use Rattle.sn_command_check.specs.Check.{yes_line}
 
 -- what a plan costs over the windows of a training capture: the items that it sends, and the switch's weight for each prefix that is

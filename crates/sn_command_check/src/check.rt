@@ -17,7 +17,7 @@ use sn_command_texts::fit::test_fit;
 use sn_command_texts::queries::read_queries;
 use sn_command_texts::texts::read_switch;
 use sn_command_training::read::read_training;
-use sn_command_training::training::Training;
+use sn_cost_training::training::Training;
 use sn_io::inputs::Inputs;
 use sn_io::sink::Sink;
 use sn_switch::switch::Switch;

@@ -9,8 +9,8 @@ ghost use Rattle.sn_command_training.specs.Training.{IsInOrder};
 
 use sn_command::fault::{Fault, TreeFlaw, TreeKind};
 use sn_command::refusal::Refusal;
-use sn_command_training::training::Training;
 use sn_cost::build::build;
+use sn_cost_training::training::Training;
 use sn_plan_grammar::plan::Plan;
 use sn_plan_lists::choosing::choices_of;
 use sn_plan_space::planning::Planning;
@@ -55,8 +55,7 @@ pub(crate) fn test_tree(
     requires fits { Fits t.now.queries s.now plan.now.entries }
     ensures { Answers (ShownFor s.now t.now.queries (trained training.now.numbers training.now.tuples) plan.now tree.now.0 tree.now.1) result }
 {
-    let tuples = training.tuples.as_slice();
-    let table = build(t, s, tuples, training.numbers.as_slice())?;
+    let table = build(t, s, training)?;
     let planning = Planning::make(t, s, &table)?;
     let choices = choices_of(t, s, plan)?;
     let mut nodes = tree.nodes();

@@ -35,7 +35,7 @@ use Rattle.sn_switch.specs.Texts as switches
 use Rattle.sn_switch.specs.Texts.{IsSwitch}
 use Rattle.sn_switch.proofs.Switches.{limits_of, one_switch, set_so}
 use Rattle.sn_text.specs.Cutting.{tokens_of}
-use Rattle.sn_command_training.specs.declared.training.Training.{Training}
+use Rattle.sn_cost_training.specs.Trained.{Training}
 use Rattle.sn_command_training.specs.Training.{TrainingIn}
 use Rattle.sn_tree_text.specs.Printing.{nodes_text, tree_text}
 use Rattle.sn_types.specs.declared.typed_query.TypedQuery.{TypedQuery}

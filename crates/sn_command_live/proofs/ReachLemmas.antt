@@ -38,7 +38,7 @@ use Rattle.sn_command.specs.declared.refusal.Refusal.TheVariants.{Refused}
 use Rattle.sn_command.specs.Outcomes.{Outcome, Stage, silent}
 use Rattle.sn_command.specs.Refusals.{refusing}
 use Rattle.sn_command.specs.Stages.{Text, Then, most_text, named, within_limit}
-use Rattle.sn_command_training.specs.declared.training.Training.{Training}
+use Rattle.sn_cost_training.specs.Trained.{Training}
 use Rattle.sn_command_training.specs.Training.{JudgedAs, TrainingIn, judged_records, training_of}
 use Rattle.sn_windows.specs.Blocks.{all_few, is_few, most_records}
 use Rattle.sn_windows.specs.Windows.{in_window, numbered, windows_of}

@@ -15,7 +15,7 @@ use Rattle.sn_pcap.specs.declared.packet.Ending.{Ending}
 use Rattle.sn_pcap.specs.declared.packet.Packet.{Packet}
 use Rattle.sn_command.specs.declared.fault.Fault.{Fault}
 use Rattle.sn_command.specs.declared.fault.Fault.TheVariants as faults
-use Rattle.sn_command_training.specs.declared.training.Training.{Training}
+use Rattle.sn_cost_training.specs.Trained.{Training}
 use Rattle.sn_command_training.specs.Training.{JudgedAs, JudgedBehind, TrainingIn, judged_records, training_of}
 use Rattle.sn_windows.specs.Numbering.{begun}
 use Rattle.sn_windows.proofs.NumberLemmas.{numbered_is, records_are}

@@ -13,7 +13,7 @@ use Rattle.sn_command.specs.Stages.{Adds, Does, Judges, Text, Then}
 use Rattle.sn_command.specs.Worlds.{World}
 use Rattle.sn_command.proofs.StageLemmas.{runs_judges, runs_stops, runs_then, stage_stops, stage_then, err_err}
 use Rattle.sn_switch.specs.declared.switch.Switch.{Switch}
-use Rattle.sn_command_training.specs.declared.training.Training.{Training}
+use Rattle.sn_cost_training.specs.Trained.{Training}
 use Rattle.sn_command_training.specs.Training.{TrainingIn}
 use Rattle.sn_command_live.specs.Live.{SearchesAfter, trained_windows}
 

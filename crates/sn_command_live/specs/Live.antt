@@ -14,7 +14,7 @@ use Rattle.sn_command.specs.Outcomes.{Stage}
 use Rattle.sn_command.specs.Stages.{Does, Gives, Judges, Text, Then}
 use Rattle.sn_switch.specs.declared.switch.Switch.{Switch}
 use Rattle.sn_command_run.specs.TraceWording.{TracedAlong}
-use Rattle.sn_command_training.specs.declared.training.Training.{Training}
+use Rattle.sn_cost_training.specs.Trained.{Training}
 use Rattle.sn_command_training.specs.Training.{TrainingIn}
 use Rattle.sn_command_live.specs.declared.certified.Certified.{Certified}
 

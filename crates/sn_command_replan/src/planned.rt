@@ -1,5 +1,5 @@
 //! The plan that follows a window.
-ghost use Rattle.std.specs.Prelude.{◌≡◌, ◌<◌, ◌≤◌, [], ◌∷◌, IfOk, length, replicate};
+ghost use Rattle.std.specs.Prelude.{◌≡◌, ◌<◌, ◌≤◌, [], ◌∷◌, IfOk, length};
 ghost use Rattle.sn_command_replan.specs.Searched.{searched_on};
 ghost use Rattle.sn_plan_fit.specs.Fits.{Fits};
 ghost use Rattle.sn_switch.specs.Texts.{IsSwitch};
@@ -11,22 +11,11 @@ use sn_command::fault::Fault;
 use sn_command::refusal::Refusal;
 use sn_command_search::certificate::Certificate;
 use sn_command_search::search::search;
-use sn_command_training::training::Training;
+use sn_cost_training::training::Training;
 use sn_fields::tuple::Tuple;
 use sn_switch::switch::Switch;
 use sn_types::typed::Typed;
 use std::alloc::Global;
-
-/// A number, this many times.
-fn numbers_of(alloc: Global, number: u64, count: usize) -> Result<Seq<u64>, Memory>
-    ensures { IfOk result (λ numbers. numbers ≡ replicate count number) }
-{
-    let mut numbers = Seq::new(alloc);
-    for _ in 0..count {
-        numbers.push(number)?;
-    }
-    Ok(numbers)
-}
 
 /// What is planned on the window with this number and these tuples alone, where a search may expand this many nodes.
 pub(crate) fn planned(
@@ -43,8 +32,8 @@ pub(crate) fn planned(
     ensures verdict { IfOk result (λ verdict. verdict ≡ searched_on limits.now typed.now.queries nodes ((number, tuples) ∷ [])) }
     ensures fits { IfOk result (λ verdict. IfOk verdict (λ c. Fits typed.now.queries limits.now c.plan.entries)) }
 {
-    let numbers = numbers_of(alloc, number, tuples.as_slice().len())?;
-    let training = Training { tuples, numbers };
+    let mut training = Training::new(alloc);
+    training.add(number, tuples)?;
     match search(alloc, typed, limits, &training, nodes) {
         Ok(certificate) => Ok(Ok(certificate)),
         Err(Refusal::Refused(fault)) => Ok(Err(fault)),

@@ -1,6 +1,5 @@
 -- What is found by a cost table of training windows is what is found by what plans cost over them.
 use Rattle.std.proofs.Common.{◌≡◌, ℕ, ◌≤◌, List, [], ◌∷◌, refl, sym, ◌∙◌, subst, arith}
-use Rattle.std.specs.List.{AllByRecursion}
 use Rattle.sn_tree.specs.Alike.{AreAlike}
 use Rattle.sn_tree.proofs.AlikePlans.{cost_alike, first_least_alike}
 use Rattle.sn_tree.proofs.AlikeTrees.{budget_alike, tree_alike}
@@ -8,7 +7,6 @@ use Rattle.sn_plan_choices.specs.Costs.{entry_in}
 use Rattle.sn_plan_choices.specs.declared.costs.CostTable.{CostTable}
 use Rattle.sn_plan_lists.specs.Chosen.{plan_at}
 use Rattle.sn_cost.specs.Entries.{trained}
-use Rattle.sn_cost.specs.Training as costs
 use Rattle.sn_plan_space.specs.Reading.{plan_space}
 use Rattle.sn_cost_laws.specs.Priced.{AreCounted}
 use Rattle.sn_cost_laws.specs.Space.{trained_plans}
@@ -19,21 +17,9 @@ use Rattle.sn_tree_space.specs.Searches.{IsBudgetBound, any_bound}
 use Rattle.sn_tree_space.specs.Trees.{count_expands, tree_of}
 use Rattle.sn_command.specs.declared.fault.Fault.TheVariants.{Budget}
 use Rattle.sn_switch.specs.declared.switch.Switch.{Switch}
-use Rattle.sn_command_training.specs.Training as training
 use Rattle.sn_types.specs.declared.typed_query.TypedQuery.{TypedQuery}
 use Rattle.sn_command_search.specs.declared.certificate.Certificate.{Certificate}
 use Rattle.sn_command_search.specs.Certificates.{IsCertificate, IsSpent}
-
--- ---- numbers that don't fall
-
-all_from : (n m : ℕ) (ns : List ℕ) → n ≤ m → AllByRecursion (λ k. m ≤ k) ns → AllByRecursion (λ k. n ≤ k) ns
-all_from n m [] le h = tt
-all_from n m (k ∷ ns) le h = (let low = h.0 in omega arith, all_from n m ns le h.1)
-
-pub never_fall : (ns : List ℕ) → training.NeverFall ns → costs.NeverFall ns
-never_fall [] h = tt
-never_fall (n ∷ []) h = (tt, tt)
-never_fall (n ∷ m ∷ ns) h = let rest = never_fall (m ∷ ns) h.1 in ((h.0, all_from n m ns h.0 rest.0), rest)
 
 -- ---- spaces that are alike
 

@@ -11,8 +11,8 @@ use crate::certificate::Certificate;
 use sn_base::seq::Seq;
 use sn_command::fault::{Fault, Spent};
 use sn_command::refusal::Refusal;
-use sn_command_training::training::Training;
 use sn_cost::build::build;
+use sn_cost_training::training::Training;
 use sn_plan_lists::naming::plan_of;
 use sn_plan_space::planning::Planning;
 use sn_search::best::best;
@@ -39,12 +39,7 @@ pub fn search(
     ensures searched { Answers (SearchedIn s.now t.now.queries (trained training.now.numbers training.now.tuples) nodes) result }
     ensures fits { IfOk result (λ c. Fits t.now.queries s.now c.plan.entries) }
 {
-    let table = build(
-        t,
-        s,
-        training.tuples.as_slice(),
-        training.numbers.as_slice(),
-    )?;
+    let table = build(t, s, training)?;
     let planning = Planning::make(t, s, &table)?;
     let found = match best(alloc, &planning, u64::from(nodes)) {
         Ok(found) => found,

@@ -1,14 +1,13 @@
 -- The numbers of records, one after another.
-use Rattle.std.proofs.Common.{◌≡◌, ℕ, ◌+◌, ◌≤◌, ◌<◌, List, [], ◌∷◌, ◌++◌, map, length, take, get_or, refl, ap, sym, ◌∙◌, arith}
+use Rattle.std.proofs.Common.{◌≡◌, ℕ, ◌+◌, ◌≤◌, List, [], ◌∷◌, ◌++◌, map, length, refl, ap, sym, ◌∙◌, arith}
 use Rattle.std.specs.Prelude.{is_some, ◌&&◌, ◌==◌}
-use Rattle.std.proofs.lemmas.List.{map-append, length-map, length-take-le, take_all, take_more}
+use Rattle.std.proofs.lemmas.List.{map-append, length-map}
 use Rattle.sn_base.proofs.Lists.{by_test}
 use Rattle.sn_windows.specs.Windows.{number_at, numbered}
 use Rattle.sn_windows.specs.Numbering.{Numbering, begun, next_number, next_count, stepped, after, numbered_from}
 use Rattle.sn_windows.proofs.NumberLemmas.{numbered_is, numbers_rise, as_many}
 use Rattle.sn_windows.proofs.RunLemmas.{Rises}
 use Rattle.sn_command_training.specs.Training.{NeverFall}
-use Rattle.sn_windows.specs.Blocks.{most_records}
 
 pub after_push : (s : Numbering) (times : List ℕ) (t : ℕ) → after s (times ++ t ∷ []) ≡ stepped (after s times) t
 after_push s [] t = refl
@@ -44,27 +43,3 @@ module _ {X : Type 0} (time : X → ℕ) where
 
   pub numbers_never_fall : (window : ℕ) (xs : List X) → NeverFall (map number_at (numbered time window xs))
   numbers_never_fall window xs = rw (sym (numbered_is time window xs)) (never_fall (numbered_from time (begun window) xs) (numbers_rise time (begun window) xs))
-
--- the records one after another, of which the first n came
-module _ {X : Type 0} (time : X → ℕ) (window : ℕ) (xs : List X) (i : ℕ) (s : Numbering) (stands : s ≡ after (begun window) (map time (take i xs))) (some : i < length xs) where
-  pub none_too_many : length xs ≤ most_records → (t : ℕ) → most_records ≤ next_count s t → ⊥
-  none_too_many few t many =
-      let within : next_count s t ≤ length (map time (take i xs)) = rw stands (next_few window (map time (take i xs)) t) in
-      let short : length (map time (take i xs)) ≡ i = length-map (take i xs) time ∙ length-take-le i xs (omega arith) in
-      omega arith
-
-module _ {X : Type 0} (time : X → ℕ) (window : ℕ) (xs : List X) (i : ℕ) (d : X) (s : Numbering) (stands : s ≡ after (begun window) (map time (take i xs))) (some : i < length xs) where
-  pub windows_step : (next : Numbering) → next ≡ stepped s (time (get_or xs i d)) → next ≡ after (begun window) (map time (take (i + 1) xs))
-  windows_step next is =
-      is ∙ ap (λ (n : Numbering). stepped n (time (get_or xs i d))) stands ∙ sym (after_push (begun window) (map time (take i xs)) (time (get_or xs i d)))
-      ∙ ap (after (begun window)) (sym (map-append time (take i xs) (get_or xs i d ∷ [])) ∙ ap (map time) (sym (take_more xs i d some)))
-
-  pub numbers_step : (numbers : List ℕ) (number : ℕ) → numbers ≡ map number_at (numbered_from time (begun window) (take i xs)) → number ≡ next_number s (time (get_or xs i d))
-      → numbers ++ number ∷ [] ≡ map number_at (numbered_from time (begun window) (take (i + 1) xs))
-  numbers_step numbers number so is =
-      let next : number ≡ next_number (after (begun window) (map time (take i xs))) (time (get_or xs i d)) = is ∙ ap (λ (n : Numbering). next_number n (time (get_or xs i d))) stands in
-      ap (λ ns. ns ++ number ∷ []) so ∙ ap (λ (n : ℕ). map number_at (numbered_from time (begun window) (take i xs)) ++ n ∷ []) next
-      ∙ sym (numbers_push time (begun window) (take i xs) (get_or xs i d)) ∙ ap (λ ys. map number_at (numbered_from time (begun window) ys)) (sym (take_more xs i d some))
-
-pub all_numbers : {X : Type 0} (time : X → ℕ) (window : ℕ) (xs : List X) (i : ℕ) → length xs ≤ i → map number_at (numbered_from time (begun window) (take i xs)) ≡ map number_at (numbered time window xs)
-all_numbers time window xs i all = ap (λ ys. map number_at (numbered_from time (begun window) ys)) (take_all i xs all) ∙ ap (map number_at) (numbered_is time window xs)

@@ -1,23 +1,16 @@
 -- A file is judged in one way as a training capture.
-use Rattle.std.proofs.Common.{◌≡◌, ℕ, ◌≤◌, List, length, map, Bool, true, false, Result, Ok, Err, refl, ap, sym, subst, ◌∙◌}
+use Rattle.std.proofs.Common.{◌≡◌, ℕ, List, length, Bool, true, false, Result, Ok, Err, refl, ap, sym, subst, ◌∙◌}
 use Rattle.std.specs.Prelude.{nat_lt, if◌then◌else◌}
-use Rattle.std.proofs.lemmas.List.{length-map}
-use Rattle.sn_base.specs.declared.link.Link.{Link}
 use Rattle.sn_pcap.specs.Capture.{head_of}
 use Rattle.sn_pcap.specs.declared.header.Header.{Header}
 use Rattle.sn_pcap.specs.declared.header.HeadFault.{HeadFault}
-use Rattle.sn_pcap.specs.declared.packet.Packet.{Packet}
 use Rattle.sn_pcap.proofs.OneCapture.{records_some, records_once}
 use Rattle.sn_command.specs.declared.fault.Fault.{Fault}
 use Rattle.sn_command.specs.declared.fault.Fault.TheVariants as faults
 use Rattle.sn_command.specs.Stages.{HasVerdict}
 use Rattle.sn_command.proofs.StageLemmas.{MayCome}
-use Rattle.sn_command_training.specs.declared.training.Training.{Training}
-use Rattle.sn_command_capture.specs.Capture.{packet_tuple, time_of}
-use Rattle.sn_command_training.specs.Training.{tuples_of}
-use Rattle.sn_windows.specs.Windows.{number_at, numbered}
-use Rattle.sn_command_training.specs.Training.{IsInOrder, JudgedAs, TrainingIn, judged_records, training_of}
-use Rattle.sn_command_training.proofs.NumberLemmas.{as_many_numbers, numbers_never_fall}
+use Rattle.sn_cost_training.specs.Trained.{Training}
+use Rattle.sn_command_training.specs.Training.{JudgedAs, TrainingIn, judged_records, training_of}
 use Rattle.sn_windows.specs.Blocks.{most_records}
 
 module _ (window : ℕ) (file : List ℕ) where
@@ -49,15 +42,3 @@ module _ (window : ℕ) (file : List ℕ) where
 
   pub one_training : HasVerdict (TrainingIn window file)
   one_training = judged_some (head_of file)
-
-  in_order : (link : Link) (packets : List Packet) → length packets ≤ most_records → IsInOrder (training_of window link file packets)
-  in_order link packets few = record {
-    alike = as_many_numbers time_of window packets ∙ sym (length-map packets (packet_tuple link file));
-    most = rw (length-map packets (packet_tuple link file)) few;
-    rising = numbers_never_fall time_of window packets;
-  }
-
-  -- the training of packets is in order
-  pub as_ordered : (link : Link) (packets : List Packet) (tuples : List (List ℕ)) (numbers : List ℕ) → tuples ≡ tuples_of link file packets → numbers ≡ map number_at (numbered time_of window packets) → length packets ≤ most_records
-      → IsInOrder (record { tuples = tuples; numbers = numbers })
-  as_ordered link packets tuples numbers same also few = rw (same, also) (in_order link packets few)

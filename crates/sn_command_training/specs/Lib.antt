@@ -1,1 +1,3 @@
 pub mod Training
+pub mod Collecting
+pub mod Taking

@@ -11,7 +11,7 @@ use Rattle.sn_command.specs.declared.fault.Fault.{Fault}
 use Rattle.sn_command.specs.declared.fault.Fault.TheVariants as faults
 use Rattle.sn_windows.specs.Windows.{number_at, numbered}
 use Rattle.sn_command_capture.specs.Capture.{packet_tuple, time_of}
-use Rattle.sn_command_training.specs.declared.training.Training.{Training}
+use Rattle.sn_cost_training.specs.Trained.{Training}
 use Rattle.sn_windows.specs.Blocks.{most_records}
 
 -- the tuples of packets, in their order

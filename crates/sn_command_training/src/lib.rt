@@ -1,6 +1,7 @@
-//! The training capture of a plan: its tuples, and the windows that they are of.
+//! The training capture of a plan: its tuples, window by window, which are taken from it while it is read.
 #![tactic(auto)]
 
+mod collected;
 pub mod law;
 pub mod read;
-pub mod training;
+mod taking;

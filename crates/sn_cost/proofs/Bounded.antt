@@ -22,12 +22,11 @@ use Rattle.sn_types.specs.declared.typed_query.TypedQuery.{TypedQuery}
 use Rattle.sn_types.specs.Typed.{IsTyped, query_at}
 use Rattle.sn_windows.specs.Rising.{AreRising, IsAbove, Window}
 use Rattle.sn_cost.specs.Entries.{entry_count, front_of, held_of, installed_in, records, sent_in, trained, windows_in}
-use Rattle.sn_cost.specs.Runs.{equal_ahead}
 use Rattle.sn_cost.specs.Training.{NeverFall}
 use Rattle.sn_cost.proofs.Few.{with_field}
 use Rattle.sn_cost.proofs.Paths.{front_path}
 use Rattle.sn_cost.proofs.Installed.{installed_few}
-use Rattle.sn_cost.proofs.Running.{later_fall, some_ahead, windows_rise, windows_step}
+use Rattle.sn_cost.proofs.Running.{equal_ahead, later_fall, some_ahead, windows_rise, windows_step}
 
 -- ---- sums
 

@@ -1,43 +1,29 @@
 -- Runs of equal numbers are the windows.
-use Rattle.std.proofs.Common.{◌≡◌, ℕ, zero, suc, ◌+◌, ◌≤◌, ◌<◌, List, [], ◌∷◌, Bool, cond, take, drop, length, map, slice_index, get_or, refl, ap, sym, ◌∙◌, arith, filter, zero-add, subst, ◌-◌, not, Option, None, Some}
-use Rattle.std.specs.Prelude.{◌==◌}
+use Rattle.std.proofs.Common.{◌≡◌, ℕ, zero, suc, ◌+◌, ◌≤◌, ◌<◌, List, [], ◌∷◌, Bool, cond, take, drop, length, length-append, ◌++◌, map, slice_index, get_or, refl, ap, sym, ◌∙◌, arith, filter, subst, not, Option, None, Some}
+use Rattle.std.specs.Prelude.{◌==◌, if◌then◌else◌, replicate}
 use Rattle.std.specs.List.{AllByRecursion}
 use Rattle.std.proofs.Math.Seq.{drop-cons}
 use Rattle.std.proofs.lemmas.Bool.{eq-eqb, ne_eqb}
-use Rattle.std.proofs.lemmas.List.{drop-drop, drop_all, length-drop}
-use Rattle.sn_base.proofs.Lists.{all_filter, by_test}
-use Rattle.sn_windows.specs.Rising.{AreRising, IsAbove}
+use Rattle.std.proofs.lemmas.List.{length-replicate}
+use Rattle.sn_base.proofs.Lists.{all_filter, all_weaker, by_test}
+use Rattle.sn_windows.specs.Rising.{AreRising, IsAbove, Window}
 use Rattle.sn_windows.specs.Windows.{in_window, record_at, run_of, windows_of}
 use Rattle.sn_windows.proofs.RunLemmas as runs
-use Rattle.sn_cost.specs.Entries.{records, windows_in}
+use Rattle.sn_cost.specs.Entries.{records, trained, windows_in}
 use Rattle.sn_cost.specs.Training.{NeverFall}
-use Rattle.sn_cost.specs.Runs.{equal_ahead, equal_to}
+use Rattle.sn_cost_training.specs.declared.training.TrainingWindow.{TrainingWindow}
+use Rattle.sn_cost_training.specs.Windows.{IsApart, numbers_in, tuples_in}
 
 -- ---- counting equal numbers
 
-ahead_is : (ns : List ℕ) (i : ℕ) → i < length ns → drop i ns ≡ get_or ns i 0 ∷ drop (i + 1) ns
-ahead_is ns i lt = let next : suc i ≡ i + 1 = omega arith in drop-cons ns i 0 lt ∙ ap (λ n. get_or ns i 0 ∷ drop n ns) next
+-- how many of the first are this number
+abbrev pub equal_to : ℕ → List ℕ → ℕ
+equal_to w [] = 0
+equal_to w (n ∷ ns) = if n == w then suc (equal_to w ns) else 0
 
-abbrev pub Counted : List ℕ → ℕ → Type 0
-Counted ns i = i + equal_to (slice_index ns 0) (drop i ns) ≡ equal_ahead ns
-
-pub none_counted : (ns : List ℕ) → Counted ns 0
-none_counted ns = zero-add (equal_ahead ns)
-
-pub one_counted : (ns : List ℕ) (i : ℕ) → i < length ns → get_or ns i 0 ≡ slice_index ns 0 → Counted ns i → Counted ns (i + 1)
-one_counted ns i lt same so_far =
-    let e : equal_to (slice_index ns 0) (drop i ns) ≡ suc (equal_to (slice_index ns 0) (drop (i + 1) ns)) =
-    ap (equal_to (slice_index ns 0)) (ahead_is ns i lt) ∙ ap (λ b. cond b (suc (equal_to (slice_index ns 0) (drop (i + 1) ns))) 0) (eq-eqb (get_or ns i 0) (slice_index ns 0) same) in
-    omega (arith, so_far, e)
-
-pub other_counted : (ns : List ℕ) (i : ℕ) → i < length ns → (get_or ns i 0 ≡ slice_index ns 0 → ⊥) → Counted ns i → i ≡ equal_ahead ns
-other_counted ns i lt other so_far =
-    let e : equal_to (slice_index ns 0) (drop i ns) ≡ 0 =
-    ap (equal_to (slice_index ns 0)) (ahead_is ns i lt) ∙ ap (λ b. cond b (suc (equal_to (slice_index ns 0) (drop (i + 1) ns))) 0) (ne_eqb (get_or ns i 0) (slice_index ns 0) other) in
-    omega (arith, so_far, e)
-
-pub end_counted : (ns : List ℕ) (i : ℕ) → length ns ≤ i → Counted ns i → i ≡ equal_ahead ns
-end_counted ns i le so_far = let e = ap (equal_to (slice_index ns 0)) (drop_all i ns le) in omega (arith, so_far, e)
+-- how many of the first are the first one
+abbrev pub equal_ahead : List ℕ → ℕ
+equal_ahead numbers = equal_to (slice_index numbers 0) numbers
 
 pub some_ahead : (ns : List ℕ) → 0 < length ns → 0 < equal_ahead ns
 some_ahead [] lt = absurd (omega (arith, lt))
@@ -107,27 +93,6 @@ windows_step n ns t ts k e never is =
     ∙ ap (λ gs. (n, take k (t ∷ ts)) ∷ gs) (map_above n (λ w. (w, in_window w xs)) (λ w. (w, in_window w rest)) (λ v lt. ap (λ ys. (v, ys)) (later v lt)) (windows_of rest) (runs.once_above n rest (runs.run_above n ps rises.0 rises.1)))
     ∙ ap (λ ys. (n, take k (t ∷ ts)) ∷ windows_in ys) same
 
-get_ahead : (ts : List (List ℕ)) (i : ℕ) → i < length ts → drop i ts ≡ get_or ts i [] ∷ drop (i + 1) ts
-get_ahead ts i lt = let next : suc i ≡ i + 1 = omega arith in drop-cons ts i [] lt ∙ ap (λ n. get_or ts i [] ∷ drop n ts) next
-
-left_of : {X : Type 0} (i : ℕ) (xs : List X) → length (drop i xs) ≡ length xs - i
-left_of i xs = length-drop i xs
-
--- the windows from a place on: that of its run, and those after it
-pub step_at : (ns : List ℕ) (ts : List (List ℕ)) (done count : ℕ) → done < length ns → length ts ≡ length ns → NeverFall ns → count ≡ equal_ahead (drop done ns)
-    → windows_in (records (drop done ns) (drop done ts)) ≡ (get_or ns done 0, take count (drop done ts)) ∷ windows_in (records (drop (done + count) ns) (drop (done + count) ts))
-step_at ns ts done count lt same never is =
-    let a : drop done ns ≡ get_or ns done 0 ∷ drop (done + 1) ns = ahead_is ns done lt in
-    let b : drop done ts ≡ get_or ts done [] ∷ drop (done + 1) ts = get_ahead ts done (omega (arith, lt, same)) in
-    let rest : length (drop (done + 1) ns) ≡ length (drop (done + 1) ts) = let x = left_of (done + 1) ns in let y = left_of (done + 1) ts in omega (arith, x, y, same) in
-    let falls : NeverFall (get_or ns done 0 ∷ drop (done + 1) ns) = subst NeverFall a (later_fall done ns never) in
-    let one = windows_step (get_or ns done 0) (drop (done + 1) ns) (get_or ts done []) (drop (done + 1) ts) count rest falls (is ∙ ap equal_ahead a) in
-    ap (λ xs. windows_in (records xs (drop done ts))) a ∙ ap (λ ys. windows_in (records (get_or ns done 0 ∷ drop (done + 1) ns) ys)) b ∙ one
-    ∙ sym (ap (λ xs. (get_or ns done 0, take count (drop done ts)) ∷ windows_in (records (drop count xs) (drop count (drop done ts)))) a
-    ∙ ap (λ ys. (get_or ns done 0, take count ys) ∷ windows_in (records (drop count (get_or ns done 0 ∷ drop (done + 1) ns)) (drop count ys))) b)
-    ∙ ap (λ xs. (get_or ns done 0, take count (drop done ts)) ∷ windows_in (records xs (drop count (drop done ts)))) (drop-drop count done ns)
-    ∙ ap (λ ys. (get_or ns done 0, take count (drop done ts)) ∷ windows_in (records (drop (done + count) ns) ys)) (drop-drop count done ts)
-
 -- ---- windows rise
 
 abbrev Strict : List ℕ → Type 0
@@ -159,3 +124,90 @@ pub windows_rise : (ns : List ℕ) (ts : List (List ℕ)) → NeverFall ns → A
 windows_rise ns ts never =
     let xs : List (ℕ × List ℕ) = records ns ts in
     given_rises (λ w. in_window w xs) None (windows_of xs) (all_above_none (windows_of xs)) (strict_windows xs (records_rise ns ts never))
+
+-- ---- windows with their tuples
+
+-- a window's number and its tuples
+abbrev pub window_in : TrainingWindow → Window
+window_in w = (w.number, w.tuples)
+
+abbrev pub given_in : List TrainingWindow → List Window
+given_in windows = map window_in windows
+
+pub as_many : (ws : List TrainingWindow) → length (numbers_in ws) ≡ length (tuples_in ws)
+as_many [] = refl
+as_many (w ∷ ws) =
+    let here = length-append (replicate (length w.tuples) w.number) (numbers_in ws) in
+    let tuples = length-append w.tuples (tuples_in ws) in
+    let copies = length-replicate (length w.tuples) w.number in
+    let rest = as_many ws in
+    omega (arith, here, tuples, copies, rest)
+
+all_copies : (P : ℕ → Type 0) (k n : ℕ) (ns : List ℕ) → P n → AllByRecursion P ns → AllByRecursion P (replicate k n ++ ns)
+all_copies P zero n ns one all = all
+all_copies P (suc k) n ns one all = (one, all_copies P k n ns one all)
+
+numbers_above : (n : ℕ) (ws : List TrainingWindow) → AllByRecursion (λ (v : TrainingWindow). n < v.number) ws → AllByRecursion (λ m. n < m) (numbers_in ws)
+numbers_above n [] h = tt
+numbers_above n (w ∷ ws) h = all_copies (λ m. n < m) (length w.tuples) w.number (numbers_in ws) h.0 (numbers_above n ws h.1)
+
+copies_rise : (k n : ℕ) (ns : List ℕ) → AllByRecursion (λ m. n < m) ns → NeverFall ns → NeverFall (replicate k n ++ ns)
+copies_rise zero n ns above h = h
+copies_rise (suc k) n ns above h =
+    (all_copies (λ m. n ≤ m) k n ns (omega arith) (all_weaker (λ m. n < m) (λ m. n ≤ m) (λ m lt. omega (arith, lt)) ns above), copies_rise k n ns above h)
+
+pub never_fall : (ws : List TrainingWindow) → IsApart ws → NeverFall (numbers_in ws)
+never_fall [] h = tt
+never_fall (w ∷ ws) h = copies_rise (length w.tuples) w.number (numbers_in ws) (numbers_above w.number ws h.1.0) (never_fall ws h.1.1)
+
+none_equal : (n : ℕ) (ns : List ℕ) → AllByRecursion (λ m. n < m) ns → equal_to n ns ≡ 0
+none_equal n [] h = refl
+none_equal n (m ∷ ns) h = ap (λ b. cond b (suc (equal_to n ns)) 0) (ne_eqb m n (λ e. let lt : n < m = h.0 in omega (arith, lt, e)))
+
+copies_equal : (k n : ℕ) (ns : List ℕ) → AllByRecursion (λ m. n < m) ns → equal_to n (replicate k n ++ ns) ≡ k
+copies_equal zero n ns h = none_equal n ns h
+copies_equal (suc k) n ns h = ap (λ b. cond b (suc (equal_to n (replicate k n ++ ns))) 0) (eq-eqb n n refl) ∙ ap suc (copies_equal k n ns h)
+
+copies_dropped : (k n : ℕ) (ns : List ℕ) → drop k (replicate k n ++ ns) ≡ ns
+copies_dropped zero n ns = refl
+copies_dropped (suc k) n ns = copies_dropped k n ns
+
+own_dropped : (own ts : List (List ℕ)) → drop (length own) (own ++ ts) ≡ ts
+own_dropped [] ts = refl
+own_dropped (t ∷ own) ts = own_dropped own ts
+
+own_taken : (own ts : List (List ℕ)) → take (length own) (own ++ ts) ≡ own
+own_taken [] ts = refl
+own_taken (t ∷ own) ts = ap (λ xs. t ∷ xs) (own_taken own ts)
+
+-- the first window, and those after it
+one_window : (n : ℕ) (own : List (List ℕ)) (ns : List ℕ) (ts : List (List ℕ)) → 0 < length own → length ns ≡ length ts → AllByRecursion (λ m. n < m) ns → NeverFall ns
+    → windows_in (records (replicate (length own) n ++ ns) (own ++ ts)) ≡ (n, own) ∷ windows_in (records ns ts)
+one_window n [] ns ts some e above never = absurd (omega (arith, some))
+one_window n (t ∷ own) ns ts some e above never =
+    let copies : List ℕ = replicate (length own) n ++ ns in
+    let long : length copies ≡ length (own ++ ts) =
+    let a = length-append (replicate (length own) n) ns in let b = length-append own ts in let c = length-replicate (length own) n in omega (arith, a, b, c, e) in
+    windows_step n copies t (own ++ ts) (suc (length own)) long (copies_rise (suc (length own)) n ns above never) (sym (copies_equal (suc (length own)) n ns above))
+    ∙ ap (λ xs. (n, xs) ∷ windows_in (records (drop (length own) copies) (drop (length own) (own ++ ts)))) (own_taken (t ∷ own) ts)
+    ∙ ap (λ xs. (n, t ∷ own) ∷ windows_in (records xs (drop (length own) (own ++ ts)))) (copies_dropped (length own) n ns)
+    ∙ ap (λ xs. (n, t ∷ own) ∷ windows_in (records ns xs)) (own_dropped own ts)
+
+-- windows that are apart are those of their numbered tuples
+pub trained_is : (ws : List TrainingWindow) → IsApart ws → trained (numbers_in ws) (tuples_in ws) ≡ given_in ws
+trained_is [] h = refl
+trained_is (w ∷ ws) h =
+    one_window w.number w.tuples (numbers_in ws) (tuples_in ws) h.0 (as_many ws) (numbers_above w.number ws h.1.0) (never_fall ws h.1.1) ∙ ap (λ xs. window_in w ∷ xs) (trained_is ws h.1.1)
+
+given_above : (last : ℕ) (ws : List TrainingWindow) → AllByRecursion (λ (v : TrainingWindow). last < v.number) ws → IsApart ws → AreRising (Some last) (given_in ws)
+given_above last [] above h = tt
+given_above last (w ∷ ws) above h = (above.0, given_above w.number ws h.1.0 h.1.1)
+
+-- their numbers rise
+pub given_rise : (ws : List TrainingWindow) → IsApart ws → AreRising None (given_in ws)
+given_rise [] h = tt
+given_rise (w ∷ ws) h = (tt, given_above w.number ws h.1.0 h.1.1)
+
+-- the windows from a place on
+pub window_at : (ws : List TrainingWindow) (i : ℕ) (w d : TrainingWindow) → i < length ws → w ≡ get_or ws i d → drop i ws ≡ w ∷ drop (i + 1) ws
+window_at ws i w d some is = let next : suc i ≡ i + 1 = omega arith in drop-cons ws i d some ∙ ap (λ (v : TrainingWindow). v ∷ drop (suc i) ws) (sym is) ∙ ap (λ n. w ∷ drop n ws) next

@@ -1,4 +1,3 @@
 pub mod Entries
 pub mod Adding
-pub mod Runs
 pub mod Training

@@ -7,6 +7,5 @@ pub mod build;
 mod front;
 mod fronts;
 mod rows;
-mod run;
 mod train;
 mod window;

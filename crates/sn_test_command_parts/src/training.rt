@@ -4,7 +4,7 @@ use sn_command::desk::Desk;
 use sn_command::fault::Fault;
 use sn_command::refusal::Refusal;
 use sn_command_training::read::read_training;
-use sn_command_training::training::Training;
+use sn_cost_training::training::Training;
 use sn_fields::field::Field;
 use sn_io::mem_inputs::MemInputs;
 use sn_io::mem_sink::MemSink;
@@ -19,16 +19,39 @@ fn record(micros: u32) -> [u8; 16] {
     [1, 0, 0, 0, a, b, c, d, 0, 0, 0, 0, 60, 0, 0, 0]
 }
 
-/// What this capture, in windows of a second, is trained on.
-fn trained(alloc: Global, file: Vec<u8>) -> Result<Result<Training, Refusal>, Fail> {
+/// What this capture, in windows of a second, is trained on, where the read of this number fails.
+fn trained_but(
+    alloc: Global,
+    file: Vec<u8>,
+    fails: Option<u64>,
+) -> Result<Result<Training, Refusal>, Fail> {
     let mut files = MemInputs::new(alloc);
     files.put("t", Seq::from_vec(file))?;
+    if let Some(call) = fails {
+        files.fail_at(call)?;
+    }
     let mut out = MemSink::new(alloc, 100)?;
     let mut desk = Desk {
         files: &mut files,
         out: &mut out,
     };
     Ok(read_training(alloc, &mut desk, "t", 1_000_000_000))
+}
+
+/// What this capture, in windows of a second, is trained on.
+fn trained(alloc: Global, file: Vec<u8>) -> Result<Result<Training, Refusal>, Fail> {
+    trained_but(alloc, file, None)
+}
+
+/// For each tuple the number of its window.
+fn numbers(alloc: Global, training: &Training) -> Result<Vec<u64>, Fail> {
+    let mut numbers = Vec::new(alloc);
+    for window in training.windows() {
+        for _ in window.tuples.as_slice() {
+            numbers.push(window.number)?;
+        }
+    }
+    Ok(numbers)
 }
 
 /// A capture of records at 0, 1500000 and 200000 microseconds.
@@ -45,10 +68,11 @@ fn numbers_the_windows_of_a_training_capture(rt: HostRuntime) -> Result<(), Fail
     let alloc = rt.alloc();
     match trained(alloc, three_records(alloc)?)? {
         Ok(training) => {
-            assert_eq!(rt; training.numbers.as_slice(), [0, 1, 1].as_slice());
-            assert_eq!(rt; training.tuples.as_slice().len(), 3);
-            for tuple in training.tuples.as_slice() {
-                assert_eq!(rt; tuple.get(Field::PacketLength), 60);
+            assert_eq!(rt; numbers(alloc, &training)?.as_slice(), [0, 1, 1].as_slice());
+            for window in training.windows() {
+                for tuple in window.tuples.as_slice() {
+                    assert_eq!(rt; tuple.get(Field::PacketLength), 60);
+                }
             }
         }
         Err(_) => assert!(rt; false),
@@ -62,11 +86,11 @@ fn takes_the_whole_records_of_a_damaged_training_capture(rt: HostRuntime) -> Res
     let mut cut = three_records(alloc)?;
     cut.truncate(71);
     match trained(alloc, cut)? {
-        Ok(training) => assert_eq!(rt; training.numbers.as_slice(), [0, 1].as_slice()),
+        Ok(training) => assert_eq!(rt; numbers(alloc, &training)?.as_slice(), [0, 1].as_slice()),
         Err(_) => assert!(rt; false),
     }
     match trained(alloc, Vec::from_slice(alloc, &HEADER)?)? {
-        Ok(training) => assert_eq!(rt; training.numbers.as_slice().len(), 0),
+        Ok(training) => assert_eq!(rt; training.windows().len(), 0),
         Err(_) => assert!(rt; false),
     }
     Ok(())
@@ -88,7 +112,7 @@ fn refuses_a_header_and_too_many_records(rt: HostRuntime) -> Result<(), Fail> {
         file.extend_from_slice(&record(0))?;
     }
     match trained(alloc, Vec::from_slice(alloc, file.as_slice())?)? {
-        Ok(training) => assert_eq!(rt; training.numbers.as_slice().len(), 4_194_304),
+        Ok(training) => assert_eq!(rt; numbers(alloc, &training)?.len(), 4_194_304),
         Err(_) => assert!(rt; false),
     }
     file.extend_from_slice(&record(0))?;
@@ -98,5 +122,46 @@ fn refuses_a_header_and_too_many_records(rt: HostRuntime) -> Result<(), Fail> {
             Err(Refusal::Refused(Fault::TooLarge))
         )
     );
+    Ok(())
+}
+
+/// A capture of records of 60 bytes, each captured whole, the first of them at 0 and each a millisecond after the one before.
+fn many_records(alloc: Global, count: u32) -> Result<Vec<u8>, Fail> {
+    let mut file = Vec::from_slice(alloc, &HEADER)?;
+    for number in 0..count {
+        let [a, b, c, d] = (number * 1000).to_le_bytes();
+        file.extend_from_slice(&[0, 0, 0, 0, a, b, c, d, 60, 0, 0, 0, 60, 0, 0, 0])?;
+        file.extend_from_slice(&[0; 60])?;
+    }
+    Ok(file)
+}
+
+#[test]
+fn records_go_on_from_one_read_to_the_next(rt: HostRuntime) -> Result<(), Fail> {
+    let alloc = rt.alloc();
+    match trained(alloc, many_records(alloc, 3000)?)? {
+        Ok(training) => {
+            assert_eq!(rt; training.windows().len(), 3);
+            for window in training.windows() {
+                assert_eq!(rt; window.tuples.as_slice().len(), 1000);
+            }
+        }
+        Err(_) => assert!(rt; false),
+    }
+    Ok(())
+}
+
+#[test]
+fn a_training_capture_is_read_to_its_end(rt: HostRuntime) -> Result<(), Fail> {
+    let alloc = rt.alloc();
+    let mut other_link = many_records(alloc, 3000)?;
+    other_link[20] = 105;
+    let mut damaged = many_records(alloc, 3000)?;
+    damaged[24 + 8 + 3] = 1;
+    for file in [other_link, damaged] {
+        let whole = trained(alloc, Vec::from_slice(alloc, file.as_slice())?)?;
+        assert!(rt; !matches!(whole, Err(Refusal::ReadFault)));
+        assert!(rt; matches!(trained_but(alloc, file, Some(3))?, Err(Refusal::ReadFault)));
+    }
     Ok(())
 }

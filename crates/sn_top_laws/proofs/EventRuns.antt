@@ -27,7 +27,7 @@ use Rattle.sn_command_texts.proofs.Verdicts.{one_queries, one_switch}
 use Rattle.sn_command_texts.specs.Queries.{QueriesIn}
 use Rattle.sn_command_texts.specs.Texts.{SwitchIn}
 use Rattle.sn_command_training.specs.Training.{TrainingIn}
-use Rattle.sn_command_training.specs.declared.training.Training.{Training}
+use Rattle.sn_cost_training.specs.Trained.{Training}
 use Rattle.sn_command_training.proofs.TrainingLemmas.{one_training}
 use Rattle.sn_io.specs.Counts.{ByName}
 use Rattle.sn_pcap.specs.declared.header.Header.{Header}

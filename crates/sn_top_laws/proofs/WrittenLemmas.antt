@@ -37,7 +37,7 @@ use Rattle.sn_command_texts.proofs.Accepted.{read_ok, switch_limits, typed_in}
 use Rattle.sn_command_texts.proofs.Verdicts.{switch_once}
 use Rattle.sn_command_training.specs.Training.{IsInOrder, JudgedAs, TrainingIn, judged_records, training_of}
 use Rattle.sn_command_training.proofs.TrainingLemmas.{as_ordered}
-use Rattle.sn_command_training.specs.declared.training.Training.{Training}
+use Rattle.sn_cost_training.specs.Trained.{Training}
 use Rattle.sn_cost.specs.Training.{NeverFall}
 use Rattle.sn_cost_laws.specs.Sent.{cost_over, installed_over}
 use Rattle.sn_cost_laws.specs.Space.{trained_plans}

@@ -1,4 +1,5 @@
-use Rattle.std.proofs.Common.{◌≡◌, ℕ, List, Ok, Err, length, replicate, ap, sym, subst, ◌∙◌}
+use Rattle.std.proofs.Common.{◌≡◌, Ok, Err, ap, sym, subst, ◌∙◌}
+use Rattle.sn_cost_training.specs.Trained.{Training, none, with_window}
 use Rattle.sn_command_replan.proofs.PlannedLemmas.{in_order, planned_is}
 use Rattle.sn_command_search.specs.Certificates.{SearchedIn}
 use Rattle.sn_command_training.specs.Training.{IsInOrder}
@@ -7,21 +8,21 @@ use Rattle.sn_command_replan.proofs.planned.planned.Goals as goal
 
 pub search-requires-clause-order : goal.search-requires-clause-order
 search-requires-clause-order c =
-    let numbers_are : c.in_ok-numbers.numbers ≡ replicate (length c.args.tuples) c.args.number = c.in_ok-numbers.ensures ∙ ap (λ (ts : List (List ℕ)). replicate (length ts) c.args.number) c.as_slice.ensures in
-    subst (λ (ns : List ℕ). IsInOrder (record { tuples = c.args.tuples; numbers = ns })) (sym numbers_are) (in_order c.args.number c.args.tuples c.requires.few)
+    let training_is : c.add.new.self ≡ with_window none c.args.number c.args.tuples = c.in_ok-add.ensures.ok ∙ ap (λ (t : Training). with_window t c.args.number c.args.tuples) c.new-training.ensures in
+    subst IsInOrder (sym training_is) (in_order c.args.number c.args.tuples c.requires.few)
 
 pub returns-in-Ok-clause-verdict : goal.returns-in-Ok-clause-verdict
 returns-in-Ok-clause-verdict c =
     let s = c.args.limits.now in
     let queries = c.args.typed.now.queries in
-    let numbers_are : c.in_ok-numbers.numbers ≡ replicate (length c.args.tuples) c.args.number = c.in_ok-numbers.ensures ∙ ap (λ (ts : List (List ℕ)). replicate (length ts) c.args.number) c.as_slice.ensures in
+    let training_is : c.add.new.self ≡ with_window none c.args.number c.args.tuples = c.in_ok-add.ensures.ok ∙ ap (λ (t : Training). with_window t c.args.number c.args.tuples) c.new-training.ensures in
     planned_is s queries c.args.nodes c.args.number c.args.tuples c.requires.some (Ok c.in-Ok.certificate)
-    (subst (λ (ns : List ℕ). SearchedIn s queries (trained ns c.args.tuples) c.args.nodes (Ok c.in-Ok.certificate)) numbers_are c.in-Ok.ensures.searched)
+    (subst (λ (t : Training). SearchedIn s queries (trained t.numbers t.tuples) c.args.nodes (Ok c.in-Ok.certificate)) training_is c.in-Ok.ensures.searched)
 
 pub returns-in-Err-Refused-clause-verdict : goal.returns-in-Err-Refused-clause-verdict
 returns-in-Err-Refused-clause-verdict c =
     let s = c.args.limits.now in
     let queries = c.args.typed.now.queries in
-    let numbers_are : c.in_ok-numbers.numbers ≡ replicate (length c.args.tuples) c.args.number = c.in_ok-numbers.ensures ∙ ap (λ (ts : List (List ℕ)). replicate (length ts) c.args.number) c.as_slice.ensures in
+    let training_is : c.add.new.self ≡ with_window none c.args.number c.args.tuples = c.in_ok-add.ensures.ok ∙ ap (λ (t : Training). with_window t c.args.number c.args.tuples) c.new-training.ensures in
     planned_is s queries c.args.nodes c.args.number c.args.tuples c.requires.some (Err c.in-Err-Refused.fault)
-    (subst (λ (ns : List ℕ). SearchedIn s queries (trained ns c.args.tuples) c.args.nodes (Err c.in-Err-Refused.fault)) numbers_are (rw c.in-Err-Refused.field-0-is at c.in-Err-Refused.ensures).searched)
+    (subst (λ (t : Training). SearchedIn s queries (trained t.numbers t.tuples) c.args.nodes (Err c.in-Err-Refused.fault)) training_is (rw c.in-Err-Refused.field-0-is at c.in-Err-Refused.ensures).searched)

@@ -11,17 +11,17 @@ add_query-requires-clause-places c =
 pub add_query-requires-clause-fresh : goal.add_query-requires-clause-fresh
 add_query-requires-clause-fresh c =
     let a = c.args in
-    query_fresh a.s.now a.t.now.queries (trained a.numbers.now a.tuples.now) c.loop-q.table c.loop-q.q (omega (arith, c.loop-q-test.true, c.queries-q-end.ensures)) c.loop-q.invariant
+    query_fresh a.s.now a.t.now.queries (trained a.training.now.numbers a.training.now.tuples) c.loop-q.table c.loop-q.q (omega (arith, c.loop-q-test.true, c.queries-q-end.ensures)) c.loop-q.invariant
 
 pub loop-q-init : goal.loop-q-init
 loop-q-init c =
     let a = c.args in
-    none_built a.s.now a.t.now.queries (trained a.numbers.now a.tuples.now) c.in_ok-table.table c.in_ok-table.ensures.places c.in_ok-table.ensures.zero
+    none_built a.s.now a.t.now.queries (trained a.training.now.numbers a.training.now.tuples) c.in_ok-table.table c.in_ok-table.ensures.places c.in_ok-table.ensures.zero
 
 pub loop-q-preserved : goal.loop-q-preserved
 loop-q-preserved c =
     let a = c.args in
-    next_built a.s.now a.t.now.queries (trained a.numbers.now a.tuples.now) c.loop-q.table c.add_query.new.table c.loop-q.q c.loop-q.invariant c.in_ok-add_query.ensures
+    next_built a.s.now a.t.now.queries (trained a.training.now.numbers a.training.now.tuples) c.loop-q.table c.add_query.new.table c.loop-q.q c.loop-q.invariant c.in_ok-add_query.ensures
 
 pub returns-clause-places : goal.returns-clause-places
 returns-clause-places c = c.loop-q.invariant.places
@@ -30,4 +30,4 @@ pub returns-clause-entries : goal.returns-clause-entries
 returns-clause-entries c =
     let a = c.args in
     let t = a.t.now in
-    all_built a.s.now t.queries (trained a.numbers.now a.tuples.now) t.window_us c.loop-q.q c.loop-q.table t.typed c.requires.switch (omega (arith, c.loop-q-test.false, c.queries-q-end.ensures)) c.loop-q.invariant
+    all_built a.s.now t.queries (trained a.training.now.numbers a.training.now.tuples) t.window_us c.loop-q.q c.loop-q.table t.typed c.requires.switch (omega (arith, c.loop-q-test.false, c.queries-q-end.ensures)) c.loop-q.invariant

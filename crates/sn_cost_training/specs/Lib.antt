@@ -1,0 +1,2 @@
+pub mod Trained
+pub mod Windows
