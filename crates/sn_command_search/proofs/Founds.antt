@@ -1,5 +1,5 @@
 -- What is found by a cost table of training windows is what is found by what plans cost over them.
-use Rattle.std.proofs.Common.{◌≡◌, ℕ, ◌≤◌, List, [], ◌∷◌, refl, sym, ◌∙◌, subst, arith}
+use Rattle.std.proofs.Common.{◌≡◌, ℕ, ◌≤◌, List, refl, sym, ◌∙◌, subst}
 use Rattle.sn_tree.specs.Alike.{AreAlike}
 use Rattle.sn_tree.proofs.AlikePlans.{cost_alike, first_least_alike}
 use Rattle.sn_tree.proofs.AlikeTrees.{budget_alike, tree_alike}
