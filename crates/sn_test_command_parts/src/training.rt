@@ -23,12 +23,12 @@ fn record(micros: u32) -> [u8; 16] {
 fn trained_but(
     alloc: Global,
     file: Vec<u8>,
-    fails: Option<u64>,
+    fails: Option<u32>,
 ) -> Result<Result<Training, Refusal>, Fail> {
     let mut files = MemInputs::new(alloc);
     files.put("t", Seq::from_vec(file))?;
     if let Some(call) = fails {
-        files.fail_at(call)?;
+        files.fail_at(u64::from(call))?;
     }
     let mut out = MemSink::new(alloc, 100)?;
     let mut desk = Desk {
@@ -129,7 +129,7 @@ fn refuses_a_header_and_too_many_records(rt: HostRuntime) -> Result<(), Fail> {
 fn many_records(alloc: Global, count: u32) -> Result<Vec<u8>, Fail> {
     let mut file = Vec::from_slice(alloc, &HEADER)?;
     for number in 0..count {
-        let [a, b, c, d] = (number * 1000).to_le_bytes();
+        let [a, b, c, d] = number.wrapping_mul(1000).to_le_bytes();
         file.extend_from_slice(&[0, 0, 0, 0, a, b, c, d, 60, 0, 0, 0, 60, 0, 0, 0])?;
         file.extend_from_slice(&[0; 60])?;
     }
@@ -151,13 +151,20 @@ fn records_go_on_from_one_read_to_the_next(rt: HostRuntime) -> Result<(), Fail> 
     Ok(())
 }
 
+/// Writes a byte of a file.
+fn put_byte(file: &mut Vec<u8>, place: usize, byte: u8) {
+    if let Some(held) = file.get_mut(place) {
+        *held = byte;
+    }
+}
+
 #[test]
 fn a_training_capture_is_read_to_its_end(rt: HostRuntime) -> Result<(), Fail> {
     let alloc = rt.alloc();
     let mut other_link = many_records(alloc, 3000)?;
-    other_link[20] = 105;
+    put_byte(&mut other_link, 20, 105);
     let mut damaged = many_records(alloc, 3000)?;
-    damaged[24 + 8 + 3] = 1;
+    put_byte(&mut damaged, 24 + 8 + 3, 1);
     for file in [other_link, damaged] {
         let whole = trained(alloc, Vec::from_slice(alloc, file.as_slice())?)?;
         assert!(rt; !matches!(whole, Err(Refusal::ReadFault)));
