@@ -3,7 +3,9 @@ use Rattle.std.proofs.Common.{◌≡◌, ℕ, zero, suc, ◌+◌, ◌≤◌, ◌
 use Rattle.std.specs.Prelude.{◌*◌, unwrap_or}
 use Rattle.std.specs.List.{AllByRecursion, flat_map}
 use Rattle.std.proofs.lemmas.Bool.{le-ltb, ltb-false}
+use Rattle.std.proofs.lemmas.List.{length-map}
 use Rattle.sn_base.proofs.Lists.{by_test, some_same}
+use Rattle.sn_base.specs.declared.link.Link.{Link}
 use Rattle.sn_command.specs.declared.fault.Fault.{Fault}
 use Rattle.sn_command.specs.declared.fault.Fault.TheVariants as faults
 use Rattle.sn_command.specs.declared.refusal.Refusal.{Refusal}
@@ -11,7 +13,7 @@ use Rattle.sn_command.specs.declared.refusal.Refusal.TheVariants.{Refused}
 use Rattle.sn_command.specs.Outcomes.{Outcome, Stage, silent}
 use Rattle.sn_command.specs.Refusals.{refusing}
 use Rattle.sn_command.specs.Stages.{Bytes, Does, Gives, GoesOn, Judges, Text, Then, most_text, within_limit}
-use Rattle.sn_command_capture.specs.Capture.{ending_verdict}
+use Rattle.sn_command_capture.specs.Capture.{ending_verdict, packet_tuple, time_of}
 use Rattle.sn_windows.specs.Rising.{Window}
 use Rattle.sn_command_check.specs.Check.{Check}
 use Rattle.sn_command_check.specs.PlanTrees.{PlanBefore, TreeBehind}
@@ -26,7 +28,6 @@ use Rattle.sn_command_live.proofs.TrainLemmas.{TrainedSo, training_so}
 use Rattle.sn_command_run.specs.Planned.{Planned, as_they_are, emitted_at, emitted_in, plan_block, plan_lines, plan_wording}
 use Rattle.sn_command_run.specs.Run.{Run, planned, window_ns}
 use Rattle.sn_command_run.proofs.RunLemmas.{one_run}
-use Rattle.sn_command_search.proofs.Founds.{never_fall}
 use Rattle.sn_command_search.specs.Certificates.{IsCertificate, SearchedIn, certificate_text}
 use Rattle.sn_command_search.specs.Shown.{ShowsLeast}
 use Rattle.sn_command_search.specs.declared.certificate.Certificate.{Certificate}
@@ -36,7 +37,8 @@ use Rattle.sn_command_texts.specs.Texts.{PlanIn, SwitchIn}
 use Rattle.sn_command_texts.proofs.Accepted.{read_ok, switch_limits, typed_in}
 use Rattle.sn_command_texts.proofs.Verdicts.{switch_once}
 use Rattle.sn_command_training.specs.Training.{IsInOrder, JudgedAs, TrainingIn, judged_records, training_of}
-use Rattle.sn_command_training.proofs.TrainingLemmas.{as_ordered}
+use Rattle.sn_command_training.specs.Training as trainings
+use Rattle.sn_command_training.proofs.NumberLemmas.{as_many_numbers, numbers_never_fall}
 use Rattle.sn_cost_training.specs.Trained.{Training}
 use Rattle.sn_cost.specs.Training.{NeverFall}
 use Rattle.sn_cost_laws.specs.Sent.{cost_over, installed_over}
@@ -116,14 +118,32 @@ bytes_given most name files bytes has =
 training_is : {a b : Training} → ◌≡◌ {A = Result Training Fault} (Ok a) (Ok b) → a ≡ b
 training_is e = cc
 
+-- numbers of which none is below the one before it are below none after them
+all_from : (n m : ℕ) (ns : List ℕ) → n ≤ m → AllByRecursion (λ k. m ≤ k) ns → AllByRecursion (λ k. n ≤ k) ns
+all_from n m [] le h = tt
+all_from n m (k ∷ ns) le h = (let low = h.0 in omega arith, all_from n m ns le h.1)
+
+never_fall : (ns : List ℕ) → trainings.NeverFall ns → NeverFall ns
+never_fall [] h = tt
+never_fall (n ∷ []) h = (tt, tt)
+never_fall (n ∷ m ∷ ns) h = let rest = never_fall (m ∷ ns) h.1 in ((h.0, all_from n m ns h.0 rest.0), rest)
+
 module _ (window : ℕ) (file : List ℕ) (training : Training) where
+  -- the training of packets is in order
+  in_order : (link : Link) (packets : List Packet) → length packets ≤ most_records → IsInOrder (training_of window link file packets)
+  in_order link packets few = record {
+    alike = as_many_numbers time_of window packets ∙ sym (length-map packets (packet_tuple link file));
+    most = rw (length-map packets (packet_tuple link file)) few;
+    rising = numbers_never_fall time_of window packets;
+  }
+
   records_ordered : (header : Header) (packets : List Packet) → Ok training ≡ judged_records window header.link file packets → IsInOrder training
   records_ordered header packets e =
       by_test (nat_lt most_records (length packets))
       (λ is. absurd (let no = e ∙ ap (λ b. cond b (Err faults.TooLarge) (Ok (training_of window header.link file packets))) is in cc))
       (λ isnt.
       let same : training ≡ training_of window header.link file packets = training_is (e ∙ ap (λ b. cond b (Err faults.TooLarge) (Ok (training_of window header.link file packets))) isnt) in
-      as_ordered window file header.link packets training.tuples training.numbers (ap (λ (t : Training). t.tuples) same) (ap (λ (t : Training). t.numbers) same) (ltb-false most_records (length packets) isnt))
+      subst IsInOrder (sym same) (in_order header.link packets (ltb-false most_records (length packets) isnt)))
 
   training_ordered : TrainingIn window file (Ok training) → IsInOrder training
   training_ordered is = by_head (head_of file) is
