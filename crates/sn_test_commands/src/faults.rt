@@ -386,12 +386,12 @@ fn answers_reports_of_which_any_bit_is_another(rt: HostRuntime) -> Result<(), Fa
 const BLOCK: &str = "window 0 emitted 2\nquery q level 0 rows 1\n10.0.0.9 2\n";
 
 /// `finish` over the reports, of which the read of this number fails.
-fn finish_with_a_failed_read(alloc: Global, number: u64) -> Result<Ran, Fail> {
+fn finish_with_a_failed_read(alloc: Global, number: u32) -> Result<Ran, Fail> {
     let mut files = MemInputs::new(alloc);
     files.put("q", file_of(alloc, SPREAD.as_bytes())?)?;
     files.put("p", file_of(alloc, SPREAD_PLAN.as_bytes())?)?;
     files.put("r", file_of(alloc, &REPORTS)?)?;
-    files.fail_at(number)?;
+    files.fail_at(u64::from(number))?;
     let out = MemSink::new(alloc, 1000)?;
     call(alloc, "finish q p r", &mut files, out)
 }
