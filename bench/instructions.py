@@ -100,7 +100,7 @@ def main():
         if given.several:
             several(given, folder)
             return 0
-        baseline = None if given.queries else run.build('baseline', folder, '-lpcap')
+        baseline, engine = (None, None) if given.queries else (run.build(name, folder, '-lpcap') for name in ('baseline', 'engine'))
         for kind in ('few', 'many'):
             capture = run.generate(kind, given.packets, given.number, folder)
             for queries in given.queries or [run.QUERIES]:
@@ -111,6 +111,8 @@ def main():
             if baseline:
                 theirs = counted([baseline, capture], folder) / given.packets
                 print('%s: C %.0f instructions a packet, ratio %.2f' % (kind, theirs, ours / theirs))
+                engines = counted([engine, run.QUERIES, capture], folder) / given.packets
+                print('%s: the C engine %.0f instructions a packet, ratio %.2f' % (kind, engines, ours / engines))
     return 0
 
 

@@ -2,7 +2,9 @@
 """Measures `sonata plain` with the queries of three.query against a program in C over libpcap, and against a bare count by tcpdump.
 
 Builds the C program, generates two captures into a temporary folder, runs all on both, and prints whether the answers are equal, the processor
-time (user and system), packets a second, peak memory, and the ratios. Nothing is left behind but with --keep. Needs a C compiler and libpcap-dev."""
+time (user and system), packets a second, peak memory, and the ratios. An engine in C, which reads the queries when it runs and whose tables are seeded, is
+measured as well: what it takes more than the C program is what that program has by its queries being compiled in. Nothing is left behind but with --keep. Needs
+a C compiler and libpcap-dev."""
 
 import argparse
 import os
@@ -94,14 +96,15 @@ def line(label, one, packets):
 def capture_figures(kind, given, programs, folder):
     """Measure all programs on one generated capture. True where the answers are equal."""
     capture = generate(kind, given.packets, given.number, folder)
-    outs = {label: os.path.join(folder, '%s.%s' % (kind, label)) for label in ('sonata', 'C', 'tcpdump')}
     words = {'sonata': [programs['sonata'], 'plain', QUERIES, capture], 'C': [programs['C'], capture],
-             'tcpdump': ['tcpdump', '-r', capture, '--count']}
+             'C engine': [programs['C engine'], QUERIES, capture], 'tcpdump': ['tcpdump', '-r', capture, '--count']}
+    outs = {label: os.path.join(folder, '%s.%s' % (kind, label.replace(' ', '-'))) for label in words}
     if not shutil.which('tcpdump'):
         del words['tcpdump']
     read_once(capture)
     found = measure(programs['measure'], words, outs, given.runs)
-    equal = bytes_of(outs['sonata']) == bytes_of(outs['C']) and found['sonata'].status == found['C'].status == 0
+    answering = ('sonata', 'C', 'C engine')
+    equal = len({bytes_of(outs[label]) for label in answering}) == 1 and not any(found[label].status for label in answering)
     size = os.path.getsize(capture)
     print('%s: %d packets, %.1f MB, answers %s' % (kind, given.packets, size / 1e6, 'equal' if equal else 'DIFFER'))
     for label, one in found.items():
@@ -117,6 +120,8 @@ def ratios(found, size):
     for label in found:
         if label != 'sonata' and found[label].seconds:
             print('  processor time over %s: %.2f' % (label, ours.seconds / found[label].seconds))
+    if found['C'].seconds:
+        print('  processor time of the C engine over C: %.2f' % (found['C engine'].seconds / found['C'].seconds))
     print('  peak memory over the capture\'s bytes: %.2f; over the C program\'s peak: %.2f' % (ours.peak_bytes / size, ours.peak_bytes / found['C'].peak_bytes))
 
 
@@ -158,7 +163,7 @@ def main():
     given = words_given()
 
     def figures(measurer, folder):
-        programs = {'sonata': given.sonata, 'C': build('baseline', folder, '-lpcap'), 'measure': measurer}
+        programs = {'sonata': given.sonata, 'C': build('baseline', folder, '-lpcap'), 'C engine': build('engine', folder, '-lpcap'), 'measure': measurer}
         return [capture_figures(kind, given, programs, folder) for kind in given.kinds]
 
     return measured(given, figures, given.keep)
