@@ -4,10 +4,10 @@ ghost use Rattle.sn_command_captures.specs.Counted.{share_if_few};
 ghost use Rattle.sn_command_captures.specs.Walks.{recorded};
 ghost use Rattle.sn_command_captures.specs.Windows.{first_time};
 
-use crate::record::record_at;
 use crate::share::Share;
 use sn_base::seq::Seq;
 use sn_pcap::header::{HEADER_BYTES, Header};
+use sn_pcap::packet::record_at;
 use std::marker::Model;
 
 /// A capture that was read whole: its header and its bytes. No list of its records is kept, since each is found again in the bytes. Contracts

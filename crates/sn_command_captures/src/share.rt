@@ -9,11 +9,11 @@ ghost use Rattle.sn_windows.specs.Numbering.{begun_at};
 ghost use Rattle.sn_windows.specs.NumberingOf.{numbering};
 ghost use Rattle.sn_windows_together.specs.Merging.{head_number, lesser, next_in};
 
-use crate::record::{ending_from, record_at};
+use crate::record::ending_from;
 use sn_base::seq::Seq;
 use sn_fields::tuple::{Tuple, tuple_of};
 use sn_pcap::header::{HEADER_BYTES, Header};
-use sn_pcap::packet::{Ending, Packet, RECORD_BYTES};
+use sn_pcap::packet::{Ending, Packet, RECORD_BYTES, record_at};
 use sn_windows::windows::{MOST_RECORDS, Windows};
 use std::marker::Model;
 

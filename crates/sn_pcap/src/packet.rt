@@ -54,7 +54,7 @@ impl Packet {
 }
 
 /// The packet of the record at an offset, or how the records end there.
-fn record_at(head: &Header, file: &[u8], at: usize) -> Result<Packet, Ending>
+pub fn record_at(head: &Header, file: &[u8], at: usize) -> Result<Packet, Ending>
     ensures packet { IfOk result (λ packet. packet ≡ packet_at head.now file.now at) }
     ensures whole { IfOk result (λ packet. HasRecord head.now file.now at) }
     ensures ending { IfErr result (λ ending. Records head.now file.now at [] ending) }

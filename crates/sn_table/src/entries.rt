@@ -101,6 +101,19 @@ pub(crate) fn put<R: AnyRow>(
     Ok(true)
 }
 
+/// Makes room for more keys, where they are numbers.
+pub(crate) fn reserve<R: AnyRow>(held: &mut Entries<R>, more: usize) -> Result<(), Memory>
+    requires { IsSound R.Number.limit held.old }
+    ensures sound { IsSound R.Number.limit held.new }
+    ensures entries { entries_of R.columns held.new ≡ entries_of R.columns held.old }
+{
+    match held {
+        Entries::Narrow(_, numbers) => numbers.reserve(more)?,
+        Entries::Wide(_) => {}
+    }
+    Ok(())
+}
+
 /// Adds a value to the fold of the key that stands at these places of a row, where keys are numbers and that of this key is
 /// built straight from the row. Says whether it is: else nothing changes.
 pub(crate) fn put_at<R: AnyRow>(

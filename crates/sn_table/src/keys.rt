@@ -47,6 +47,7 @@ fn insert_row<R: AnyRow>(rows: &mut IndexSet<R, Seed>, row: &R) -> Result<(usize
 
 /// Adds a row, where it can be held as the others are. Gives its place, and says whether it is new. `None` where it can't:
 /// then nothing changes.
+#[inline(always)]
 pub(crate) fn put<R: AnyRow>(held: &mut Keys<R>, row: &R) -> Result<Option<(usize, bool)>, Memory>
     requires { IsSound R.Number.limit held.old }
     ensures sound { IsSound R.Number.limit held.new }
@@ -69,6 +70,19 @@ pub(crate) fn put<R: AnyRow>(held: &mut Keys<R>, row: &R) -> Result<Option<(usiz
         }
         Keys::Wide(rows) => Ok(Some(insert_row(rows, row)?)),
     }
+}
+
+/// Makes room for more rows, where they are held as numbers.
+pub(crate) fn reserve<R: AnyRow>(held: &mut Keys<R>, more: usize) -> Result<(), Memory>
+    requires { IsSound R.Number.limit held.old }
+    ensures sound { IsSound R.Number.limit held.new }
+    ensures keys { keys_of R.columns held.new ≡ keys_of R.columns held.old }
+{
+    match held {
+        Keys::Narrow(_, numbers) => numbers.reserve(more)?,
+        Keys::Wide(_) => {}
+    }
+    Ok(())
 }
 
 /// The rows as they are.

@@ -6,7 +6,7 @@ ghost use Rattle.indexmap.specs.IndexMap.{insert_entry};
 ghost use Rattle.sn_base.specs.AnyFold.{any_has, any_step, any_unit};
 ghost use Rattle.sn_base.specs.Groups.{columns_at, same_row};
 
-use crate::entries::{Entries, count, put, put_at, read, widen};
+use crate::entries::{Entries, count, put, put_at, read, reserve, widen};
 use indexmap::IndexMap;
 use sn_base::any_fold::AnyFold;
 use sn_base::any_row::AnyRow;
@@ -22,6 +22,8 @@ use std::marker::Model;
 #[derive(Drop)]
 pub struct Table<R: AnyRow> {
     held: Entries<R>,
+    /// How many keys are expected, until room is made for them.
+    expected: usize,
 }
 
 impl<R: AnyRow> Model for Table<R> {
@@ -57,7 +59,25 @@ impl<R: AnyRow> Table<R> {
     {
         Table {
             held: Entries::Narrow(0, IndexMap::with_hasher(alloc, seed)),
+            expected: 0,
         }
+    }
+
+    /// Tells how many keys will come, so that with the first of them that `add_at` adds room is made for all. No answer depends on it.
+    pub fn expect(&mut self, keys: usize)
+        ensures { self.new ≡ self.old }
+    {
+        self.expected = keys;
+    }
+
+    /// Makes room for the keys that are expected.
+    #[inline(never)]
+    fn make_room(&mut self) -> Result<(), Memory>
+        ensures { self.new ≡ self.old }
+    {
+        reserve(&mut self.held, self.expected)?;
+        self.expected = 0;
+        Ok(())
     }
 
     /// Adds a value to its key's fold. The key is looked up once. An `Err` changes nothing.
@@ -95,6 +115,9 @@ impl<R: AnyRow> Table<R> {
             (any_step fold (unwrap_or (lookup (same_row key) self.old.entries) (any_unit fold)) value)) }
         ensures err { OnErr result (self.new.entries ≡ self.old.entries) }
     {
+        if self.expected > 0 {
+            self.make_room()?;
+        }
         if put_at(&mut self.held, fold, row, places, value)? {
             return Ok(());
         }

@@ -16,3 +16,4 @@ pub mod Sound
 pub mod Sources
 pub mod TypedRows
 pub mod WellFormedLemmas
+pub mod WholeLevels

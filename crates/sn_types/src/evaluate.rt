@@ -40,7 +40,9 @@ fn constant_at(level: u32, relaxed: &[Relax], own: u64) -> u64
     }
 }
 
-/// Whether a condition holds at a row. Its constant is the one for this level, or else its own.
+/// Whether a condition holds at a row. Its constant is the one for this level, or else its own. It stands apart from the loop over
+/// conditions, where the compiler would work out for each row what a column might be, whichever is asked for.
+#[inline(never)]
 pub fn cond<C: Columns>(c: &TCond, level: u32, row: &C) -> bool
     requires { c.now.col < length (C.columns row.now) }
     ensures { result ≡ holds level c.now (C.columns row.now) }

@@ -1,8 +1,9 @@
 //! The packet row of a tuple.
-ghost use Rattle.std.specs.Prelude.{◌≡◌, ◌≤◌, ◌<◌, ◌^◌, length, map, IfSome};
+ghost use Rattle.std.specs.Prelude.{◌≡◌, ◌≤◌, ◌<◌, ◌^◌, ℕ, List, length, map, IfSome};
 ghost use Rattle.std.proofs.Props.{props};
 ghost use Rattle.sn_base.specs.Columns.{IsOf};
 ghost use Rattle.sn_fields.specs.Fields.{width_of};
+ghost use Rattle.sn_fields.specs.declared.field.Field.{Field};
 ghost use Rattle.sn_types.specs.Kinds.{AreBelow};
 ghost use Rattle.sn_types.specs.Typed.{is_field, read_at, packet_row};
 ghost use Rattle.sn_types_faults.specs.Columns.{field_column};
@@ -36,6 +37,17 @@ fn read_at<N: Number>(refined: Option<Field>, level: u32, tuple: &Tuple, field: 
         mask(value, field.width(), level)
     } else {
         value
+    }
+}
+
+/// The level, or 0 where it keeps all bits of the refinement field: so nothing is masked, and each column is read as it stands.
+pub(crate) fn masking(refined: Option<Field>, level: u32) -> u32
+    ensures least { result ≤ level }
+    ensures same { (fields : List Field) (tuple : List ℕ) → packet_row refined result fields tuple ≡ packet_row refined level fields tuple }
+{
+    match refined {
+        Some(field) if field.width() == level => 0,
+        _ => level,
     }
 }
 
@@ -79,14 +91,18 @@ pub struct Packets<'a> {
     pub refined: Option<Field>,
     /// The level, to which it is masked.
     pub level: u32,
+    /// The level, or 0, which masks nothing, where the level keeps all bits of the field.
+    pub masking: u32,
     /// The fields of the rows.
     pub fields: &'a [Field],
     ghost few: { length fields.now ≤ 8 },
-    ghost within: { IfSome refined (λ other. level ≤ width_of other) } by { Prim.hlevel props },
+    ghost within: { IfSome refined (λ other. masking ≤ width_of other) } by { Prim.hlevel props },
+    ghost same: { (tuple : List ℕ) → packet_row refined masking fields.now tuple ≡ packet_row refined level fields.now tuple },
 }
 
 impl<'a> Packets<'a> {
     /// The packet row of a tuple, each number of its field's width. No row is made of it.
+    #[inline(always)]
     pub fn row<N: Number>(&self, tuple: &'a Tuple) -> PacketRow<'a, N>
         requires { AreBelow N.limit self.now.fields.now }
         ensures row { result ≡ packet_row self.now.refined self.now.level self.now.fields.now tuple.now }
@@ -95,7 +111,7 @@ impl<'a> Packets<'a> {
         tuple.widths();
         PacketRow {
             refined: self.refined,
-            level: self.level,
+            level: self.masking,
             fields: self.fields,
             tuple,
             number: PhantomData,
@@ -142,6 +158,7 @@ impl<N: Number> Columns for PacketRow<'_, N> {
 
     ghost columns = { λ row. row };
 
+    #[inline(always)]
     fn column(&self, place: u32) -> N {
         read_at(
             self.refined,

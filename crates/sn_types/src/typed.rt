@@ -7,7 +7,7 @@ ghost use Rattle.sn_types.specs.Typed.{IsTyped, query_at, branch_at, operator_at
 
 use crate::copies::copy_queries;
 use crate::kinds::are_wide;
-use crate::packet::{PacketRow, Packets, row_of};
+use crate::packet::{PacketRow, Packets, masking, row_of};
 use crate::typed_op::{JoinKey, TOp};
 use crate::typed_query::{TypedBranch, TypedQuery};
 use sn_base::any_row::AnyRow;
@@ -271,9 +271,11 @@ impl Typed {
         ensures level { result.level ≡ level }
         ensures fields { result.fields.now ≡ (branch_at self.now.queries q b).fields }
     {
+        let refined = self.refine_field(q);
         Packets {
-            refined: self.refine_field(q),
+            refined,
             level,
+            masking: masking(refined, level),
             fields: self.packet_fields(q, b),
         }
     }
