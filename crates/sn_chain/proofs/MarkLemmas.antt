@@ -1,7 +1,7 @@
 -- The marks of the cells that are in use.
-use Rattle.std.proofs.Common.{◌≡◌, ◌≢◌, ℕ, ◌+◌, ◌-◌, ◌*◌, ◌/◌, ◌%◌, ◌^◌, ◌<◌, ◌≤◌, List, length, Option, Some, None, get_or, set, length-set, replicate, inl, inr, ap, sym, ◌∙◌, arith, w64, refl, zero, suc, bit_or}
+use Rattle.std.proofs.Common.{◌≡◌, ◌≢◌, ℕ, ◌+◌, ◌-◌, ◌*◌, ◌/◌, ◌%◌, ◌^◌, ◌<◌, ◌≤◌, List, length, true, false, nat_eq, Option, Some, None, is_none, get_or, set, length-set, replicate, inl, inr, ap, sym, ◌∙◌, arith, w64, refl, zero, suc, bit_or}
 use Rattle.std.specs.Int.{bit_at, div_ceil, trailing_zeros}
-use Rattle.std.proofs.lemmas.Bool.{cases_eq, cases_lt}
+use Rattle.std.proofs.lemmas.Bool.{cases_eq, cases_lt, false≢true, true≢false}
 use Rattle.std.proofs.lemmas.Grind.{div_ceil_times, get_or-set_at}
 use Rattle.std.proofs.lemmas.List.{get_or-set_same, get_or-set_other, get_or_past, get_or-replicate, length-replicate}
 use Rattle.std.proofs.lemmas.Nat.{mul-le, shr-shr}
@@ -170,3 +170,18 @@ module _ {X : Type 0} (words : List ℕ) (cells : List (Option X)) (are : AreMar
 
   pub few_words : (depth slots : ℕ) → length cells ≡ depth * slots → depth ≤ 4 → slots ≤ 65536 → length words * 64 < 2 ^ 32
   few_words depth slots long deep wide = omega (arith, are.level, div_ceil_times (length cells) 64 (omega arith), long, mul-le depth slots 4 65536 deep wide)
+
+  -- a cell that isn't marked is empty, and one that is marked isn't
+  pub empty_unmarked : (p : ℕ) → nat_eq (mark_at words p) 1 ≡ false → is_none (cell cells p) ≡ true
+  empty_unmarked p isnt = by_cell (cell cells p) refl
+    where
+      by_cell : (o : Option X) → cell cells p ≡ o → is_none o ≡ true
+      by_cell None at = refl
+      by_cell (Some x) at = absurd (true≢false (sym (ap (λ n. nat_eq n 1) (are.each p ∙ ap mark_of at)) ∙ isnt))
+
+  pub held_marked : (p : ℕ) → nat_eq (mark_at words p) 1 ≡ true → is_none (cell cells p) ≡ false
+  held_marked p is = by_cell (cell cells p) refl
+    where
+      by_cell : (o : Option X) → cell cells p ≡ o → is_none o ≡ false
+      by_cell (Some x) at = refl
+      by_cell None at = absurd (false≢true (sym (ap (λ n. nat_eq n 1) (are.each p ∙ ap mark_of at)) ∙ is))

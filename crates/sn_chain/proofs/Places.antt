@@ -1,9 +1,8 @@
 -- The places of a key, register by register.
-use Rattle.std.proofs.Common.{zero, nat_eq, ◌||◌, ◌≡◌, ℕ, suc, ◌+◌, ◌-◌, ◌*◌, ◌<◌, ◌≤◌, List, Bool, true, false, cond, Option, Some, None, IfSome, get_or, length, refl, ap, sym, ◌∙◌, arith}
+use Rattle.std.proofs.Common.{zero, nat_eq, ◌||◌, ◌≡◌, ℕ, suc, ◌+◌, ◌-◌, ◌*◌, ◌<◌, ◌≤◌, ◌⊎◌, inl, inr, List, Bool, true, false, cond, Some, None, get_or, length, ap, sym, ◌∙◌, arith}
 use Rattle.std.specs.List.{find, list_any}
-use Rattle.std.specs.Option.{option_or}
-use Rattle.std.proofs.lemmas.Bool.{false≢true}
-use Rattle.std.proofs.lemmas.Nat.{mod_below}
+use Rattle.std.proofs.lemmas.Bool.{cases_eq, false≢true}
+use Rattle.std.proofs.lemmas.Nat.{mod_below, mul-le}
 use Rattle.std.proofs.lemmas.List.{get_or-map}
 use Rattle.sn_base.specs.Groups.{Row}
 use Rattle.sn_base.specs.Slot.{row_hash}
@@ -32,24 +31,6 @@ place_passed t slots register depth key within fails =
     sym (place_first t slots register depth key within
     ∙ ap (λ b. cond b (Some (place_for slots key register)) (find t (places_from slots (register + 1) (depth - (register + 1)) key))) fails)
 
-or_step : (o : Option ℕ) (b : Bool) (p : ℕ) (rest : Option ℕ) → option_or (option_or o (cond b (Some p) None)) rest ≡ option_or o (cond b (Some p) rest)
-or_step None true p rest = refl
-or_step None false p rest = refl
-or_step (Some x) b p rest = refl
-
--- the first place that passes, with one place more
-pub first_so_far : (t : ℕ → Bool) (slots register depth : ℕ) (key : Row) → register < depth → (o : Option ℕ) →
-    option_or (option_or o (cond (t (place_for slots key register)) (Some (place_for slots key register)) None)) (find t (places_from slots (register + 1) (depth - (register + 1)) key))
-    ≡ option_or o (find t (places_from slots register (depth - register) key))
-first_so_far t slots register depth key within o =
-    or_step o (t (place_for slots key register)) (place_for slots key register) (find t (places_from slots (register + 1) (depth - (register + 1)) key))
-    ∙ ap (option_or o) (sym (place_first t slots register depth key within))
-
-pub or_within : (P : ℕ → Type 0) (o : Option ℕ) (b : Bool) (p : ℕ) → IfSome o P → P p → IfSome (option_or o (cond b (Some p) None)) P
-or_within P None true p old new = new
-or_within P None false p old new = tt
-or_within P (Some x) b p old new = old
-
 -- what a cell that was read shows
 pub read_cell : (round : ℕ) (cells : List Cell) (at : ℕ) (x : Cell) → at < length cells → x ≡ get_or cells at x → cell (all_shown_by round cells) at ≡ shown_by round x
 read_cell round cells at x inside is = get_or-map (shown_by round) cells at x None inside ∙ ap (shown_by round) (sym is)
@@ -77,3 +58,40 @@ places_within slots depth key p some (suc count) register room among =
 -- each place of a key is one of the cells
 pub within_cells : (slots depth : ℕ) → 1 ≤ slots → (key : Row) (p : ℕ) → list_any (nat_eq p) (places_of depth slots key) ≡ true → p < depth * slots
 within_cells slots depth some key p among = places_within slots depth key p some depth 0 (omega arith) among
+
+-- ---- the order of a key's places
+
+-- a register's slots begin after those of the registers before it
+begins : (slots low register : ℕ) → low ≤ register → low * slots ≤ register * slots
+begins slots low register h = mul-le low slots register slots h (omega arith)
+
+later_places : (slots count low register : ℕ) (key : Row) (p : ℕ) → low ≤ register → list_any (nat_eq p) (places_from slots register count key) ≡ true → low * slots ≤ p
+later_places slots zero low register key p h among = absurd (false≢true among)
+later_places slots (suc count) low register key p h among =
+    by_test (nat_eq p (place_for slots key register))
+    (λ is. let here : p ≡ place_for slots key register = nat_same p (place_for slots key register) is in omega (arith, begins slots low register h))
+    (λ isnt. later_places slots count low (register + 1) key p (omega arith) (sym (ap (λ b. b || list_any (nat_eq p) (places_from slots (register + 1) count key)) isnt) ∙ among))
+
+-- a place of a key from a register on is that in the register, or in a later one
+pub first_or_later : (slots count register : ℕ) (key : Row) (p : ℕ) → list_any (nat_eq p) (places_from slots register count key) ≡ true → (p ≡ place_for slots key register) ⊎ (register * slots + slots ≤ p)
+first_or_later slots zero register key p among = absurd (false≢true among)
+first_or_later slots (suc count) register key p among =
+    by_test (nat_eq p (place_for slots key register))
+    (λ is. inl (nat_same p (place_for slots key register) is))
+    (λ isnt. inr (let above : (register + 1) * slots ≤ p = later_places slots count (register + 1) (register + 1) key p (omega arith) (sym (ap (λ b. b || list_any (nat_eq p) (places_from slots (register + 1) count key)) isnt) ∙ among) in
+    omega (arith, above)))
+
+-- no place of a key in a register before that of the first one that passes a test passes it
+pub none_before : (t : ℕ → Bool) (slots : ℕ) → 1 ≤ slots → (key : Row) (p count register : ℕ) → find t (places_from slots register count key) ≡ Some p →
+    (earlier : ℕ) → register ≤ earlier → earlier * slots + slots ≤ p → t (place_for slots key earlier) ≡ false
+none_before t slots some key p zero register found earlier from before = absurd (let wrong : None ≡ Some p = found in cc)
+none_before t slots some key p (suc count) register found earlier from before =
+    let rest = find t (places_from slots (register + 1) count key) in
+    by_test (t (place_for slots key register))
+    (λ is. absurd (let here : Some (place_for slots key register) ≡ Some p = sym (ap (λ b. cond b (Some (place_for slots key register)) rest) is) ∙ found in
+    let at : place_for slots key register ≡ p = cc in
+    omega (arith, at, before, begins slots register earlier from, mod_below (row_hash register key) slots some)))
+    (λ isnt. elim (cases_eq earlier register) [
+      | inl same ↦ ap (λ r. t (place_for slots key r)) same ∙ isnt
+      | inr other ↦ none_before t slots some key p count (register + 1) (sym (ap (λ b. cond b (Some (place_for slots key register)) rest) isnt) ∙ found) earlier (omega (arith, from, other)) before
+    ])

@@ -1,5 +1,5 @@
 -- serves proofs
-use Rattle.std.specs.Prelude.{◌≡◌, ℕ, ◌+◌, ◌*◌, ◌<◌, List, map, fold, replicate, Bool, true, false, nat_eq, slice_index, refl, Option, Some, None}
+use Rattle.std.specs.Prelude.{◌≡◌, ℕ, ◌+◌, ◌*◌, ◌<◌, ◌≤◌, List, map, fold, replicate, Bool, true, false, nat_eq, slice_index, refl, Option, Some, None, is_none}
 use Rattle.std.specs.Option.{option_map}
 use Rattle.std.specs.Map.{lookup}
 use Rattle.std.specs.List.{list_any, range_with_len}
@@ -55,9 +55,11 @@ chain_code {F = F} code =
 abbrev pub empty_chain : {F : Type 0} → F → ℕ → ℕ → ChainState F
 empty_chain fold depth slots = record { fold = fold; depth = depth; slots = slots; cells = replicate (depth * slots) None }
 
--- each key that the cells hold stands at one of its own places, and no two cells hold one key
+-- each key that the cells hold stands at one of its own places, each of its places in an earlier register is held too, and no two
+-- cells hold one key
 pub record KeysStand (depth slots : ℕ) (cells : List (Option (Row × ℕ))) : Type 0 where
   pub own : (p : ℕ) (e : Row × ℕ) → cell cells p ≡ Some e → list_any (nat_eq p) (places_of depth slots e.0) ≡ true
+  pub earlier : (p register : ℕ) (e : Row × ℕ) → cell cells p ≡ Some e → register * slots + slots ≤ p → is_none (cell cells (place_for slots e.0 register)) ≡ false
   pub once : (p q : ℕ) (d e : Row × ℕ) → cell cells p ≡ Some d → cell cells q ≡ Some e → d.0 ≡ e.0 → p ≡ q
 
 -- the place that holds a key

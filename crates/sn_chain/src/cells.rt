@@ -65,18 +65,6 @@ impl<R: AnyRow> Cells<R> {
         head.begins(key) && self.tails[at].ends(key)
     }
 
-    /// A cell's place, where the cell is empty in a round.
-    pub fn empty_at(&self, at: usize, round: u32) -> Option<usize>
-        requires { at < length self.now }
-        ensures { result ≡ (if is_none (cell (all_shown_by round self.now) at) then Some at else None) }
-    {
-        if self.heads[at].round() == round {
-            None
-        } else {
-            Some(at)
-        }
-    }
-
     /// What a cell holds in a round. `None` exactly where the cell is empty or past the end.
     pub fn shown(&self, at: usize, round: u32) -> Option<(R, u64)>
         ensures { option_map (λ e. (R.columns e.0, e.1)) result ≡ cell (all_shown_by round self.now) at }

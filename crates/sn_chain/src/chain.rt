@@ -115,7 +115,15 @@ impl<F: Fold, R: AnyRow> Chain<F, R> {
         ensures answer { result ≡ answer_at (holder self.old (R.columns key.now)) (vacancy self.old (R.columns key.now)) }
         ensures after { self.new ≡ after_offer F.join self.old (R.columns key.now) v }
     {
-        match look(&self.cells, self.round, self.depth, self.slots, key, known) {
+        match look(
+            &self.cells,
+            &self.marks,
+            self.round,
+            self.depth,
+            self.slots,
+            key,
+            known,
+        ) {
             Found::Held(at) => {
                 let value = self.fold.step(self.cells.value(at), v);
                 self.cells.set_value(at, value);
@@ -155,7 +163,7 @@ impl<F: Fold, R: AnyRow> Chain<F, R> {
     }
 
     /// What holds of every chain, however it came to be: each key that it holds stands at one of its own places, at no
-    /// other, and it is found there. This says so, and does nothing.
+    /// other, where all its places in earlier registers are held, and it is found there. This says so, and does nothing.
     pub fn keys_stand(&self)
         ensures stand { KeysStand self.now.depth self.now.slots self.now.cells }
         ensures found { (p : ℕ) (e : Row × ℕ) → cell self.now.cells p ≡ Some e → holder self.now e.0 ≡ Some p }

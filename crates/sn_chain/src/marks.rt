@@ -1,5 +1,5 @@
 //! Which places hold a key, a bit for each.
-ghost use Rattle.std.specs.Prelude.{◌≡◌, ◌≢◌, ◌<◌, ◌*◌, ◌/◌, ◌^◌, ℕ, IfOk, IfSome, length, replicate};
+ghost use Rattle.std.specs.Prelude.{◌≡◌, ◌≢◌, ◌<◌, ◌*◌, ◌/◌, ◌^◌, ℕ, IfOk, IfSome, length, nat_eq, replicate};
 ghost use Rattle.std.specs.Int.{div_ceil};
 ghost use Rattle.sn_chain.specs.Marks.{IsNext, mark_at};
 
@@ -21,6 +21,14 @@ pub(crate) fn mark(words: &mut [u64], place: usize)
     ensures others { (p : ℕ) → p ≢ place → mark_at words.new p ≡ mark_at words.old p }
 {
     words[place / 64] |= 1 << (place % 64);
+}
+
+/// Whether a place is marked.
+pub(crate) fn is_marked(words: &[u64], place: usize) -> bool
+    requires { place / 64 < length words.now }
+    ensures { result ≡ nat_eq (mark_at words.now place) 1 }
+{
+    (words[place / 64] >> (place % 64)) % 2 == 1
 }
 
 /// Takes every mark away.

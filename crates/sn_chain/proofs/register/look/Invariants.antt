@@ -1,5 +1,4 @@
-use Rattle.std.proofs.Common.{◌≡◌, ◌-◌, ◌<◌, length, IfSome}
-use Rattle.std.specs.Option.{option_or}
+use Rattle.std.proofs.Common.{◌≡◌, ◌-◌}
 use Rattle.sn_base.specs.Groups.{same_row}
 use Rattle.sn_chain.specs.Cells.{all_shown_by}
 use Rattle.sn_chain.specs.Chain.{places_of, places_from}
@@ -13,6 +12,5 @@ invariant-loop-register g l =
     let rest = places_from l.slots l.register (l.depth - l.register) key in
     record {
       held : held_place same_row cells rest key ≡ held_place same_row cells (places_of l.depth l.slots key) key;
-      empty : option_or l.empty (empty_place cells rest) ≡ empty_place cells (places_of l.depth l.slots key);
-      within : IfSome l.empty (λ p. p < length l.cells);
+      empty : empty_place cells rest ≡ empty_place cells (places_of l.depth l.slots key);
     }
