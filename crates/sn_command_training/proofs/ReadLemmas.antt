@@ -1,7 +1,7 @@
 -- A file that is read as a stream and judged, over plain values.
-use Rattle.std.proofs.Common.{◌≡◌, ℕ, ◌<◌, ◌≤◌, ◌^◌, List, [], ◌∷◌, Bool, true, false, if◌then◌else◌, Option, None, Some, Result, Ok, Err, IfSome, is_some, length, ◌⊎◌, inl, inr, refl, ap, sym, subst, ◌∙◌, arith}
+use Rattle.std.proofs.Common.{◌≡◌, ℕ, ◌≤◌, ◌^◌, List, [], ◌∷◌, Bool, true, false, if◌then◌else◌, Option, None, Some, Result, Ok, Err, IfSome, is_some, length, ◌⊎◌, inl, inr, refl, ap, sym, subst, ◌∙◌, arith}
 use Rattle.std.specs.FinMap.{get}
-use Rattle.std.proofs.lemmas.Bool.{le-ltb, lt-ltb}
+use Rattle.std.proofs.lemmas.Bool.{le-ltb}
 use Rattle.sn_base.proofs.Lists.{by_test}
 use Rattle.sn_io.specs.Counts.{ByName, OnlyRises, RoseAt}
 use Rattle.sn_io.specs.Inputs.{Reads, told_file}
@@ -31,17 +31,7 @@ module _ {A : Type 0} (name : List ℕ) (judgement : List ℕ → Result A Fault
   begun_goes : (end : Result (List ℕ) Refusal) → is.begun ≡ silent end → GoesOn (λ (bytes : List ℕ). Judges (judgement bytes)) files [] end outcome
   begun_goes end e = subst (λ (o : Outcome (List ℕ)). GoesOn (λ (bytes : List ℕ). Judges (judgement bytes)) files o.text o.end outcome) e is.goes_on
 
-  -- the name isn't known
-  pub text_missing : get files name ≡ None → outcome ≡ silent (Err Missing)
-  text_missing e = begun_goes (Err Missing) (begun_is None e)
-
-  -- the file has too many bytes
-  pub text_large : (file : List ℕ) → get files name ≡ Some file → 2 ^ 30 < length file → outcome ≡ silent (Err (Refused faults.TooLarge))
-  text_large file e large =
-      begun_goes (Err (Refused faults.TooLarge))
-      (begun_is (Some file) e ∙ ap (λ (b : Bool). silent (if b then Err (Refused faults.TooLarge) else Ok file)) (lt-ltb most_text (length file) large))
-
-  -- or it is judged
+  -- a file that has no more bytes than may be is judged
   pub text_due : (file : List ℕ) (verdict : Result A Fault) → get files name ≡ Some file → length file ≤ 2 ^ 30 → ((first second : Result A Fault) → judgement file first → judgement file second → first ≡ second)
       → judgement file verdict → outcome ≡ silent (refusing verdict)
   text_due file verdict e few once here =
@@ -115,26 +105,6 @@ judged_due told counts name judgement answer known law once few judged files sam
     let one : also.0 ≡ found.0 = let e : ◌≡◌ {A = Option (List ℕ)} (Some also.0) (Some found.0) = sym also.1 ∙ found.1 in cc in
     answer_due (judgement found.0) answer outcome (λ verdict here. text_due name judgement files outcome is found.0 verdict found.1 found.2 (once found.0) here)
     (subst (λ (file : List ℕ). Answers (judgement file) answer) one also.2) sure
-
--- over a known file that has more it is refused
-pub large_due : {A : Type 0} (told : Option (ByName (List ℕ))) (counts : ByName ℕ) (name : List ℕ) (judgement : List ℕ → Result A Fault → Type 0) → (get counts name ≡ None → ⊥)
-    → ((held : ByName (List ℕ)) (other : List ℕ) → told ≡ Some held → is_some (get held other) ≡ is_some (get counts other)) → IfSome (told_file told name) (λ file. 2 ^ 30 < length file)
-    → (files : ByName (List ℕ)) → told ≡ Some files → (outcome : Outcome A) → Text name judgement files outcome → outcome ≡ silent (Err (Refused faults.TooLarge))
-large_due told counts name judgement known law large files same outcome is =
-    let stands : is_some (get files name) ≡ true = law files name same ∙ some_if (get counts name) known in
-    let found = known_file files told name (λ (file : List ℕ). 2 ^ 30 < length file) same stands large in
-    text_large name judgement files outcome is found.0 found.1 found.2
-
--- over known files among which it isn't it is missing
-pub missing_due : {A : Type 0} (told : Option (ByName (List ℕ))) (counts : ByName ℕ) (name : List ℕ) (judgement : List ℕ → Result A Fault → Type 0) → get counts name ≡ None
-    → ((held : ByName (List ℕ)) (other : List ℕ) → told ≡ Some held → is_some (get held other) ≡ is_some (get counts other))
-    → (files : ByName (List ℕ)) → told ≡ Some files → (outcome : Outcome A) → Text name judgement files outcome → outcome ≡ silent (Err Missing)
-missing_due told counts name judgement none law files same outcome is =
-    text_missing name judgement files outcome is (none_if (get files name) (law files name same ∙ ap is_some none))
-  where
-    none_if : (o : Option (List ℕ)) → is_some o ≡ false → o ≡ None
-    none_if None e = refl
-    none_if (Some x) e = absurd cc
 
 -- at the end of a file all of it was taken
 pub all_taken : (told now : Option (List ℕ)) (P : List ℕ → ℕ → Type 0) (place count : ℕ) (piece new : List ℕ) → now ≡ told → count ≡ 0 → (length piece ≡ 0 → ⊥) → IfSome told (λ file. P file place × (place ≤ length file))

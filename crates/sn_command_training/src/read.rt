@@ -11,8 +11,7 @@ ghost use Rattle.sn_io.specs.Inputs.{told_file};
 
 use crate::taking::Taking;
 use sn_command::desk::Desk;
-use sn_command::fault::Fault;
-use sn_command::files::MOST_TEXT;
+use sn_command::files::{MOST_TEXT, read_refusal};
 use sn_command::refusal::Refusal;
 use sn_cost_training::training::Training;
 use sn_io::inputs::{InputFault, Inputs, PIECE, ReadError};
@@ -70,9 +69,6 @@ pub fn read_training<I: Inputs, O: Sink>(
     let mut taking = Taking::new(alloc, window_ns);
     match take_file(&mut taking, desk.files, name) {
         Ok(()) => taking.finish(),
-        Err(ReadError::Missing) => Err(Refusal::Missing),
-        Err(ReadError::ReadFault) => Err(Refusal::ReadFault),
-        Err(ReadError::TooLarge) => Err(Refusal::Refused(Fault::TooLarge)),
-        Err(ReadError::Memory) => Err(Refusal::Memory),
+        Err(error) => Err(read_refusal(error)),
     }
 }
