@@ -5,7 +5,7 @@ ghost use Rattle.sn_command_texts.specs.Queries.{queries_of};
 ghost use Rattle.sn_command.specs.Desks.{world};
 ghost use Rattle.sn_command.specs.Runs.{Runs, WorksFrom};
 ghost use Rattle.sn_switch.specs.Texts.{IsSwitch};
-ghost use Rattle.sn_command_training.specs.Training.{IsInOrder};
+ghost use Rattle.sn_windows.specs.Blocks.{most_records};
 
 use crate::plan_tree::{judge_plan, judge_tree};
 use crate::shown::test_tree;
@@ -35,7 +35,7 @@ fn check_text<I: Inputs, O: Sink>(
     desk: &mut Desk<'_, I, O>,
 ) -> Result<(), Refusal>
     requires switch { IsSwitch limits.now }
-    requires order { IsInOrder training.now }
+    requires few { length training.now.numbers ≤ most_records }
     requires within { length text.now ≤ 2 ^ 30 }
     ensures { Runs [] (PlanTree (queries_of typed.now) limits.now training.now text.now) (world I.Inputs O.Sink desk.old) result
         (world I.Inputs O.Sink desk.new) }

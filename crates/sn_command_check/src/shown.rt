@@ -1,11 +1,11 @@
 //! Whether a cost and a tree show that no plan costs less.
-ghost use Rattle.std.specs.Prelude.{◌≡◌};
+ghost use Rattle.std.specs.Prelude.{◌≡◌, ◌≤◌, length};
 ghost use Rattle.sn_command_check.specs.Shown.{ShownFor, flaw_refusal};
 ghost use Rattle.sn_cost.specs.Entries.{trained};
 ghost use Rattle.sn_plan_fit.specs.Fits.{Fits};
 ghost use Rattle.sn_command.specs.Runs.{Answers};
 ghost use Rattle.sn_switch.specs.Texts.{IsSwitch};
-ghost use Rattle.sn_command_training.specs.Training.{IsInOrder};
+ghost use Rattle.sn_windows.specs.Blocks.{most_records};
 
 use sn_command::fault::{Fault, TreeFlaw, TreeKind};
 use sn_command::refusal::Refusal;
@@ -51,7 +51,7 @@ pub(crate) fn test_tree(
     tree: &Found<'_>,
 ) -> Result<(), Refusal>
     requires switch { IsSwitch s.now }
-    requires order { IsInOrder training.now }
+    requires few { length training.now.numbers ≤ most_records }
     requires fits { Fits t.now.queries s.now plan.now.entries }
     ensures { Answers (ShownFor s.now t.now.queries (trained training.now.numbers training.now.tuples) plan.now tree.now.0 tree.now.1) result }
 {

@@ -6,7 +6,6 @@ use Rattle.sn_command.specs.declared.fault.Fault.{Fault}
 use Rattle.sn_command_search.specs.Certificates.{SearchedIn}
 use Rattle.sn_command_search.specs.declared.certificate.Certificate.{Certificate}
 use Rattle.sn_command_search.proofs.Verdicts.{one_search, search_once}
-use Rattle.sn_command_training.specs.Training.{IsInOrder, NeverFall}
 use Rattle.sn_command_replan.specs.Searched.{searched_on}
 use Rattle.sn_cost.specs.Entries.{records, trained}
 use Rattle.sn_switch.specs.declared.switch.Switch.{Switch}
@@ -44,13 +43,9 @@ long : (n w : ℕ) → length (replicate n w) ≡ n
 long zero w = refl
 long (suc n) w = ap suc (long n w)
 
-never_fall : (n w : ℕ) → NeverFall (replicate n w)
-never_fall zero w = tt
-never_fall (suc zero) w = tt
-never_fall (suc (suc n)) w = (omega arith, never_fall (suc n) w)
-
-pub in_order : (w : ℕ) (tuples : List (List ℕ)) → length tuples ≤ most_records → IsInOrder (record { tuples = tuples; numbers = replicate (length tuples) w })
-in_order w tuples few = record { alike = long (length tuples) w; most = few; rising = never_fall (length tuples) w }
+-- there are as many numbers as tuples
+pub few_numbers : (w : ℕ) (tuples : List (List ℕ)) → length tuples ≤ most_records → length (replicate (length tuples) w) ≤ most_records
+few_numbers w tuples few = rw (long (length tuples) w) few
 
 -- what a search answers is what is planned on the window
 pub planned_is : (s : Switch) (queries : List TypedQuery) (nodes w : ℕ) (tuples : List (List ℕ)) → 0 < length tuples → (verdict : Result Certificate Fault)

@@ -1,11 +1,11 @@
 //! The search over the plans of queries on a switch, by what they cost over training windows.
-ghost use Rattle.std.specs.Prelude.{◌≡◌, IfOk};
+ghost use Rattle.std.specs.Prelude.{◌≡◌, ◌≤◌, IfOk, length};
 ghost use Rattle.sn_command_search.specs.Certificates.{SearchedIn};
 ghost use Rattle.sn_cost.specs.Entries.{trained};
 ghost use Rattle.sn_plan_fit.specs.Fits.{Fits};
 ghost use Rattle.sn_command.specs.Runs.{Answers};
 ghost use Rattle.sn_switch.specs.Texts.{IsSwitch};
-ghost use Rattle.sn_command_training.specs.Training.{IsInOrder};
+ghost use Rattle.sn_windows.specs.Blocks.{most_records};
 
 use crate::certificate::Certificate;
 use sn_base::seq::Seq;
@@ -23,7 +23,7 @@ use sn_types::typed::Typed;
 use std::alloc::Global;
 
 /// The first of the plans of typed queries that fit a switch and cost least over training windows, with its tree. At most this many nodes of the tree are
-/// expanded.
+/// expanded. In all there are no more tuples than a window may have records.
 ///
 /// # Errors
 /// Out of memory, or `Budget` exactly where more nodes of that tree would have to be expanded.
@@ -35,7 +35,7 @@ pub fn search(
     nodes: u32,
 ) -> Result<Certificate, Refusal>
     requires switch { IsSwitch s.now }
-    requires order { IsInOrder training.now }
+    requires few { length training.now.numbers ≤ most_records }
     ensures searched { Answers (SearchedIn s.now t.now.queries (trained training.now.numbers training.now.tuples) nodes) result }
     ensures fits { IfOk result (λ c. Fits t.now.queries s.now c.plan.entries) }
 {

@@ -14,8 +14,7 @@ use Rattle.sn_windows.specs.declared.windows.Windows.{Windows}
 use Rattle.sn_windows.proofs.NumberLemmas.{numbered_is}
 use Rattle.sn_command_training.specs.declared.collected.Collected.{Collected}
 use Rattle.sn_command_training.specs.Collecting.{Collects, HasCollected, IsCollected, IsOver, Seen, seen_time, seen_tuple, trained_on, with_current}
-use Rattle.sn_command_training.specs.Training.{IsInOrder}
-use Rattle.sn_command_training.proofs.NumberLemmas.{after_push, as_many_numbers, next_few, numbers_never_fall, numbers_push}
+use Rattle.sn_command_training.proofs.NumberLemmas.{after_push, as_many_numbers, next_few, numbers_push}
 
 -- the numbers of records, one record more
 numbers_more : (window : ℕ) (seen : List Seen) (one : Seen) → map number_at (numbered seen_time window (seen ++ one ∷ [])) ≡ map number_at (numbered seen_time window seen) ++ next_number (after (begun window) (map seen_time seen)) one.0 ∷ []
@@ -125,13 +124,9 @@ none_too_many window seen c time is room many =
     let long : length (map seen_time seen) ≡ length seen = length-map seen seen_time in
     omega (arith, room, many, within, long)
 
--- what is trained on is in order
-pub in_order : (window : ℕ) (seen : List Seen) → length seen ≤ most_records → IsInOrder (trained_on window seen)
-in_order window seen few = record {
-  alike = as_many_numbers seen_time window seen ∙ sym (length-map seen seen_tuple);
-  most = rw (length-map seen seen_tuple) few;
-  rising = numbers_never_fall seen_time window seen;
-}
+-- what is trained on has no more records than may be
+pub few_numbers : (window : ℕ) (seen : List Seen) → length seen ≤ most_records → length (trained_on window seen).numbers ≤ most_records
+few_numbers window seen few = let many = as_many_numbers seen_time window seen in omega (arith, many, few)
 
 -- packets one after another, of which the first i came
 module _ (show : Packet → Seen) (seen : List Seen) (packets : List Packet) (i : ℕ) (some : i < length packets) where

@@ -5,9 +5,7 @@ use Rattle.std.proofs.lemmas.List.{map-append, length-map}
 use Rattle.sn_base.proofs.Lists.{by_test}
 use Rattle.sn_windows.specs.Windows.{number_at, numbered}
 use Rattle.sn_windows.specs.Numbering.{Numbering, begun, next_number, next_count, stepped, after, numbered_from}
-use Rattle.sn_windows.proofs.NumberLemmas.{numbered_is, numbers_rise, as_many}
-use Rattle.sn_windows.proofs.RunLemmas.{Rises}
-use Rattle.sn_command_training.specs.Training.{NeverFall}
+use Rattle.sn_windows.proofs.NumberLemmas.{numbered_is, as_many}
 
 pub after_push : (s : Numbering) (times : List ℕ) (t : ℕ) → after s (times ++ t ∷ []) ≡ stepped (after s times) t
 after_push s [] t = refl
@@ -35,11 +33,3 @@ module _ {X : Type 0} (time : X → ℕ) where
 
   pub as_many_numbers : (window : ℕ) (xs : List X) → length (map number_at (numbered time window xs)) ≡ length xs
   as_many_numbers window xs = length-map (numbered time window xs) number_at ∙ ap length (sym (numbered_is time window xs)) ∙ as_many time (begun window) xs
-
-  never_fall : (ps : List (ℕ × X)) → Rises ps → NeverFall (map number_at ps)
-  never_fall [] h = tt
-  never_fall (p ∷ []) h = tt
-  never_fall (p ∷ q ∷ qs) h = (h.0.0, never_fall (q ∷ qs) h.1)
-
-  pub numbers_never_fall : (window : ℕ) (xs : List X) → NeverFall (map number_at (numbered time window xs))
-  numbers_never_fall window xs = rw (sym (numbered_is time window xs)) (never_fall (numbered_from time (begun window) xs) (numbers_rise time (begun window) xs))

@@ -1,6 +1,6 @@
 -- to be believed
 -- What a training capture is judged to be.
-use Rattle.std.specs.Prelude.{◌≡◌, ℕ, ◌≤◌, List, [], ◌∷◌, map, length, nat_lt, Result, Ok, Err, if◌then◌else◌}
+use Rattle.std.specs.Prelude.{◌≡◌, ℕ, List, map, length, nat_lt, Result, Ok, Err, if◌then◌else◌}
 use Rattle.sn_base.specs.declared.link.Link.{Link}
 use Rattle.sn_pcap.specs.Capture.{head_of, Records}
 use Rattle.sn_pcap.specs.declared.header.Header.{Header}
@@ -40,15 +40,3 @@ JudgedAs window file (Err fault) verdict = verdict ≡ Err (faults.Head fault)
 -- A training capture is refused for its header, and else for too many records.
 abbrev pub TrainingIn : ℕ → List ℕ → Result Training Fault → Type 0
 TrainingIn window file = JudgedAs window file (head_of file)
-
--- numbers that don't fall
-abbrev pub NeverFall : List ℕ → Type 0
-NeverFall [] = Unit {0}
-NeverFall (n ∷ []) = Unit {0}
-NeverFall (n ∷ m ∷ ns) = (n ≤ m) × NeverFall (m ∷ ns)
-
--- what a cost table is made from: as many numbers as tuples, no more than may be, and the numbers don't fall
-pub record IsInOrder (training : Training) : Type 0 where
-  pub alike : length training.numbers ≡ length training.tuples
-  pub most : length training.tuples ≤ most_records
-  pub rising : NeverFall training.numbers

@@ -1,8 +1,8 @@
 //! The tuples of records, collected window by window.
 ghost use Rattle.std.specs.Prelude.{◌≡◌, ◌≤◌, ◌+◌, ℕ, List, [], ◌∷◌, ◌++◌, All, IfOk, OnOk, length, map};
 ghost use Rattle.sn_command_training.specs.Collecting.{Collects, CollectsAll, HasCollected, IsCollected, IsOver, Seen, shown, trained_on};
-ghost use Rattle.sn_command_training.specs.Training.{IsInOrder};
 ghost use Rattle.sn_pcap.specs.Capture.{IsWithin};
+ghost use Rattle.sn_windows.specs.Blocks.{most_records};
 
 use sn_base::link::Link;
 use sn_base::memory::Memory;
@@ -95,7 +95,7 @@ impl Collected {
     pub(crate) fn finish(self) -> Result<Training, Memory>
         requires { HasCollected self }
         ensures all { IfOk result (λ training. (window : ℕ) (seen : List Seen) → IsCollected window seen self → training ≡ trained_on window seen) }
-        ensures order { IfOk result IsInOrder }
+        ensures few { IfOk result (λ training. length training.numbers ≤ most_records) }
     {
         let mut over = self.over;
         over.add(self.windows.number(), self.tuples)?;

@@ -5,9 +5,10 @@ ghost use Rattle.sn_command.specs.Desks.{world};
 ghost use Rattle.sn_command.specs.Runs.{Works};
 ghost use Rattle.sn_command.specs.Stages.{Text};
 ghost use Rattle.sn_command_training.specs.Taking.{IsTaken, MayGoOn};
-ghost use Rattle.sn_command_training.specs.Training.{IsInOrder, TrainingIn};
+ghost use Rattle.sn_command_training.specs.Training.{TrainingIn};
 ghost use Rattle.sn_io.specs.Counts.{OnlyRises, RoseAt};
 ghost use Rattle.sn_io.specs.Inputs.{told_file};
+ghost use Rattle.sn_windows.specs.Blocks.{most_records};
 
 use crate::taking::Taking;
 use sn_command::desk::Desk;
@@ -64,7 +65,7 @@ pub fn read_training<I: Inputs, O: Sink>(
 ) -> Result<Training, Refusal>
     requires some { 1 ≤ window_ns }
     ensures works { Works (name.now ∷ []) (Text name.now (TrainingIn window_ns)) (world I.Inputs O.Sink desk.old) result (world I.Inputs O.Sink desk.new) }
-    ensures order { IfOk result IsInOrder }
+    ensures few { IfOk result (λ training. length training.numbers ≤ most_records) }
 {
     let mut taking = Taking::new(alloc, window_ns);
     match take_file(&mut taking, desk.files, name) {

@@ -3,9 +3,10 @@ ghost use Rattle.std.specs.Prelude.{◌≡◌, ◌≤◌, ◌+◌, ℕ, List, []
 ghost use Rattle.sn_command.specs.Runs.{Answers};
 ghost use Rattle.sn_command_training.specs.Collecting.{HasCollected, IsCollected};
 ghost use Rattle.sn_command_training.specs.Taking.{IsOfTraining, IsTaken, MayGoOn, TakesRecords, end_at};
-ghost use Rattle.sn_command_training.specs.Training.{IsInOrder, TrainingIn};
+ghost use Rattle.sn_command_training.specs.Training.{TrainingIn};
 ghost use Rattle.sn_command_training.specs.declared.taking.Found.TheVariants as Found;
 ghost use Rattle.sn_pcap.specs.declared.packet.Ending.TheVariants as Ending;
+ghost use Rattle.sn_windows.specs.Blocks.{most_records};
 
 use crate::collected::Collected;
 use sn_base::bytes::push_bytes;
@@ -131,7 +132,7 @@ impl Taking {
         requires { MayGoOn self }
         ensures kind { IsOfTraining result }
         ensures judged { (window : ℕ) (file : List ℕ) → IsTaken window file (length file) self → Answers (TrainingIn window file) result }
-        ensures order { IfOk result IsInOrder }
+        ensures few { IfOk result (λ training. length training.numbers ≤ most_records) }
     {
         match self.found {
             Found::Nothing => Err(Refusal::Refused(Fault::Head(HeadFault::Short))),

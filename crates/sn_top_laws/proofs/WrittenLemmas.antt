@@ -1,10 +1,10 @@
 -- `check` says yes to what `plan` wrote, and `run` along it sends what it costs.
-use Rattle.std.proofs.Common.{◌≡◌, ℕ, zero, suc, ◌+◌, ◌≤◌, ◌<◌, ◌^◌, false, cond, List, [], ◌∷◌, ◌++◌, length, nat_lt, append-nil, Result, Ok, Err, slice_get, refl, sym, ap, ◌∙◌, subst, arith}
+use Rattle.std.proofs.Common.{◌≡◌, ℕ, zero, suc, ◌+◌, ◌≤◌, ◌<◌, ◌^◌, false, cond, List, [], ◌∷◌, ◌++◌, length, map, nat_lt, append-nil, Result, Ok, Err, slice_get, refl, sym, ap, ◌∙◌, subst, arith}
 use Rattle.std.specs.Prelude.{◌*◌, unwrap_or}
 use Rattle.std.specs.List.{AllByRecursion, flat_map}
 use Rattle.std.proofs.lemmas.Bool.{le-ltb, ltb-false}
 use Rattle.std.proofs.lemmas.List.{length-map}
-use Rattle.sn_base.proofs.Lists.{by_test, some_same}
+use Rattle.sn_base.proofs.Lists.{all_map, by_test, some_same}
 use Rattle.sn_base.specs.declared.link.Link.{Link}
 use Rattle.sn_command.specs.declared.fault.Fault.{Fault}
 use Rattle.sn_command.specs.declared.fault.Fault.TheVariants as faults
@@ -36,9 +36,8 @@ use Rattle.sn_command_texts.specs.Queries.{QueriesIn}
 use Rattle.sn_command_texts.specs.Texts.{PlanIn, SwitchIn}
 use Rattle.sn_command_texts.proofs.Accepted.{read_ok, switch_limits, typed_in}
 use Rattle.sn_command_texts.proofs.Verdicts.{switch_once}
-use Rattle.sn_command_training.specs.Training.{IsInOrder, JudgedAs, TrainingIn, judged_records, training_of}
-use Rattle.sn_command_training.specs.Training as trainings
-use Rattle.sn_command_training.proofs.NumberLemmas.{as_many_numbers, numbers_never_fall}
+use Rattle.sn_command_training.specs.Training.{JudgedAs, TrainingIn, judged_records, training_of}
+use Rattle.sn_command_training.proofs.NumberLemmas.{as_many_numbers}
 use Rattle.sn_cost_training.specs.Trained.{Training}
 use Rattle.sn_cost.specs.Training.{NeverFall}
 use Rattle.sn_cost_laws.specs.Sent.{cost_over, installed_over}
@@ -81,7 +80,10 @@ use Rattle.sn_top_laws.proofs.ItemCounts.{most}
 use Rattle.sn_top_laws.proofs.PlanFits.{AreEntries, plan_fine, plan_in_grammar}
 use Rattle.sn_top_laws.proofs.PlanTexts.{read_back}
 use Rattle.sn_top_laws.proofs.QueryNames.{read_levels}
+use Rattle.sn_top_laws.proofs.RecordLemmas.{never_fall}
 use Rattle.sn_windows.specs.Blocks.{most_records}
+use Rattle.sn_windows.specs.Windows.{number_at, numbered}
+use Rattle.sn_windows.proofs.RunLemmas.{Rises}
 
 -- ---- a stage that gave a value
 
@@ -118,15 +120,15 @@ bytes_given most name files bytes has =
 training_is : {a b : Training} → ◌≡◌ {A = Result Training Fault} (Ok a) (Ok b) → a ≡ b
 training_is e = cc
 
--- numbers of which none is below the one before it are below none after them
-all_from : (n m : ℕ) (ns : List ℕ) → n ≤ m → AllByRecursion (λ k. m ≤ k) ns → AllByRecursion (λ k. n ≤ k) ns
-all_from n m [] le h = tt
-all_from n m (k ∷ ns) le h = (let low = h.0 in omega arith, all_from n m ns le h.1)
+-- as many numbers as tuples, no more than may be, and the numbers don't fall
+record IsInOrder (training : Training) : Type 0 where
+  alike : length training.numbers ≡ length training.tuples
+  most : length training.tuples ≤ most_records
+  rising : NeverFall training.numbers
 
-never_fall : (ns : List ℕ) → trainings.NeverFall ns → NeverFall ns
-never_fall [] h = tt
-never_fall (n ∷ []) h = (tt, tt)
-never_fall (n ∷ m ∷ ns) h = let rest = never_fall (m ∷ ns) h.1 in ((h.0, all_from n m ns h.0 rest.0), rest)
+numbers_rising : (ps : List (ℕ × Packet)) → Rises ps → NeverFall (map number_at ps)
+numbers_rising [] h = tt
+numbers_rising (p ∷ ps) h = (all_map (λ (m : ℕ). p.0 ≤ m) number_at ps h.0, numbers_rising ps h.1)
 
 module _ (window : ℕ) (file : List ℕ) (training : Training) where
   -- the training of packets is in order
@@ -134,7 +136,7 @@ module _ (window : ℕ) (file : List ℕ) (training : Training) where
   in_order link packets few = record {
     alike = as_many_numbers time_of window packets ∙ sym (length-map packets (packet_tuple link file));
     most = rw (length-map packets (packet_tuple link file)) few;
-    rising = numbers_never_fall time_of window packets;
+    rising = numbers_rising (numbered time_of window packets) (never_fall window packets);
   }
 
   records_ordered : (header : Header) (packets : List Packet) → Ok training ≡ judged_records window header.link file packets → IsInOrder training
@@ -293,21 +295,18 @@ module _ (show : Shows) (switch queries train written : List ℕ) (nodes : ℕ) 
   tuples_few : length k.training.tuples ≤ most
   tuples_few = ordered.most
 
-  numbers_rise : NeverFall k.training.numbers
-  numbers_rise = never_fall k.training.numbers ordered.rising
-
   ops_few : HaveFewOps k.read.queries
   ops_few = few_ops k.read.queries counted.each
 
   cost_small : c.cost < 2 ^ 64
   cost_small =
       subst (λ (n : ℕ). n < 2 ^ 64) (sym k.is.cost)
-      (lower_small k.limits limited k.read.window_us k.read.queries typed ops_few k.training.numbers k.training.tuples tuples_few ordered.alike numbers_rise
+      (lower_small k.limits limited k.read.window_us k.read.queries typed ops_few k.training.numbers k.training.tuples tuples_few ordered.alike ordered.rising
       (typed_readable k.read.window_us k.read.queries typed) counted.count.to_most c.choices k.is.first.plan.partial)
 
   nodes_small : AllByRecursion IsSmall c.tree
   nodes_small =
-      tree_small k.limits limited k.read.window_us k.read.queries typed ops_few k.training.numbers k.training.tuples tuples_few ordered.alike numbers_rise
+      tree_small k.limits limited k.read.window_us k.read.queries typed ops_few k.training.numbers k.training.tuples tuples_few ordered.alike ordered.rising
       (typed_readable k.read.window_us k.read.queries typed) counted.count.to_most c.choices k.is.first.plan.partial
       [] c.tree shows.accepted.covers (itself [])
 

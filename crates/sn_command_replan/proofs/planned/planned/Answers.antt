@@ -1,15 +1,15 @@
-use Rattle.std.proofs.Common.{◌≡◌, Ok, Err, ap, sym, subst, ◌∙◌}
+use Rattle.std.proofs.Common.{◌≡◌, ◌≤◌, length, Ok, Err, ap, sym, subst, ◌∙◌}
 use Rattle.sn_cost_training.specs.Trained.{Training, none, with_window}
-use Rattle.sn_command_replan.proofs.PlannedLemmas.{in_order, planned_is}
+use Rattle.sn_command_replan.proofs.PlannedLemmas.{few_numbers, planned_is}
 use Rattle.sn_command_search.specs.Certificates.{SearchedIn}
-use Rattle.sn_command_training.specs.Training.{IsInOrder}
 use Rattle.sn_cost.specs.Entries.{trained}
+use Rattle.sn_windows.specs.Blocks.{most_records}
 use Rattle.sn_command_replan.proofs.planned.planned.Goals as goal
 
-pub search-requires-clause-order : goal.search-requires-clause-order
-search-requires-clause-order c =
+pub search-requires-clause-few : goal.search-requires-clause-few
+search-requires-clause-few c =
     let training_is : c.add.new.self ≡ with_window none c.args.number c.args.tuples = c.in_ok-add.ensures.ok ∙ ap (λ (t : Training). with_window t c.args.number c.args.tuples) c.new-training.ensures in
-    subst IsInOrder (sym training_is) (in_order c.args.number c.args.tuples c.requires.few)
+    subst (λ (t : Training). length t.numbers ≤ most_records) (sym training_is) (few_numbers c.args.number c.args.tuples c.requires.few)
 
 pub returns-in-Ok-clause-verdict : goal.returns-in-Ok-clause-verdict
 returns-in-Ok-clause-verdict c =
