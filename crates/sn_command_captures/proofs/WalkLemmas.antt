@@ -8,7 +8,8 @@ use Rattle.sn_base.proofs.Lists.{by_test, and_parts}
 use Rattle.sn_base.proofs.Tests.{less, not_less}
 use Rattle.sn_command_capture.specs.Capture.{packet_tuple, time_of}
 use Rattle.sn_command_captures.specs.Counted.{share_if_few, share_of}
-use Rattle.sn_command_captures.specs.Walks.{IsNextRecord, are_few, ending_from, packets_from, recorded, shown, untaken}
+use Rattle.sn_command_captures.specs.Recorded.{shown}
+use Rattle.sn_command_captures.specs.Walks.{IsNextRecord, are_few, ending_from, packets_from, recorded, untaken}
 use Rattle.sn_command_captures.specs.Windows.{first_time}
 use Rattle.sn_command_captures.specs.declared.share.Share.{Share}
 use Rattle.sn_base.specs.declared.link.Link.{Link}

@@ -5,20 +5,15 @@ use Rattle.sn_command.specs.declared.fault.Fault.{Fault}
 use Rattle.sn_command.specs.declared.fault.Fault.TheVariants as faults
 use Rattle.sn_command.specs.Outcomes.{Stage}
 use Rattle.sn_command.specs.Stages.{Gives}
-use Rattle.sn_command_capture.specs.Capture.{packet_tuple}
 use Rattle.sn_command_captures.specs.declared.capture.Capture.{Capture}
 use Rattle.sn_command_captures.specs.declared.share.Share.{Share}
+use Rattle.sn_command_captures.specs.Recorded.{shown}
 use Rattle.sn_command_captures.specs.Windows.{none_full, records_since, start_of}
-use Rattle.sn_pcap.specs.declared.packet.Packet.{Packet}
 use Rattle.sn_windows.specs.Blocks.{all_few}
-
--- a record of a capture as its tuple, with its number
-abbrev pub shown_of : Capture → ℕ × Packet → ℕ × List ℕ
-shown_of c p = (p.0, packet_tuple c.link c.file p.1)
 
 -- what a switch saw: the tuples of a capture, with the numbers of windows of this many nanoseconds, where window 0 begins at this time
 abbrev pub share_of : ℕ → ℕ → Capture → Share
-share_of window start c = record { records = map (shown_of c) (records_since window start c); ending = c.ending }
+share_of window start c = record { records = map (shown c.link c.file) (records_since window start c); ending = c.ending }
 
 abbrev pub shares_of : ℕ → List Capture → List Share
 shares_of window captures = map (share_of window (start_of captures)) captures

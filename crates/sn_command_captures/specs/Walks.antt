@@ -1,9 +1,8 @@
 -- serves proofs
 -- The records of a capture, found in its bytes one after another.
 use Rattle.std.specs.Prelude.{◌≡◌, ℕ, List, [], ◌∷◌, Bool, true, ◌&&◌, map, nat_lt}
-use Rattle.sn_command_capture.specs.Capture.{packet_tuple, time_of}
-use Rattle.sn_command_captures.specs.Recorded.{Recorded, Untaken}
-use Rattle.sn_base.specs.declared.link.Link.{Link}
+use Rattle.sn_command_capture.specs.Capture.{time_of}
+use Rattle.sn_command_captures.specs.Recorded.{Recorded, Untaken, shown}
 use Rattle.sn_pcap.proofs.OneCapture.{records_some}
 use Rattle.sn_pcap.specs.Capture.{HasRecord, packet_at}
 use Rattle.sn_pcap.specs.declared.header.Header.{Header}
@@ -28,10 +27,6 @@ recorded header file = record { link = header.link; file = file; packets = packe
 abbrev pub are_few : Numbering → List Packet → Bool
 are_few s [] = true
 are_few s (p ∷ ps) = nat_lt (next_count s p.time) most_records && are_few (stepped s p.time) ps
-
--- a packet with the number of its window, as its tuple
-abbrev pub shown : Link → List ℕ → ℕ × Packet → ℕ × List ℕ
-shown link file p = (p.0, packet_tuple link file p.1)
 
 -- what is left of a capture from an offset on, after records whose windows stand so
 abbrev pub untaken : Header → List ℕ → Numbering → ℕ → Untaken

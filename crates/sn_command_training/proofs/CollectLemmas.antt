@@ -13,7 +13,7 @@ use Rattle.sn_windows.specs.declared.windows.TooMany.{TooMany}
 use Rattle.sn_windows.specs.declared.windows.Windows.{Windows}
 use Rattle.sn_windows.proofs.NumberLemmas.{numbered_is}
 use Rattle.sn_command_training.specs.declared.collected.Collected.{Collected}
-use Rattle.sn_command_training.specs.Collecting.{Collects, HasCollected, IsCollected, IsOver, Seen, seen_time, seen_tuple, trained_on, with_current}
+use Rattle.sn_command_training.specs.Collecting.{Collects, HasCollected, IsCollected, IsOver, Seen, seen_time, seen_tuple, training_of_seen, with_current}
 use Rattle.sn_command_training.proofs.NumberLemmas.{after_push, as_many_numbers, next_few, numbers_push}
 
 -- the numbers of records, one record more
@@ -23,7 +23,7 @@ numbers_more window seen one =
     ∙ ap (λ (ns : List ℕ). ns ++ next_number (after (begun window) (map seen_time seen)) one.0 ∷ []) (ap (map number_at) (numbered_is seen_time window seen))
 
 trained_more : (window : ℕ) (seen : List Seen) (one : Seen) (number : ℕ) → number ≡ next_number (after (begun window) (map seen_time seen)) one.0
-    → trained_on window (seen ++ one ∷ []) ≡ with_window (trained_on window seen) number (one.1 ∷ [])
+    → training_of_seen window (seen ++ one ∷ []) ≡ with_window (training_of_seen window seen) number (one.1 ∷ [])
 trained_more window seen one number is =
     ap (λ (ts : List (List ℕ)). record { tuples = ts; numbers = map number_at (numbered seen_time window (seen ++ one ∷ [])) }) (map-append seen_tuple seen (one ∷ []))
     ∙ ap (λ (ns : List ℕ). record { tuples = map seen_tuple seen ++ one.1 ∷ []; numbers = ns })
@@ -108,8 +108,8 @@ module _ (window : ℕ) (seen : List Seen) (one : Seen) (before : Collected) (is
       (all_weaker (λ (m : ℕ). m < before.windows.number) (λ (m : ℕ). m < windows.number) (λ m less. omega (arith, less, above)) before.over.numbers is.below)
       (all_copies (λ (m : ℕ). m < windows.number) (length before.tuples) before.windows.number above) in
       record {
-        all = ap (λ (t : Training). with_window t now.windows.number now.tuples) (over ∙ ended.over) ∙ ap (λ (n : ℕ). with_window (trained_on window seen) n now.tuples) number
-            ∙ ap (with_window (trained_on window seen) windows.number) (tuples ∙ ap (λ (ts : List (List ℕ)). ts ++ one.1 ∷ []) ended.none)
+        all = ap (λ (t : Training). with_window t now.windows.number now.tuples) (over ∙ ended.over) ∙ ap (λ (n : ℕ). with_window (training_of_seen window seen) n now.tuples) number
+            ∙ ap (with_window (training_of_seen window seen) windows.number) (tuples ∙ ap (λ (ts : List (List ℕ)). ts ++ one.1 ∷ []) ended.none)
             ∙ sym (trained_more window seen one windows.number number_is);
         numbering = ap numbering windows_are ∙ numbering_more;
         below = subst (λ (n : ℕ). AllByRecursion (λ (m : ℕ). m < n) now.over.numbers) (sym number) (subst (λ (t : Training). AllByRecursion (λ (m : ℕ). m < windows.number) t.numbers) (sym all_over) earlier);
@@ -125,7 +125,7 @@ none_too_many window seen c time is room many =
     omega (arith, room, many, within, long)
 
 -- what is trained on has no more records than may be
-pub few_numbers : (window : ℕ) (seen : List Seen) → length seen ≤ most_records → length (trained_on window seen).numbers ≤ most_records
+pub few_numbers : (window : ℕ) (seen : List Seen) → length seen ≤ most_records → length (training_of_seen window seen).numbers ≤ most_records
 few_numbers window seen few = let many = as_many_numbers seen_time window seen in omega (arith, many, few)
 
 -- packets one after another, of which the first i came

@@ -25,7 +25,7 @@ use Rattle.sn_windows.specs.Numbering.{Numbering, begun, next_number, numbered_f
 use Rattle.sn_command_capture.specs.Capture.{packet_tuple, time_of}
 use Rattle.sn_cost_training.specs.Trained.{Training}
 use Rattle.sn_command_training.specs.declared.collected.Collected.{Collected}
-use Rattle.sn_command_training.specs.Collecting.{CollectsAll, IsCollected, Seen, seen_time, seen_tuple, shown, trained_on}
+use Rattle.sn_command_training.specs.Collecting.{CollectsAll, IsCollected, Seen, seen_time, seen_tuple, shown, training_of_seen}
 use Rattle.sn_command_training.specs.Taking.{HasEnd, IsTakenAs, TakesAll, TakesRecords, end_at}
 use Rattle.sn_command_training.specs.Training.{JudgedAs, TrainingIn, training_of}
 use Rattle.sn_command_training.proofs.MovedLemmas.{Agrees, Moved, all_moved, bad_moved, end_moved}
@@ -167,14 +167,14 @@ tuples_shown : (link : Link) (file : List ℕ) (packets : List Packet) → map s
 tuples_shown link file [] = refl
 tuples_shown link file (p ∷ ps) = ap (λ (ts : List (List ℕ)). packet_tuple link file p ∷ ts) (tuples_shown link file ps)
 
-pub trained_shown : (window : ℕ) (link : Link) (file : List ℕ) (packets : List Packet) → trained_on window (map (shown link file) packets) ≡ training_of window link file packets
+pub trained_shown : (window : ℕ) (link : Link) (file : List ℕ) (packets : List Packet) → training_of_seen window (map (shown link file) packets) ≡ training_of window link file packets
 trained_shown window link file packets =
     ap (λ (ts : List (List ℕ)). record { tuples = ts; numbers = map number_at (numbered seen_time window (map (shown link file) packets)) }) (tuples_shown link file packets)
     ∙ ap (λ (ns : List ℕ). record { tuples = map (packet_tuple link file) packets; numbers = ns })
     (ap (map number_at) (sym (numbered_is seen_time window (map (shown link file) packets))) ∙ numbers_shown link file (begun window) packets ∙ ap (map number_at) (numbered_is time_of window packets))
 
 -- what is collected of all packets is what is trained on
-pub all_judged : (window : ℕ) (file : List ℕ) (c : Collected) (training : Training) → TakesAll window file c → ((seen : List Seen) → IsCollected window seen c → training ≡ trained_on window seen) → TrainingIn window file (Ok training)
+pub all_judged : (window : ℕ) (file : List ℕ) (c : Collected) (training : Training) → TakesAll window file c → ((seen : List Seen) → IsCollected window seen c → training ≡ training_of_seen window seen) → TrainingIn window file (Ok training)
 all_judged window file c training all finished =
     let few : length all.packets ≤ most_records = let e = length-map all.packets (shown all.header.link file) in let most = all.collects.few in omega (arith, e, most) in
     let same : training ≡ training_of window all.header.link file all.packets = finished (map (shown all.header.link file) all.packets) all.collects ∙ trained_shown window all.header.link file all.packets in
@@ -291,7 +291,7 @@ header_stays held rest end whole is =
 
 -- a capture that was taken to its end after its header
 pub header_judged : (window : ℕ) (file held : List ℕ) (found : Found) (header : Header) (c : Collected) (training : Training) → found ≡ found_as.Header header → IsTakenAs window file (length file) found held c
-    → ((seen : List Seen) → IsCollected window seen c → training ≡ trained_on window seen) → TrainingIn window file (Ok training)
+    → ((seen : List Seen) → IsCollected window seen c → training ≡ training_of_seen window seen) → TrainingIn window file (Ok training)
 header_judged window file held found header c training is taken finished =
     let t = subst (λ (f : Found). IsTakenAs window file (length file) f held c) is taken in
     all_judged window file c training (ended_all window file (length file) header held c t.0 (t.1 (omega arith))) finished
@@ -304,6 +304,6 @@ pub front_reaches : (file held : List ℕ) (place : ℕ) → held ≡ take place
 front_reaches file held place is whole = let e = ap length is in let a = length-take place file in omega (arith, e, a, whole)
 
 pub records_judged : (window : ℕ) (file held : List ℕ) (found : Found) (c : Collected) (training : Training) → ((header : Header) × (found ≡ found_as.Header header)) ⊎ (found ≡ found_as.End) → IsTakenAs window file (length file) found held c
-    → ((seen : List Seen) → IsCollected window seen c → training ≡ trained_on window seen) → TrainingIn window file (Ok training)
+    → ((seen : List Seen) → IsCollected window seen c → training ≡ training_of_seen window seen) → TrainingIn window file (Ok training)
 records_judged window file held found c training (inl (header, is)) taken finished = header_judged window file held found header c training is taken finished
 records_judged window file held found c training (inr is) taken finished = all_judged window file c training (subst (λ (f : Found). IsTakenAs window file (length file) f held c) is taken) finished

@@ -26,9 +26,9 @@ seen_tuple seen = seen.1
 abbrev pub shown : Link → List ℕ → Packet → Seen
 shown link file packet = (packet.time, packet_tuple link file packet)
 
--- what records are trained on
-abbrev pub trained_on : ℕ → List Seen → Training
-trained_on window seen = record { tuples = map seen_tuple seen; numbers = map number_at (numbered seen_time window seen) }
+-- the training of these records
+abbrev pub training_of_seen : ℕ → List Seen → Training
+training_of_seen window seen = record { tuples = map seen_tuple seen; numbers = map number_at (numbered seen_time window seen) }
 
 -- the windows that are over, and the current one
 abbrev pub with_current : Collected → Training
@@ -36,7 +36,7 @@ with_current collected = with_window collected.over collected.windows.number col
 
 -- these records were collected
 pub record IsCollected (window : ℕ) (seen : List Seen) (collected : Collected) : Type 0 where
-  pub all : with_current collected ≡ trained_on window seen
+  pub all : with_current collected ≡ training_of_seen window seen
   pub numbering : numbering collected.windows ≡ after (begun window) (map seen_time seen)
   pub below : AllByRecursion (λ n. n < collected.windows.number) collected.over.numbers
   pub count : collected.count ≡ length seen
@@ -48,7 +48,7 @@ HasCollected collected = (window : ℕ) × (seen : List Seen) × IsCollected win
 
 -- records were collected, and no tuple of the window after theirs
 pub record IsOver (window : ℕ) (seen : List Seen) (before now : Collected) : Type 0 where
-  pub over : now.over ≡ trained_on window seen
+  pub over : now.over ≡ training_of_seen window seen
   pub none : now.tuples ≡ []
   pub windows : now.windows ≡ before.windows
   pub count : now.count ≡ before.count

@@ -1,6 +1,6 @@
 //! The tuples of records, collected window by window.
 ghost use Rattle.std.specs.Prelude.{◌≡◌, ◌≤◌, ◌+◌, ℕ, List, [], ◌∷◌, ◌++◌, All, IfOk, OnOk, length, map};
-ghost use Rattle.sn_command_training.specs.Collecting.{Collects, CollectsAll, HasCollected, IsCollected, IsOver, Seen, shown, trained_on};
+ghost use Rattle.sn_command_training.specs.Collecting.{Collects, CollectsAll, HasCollected, IsCollected, IsOver, Seen, shown, training_of_seen};
 ghost use Rattle.sn_pcap.specs.Capture.{IsWithin};
 ghost use Rattle.sn_windows.specs.Blocks.{most_records};
 
@@ -94,7 +94,7 @@ impl Collected {
     /// What is trained on, once no record follows.
     pub(crate) fn finish(self) -> Result<Training, Memory>
         requires { HasCollected self }
-        ensures all { IfOk result (λ training. (window : ℕ) (seen : List Seen) → IsCollected window seen self → training ≡ trained_on window seen) }
+        ensures all { IfOk result (λ training. (window : ℕ) (seen : List Seen) → IsCollected window seen self → training ≡ training_of_seen window seen) }
         ensures few { IfOk result (λ training. length training.numbers ≤ most_records) }
     {
         let mut over = self.over;
