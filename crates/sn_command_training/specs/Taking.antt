@@ -66,9 +66,14 @@ abbrev pub HoldsHeader : Found → List ℕ → Type 0
 HoldsHeader (found.Header header) held = 24 ≤ length held
 HoldsHeader found held = Unit {0}
 
--- over any file: some records were collected
+-- while there aren't too many, some records were collected
+abbrev pub MayHaveCollected : Found → Collected → Type 0
+MayHaveCollected found.TooMany collected = Unit {0}
+MayHaveCollected found collected = HasCollected collected
+
+-- over any file: what is held
 pub record MayGoOn (taking : Taking) : Type 0 where
-  pub collects : HasCollected taking.collected
+  pub collects : MayHaveCollected taking.found taking.collected
   pub holds : HoldsHeader taking.found taking.held.items
 
 -- over any file: a training, or out of memory, or a refusal of the header or for too many records

@@ -1,6 +1,7 @@
 //! The tuples of records, collected window by window.
 ghost use Rattle.std.specs.Prelude.{◌≡◌, ◌≤◌, ◌+◌, ℕ, List, [], ◌∷◌, ◌++◌, All, IfOk, OnOk, length, map};
 ghost use Rattle.sn_command_training.specs.Collecting.{Collects, CollectsAll, HasCollected, IsCollected, IsOver, Seen, shown, training_of_seen};
+ghost use Rattle.sn_cost_training.specs.Trained.{none};
 ghost use Rattle.sn_pcap.specs.Capture.{IsWithin};
 ghost use Rattle.sn_windows.specs.Blocks.{most_records};
 
@@ -89,6 +90,15 @@ impl Collected {
             }
         }
         Ok(Ok(()))
+    }
+
+    /// Lets go of all tuples.
+    pub(crate) fn clear(&mut self)
+        ensures over { self.new.over ≡ none }
+        ensures tuples { self.new.tuples ≡ [] }
+    {
+        self.over = Training::new(self.alloc);
+        self.tuples = Seq::new(self.alloc);
     }
 
     /// What is trained on, once no record follows.

@@ -30,7 +30,7 @@ pub(crate) enum Found {
     End,
     /// That its header is refused.
     HeadFault(HeadFault),
-    /// More records than may be.
+    /// More records than may be. No tuple is held any more.
     TooMany,
 }
 
@@ -116,6 +116,7 @@ impl Taking {
             .collected
             .take_all(header.link, &self.held, found.as_slice())?;
         if let Err(TooMany) = taken {
+            self.collected.clear();
             self.found = Found::TooMany;
             return Ok(());
         }

@@ -5,7 +5,7 @@ use Rattle.sn_pcap.specs.Capture.{Records}
 use Rattle.sn_windows.specs.declared.windows.TooMany.{TooMany}
 use Rattle.sn_command_training.specs.declared.taking.Found.{Found}
 use Rattle.sn_command_training.specs.Collecting.{CollectsAll, Seen, shown}
-use Rattle.sn_command_training.specs.Taking.{HoldsHeader, IsTakenAs, end_at}
+use Rattle.sn_command_training.specs.Taking.{HoldsHeader, IsTakenAs, MayHaveCollected, end_at}
 use Rattle.sn_command_training.proofs.MovedLemmas.{end_within}
 use Rattle.sn_command_training.proofs.TakeLemmas.{bad_taken, collects_as, header_stays, held_taken, many_taken}
 use Rattle.sn_command_training.proofs.taking.Taking.take_records.Goals as goal
@@ -59,7 +59,7 @@ returns-clause-goes_on c =
     let window : ℕ = c.requires.collected.0 in
     let seen : List Seen = c.requires.collected.1 in
     record {
-      collects = (
+      collects = subst (λ (f : Found). MayHaveCollected f c.take_all.new.self) (sym c.requires.found) (
         window,
         seen ++ map (shown c.args.header.now.link held) found,
         subst (λ (r : Result (Unit {0}) TooMany). CollectsAll window seen (map (shown c.args.header.now.link held) found) r c.take_all.new.self) c.in_default.is
