@@ -1,10 +1,11 @@
 -- A file that is read as a stream and judged, over plain values.
-use Rattle.std.proofs.Common.{◌≡◌, ℕ, ◌≤◌, ◌^◌, List, [], ◌∷◌, Bool, true, false, if◌then◌else◌, Option, None, Some, Result, Ok, Err, IfSome, is_some, length, ◌⊎◌, inl, inr, refl, ap, sym, subst, ◌∙◌, arith}
+use Rattle.std.proofs.Common.{◌≡◌, ℕ, ◌≤◌, ◌^◌, List, [], ◌∷◌, Bool, true, false, if◌then◌else◌, Option, None, Some, Result, Ok, Err, IfSome, IsErrOf, is_some, length, ◌⊎◌, inl, inr, refl, ap, sym, subst, ◌∙◌, arith}
 use Rattle.std.specs.FinMap.{get}
 use Rattle.std.proofs.lemmas.Bool.{le-ltb}
 use Rattle.sn_base.proofs.Lists.{by_test}
 use Rattle.sn_io.specs.Counts.{ByName, OnlyRises, RoseAt}
 use Rattle.sn_io.specs.Inputs.{Reads, told_file}
+use Rattle.sn_io.specs.declared.inputs.ReadError.{ReadError}
 use Rattle.sn_command.specs.declared.fault.Fault.{Fault}
 use Rattle.sn_command.specs.declared.fault.Fault.TheVariants as faults
 use Rattle.sn_command.specs.declared.refusal.Refusal.{Refusal}
@@ -105,6 +106,10 @@ judged_due told counts name judgement answer known law once few judged files sam
     let one : also.0 ≡ found.0 = let e : ◌≡◌ {A = Option (List ℕ)} (Some also.0) (Some found.0) = sym also.1 ∙ found.1 in cc in
     answer_due (judgement found.0) answer outcome (λ verdict here. text_due name judgement files outcome is found.0 verdict found.1 found.2 (once found.0) here)
     (subst (λ (file : List ℕ). Answers (judgement file) answer) one also.2) sure
+
+-- a read that gives nothing gives nothing of any type
+pub same_error : {A B : Type 0} {error other : ReadError} → IsErrOf {T = A} (Err error) other → IsErrOf {T = B} (Err error) other
+same_error {error = error} {other = other} e = let same : error ≡ other = cc in ap (λ (x : ReadError). Err x) same
 
 -- at the end of a file all of it was taken
 pub all_taken : (told now : Option (List ℕ)) (P : List ℕ → ℕ → Type 0) (place count : ℕ) (piece new : List ℕ) → now ≡ told → count ≡ 0 → (length piece ≡ 0 → ⊥) → IfSome told (λ file. P file place × (place ≤ length file))

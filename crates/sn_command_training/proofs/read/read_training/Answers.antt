@@ -7,7 +7,7 @@ use Rattle.sn_command.specs.declared.refusal.Refusal.TheVariants.{Missing, ReadF
 use Rattle.sn_command.proofs.FileLemmas.{works_unread}
 use Rattle.sn_command.proofs.StageLemmas.{text_refused}
 use Rattle.sn_command_training.specs.Training.{TrainingIn}
-use Rattle.sn_command_training.proofs.ReadLemmas.{if_some_map, judged_due, never_so, training_late, works_streamed}
+use Rattle.sn_command_training.proofs.ReadLemmas.{if_some_map, judged_due, never_so, same_error, training_late, works_streamed}
 use Rattle.sn_command_training.proofs.TrainingLemmas.{training_once}
 use Rattle.sn_command_training.proofs.read.read_training.Goals as goal
 
@@ -31,5 +31,5 @@ returns-in-Err-clause-works g c =
     let name = c.args.name.now in
     let e = c.take_file.ensures in
     let failed = c.in-Err.ensures in
-    rw c.read_refusal.ensures (text_refused (works_unread most_text name (world g.I.Inputs g.O.Sink c.args.desk.now) _ e.told e.faults refl refl c.in-Err.error failed.missing.0 failed.missing.1 failed.fault failed.large
+    rw c.read_refusal.ensures (text_refused (works_unread most_text name (world g.I.Inputs g.O.Sink c.args.desk.now) _ e.told e.faults refl refl c.in-Err.error (λ x. failed.missing.0 (same_error x)) (λ x. same_error (failed.missing.1 x)) (λ x. failed.fault (same_error x)) (λ x. failed.large (same_error x))
     (λ held same. g.met.I.Inputs.same_names c.args.desk.now.files.now held name same)))
