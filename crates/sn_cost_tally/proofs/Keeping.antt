@@ -1,8 +1,11 @@
 -- Marked rows, one after another.
-use Rattle.std.proofs.Common.{◌≡◌, ℕ, zero, suc, ◌+◌, ◌≤◌, ◌<◌, List, [], ◌∷◌, ◌++◌, drop, length, get_or, Bool, true, false, cond, slice_get, unwrap_or, Some, refl, ap, sym, ◌∙◌, append_assoc, arith}
+use Rattle.std.proofs.Common.{◌≡◌, ℕ, zero, suc, ◌+◌, ◌≤◌, ◌<◌, List, [], ◌∷◌, ◌++◌, drop, length, get_or, Bool, true, false, ◌&&◌, ◌||◌, cond, nat_eq, nat_lt, slice_get, unwrap_or, Some, refl, ap, sym, ◌∙◌, append_assoc, arith}
 use Rattle.std.proofs.lemmas.List.{append-nil, drop_all, get_or_default}
 use Rattle.std.proofs.lemmas.Option.{unwrap_or-slice_get}
+use Rattle.std.specs.Cmp.Lexicographic.{nat_list_eq_equiv}
 use Rattle.sn_base.specs.Groups.{Row}
+use Rattle.sn_base.proofs.Lists.{and_parts, by_test, nat_same}
+use Rattle.sn_chain.specs.Chain.{has_home}
 use Rattle.sn_cost_seats.specs.Tallies.{marked, sum_unmarked}
 use Rattle.sn_cost_tally.specs.Places.{homes_among}
 
@@ -42,12 +45,37 @@ all_kept marks rows i out le so_far = sym (append-nil out) ∙ ap (λ ms. out ++
 pub row_read : (rows : List Row) (i : ℕ) (row : Row) → i < length rows → slice_get rows i ≡ Some row → row ≡ get_or rows i []
 row_read rows i row lt is = ap (λ o. unwrap_or o row) (sym is) ∙ unwrap_or-slice_get rows i row ∙ get_or_default rows i row [] lt
 
--- ---- no key
+-- ---- no key in another's way
 
-pub none_over : (depth slots : ℕ) (keys : List Row) (times : List ℕ) → length keys ≡ 0 → 0 ≡ sum_unmarked (homes_among depth slots keys) times
-none_over depth slots [] times none = refl
-none_over depth slots (key ∷ keys) times none = absurd cc
+-- whether keys are none, or one with a register
+abbrev are_alone : ℕ → List Row → Bool
+are_alone depth keys = nat_eq (length keys) 0 || (nat_eq (length keys) 1 && nat_lt 0 depth)
 
-pub none_marked : (depth slots : ℕ) (keys rows : List Row) → length keys ≡ 0 → [] ≡ marked (homes_among depth slots keys) rows
-none_marked depth slots [] rows none = refl
-none_marked depth slots (key ∷ keys) rows none = absurd cc
+few_keys : (n depth : ℕ) → (nat_eq n 0 || (nat_eq n 1 && nat_lt 0 depth)) ≡ true → n ≤ 1
+few_keys n depth is =
+    by_test (nat_eq n 0)
+    (λ none. let e = nat_same n 0 none in omega (arith, e))
+    (λ some.
+    let one = and_parts (nat_eq n 1) (nat_lt 0 depth) (sym (ap (λ b. b || (nat_eq n 1 && nat_lt 0 depth)) some) ∙ is) in
+    let e = nat_same n 1 one.0 in
+    omega (arith, e))
+
+-- a key alone has a home in the first register
+pub alone_home : (depth slots : ℕ) (key : Row) → has_home (suc depth) slots (key ∷ []) key ≡ true
+alone_home depth slots key = ap (λ b. b || false) (nat_list_eq_equiv.refl key)
+
+pub none_over : (depth slots : ℕ) (keys : List Row) (times : List ℕ) → are_alone depth keys ≡ true → 0 ≡ sum_unmarked (homes_among depth slots keys) times
+none_over depth slots [] times is = refl
+none_over depth slots (key ∷ []) [] is = refl
+none_over zero slots (key ∷ []) (n ∷ times) is = absurd cc
+none_over (suc depth) slots (key ∷ []) (n ∷ times) is = sym (ap (λ b. cond b 0 n + 0) (alone_home depth slots key))
+none_over depth slots (key ∷ other ∷ keys) times is = let few = few_keys (suc (suc (length keys))) depth is in absurd (omega (arith, few))
+
+pub all_stay : (depth slots : ℕ) (keys rows : List Row) → are_alone depth keys ≡ true → length rows ≡ length keys → rows ≡ marked (homes_among depth slots keys) rows
+all_stay depth slots [] [] is long = refl
+all_stay depth slots [] (row ∷ rows) is long = absurd (omega (arith, long))
+all_stay depth slots (key ∷ []) [] is long = refl
+all_stay zero slots (key ∷ []) (row ∷ rows) is long = absurd cc
+all_stay (suc depth) slots (key ∷ []) (row ∷ []) is long = sym (ap (λ b. cond b (row ∷ []) []) (alone_home depth slots key))
+all_stay (suc depth) slots (key ∷ []) (row ∷ other ∷ rows) is long = absurd (omega (arith, long))
+all_stay depth slots (key ∷ other ∷ keys) rows is long = let few = few_keys (suc (suc (length keys))) depth is in absurd (omega (arith, few))

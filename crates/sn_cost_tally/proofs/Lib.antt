@@ -2,5 +2,5 @@ mod Bits
 mod Counting
 mod Folding
 mod Grouping
-mod Keeping
+pub mod Keeping
 mod Seating

@@ -1,5 +1,5 @@
 //! Keys with their times, in registers of a size.
-ghost use Rattle.std.specs.Prelude.{◌≡◌, ◌≤◌, length, IfOk};
+ghost use Rattle.std.specs.Prelude.{◌≡◌, ◌≤◌, ◌&&◌, ◌||◌, length, nat_eq, nat_lt, IfOk};
 ghost use Rattle.sn_base.specs.Groups.{Apart, same_row};
 ghost use Rattle.sn_chain.specs.Limits.{largest_register};
 ghost use Rattle.sn_cost_seats.specs.Tallies.{marked, sum_unmarked};
@@ -37,6 +37,13 @@ pub struct Settled<R: AnyRow> {
     pub rows: RowSeq<R>,
 }
 
+/// Whether keys have a home each, whatever their slots are: none has none to lose, and one alone takes the first register's.
+fn are_alone<R: AnyRow>(depth: u32, keys: &RowSeq<R>) -> bool
+    ensures { result ≡ (nat_eq (length keys.now) 0 || (nat_eq (length keys.now) 1 && nat_lt 0 depth)) }
+{
+    keys.len() == 0 || keys.len() == 1 && depth > 0
+}
+
 impl Room {
     /// Takes no memory yet.
     pub fn new(alloc: Global, seed: Seed) -> Room {
@@ -49,7 +56,7 @@ impl Room {
     }
 
     /// Puts keys, no two the same, into a chain of `depth` registers with `slots` slots each, at most 4 registers and 1 to
-    /// 65536 slots. For each key there is a row that stands for it. Without a key no register is touched.
+    /// 65536 slots. For each key there is a row that stands for it. Where no key stands in another's way no register is touched.
     ///
     /// # Errors
     /// Out of memory.
@@ -70,11 +77,9 @@ impl Room {
         ensures over { IfOk result (λ settled. settled.over ≡ sum_unmarked (homes_among depth slots tally.now.keys) tally.now.times.items) }
         ensures rows { IfOk result (λ settled. settled.rows ≡ marked (homes_among depth slots tally.now.keys) rows.now) }
     {
-        if tally.keys.len() == 0 {
-            return Ok(Settled {
-                over: 0,
-                rows: RowSeq::new(self.alloc),
-            });
+        if are_alone(depth, &tally.keys) {
+            let rows = RowSeq::from_slice(self.alloc, rows.as_slice())?;
+            return Ok(Settled { over: 0, rows });
         }
         seat(
             self.alloc,
