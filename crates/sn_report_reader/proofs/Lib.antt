@@ -1,3 +1,4 @@
+pub mod RangeLemmas
 mod RestLemmas
 mod ToldLemmas
 mod StepLemmas

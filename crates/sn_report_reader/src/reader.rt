@@ -7,7 +7,7 @@ ghost use Rattle.sn_report_reader.specs.declared.room.Reached.TheVariants as Rea
 ghost use Rattle.sn_report_reader.specs.declared.room.TheConstants.{BUFFER_BYTES};
 ghost use Rattle.sn_report_reader.specs.Reading.{ReaderState, Follows, IsStep, Moves, Reaches, ending_of, made, place_of};
 
-use crate::room::{BUFFER_BYTES, Reached, read_piece, take_off};
+use crate::room::{BUFFER_BYTES, Reached, move_front, read_piece};
 use sn_base::memory::Memory;
 use sn_base::row::Row;
 use sn_io::inputs::{Inputs, ReadError};
@@ -37,19 +37,20 @@ pub enum Next {
 pub struct Reader {
     bytes: Vec<u8>,
     start: usize,
+    end: usize,
     offset: u64,
 }
 
 impl Model for Reader {
-    ghost use Rattle.std.specs.Prelude.{◌≤◌, ◌+◌, ◌-◌, ◌^◌, length, drop};
+    ghost use Rattle.std.specs.Prelude.{◌≡◌, ◌≤◌, ◌+◌, ◌-◌, ◌^◌, length, take, drop};
     ghost use Rattle.sn_report_reader.specs.Reading.{ReaderState};
     ghost use Rattle.sn_report_reader.specs.declared.room.TheConstants.{BUFFER_BYTES};
 
     ghost Value = { ReaderState };
 
-    ghost view = { λ a. record { offset = a.offset; held = drop a.start a.bytes.items } };
+    ghost view = { λ a. record { offset = a.offset; held = take (a.end - a.start) (drop a.start a.bytes.items) } };
 
-    ghost invariant = { λ a. (length a.bytes.items ≤ BUFFER_BYTES) × (a.start ≤ length a.bytes.items) × (a.offset + (length a.bytes.items - a.start) ≤ 2 ^ 30) };
+    ghost invariant = { λ a. (length a.bytes.items ≡ BUFFER_BYTES) × (a.start ≤ a.end) × (a.end ≤ BUFFER_BYTES) × (a.offset + (a.end - a.start) ≤ 2 ^ 30) };
 }
 
 /// How many bytes are read at once after those that are held, from this place of a file on.
@@ -73,7 +74,7 @@ fn goes_past<I: Inputs>(files: &mut I, name: &str) -> Result<bool, ReadError>
     ensures not_large { ¬ IsErrOf result ReadError.TooLarge }
 {
     let mut byte = [0; 1];
-    let count = read_piece(&mut byte, 1, files, name, MOST_BYTES)?;
+    let count = read_piece(&mut byte, 0, 1, files, name, MOST_BYTES)?;
     Ok(count > 0)
 }
 
@@ -83,8 +84,9 @@ impl Reader {
         ensures { IfOk result (λ reader. reader ≡ made) }
     {
         Ok(Reader {
-            bytes: Vec::with_capacity(alloc, BUFFER_BYTES)?,
+            bytes: vec![in alloc; 0; BUFFER_BYTES]?,
             start: 0,
+            end: 0,
             offset: 0,
         })
     }
@@ -100,8 +102,7 @@ impl Reader {
     fn held(&self) -> &[u8]
         ensures { result.now ≡ self.now.held }
     {
-        let (_, held) = self.bytes.split_at(self.start);
-        held
+        &self.bytes[self.start..self.end]
     }
 
     /// Which byte of the file this one is of those that are held.
@@ -137,25 +138,22 @@ impl Reader {
         ensures told { I.told files.new ≡ I.told files.old }
         ensures faults { OnlyRises name.now (I.faults files.old) (I.faults files.new) }
     {
-        take_off(&mut self.bytes, self.start);
+        move_front(&mut self.bytes, self.start, self.end);
+        self.end -= self.start;
         self.start = 0;
-        let held = self.bytes.len();
-        let place = self.offset + held as u64;
+        let place = self.offset + self.end as u64;
         if place == MOST_BYTES {
             if goes_past(files, name)? {
                 return Ok(Reached::Past);
             }
             return Ok(Reached::End);
         }
-        let mut piece = [0; BUFFER_BYTES];
-        let room = room_after(held, place);
-        let count = read_piece(&mut piece, room, files, name, place)?;
+        let room = room_after(self.end, place);
+        let count = read_piece(&mut self.bytes, self.end, room, files, name, place)?;
         if count == 0 {
             return Ok(Reached::End);
         }
-        if self.bytes.extend_from_slice(&piece[..count]).is_err() {
-            return Err(ReadError::Memory);
-        }
+        self.end += count;
         Ok(Reached::Bytes)
     }
 
@@ -173,7 +171,7 @@ impl Reader {
     /// The next frame of the reports, or why there is none. Only the first 2^30 bytes of the file are read: where it has more,
     /// `TooLarge` comes in place of `Cut` and `End`. A byte that no frame has there is `Bad`, even if the file can't be read on after
     /// it. The file is read from front to back, each byte once, so it may be a pipe. `Missing` comes exactly where the name isn't
-    /// known, `ReadFault` only where its count rose, and `Memory` at any time.
+    /// known, and `ReadFault` only where its count rose. No memory is asked for.
     pub fn next<I: Inputs>(&mut self, files: &mut I, name: &str) -> Result<Next, ReadError>
         requires follows { IfSome (told_file (I.told files.old) name.now) (λ file. Follows file self.old) }
         requires known { 0 < length self.old.held → is_some (get (I.faults files.old) name.now) ≡ true }

@@ -1,7 +1,6 @@
 //! The bytes of a file that are held while it is read from front to back.
-ghost use Rattle.std.specs.Prelude.{◌≡◌, ◌<◌, ◌≤◌, ◌-◌, ◌++◌, ◌↔◌, None, length, take, drop, IfOk, IfSome, IsErrOf};
+ghost use Rattle.std.specs.Prelude.{◌≡◌, ◌<◌, ◌≤◌, ◌+◌, ◌-◌, ◌↔◌, None, length, take, drop, IfOk, IfSome, IsErrOf};
 ghost use Rattle.std.specs.FinMap.{get};
-ghost use Rattle.std.specs.Vec.{vec_len};
 ghost use Rattle.sn_io.specs.Counts.{OnlyRises, RoseAt};
 ghost use Rattle.sn_io.specs.Inputs.{told_file};
 
@@ -21,28 +20,31 @@ pub enum Reached {
     Past,
 }
 
-/// Takes the first bytes off.
-pub(crate) fn take_off(bytes: &mut Vec<u8>, count: usize)
-    requires { count ≤ vec_len bytes.old }
-    ensures { bytes.new.items ≡ drop count bytes.old.items }
+/// Moves the bytes of a range to the front.
+pub(crate) fn move_front(bytes: &mut [u8], start: usize, end: usize)
+    requires order { start ≤ end }
+    requires within { end ≤ length bytes.old }
+    ensures len { length bytes.new ≡ length bytes.old }
+    ensures front { take (end - start) bytes.new ≡ take (end - start) (drop start bytes.old) }
 {
-    let rest = bytes.len() - count;
-    bytes.copy_within(count.., 0);
-    bytes.truncate(rest);
+    bytes.copy_within(start..end, 0);
 }
 
-/// Reads bytes of a file from the place `at` on into the first ones of a piece, as many as there is room for.
+/// Reads bytes of a file from the place `at` on after the first ones that are held, as many as there is room for.
 pub(crate) fn read_piece<I: Inputs>(
-    piece: &mut [u8],
+    bytes: &mut [u8],
+    held: usize,
     room: usize,
     files: &mut I,
     name: &str,
     at: u64,
 ) -> Result<usize, ReadError>
     requires some { 0 < room }
-    requires within { room ≤ length piece.old }
+    requires within { held + room ≤ length bytes.old }
+    ensures len { length bytes.new ≡ length bytes.old }
+    ensures kept { take held bytes.new ≡ take held bytes.old }
     ensures within { IfOk result (λ n. n ≤ room) }
-    ensures bytes { IfOk result (λ n. IfSome (told_file (I.told files.old) name.now) (λ file. take n piece.new ≡ take n (drop at file))) }
+    ensures bytes { IfOk result (λ n. IfSome (told_file (I.told files.old) name.now) (λ file. take n (drop held bytes.new) ≡ take n (drop at file))) }
     ensures stand { IfOk result (λ n. IfSome (told_file (I.told files.old) name.now) (λ file. n ≤ length file - at)) }
     ensures none { IfOk result (λ n. IfSome (told_file (I.told files.old) name.now) (λ file. (n ≡ 0) ↔ (length file ≤ at))) }
     ensures told { I.told files.new ≡ I.told files.old }
@@ -51,8 +53,7 @@ pub(crate) fn read_piece<I: Inputs>(
     ensures missing { IsErrOf result ReadError.Missing ↔ (get (I.faults files.old) name.now ≡ None) }
     ensures fault { IsErrOf result ReadError.ReadFault → RoseAt name.now (I.faults files.old) (I.faults files.new) }
 {
-    let (front, _) = piece.split_at_mut(room);
-    match files.read_at(name, at, front) {
+    match files.read_at(name, at, &mut bytes[held..held + room]) {
         Ok(count) => Ok(count),
         Err(InputFault::Failed) => Err(ReadError::ReadFault),
         Err(InputFault::Missing) => Err(ReadError::Missing),
