@@ -60,7 +60,7 @@ module _ (depth slots : ℕ) (g : Grouping) (rows : List Row) where
       ap (λ ys. cond m (f x ∷ ys) ys) (marked_map f ms xs) ∙ elim m as (λ b. cond b (f x ∷ map f (marked ms xs)) (map f (marked ms xs)) ≡ map f (cond b (x ∷ marked ms xs) (marked ms xs))) [ true ↦ refl | false ↦ refl ]
 
   -- the rows of all keys
-  grouped_is : apply (Reduce g) rows ≡ map (row_for g (map (pair_of g) rows)) (once same_row all)
+  pub grouped_is : apply (Reduce g) rows ≡ map (row_for g (map (pair_of g) rows)) (once same_row all)
   grouped_is = ap (λ ks. map (row_for g (map (pair_of g) rows)) (once same_row ks)) (map_both (pair_of g) (λ (p : Row × ℕ). p.0) rows)
 
   pub groups_long : (keys groups : List Row) → keys ≡ once same_row all → groups ≡ apply (Reduce g) rows → length groups ≡ length keys

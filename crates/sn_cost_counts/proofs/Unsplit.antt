@@ -1,7 +1,7 @@
 -- What operators give of all rows, beside those for each list of sizes.
 use Rattle.std.proofs.Common.{◌≡◌, ℕ, zero, suc, ◌+◌, ◌≤◌, ◌<◌, List, [], ◌∷◌, map, take, drop, length, get_or, Bool, true, false, cond, Option, Some, None, IfSome, refl, ap, sym, subst, ◌∙◌}
 use Rattle.std.specs.Option.{option_map}
-use Rattle.std.proofs.lemmas.List.{append-nil, drop_all}
+use Rattle.std.proofs.lemmas.List.{drop_all}
 use Rattle.sn_base.specs.Groups.{Row}
 use Rattle.sn_base.specs.Operators.{apply, through}
 use Rattle.sn_ops.specs.Flow.{AllFit, Fits}
@@ -10,24 +10,10 @@ use Rattle.sn_types.specs.declared.typed_op.TOp.TheVariants as ops
 use Rattle.sn_types.specs.Cuts.{is_stateful}
 use Rattle.sn_types.specs.Values.{op_at}
 use Rattle.sn_cost_counts.specs.AnyFlow.{Flow}
-use Rattle.sn_cost_counts.specs.Flows.{starting, stepped, wider}
-use Rattle.sn_cost_counts.proofs.Going.{operators_ahead, wide_sizes}
+use Rattle.sn_cost_counts.specs.Flows.{starting}
+use Rattle.sn_cost_counts.proofs.Going.{operators_ahead}
 
--- ---- the first distinct or reduce, and what is before it
-
--- a filter or a map leaves one list
-pub same_one : (depth level : ℕ) (slots : List ℕ) (op : TOp) (rows next : List Row) → is_stateful op ≡ false → next ≡ apply (op_at level op) rows → starting next ∷ [] ≡ wider depth level slots op (starting rows ∷ [])
-same_one depth level slots (ops.Filter conds) rows next isnt is = ap (λ (xs : List Row). starting xs ∷ []) is
-same_one depth level slots (ops.Map exprs) rows next isnt is = ap (λ (xs : List Row). starting xs ∷ []) is
-same_one depth level slots ops.Distinct rows next isnt is = absurd cc
-same_one depth level slots (ops.Reduce r) rows next isnt is = absurd cc
-
-pub same_sizes : (depth level : ℕ) (slots : List ℕ) (op : TOp) (rows : List Row) (flow : Flow) (out : List Flow) → is_stateful op ≡ true → flow ≡ starting rows → out ≡ map (λ size. stepped depth size (op_at 0 op) flow) slots
-    → out ≡ wider depth level slots op (starting rows ∷ [])
-same_sizes depth level slots op rows flow out stateful at is =
-    is ∙ ap (λ (f : Flow). map (λ size. stepped depth size (op_at 0 op) f) slots) at
-    ∙ sym (append-nil (map (λ size. stepped depth size (op_at 0 op) (starting rows)) slots))
-    ∙ wide_sizes depth level slots op (starting rows ∷ []) stateful
+-- ---- a distinct or a reduce
 
 -- a distinct and a reduce are the same at all levels
 pub at_all_levels : (level : ℕ) (op : TOp) → is_stateful op ≡ true → op_at 0 op ≡ op_at level op

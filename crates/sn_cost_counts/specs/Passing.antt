@@ -1,6 +1,6 @@
 -- serves proofs
 -- Rows on their way through the operators of a prefix as contracts see them: those for each list of sizes, and all rows.
-use Rattle.std.specs.Prelude.{List, [], ◌∷◌, Option, Some, None, if◌then◌else◌}
+use Rattle.std.specs.Prelude.{List, ◌∷◌, replicate, Option, Some, None, if◌then◌else◌}
 use Rattle.sn_base.specs.Groups.{Row}
 use Rattle.sn_cost_counts.specs.AnyFlow.{Flow}
 use Rattle.sn_cost_counts.specs.Flows.{starting}
@@ -12,10 +12,10 @@ Passing = PassingOf (List Row)
 
 -- those for each list of sizes
 abbrev pub flows_of : Passing → List Flow
-flows_of (Together rows kept) = starting rows ∷ []
+flows_of (Together rows more kept) = starting rows ∷ replicate more (starting rows)
 flows_of (Apart flows unsplit) = flows.items
 
 -- what the operators give of all rows, where that is kept
 abbrev pub unsplit_of : Passing → Option (List Row)
-unsplit_of (Together rows kept) = if kept then Some rows else None
+unsplit_of (Together rows more kept) = if kept then Some rows else None
 unsplit_of (Apart flows unsplit) = unsplit

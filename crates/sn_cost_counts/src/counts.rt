@@ -26,6 +26,9 @@ pub(crate) struct Along<R: AnyRow> {
     pub unsplit: Option<RowSeq<R>>,
 }
 
+/// As many counts as most branches have, for which room is taken at once.
+const COMMON_COUNTS: usize = 32;
+
 /// How many items a prefix of these operators sends of these rows, for each cut and all sizes of its registers; and, if `kept`,
 /// what the operators give of them.
 pub(crate) fn counts_along<R: AnyRow>(
@@ -47,8 +50,8 @@ pub(crate) fn counts_along<R: AnyRow>(
     ensures counts { IfOk result (λ along. along.counts ≡ counts_from depth level slots.now ops.now (starting rows ∷ [])) }
     ensures unsplit { IfOk result (λ along. along.unsplit ≡ (if kept then Some (through (map (op_at level) ops.now) rows) else None)) }
 {
-    let mut counts = Seq::new(room.alloc);
-    let mut passing = Passing::Together(rows, kept);
+    let mut counts = Seq::from_vec(Vec::with_capacity(room.alloc, COMMON_COUNTS)?);
+    let mut passing = Passing::Together(rows, 0, kept);
     for op in ops {
         passing.add_counts(&mut counts)?;
         passing = passing.after(room, op, level, depth, slots)?;

@@ -1,17 +1,19 @@
 //! Rows on their way through the operators of a prefix.
-ghost use Rattle.std.specs.Prelude.{◌≡◌, ◌*◌, ℕ, List, ◌≤◌, ◌<◌, ◌∷◌, ◌++◌, All, length, map, option_map, Some, None, [], false, true, IfOk, IfSome, OnOk, if◌then◌else◌};
+ghost use Rattle.std.specs.Prelude.{◌≡◌, ◌*◌, ℕ, suc, List, ◌≤◌, ◌<◌, ◌∷◌, ◌++◌, All, length, map, replicate, nat_eq, option_map, Some, None, [], false, true, IfOk, IfSome, OnOk, if◌then◌else◌};
+ghost use Rattle.std.specs.List.{list_all};
 ghost use Rattle.sn_base.specs.Operators.{apply};
 ghost use Rattle.sn_cost_counts.specs.Fitting.{AllGo};
 ghost use Rattle.sn_cost_counts.specs.Flows.{counted, starting, stepped, wider};
 ghost use Rattle.sn_cost_counts.specs.Passing.{flows_of, unsplit_of};
 ghost use Rattle.sn_ops.specs.Flow.{Fits};
 ghost use Rattle.sn_types.specs.declared.typed_op.TOp.{TOp};
+ghost use Rattle.sn_types.specs.Cuts.{is_stateful};
 ghost use Rattle.sn_types.specs.Values.{op_at};
 ghost use Rattle.sn_chain.specs.Limits.{largest_register};
 ghost use Rattle.sn_windows.specs.Blocks.{most_records};
 
 use crate::flow::{Flow, FlowOf};
-use crate::sizes::{add_sizes, by_size};
+use crate::sizes::{add_repeated, add_sizes, by_size};
 use crate::stateless::pass_all;
 use sn_base::any_row::AnyRow;
 use sn_base::memory::Memory;
@@ -25,9 +27,10 @@ use sn_types::typed_op::TOp;
 /// The rows of a window after some operators of a prefix. Contracts see any list of rows as what it holds, as in a `Flow`.
 #[derive(Drop)]
 pub(crate) enum Passing<L> {
-    /// Before the first distinct or reduce: the same for all sizes. Whether they're to be kept with no register, too.
-    Together(L, bool),
-    /// After it: those for each list of sizes, and, where they're kept, what the operators give of all rows, with no register.
+    /// As long as no register overflows: the same for all lists of sizes, of which there are this many after the first. Whether
+    /// they're to be kept with no register, too.
+    Together(L, usize, bool),
+    /// Then: those for each list of sizes, and, where they're kept, what the operators give of all rows, with no register.
     Apart(Vec<Flow<L>>, Option<L>),
 }
 
@@ -42,6 +45,16 @@ fn add_each<R: AnyRow>(flows: &[FlowOf<R>], counts: &mut Seq<u64>) -> Result<(),
 {
     for flow in flows {
         counts.push(flow.count())?;
+    }
+    Ok(())
+}
+
+/// Adds a count this many times.
+fn add_repeated_count(count: u64, times: usize, counts: &mut Seq<u64>) -> Result<(), Memory>
+    ensures { OnOk result (counts.new ≡ counts.old ++ replicate times count) }
+{
+    for _ in 0..times {
+        counts.push(count)?;
     }
     Ok(())
 }
@@ -85,8 +98,93 @@ fn after_all<R: AnyRow>(
     Ok(Some(next))
 }
 
-/// Rows after an operator, before which they're the same for all sizes. What the first distinct or reduce gives of all rows comes
-/// by the way, where it finds the distinct keys.
+/// Whether no register overflowed.
+fn none_sent<R: AnyRow>(flows: &[FlowOf<R>]) -> bool
+    ensures { result ≡ list_all (λ f. nat_eq f.sent 0) flows.now }
+{
+    flows.iter().all(|flow| flow.sent == 0)
+}
+
+/// How many lists of sizes stand after the first, where each of this many after the first, and the first, goes on with this many
+/// sizes. None where there is no list, or where there are more than a number counts.
+fn longer(more: usize, sizes: usize) -> Option<usize>
+    ensures { IfSome result (λ after. suc after ≡ suc more * sizes) }
+{
+    more.checked_add(1)?.checked_mul(sizes)?.checked_sub(1)
+}
+
+/// What a distinct or a reduce gives of one row at most.
+fn of_one<R: AnyRow>(room: &Room, op: &TOp, rows: RowSeq<R>) -> Result<RowSeq<R>, Memory>
+    requires stateful { is_stateful op.now ≡ true }
+    requires fits { Fits op.now rows }
+    requires one { length rows ≤ 1 }
+    ensures { IfOk result (λ all. all ≡ apply (op_at 0 op.now) rows) }
+{
+    match op {
+        TOp::Distinct => Ok(rows),
+        _ => operate(room.alloc, room.seed, op, 0, &rows),
+    }
+}
+
+/// Rows after a distinct or a reduce, before which they're the same for this many lists of sizes after the first, and for the first.
+/// They stay the same where no register overflows. What it gives of all rows comes by the way, where it finds the distinct keys.
+fn after_registers<R: AnyRow>(
+    room: &mut Room,
+    op: &TOp,
+    depth: u32,
+    slots: &[u32],
+    rows: RowSeq<R>,
+    more: usize,
+    kept: bool,
+) -> Result<PassingOf<R>, Memory>
+    requires stateful { is_stateful op.now ≡ true }
+    requires most_depth { depth ≤ 4 }
+    requires sizes { All (λ size. (1 ≤ size) × (size ≤ largest_register)) slots.now }
+    requires fits { Fits op.now rows }
+    requires few { length rows ≤ most_records }
+    ensures flows { IfOk result (λ next. flows_of next ≡ wider depth 0 slots.now op.now (starting rows ∷ replicate more (starting rows))) }
+    ensures unsplit { IfOk result (λ next. unsplit_of next ≡ (if kept then Some (apply (op_at 0 op.now) rows) else None)) }
+{
+    let flow = Flow::starting(rows);
+    let mut flows = Vec::with_capacity(room.alloc, slots.len())?;
+    let all = add_sizes(room, op, depth, slots, &flow, &mut flows)?;
+    if none_sent(flows.as_slice()) {
+        if let Some(after) = longer(more, flows.len()) {
+            return Ok(Passing::Together(all, after, kept));
+        }
+    }
+    add_repeated(room, op, depth, slots, &flow, more, &mut flows)?;
+    let unsplit = if kept { Some(all) } else { None };
+    Ok(Passing::Apart(flows, unsplit))
+}
+
+/// Rows after a distinct or a reduce that are one row at most, before which they're the same for this many lists of sizes after the
+/// first, and for the first: a row alone finds a home in a register of any size.
+fn after_one<R: AnyRow>(
+    room: &mut Room,
+    op: &TOp,
+    depth: u32,
+    slots: &[u32],
+    rows: RowSeq<R>,
+    more: usize,
+    kept: bool,
+) -> Result<PassingOf<R>, Memory>
+    requires stateful { is_stateful op.now ≡ true }
+    requires some_depth { 1 ≤ depth }
+    requires most_depth { depth ≤ 4 }
+    requires sizes { All (λ size. (1 ≤ size) × (size ≤ largest_register)) slots.now }
+    requires fits { Fits op.now rows }
+    requires one { length rows ≤ 1 }
+    ensures flows { IfOk result (λ next. flows_of next ≡ wider depth 0 slots.now op.now (starting rows ∷ replicate more (starting rows))) }
+    ensures unsplit { IfOk result (λ next. unsplit_of next ≡ (if kept then Some (apply (op_at 0 op.now) rows) else None)) }
+{
+    match longer(more, slots.len()) {
+        Some(after) => Ok(Passing::Together(of_one(room, op, rows)?, after, kept)),
+        None => after_registers(room, op, depth, slots, rows, more, kept),
+    }
+}
+
+/// Rows after an operator, before which they're the same for this many lists of sizes after the first, and for the first.
 fn after_same<R: AnyRow>(
     room: &mut Room,
     op: &TOp,
@@ -94,24 +192,24 @@ fn after_same<R: AnyRow>(
     depth: u32,
     slots: &[u32],
     rows: RowSeq<R>,
+    more: usize,
     kept: bool,
 ) -> Result<PassingOf<R>, Memory>
     requires most_depth { depth ≤ 4 }
     requires sizes { All (λ size. (1 ≤ size) × (size ≤ largest_register)) slots.now }
     requires fits { Fits op.now rows }
     requires few { length rows ≤ most_records }
-    ensures flows { IfOk result (λ next. flows_of next ≡ wider depth level slots.now op.now (starting rows ∷ [])) }
+    ensures flows { IfOk result (λ next. flows_of next ≡ wider depth level slots.now op.now (starting rows ∷ replicate more (starting rows))) }
     ensures unsplit { IfOk result (λ next. unsplit_of next ≡ (if kept then Some (apply (op_at level op.now) rows) else None)) }
 {
     if !is_stateful(op) {
         let next = operate(room.alloc, room.seed, op, level, &rows)?;
-        return Ok(Passing::Together(next, kept));
+        Ok(Passing::Together(next, more, kept))
+    } else if rows.len() <= 1 && depth > 0 {
+        after_one(room, op, depth, slots, rows, more, kept)
+    } else {
+        after_registers(room, op, depth, slots, rows, more, kept)
     }
-    let flow = Flow::starting(rows);
-    let mut flows = Vec::new(room.alloc);
-    let all = add_sizes(room, op, depth, slots, &flow, &mut flows)?;
-    let unsplit = if kept { Some(all) } else { None };
-    Ok(Passing::Apart(flows, unsplit))
 }
 
 impl<R: AnyRow> Passing<RowSeq<R>> {
@@ -122,7 +220,11 @@ impl<R: AnyRow> Passing<RowSeq<R>> {
         ensures { OnOk result (counts.new ≡ counts.old ++ map counted (flows_of self.now)) }
     {
         match self {
-            Passing::Together(rows, _) => counts.push(rows.len() as u64),
+            Passing::Together(rows, more, _) => {
+                let count = rows.len() as u64;
+                counts.push(count)?;
+                add_repeated_count(count, *more, counts)
+            }
             Passing::Apart(flows, _) => add_each(flows.as_slice(), counts),
         }
     }
@@ -144,8 +246,8 @@ impl<R: AnyRow> Passing<RowSeq<R>> {
         ensures unsplit { IfOk result (λ next. unsplit_of next ≡ option_map (apply (op_at level op.now)) (unsplit_of self)) }
     {
         match self {
-            Passing::Together(rows, kept) => {
-                after_same(room, op, level, depth, slots, rows, kept)
+            Passing::Together(rows, more, kept) => {
+                after_same(room, op, level, depth, slots, rows, more, kept)
             }
             Passing::Apart(flows, unsplit) => {
                 let flows = after_each(room, op, level, depth, slots, flows)?;
@@ -160,7 +262,7 @@ impl<R: AnyRow> Passing<RowSeq<R>> {
         ensures { result ≡ unsplit_of self }
     {
         match self {
-            Passing::Together(rows, kept) => { if kept { Some(rows) } else { None } }
+            Passing::Together(rows, _, kept) => { if kept { Some(rows) } else { None } }
             Passing::Apart(_, unsplit) => unsplit,
         }
     }

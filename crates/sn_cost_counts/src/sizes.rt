@@ -1,5 +1,5 @@
 //! Stateful operators, with registers of each size.
-ghost use Rattle.std.specs.Prelude.{◌≡◌, ◌*◌, ◌≤◌, ◌++◌, All, length, map, true, IfOk, OnOk};
+ghost use Rattle.std.specs.Prelude.{◌≡◌, ◌*◌, ◌≤◌, ◌++◌, All, length, map, replicate, true, IfOk, OnOk};
 ghost use Rattle.std.specs.List.{flat_map};
 ghost use Rattle.sn_base.specs.Operators.{apply};
 ghost use Rattle.sn_chain.specs.Limits.{largest_register};
@@ -41,6 +41,30 @@ pub(crate) fn add_sizes<R: AnyRow>(
         TOp::Reduce(r) => add_reduce(room, r, depth, slots, flow, out),
         TOp::Filter(_) | TOp::Map(_) => unreachable!(),
     }
+}
+
+/// Adds the rows after a distinct or a reduce for each size, in order, this many times.
+pub(crate) fn add_repeated<R: AnyRow>(
+    room: &mut Room,
+    op: &TOp,
+    depth: u32,
+    slots: &[u32],
+    flow: &FlowOf<R>,
+    times: usize,
+    out: &mut Vec<FlowOf<R>>,
+) -> Result<(), Memory>
+    requires stateful { is_stateful op.now ≡ true }
+    requires most_depth { depth ≤ 4 }
+    requires sizes { All (λ size. (1 ≤ size) × (size ≤ largest_register)) slots.now }
+    requires fits { Fits op.now flow.now.rows }
+    requires sent { flow.now.sent ≤ 12 * most_records }
+    requires few { length flow.now.rows ≤ most_records }
+    ensures { OnOk result (out.new.items ≡ out.old.items ++ flat_map (λ f. map (λ size. stepped depth size (op_at 0 op.now) f) slots.now) (replicate times flow.now)) }
+{
+    for _ in 0..times {
+        add_sizes(room, op, depth, slots, flow, out)?;
+    }
+    Ok(())
 }
 
 /// The rows after a distinct or a reduce: of each of these for each size, in order.

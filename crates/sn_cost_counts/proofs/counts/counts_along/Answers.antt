@@ -10,7 +10,7 @@ pub loop-op-init : goal.loop-op-init
 loop-op-init g c =
     let a = c.args in
     record {
-      along = subst (λ (counts : List ℕ). Along a.depth a.level a.slots.now a.ops.now (starting a.rows ∷ []) 0 (starting a.rows ∷ []) counts) (sym c.new-counts.ensures)
+      along = subst (λ (counts : List ℕ). Along a.depth a.level a.slots.now a.ops.now (starting a.rows ∷ []) 0 (starting a.rows ∷ []) counts) (sym (c.from_vec-counts.ensures ∙ c.in_ok-with_capacity.ensures.items))
           (at_first a.depth a.level a.slots.now a.ops.now (starting a.rows ∷ []) (started a.level a.ops.now a.rows c.requires.few c.requires.takes c.requires.fits));
       follows = follows_first a.kept a.level a.ops.now a.rows c.requires.fits_all;
     }

@@ -1,7 +1,6 @@
 use Rattle.std.proofs.Common.{◌≡◌, ℕ, List, map, ap, ◌∙◌}
 use Rattle.sn_base.specs.Groups.{Row, keyed}
-use Rattle.sn_base.specs.Operators.{Grouping, grouped}
-use Rattle.sn_ops.specs.Flow.{grouping_of}
+use Rattle.sn_base.specs.Operators.{grouped}
 use Rattle.sn_cost_counts.proofs.Going.{if_ok}
 use Rattle.sn_cost_counts.proofs.grouped.groups_of.Goals as goal
 

@@ -1,4 +1,4 @@
-use Rattle.std.proofs.Common.{List, ◌∷◌, [], subst}
+use Rattle.std.proofs.Common.{List, ◌∷◌, replicate, subst}
 use Rattle.std.proofs.lemmas.List.Elements.{recursion_from_All}
 use Rattle.sn_ops.specs.Flow.{Fits}
 use Rattle.sn_cost_counts.specs.AnyFlow.{Flow}
@@ -12,6 +12,6 @@ pub after_same-requires-clause-fits : goal.after_same-requires-clause-fits
 after_same-requires-clause-fits g c =
     let a = c.args in
     let go = c.requires.go in
-    let first : List Flow = starting c.in-Together.rows ∷ [] in
+    let first : List Flow = starting c.in-Together.rows ∷ replicate c.in-Together.more (starting c.in-Together.rows) in
     let goes : AllGo a.level go.0 (a.op.now ∷ go.1) first = subst (λ (p : Passing). AllGo a.level go.0 (a.op.now ∷ go.1) (flows_of p)) c.in-Together.is go.3 in
     (recursion_from_All (λ (f : Flow). Fits a.op.now f.rows) first (all_fit a.level go.0 a.op.now go.1 first goes)).0
