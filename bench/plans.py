@@ -2,8 +2,8 @@
 """Measures the commands around plans against `sonata plain`, all of one run of this program: processor time (user and system) and peak memory as ratios.
 
 along     `run`, `emit` and `finish` with the queries of three.query and the plan of full.plan, on two generated captures; on `few` also `run` and `emit` with
-          few.plan, whose registers are of a size that suits it (`fitting`). `emit` drives the lanes by a loop of its own, so `run` over it is what a
-          machine costs. The answers of `run` and `finish`
+          few.plan, whose registers are of a size that suits it (`fitting`). `emit` drives the lanes by a loop of its own, and along full.plan its engine
+          takes no row, so `run` over it is what a machine and the engine cost. The answers of `run` and `finish`
           are compared with those of `plain`, and the text of `run` with that of switch.c, which does by hand what this plan says.
 late      `detect` with the same queries, along the plan of full.plan, whose paths have one level, and along paths of two. It answers each query twice, in one
           reading.

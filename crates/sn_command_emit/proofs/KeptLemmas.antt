@@ -1,19 +1,18 @@
 -- What the lanes admit is what the levels before answered along the plan.
-use Rattle.std.proofs.Common.{◌≡◌, ℕ, zero, suc, ◌+◌, ◌-◌, ◌<◌, ◌==◌, List, [], ◌∷◌, ◌++◌, map, length, Bool, true, false, cond, Option, Some, None, slice_get, slice_index, refl, ap, ◌∙◌, subst, arith}
+use Rattle.std.proofs.Common.{◌≡◌, ℕ, zero, suc, ◌+◌, ◌-◌, ◌<◌, ◌==◌, List, [], ◌∷◌, ◌++◌, length, Bool, true, false, cond, Option, Some, None, slice_index, refl, ap, ◌∙◌, subst, arith}
 use Rattle.std.specs.FinSet as set
 use Rattle.std.specs.List.{AllByRecursion}
-use Rattle.sn_base.proofs.Lists.{all_append, all_weaker, nat_same, not_true}
+use Rattle.sn_base.proofs.Lists.{all_weaker, nat_same, not_true}
 use Rattle.sn_windows.specs.Rising.{AreRising, IsAbove, Window}
+use Rattle.sn_engine_asked.proofs.Levels.{IsPieceOf, all_pieces}
 use Rattle.sn_engine_lockstep.specs.Sources.{kept_in, source_at}
 use Rattle.sn_engine_lockstep.specs.Windows.{Follows, Remembers, answers_from, plan_answers, window_answers, window_of}
 use Rattle.sn_engine_lockstep.proofs.Along.{kept_right, window_right}
-use Rattle.sn_engine_lockstep.proofs.Apart.{levels_known, place_is}
-use Rattle.sn_emit.specs.Plans.{Placed, pieces_from, placed}
-use Rattle.sn_plan_fit.specs.Fits.{AreEntriesOf, IsEntryOf}
-use Rattle.sn_plan_fit.specs.Paths.{is_among, level_before, place_in}
-use Rattle.sn_base.specs.Rising.{IsRising}
+use Rattle.sn_engine_lockstep.proofs.Apart.{place_is}
+use Rattle.sn_emit.specs.Plans.{Placed, pieces_from}
+use Rattle.sn_plan_fit.specs.Fits.{AreEntriesOf}
+use Rattle.sn_plan_fit.specs.Paths.{level_before, place_in}
 use Rattle.sn_plan_grammar.specs.declared.plan.Entry.{Entry}
-use Rattle.sn_plan_grammar.specs.declared.plan.Piece.{Piece}
 use Rattle.sn_refine.specs.Refined.{Windows, before, refined_rows}
 use Rattle.sn_refine.specs.Steps.{prefixes_of, windows_of}
 use Rattle.sn_refine.proofs.Windows.{above_last, earlier, here, later}
@@ -25,42 +24,6 @@ use Rattle.sn_types.specs.declared.typed_query.TypedQuery.{TypedQuery}
 use Rattle.sn_types.specs.Typed.{query_at}
 use Rattle.sn_command_emit.specs.Reporting.{kept_now}
 use Rattle.sn_command_emit.specs.Sent.{kept_of, prefixes_for}
-
--- ---- pieces and their entries
-
--- a piece is one of its query's entry, at a level of its path
-pub record IsPieceOf (es : List Entry) (x : Placed) : Type 0 where
-  pub entry : Entry
-  pub at : slice_get es x.query ≡ Some entry
-  pub path : entry.levels ≡ x.path
-  pub rising : IsRising entry.levels
-  pub among : is_among entry.levels x.piece.level ≡ true
-
-own_pieces : (all : List Entry) (q : ℕ) (e : Entry) (ps : List Piece) → slice_get all q ≡ Some e → IsRising e.levels → AllByRecursion (λ (p : Piece). is_among e.levels p.level ≡ true) ps → AllByRecursion (IsPieceOf all) (map (placed q e.levels) ps)
-own_pieces all q e [] at rising known = tt
-own_pieces all q e (p ∷ ps) at rising known = (record { entry = e; at = at; path = refl; rising = rising; among = known.0 }, own_pieces all q e ps at rising known.1)
-
-pieces_of : (all : List Entry) (q : ℕ) (queries : List TypedQuery) (es : List Entry) → ((i : ℕ) → slice_get all (q + i) ≡ slice_get es i) → AreEntriesOf queries es → AllByRecursion (IsPieceOf all) (pieces_from q es)
-pieces_of all q [] [] same h = tt
-pieces_of all q [] (e ∷ es) same h = absurd h
-pieces_of all q (query ∷ queries) [] same h = absurd h
-pieces_of all q (query ∷ queries) (e ∷ es) same h =
-    let entry : IsEntryOf query e = h.0 in
-    all_append (IsPieceOf all) (map (placed q e.levels) e.pieces) (pieces_from (suc q) es)
-    (own_pieces all q e e.pieces (ap (slice_get all) none ∙ same 0) entry.path.rising (levels_known query e h.0))
-    (pieces_of all (suc q) queries es (λ i. ap (slice_get all) (moved i) ∙ same (suc i)) h.1)
-  where
-    none : q ≡ q + 0
-    none = omega arith
-
-    moved : (i : ℕ) → suc q + i ≡ q + suc i
-    moved i = omega arith
-
-pub all_pieces : (queries : List TypedQuery) (es : List Entry) → AreEntriesOf queries es → AllByRecursion (IsPieceOf es) (pieces_from 0 es)
-all_pieces queries es h = pieces_of es 0 queries es (λ i. ap (slice_get es) (none i)) h
-  where
-    none : (i : ℕ) → 0 + i ≡ i
-    none i = omega arith
 
 -- ---- the prefixes of one piece
 

@@ -14,6 +14,7 @@ use sn_base::seq::Seq;
 use sn_command_capture::answering::Answering;
 use sn_command_capture::stop::Stop;
 use sn_emit::tables::Tables;
+use sn_engine_asked::window::{close, packet};
 use sn_engine_lockstep::driver::Driver;
 use sn_fields::tuple::Tuple;
 use sn_pcap::packet::Ending;
@@ -72,7 +73,8 @@ impl Reporter {
         ensures plan { plan_of self.new ≡ plan_of self.old }
     {
         tuple.widths();
-        self.driver.packet(&mut self.sent, tuple)
+        let plan = self.plan.entries.as_slice();
+        packet(plan, &mut self.driver, &mut self.sent, tuple)
     }
 
     /// Closes the current window, and gives its frames.
@@ -84,7 +86,8 @@ impl Reporter {
             IsIdle self.new (closed ++ (number, tuples) ∷ [])) }
         ensures plan { plan_of self.new ≡ plan_of self.old }
     {
-        let answers = self.driver.close(&mut self.sent, number)?;
+        let plan = self.plan.entries.as_slice();
+        let answers = close(plan, &mut self.driver, &mut self.sent, number)?;
         self.last = Some(answers);
         let sent = mem::replace(&mut self.sent, Vec::new(self.typed.alloc));
         Ok(Seq::from_vec(sent))

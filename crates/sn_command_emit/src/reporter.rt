@@ -6,8 +6,8 @@ use sn_plan_grammar::plan::Plan;
 use sn_types::answers::Answers;
 use sn_types::typed::Typed;
 
-/// A plan that fits a switch, its lanes and the engine, which takes what they send, since what a level admits depends on the
-/// answers of the window before; and the bytes of the frames of the current window.
+/// A plan that fits a switch, its lanes, and the engine, since what a level admits depends on the answers of the level before it, in
+/// the window before; and the bytes of the frames of the current window.
 #[derive(Drop)]
 pub struct Reporter {
     pub typed: Typed,
@@ -15,7 +15,7 @@ pub struct Reporter {
     /// The room of the switch for registers and prefixes.
     pub tables: Tables,
     pub driver: Driver,
-    /// The answers of the last window.
+    /// Answers of the last window, right at each level that another one admits.
     pub last: Option<Answers>,
     /// The bytes of the frames of the current window.
     pub sent: Vec<u8>,

@@ -1,0 +1,4 @@
+pub mod Heard
+pub mod Hearing
+pub mod Levels
+pub mod Answered

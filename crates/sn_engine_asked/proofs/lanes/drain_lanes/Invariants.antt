@@ -1,0 +1,27 @@
+use Rattle.std.proofs.Common.{◌≡◌, ℕ, ◌≤◌, List, ◌++◌, length, take, slice_get}
+use Rattle.std.specs.List.{AllByRecursion, flat_map}
+use Rattle.sn_engine_lockstep.specs.declared.source.Source.{Source}
+use Rattle.sn_engine_asked.proofs.Hearing.{HeardEnded}
+use Rattle.sn_engine_asked.specs.Asked.{AreHeard}
+use Rattle.sn_emit.specs.Making.{CanMake}
+use Rattle.sn_emit.specs.Plans.{AreLanesOf, Placed}
+use Rattle.sn_emit.specs.Senders.{frames_left}
+use Rattle.sn_emit.specs.declared.tables.Tables.{Tables}
+use Rattle.sn_refine.specs.Steps.{Set}
+use Rattle.sn_report.specs.Frames.{spelling}
+use Rattle.sn_types.specs.Typed.{HasWidths, IsTyped}
+use Rattle.sn_types.specs.declared.typed_query.TypedQuery.{TypedQuery}
+use Rattle.sn_engine_asked.proofs.lanes.drain_lanes.Given as goal
+
+abbrev pub invariant-loop-lane : goal.invariant-loop-lane
+invariant-loop-lane l = record {
+  count : length l.emitter ≡ length l.initial.emitter;
+  queries : l.engine.t.queries ≡ l.initial.engine.t.queries;
+  closed : l.engine.closed ≡ l.initial.engine.closed;
+  prefixes : l.engine.kept ≡ l.initial.engine.kept;
+  lanes : (queries : List TypedQuery) (tables : Tables) (pieces : List Placed) → AreLanesOf queries tables pieces l.initial.emitter → AreLanesOf queries tables pieces l.emitter;
+  work : (typed_for : ℕ) (tables : Tables) (queries : List TypedQuery) (pieces : List Placed) (kept : Source → Set) (tuples : List (List ℕ)) → ∥ IsTyped typed_for queries ∥₁ → AllByRecursion (CanMake queries) pieces → AllByRecursion HasWidths tuples →
+      AreHeard l.plan queries tables pieces kept tuples l.initial.emitter l.initial.engine.lanes.items → HeardEnded l.plan queries tables pieces kept tuples l.window l.lane l.emitter l.engine.lanes.items;
+  left : (j : ℕ) → l.lane ≤ j → slice_get l.emitter j ≡ slice_get l.initial.emitter j;
+  sent : l.bytes.items ≡ l.initial.bytes.items ++ flat_map (spelling 2) (flat_map (λ s. frames_left s l.window) (take l.lane l.initial.emitter));
+}
