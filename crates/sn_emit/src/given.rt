@@ -4,7 +4,7 @@ ghost use Rattle.std.specs.Prelude.{◌≡◌};
 use sn_base::lane::Lane;
 use sn_base::row::Row;
 use sn_base::short_row::ShortRow;
-use sn_report::frame::Frame;
+use sn_report::frame::{Frame, Item, Tag};
 use std::marker::Model;
 
 /// A frame over rows of one kind.
@@ -17,7 +17,7 @@ pub enum AnyFrame {
 /// A frame that a lane gives, over rows of the lane's kind. Contracts see the frame alone.
 #[derive(Drop)]
 pub struct Given {
-    frame: AnyFrame,
+    pub(crate) frame: AnyFrame,
 }
 
 impl Model for Given {
@@ -32,14 +32,18 @@ impl Model for Given {
 impl Given {
     ghost use Rattle.sn_emit.specs.Kinds.{frame_in};
 
-    /// A frame that no lane gives, as a place for others.
+    /// A frame that no lane gives, as a place for others. It has a row, so that the first frame's is made in its place.
     pub fn unsent() -> Given {
         let lane = Lane {
             query: 0,
             level: 0,
             branch: 0,
         };
-        Given::of_short(Frame::End(lane, 0))
+        let item = Item {
+            tag: Tag::At(0),
+            row: ShortRow::empty(),
+        };
+        Given::of_short(Frame::Row(lane, item))
     }
 
     /// A frame over short rows.

@@ -4,11 +4,13 @@ ghost use Rattle.std.specs.FinSet as set;
 ghost use Rattle.std.specs.Bool.{then_some};
 ghost use Rattle.std.specs.Option.{option_map};
 ghost use Rattle.std.specs.Ordering.{nat_cmp};
+ghost use Rattle.sn_emit.specs.Making.{CanEncode, InRange};
+ghost use Rattle.sn_emit.specs.Senders.{row_frame, sender_next};
 ghost use Rattle.sn_pipe.specs.Pipes.{at_start, item_of};
 ghost use Rattle.sn_pipe.specs.Prefixes.{left_in};
 
 use crate::any_sender::AnySender;
-use crate::given::Given;
+use crate::given::{AnyFrame, Given};
 use crate::sender_of::SenderOf;
 use sn_base::members::Members;
 use sn_base::row::Row;
@@ -55,6 +57,47 @@ fn of_wide(frame: Option<Frame<Row>>) -> Option<Given>
     match frame {
         Some(frame) => Some(Given::of_wide(frame)),
         None => None,
+    }
+}
+
+/// A lane over short rows takes a tuple. `true` exactly where it gives a frame, which is then in `into`: in the place of the one that
+/// stands there, if that is over short rows too.
+#[inline(always)]
+fn give_short(sender: &mut SenderOf<Pipe<ShortRow>>, tuple: &Tuple, into: &mut Given) -> bool
+    requires { sender.old.pipe.prefix.place ≡ 0 }
+    ensures frame { then_some result into.new ≡ option_map (row_frame sender.old.lane) (item_of sender.old.pipe tuple.now) }
+    ensures after { sender.new ≡ sender_next sender.old tuple.now }
+    ensures range { InRange sender.old.lane → IfSome (then_some result into.new) CanEncode }
+{
+    if let AnyFrame::Short(frame) = &mut into.frame {
+        return sender.packet_into(tuple, frame);
+    }
+    match sender.packet(tuple) {
+        Some(frame) => {
+            *into = Given::of_short(frame);
+            true
+        }
+        None => false,
+    }
+}
+
+/// A lane over rows with columns of 128 bits takes a tuple, as one over short rows does.
+#[inline(always)]
+fn give_wide(sender: &mut SenderOf<Pipe<Row>>, tuple: &Tuple, into: &mut Given) -> bool
+    requires { sender.old.pipe.prefix.place ≡ 0 }
+    ensures frame { then_some result into.new ≡ option_map (row_frame sender.old.lane) (item_of sender.old.pipe tuple.now) }
+    ensures after { sender.new ≡ sender_next sender.old tuple.now }
+    ensures range { InRange sender.old.lane → IfSome (then_some result into.new) CanEncode }
+{
+    if let AnyFrame::Wide(frame) = &mut into.frame {
+        return sender.packet_into(tuple, frame);
+    }
+    match sender.packet(tuple) {
+        Some(frame) => {
+            *into = Given::of_wide(frame);
+            true
+        }
+        None => false,
     }
 }
 
@@ -118,20 +161,8 @@ impl Sender {
         ensures range { InRange self.old.lane → IfSome (then_some result into.new) CanEncode }
     {
         match &mut self.held {
-            AnySender::Short(sender) => match sender.packet(tuple) {
-                Some(frame) => {
-                    *into = Given::of_short(frame);
-                    true
-                }
-                None => false,
-            },
-            AnySender::Wide(sender) => match sender.packet(tuple) {
-                Some(frame) => {
-                    *into = Given::of_wide(frame);
-                    true
-                }
-                None => false,
-            },
+            AnySender::Short(sender) => give_short(sender, tuple, into),
+            AnySender::Wide(sender) => give_wide(sender, tuple, into),
         }
     }
 

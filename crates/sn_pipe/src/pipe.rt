@@ -8,7 +8,7 @@ ghost use Rattle.sn_types.specs.Cuts.{stateful};
 ghost use Rattle.sn_pipe.specs.Passing.{CanBeRead};
 ghost use Rattle.sn_pipe.specs.Pipes.{IsCoarser, IsNewPipe, after_tuple, bits_of, item_of};
 ghost use Rattle.sn_pipe.specs.Prefixes.{left_in};
-ghost use Rattle.sn_pipe.specs.Stages.{cleared};
+ghost use Rattle.sn_pipe.specs.Stages.{cleared, item_at};
 ghost use Rattle.sn_types.specs.Kinds.{AreBelow};
 ghost use Rattle.sn_types.specs.Typed.{branch_at, query_at};
 ghost use Rattle.sn_chain.specs.Limits.{largest_register};
@@ -111,20 +111,20 @@ impl<R: AnyRow> Pipe<R> {
         })
     }
 
-    /// Takes a tuple, before any read-out. `Some` exactly where the tuple gives an item: its row at the operator where
-    /// its key overflows, or after a prefix without a reduce. Takes no memory.
+    /// Takes a tuple, before any read-out. `Some` exactly where the tuple gives an item, its row at the operator where its key
+    /// overflows, or after a prefix without a reduce: the number of that operator, and `row` is then the item's row. Takes no memory.
     #[inline(always)]
-    pub fn packet(&mut self, tuple: &Tuple) -> Option<Item<R>>
+    pub fn packet(&mut self, tuple: &Tuple, row: &mut R) -> Option<u8>
         requires { self.old.prefix.place ≡ 0 }
-        ensures item { option_map (item_by R.columns) result ≡ item_of self.old tuple.now }
+        ensures item { option_map (λ i. item_at i (R.columns row.new)) result ≡ item_of self.old tuple.now }
         ensures after { self.new ≡ record self.old { prefix = record self.old.prefix { stages = after_tuple self.old tuple.now } } }
-        ensures operator { IfSome result (λ item. operator_of item.tag ≤ 12) }
+        ensures operator { IfSome result (λ i. i ≤ 12) }
     {
         if !lets_in(&self.t, self.q, self.asks, &self.members, tuple) {
             return None;
         }
         let packet = self.t.packet(self.q, self.b, self.prefix.level(), tuple);
-        self.prefix.take(&packet)
+        self.prefix.take(&packet, row)
     }
 
     /// The next item that is read out. `None` exactly where none is left. Takes no memory.

@@ -7,7 +7,7 @@ ghost use Rattle.sn_types.specs.Cuts.{size_at, stateful};
 ghost use Rattle.sn_pipe.specs.Making.{AreStagesOf};
 ghost use Rattle.sn_pipe.specs.Passing.{CanBeRead, CanPass};
 ghost use Rattle.sn_pipe.specs.Prefixes.{left_in};
-ghost use Rattle.sn_pipe.specs.Stages.{cleared, item_from, stages_after};
+ghost use Rattle.sn_pipe.specs.Stages.{cleared, item_at, item_from, stages_after};
 ghost use Rattle.sn_chain.specs.Limits.{largest_register};
 
 use crate::making::stages_of;
@@ -79,22 +79,17 @@ impl<R: AnyRow> Prefix<R> {
         self.level
     }
 
-    /// Takes a packet row, before any read-out. The answer is the item that it gives. Takes no memory.
-    pub fn take(&mut self, packet: &PacketRow<'_, R::Number>) -> Option<Item<R>>
+    /// Takes a packet row, before any read-out. `Some` exactly where it gives an item: the number of the operator at which it leaves,
+    /// and `row` is then its row. It is written where the caller wants it, since a row takes longer to move than to find out that
+    /// there is none. Takes no memory.
+    pub fn take(&mut self, packet: &PacketRow<'_, R::Number>, row: &mut R) -> Option<u8>
         requires unread { self.old.place ≡ 0 }
         requires can { CanPass self.old.level self.old.stages packet.now }
-        ensures item { option_map (item_by R.columns) result ≡ item_from self.old.level 0 self.old.stages packet.now }
+        ensures item { option_map (λ i. item_at i (R.columns row.new)) result ≡ item_from self.old.level 0 self.old.stages packet.now }
         ensures after { self.new ≡ record self.old { stages = stages_after self.old.level self.old.stages packet.now } }
-        ensures operator { IfSome result (λ item. operator_of item.tag ≤ 12) }
+        ensures operator { IfSome result (λ i. i ≤ 12) }
     {
-        let mut row = R::empty();
-        match start(&mut self.stages, self.level, 0, packet, &mut row) {
-            Some(place) => Some(Item {
-                tag: Tag::At(place),
-                row,
-            }),
-            None => None,
-        }
+        start(&mut self.stages, self.level, 0, packet, row)
     }
 
     /// The next item that is read out. `None` exactly where none is left. Takes no memory.

@@ -1,7 +1,7 @@
 //! The operators of a pipe, with their registers.
 ghost use Rattle.std.specs.Prelude.{◌≡◌, ◌<◌, ◌≤◌, ℕ, All, List, Some, None, false, length, unwrap_or, if◌then◌else◌};
 ghost use Rattle.sn_base.specs.Groups.{columns_at};
-ghost use Rattle.sn_pipe.specs.Passing.{CanTake, as_other, gone_as, has_overflowed, passed_as};
+ghost use Rattle.sn_pipe.specs.Passing.{CanTake, gone_as, has_overflowed};
 ghost use Rattle.sn_pipe.specs.Stages.{after_row, cleared, flows, is_new, is_over, overflows};
 
 use sn_base::any_fold::AnyFold;
@@ -33,18 +33,7 @@ pub enum Stage<D, C> {
 /// The stages of a pipe over rows of a kind.
 pub type StageOf<R> = Stage<Chain<Or, R>, Chain<AnyFold, R>>;
 
-/// What became of a row at a stage.
-#[derive(Clone, Copy)]
-pub(crate) enum Passed {
-    /// It flows on, as the row that then stands there.
-    On,
-    /// It goes no further.
-    Stays,
-    /// Its key overflows.
-    Over,
-}
-
-/// What becomes of a packet row at a stage.
+/// What becomes of a row at a stage.
 #[derive(Clone, Copy)]
 pub(crate) enum Passage {
     /// It flows on as it is.
@@ -57,31 +46,6 @@ pub(crate) enum Passage {
     Over,
 }
 
-fn on_if(goes: bool) -> Passed
-    ensures { (row : List ℕ) → result ≡ passed_as false (if goes then Some row else None) }
-{
-    if goes { Passed::On } else { Passed::Stays }
-}
-
-fn first_only(answer: Offer) -> Passed
-    ensures { (row : List ℕ) → result ≡ passed_as (is_over answer) (if is_new answer then Some row else None) }
-{
-    match answer {
-        Offer::New => Passed::On,
-        Offer::Held => Passed::Stays,
-        Offer::Over => Passed::Over,
-    }
-}
-
-fn folded(answer: Offer) -> Passed
-    ensures { result ≡ passed_as (is_over answer) None }
-{
-    match answer {
-        Offer::New | Offer::Held => Passed::Stays,
-        Offer::Over => Passed::Over,
-    }
-}
-
 fn same_if(goes: bool) -> Passage
     ensures over { has_overflowed result ≡ false }
     ensures gone { (packet other : List ℕ) → gone_as result packet other ≡ (if goes then Some packet else None) }
@@ -89,31 +53,52 @@ fn same_if(goes: bool) -> Passage
     if goes { Passage::Same } else { Passage::Stays }
 }
 
-/// What becomes of a packet row of which another row is made, by what became of that row.
-fn as_other(passed: Passed) -> Passage
-    ensures { result ≡ as_other passed }
+fn first_only(answer: Offer) -> Passage
+    ensures over { has_overflowed result ≡ is_over answer }
+    ensures gone { (row other : List ℕ) → gone_as result row other ≡ (if is_new answer then Some row else None) }
 {
-    match passed {
-        Passed::On => Passage::Other,
-        Passed::Stays => Passage::Stays,
-        Passed::Over => Passage::Over,
+    match answer {
+        Offer::New => Passage::Same,
+        Offer::Held => Passage::Stays,
+        Offer::Over => Passage::Over,
+    }
+}
+
+fn folded(answer: Offer) -> Passage
+    ensures over { has_overflowed result ≡ is_over answer }
+    ensures gone { (row other : List ℕ) → gone_as result row other ≡ None }
+{
+    match answer {
+        Offer::New | Offer::Held => Passage::Stays,
+        Offer::Over => Passage::Over,
+    }
+}
+
+/// What becomes of a packet row of which a row is made, by what becomes of that row where it goes no further than as it is.
+fn as_made(passage: Passage) -> Passage
+    ensures over { has_overflowed result ≡ has_overflowed passage }
+    ensures gone { (packet row : List ℕ) → gone_as result packet row ≡ gone_as passage row row }
+{
+    match passage {
+        Passage::Same | Passage::Other => Passage::Other,
+        Passage::Stays => Passage::Stays,
+        Passage::Over => Passage::Over,
     }
 }
 
 impl<R: AnyRow> Stage<Chain<Or, R>, Chain<AnyFold, R>> {
-    /// Takes a row that comes to it. Where it flows on, `row` is then the row that does; else it stays as it came.
-    pub(crate) fn pass(&mut self, level: u32, row: &mut R) -> Passed
-        requires { CanTake self.old (R.columns row.old) }
-        ensures passed { result ≡ passed_as (overflows self.old (R.columns row.old)) (flows level self.old (R.columns row.old)) }
-        ensures row { R.columns row.new ≡ unwrap_or (flows level self.old (R.columns row.old)) (R.columns row.old) }
-        ensures after { self.new ≡ after_row self.old (R.columns row.old) }
+    /// Takes a row that comes to it. Where another row flows on, that is `other` then.
+    pub(crate) fn pass(&mut self, level: u32, row: &R, other: &mut R) -> Passage
+        requires { CanTake self.old (R.columns row.now) }
+        ensures over { has_overflowed result ≡ overflows self.old (R.columns row.now) }
+        ensures gone { gone_as result (R.columns row.now) (R.columns other.new) ≡ flows level self.old (R.columns row.now) }
+        ensures after { self.new ≡ after_row self.old (R.columns row.now) }
     {
         match self {
-            Stage::Filter(conds) => on_if(passes(conds.as_slice(), level, row)),
+            Stage::Filter(conds) => same_if(passes(conds.as_slice(), level, row)),
             Stage::Map(exprs) => {
-                let before = *row;
-                map_into(&before, exprs.as_slice(), row);
-                Passed::On
+                map_into(row, exprs.as_slice(), other);
+                Passage::Other
             }
             Stage::Distinct(chain, spilled) => {
                 let answer = chain.offer(row, 0);
@@ -151,12 +136,12 @@ impl<R: AnyRow> Stage<Chain<Or, R>, Chain<AnyFold, R>> {
                 packet.put_into(row);
                 let answer = chain.offer(row, 0);
                 *spilled = *spilled || answer == Offer::Over;
-                as_other(first_only(answer))
+                as_made(first_only(answer))
             }
             Stage::Reduce(r, chain) => {
                 let mut key = R::empty();
                 columns_into(packet, r.keys.as_slice(), &mut key);
-                as_other(folded(chain.offer(&key, packet.column(r.value).word())))
+                folded(chain.offer(&key, packet.column(r.value).word()))
             }
         }
     }

@@ -4,11 +4,12 @@ ghost use Rattle.std.specs.Option.{option_map};
 ghost use Rattle.sn_pipe.specs.Passing.{CanPass};
 ghost use Rattle.sn_pipe.specs.Stages.{cleared, item_at, item_from, stages_after};
 
-use crate::stage::{Passed, StageOf};
+use crate::stage::{Passage, StageOf};
 use sn_base::any_row::AnyRow;
 
-/// Takes a row through stages, the first of which has number `first`; `row` changes on the way. Where it gives an item, the answer
-/// is the number of the operator at which it leaves, and `row` is the item's row.
+/// Takes a row through stages, the first of which has number `first`. Where it gives an item, the answer is the number of the operator at
+/// which it leaves, and `row` is the item's row. A row that another one is made of isn't copied before that: a copy of columns that have
+/// just been written waits until the memory has them.
 pub(crate) fn pass<R: AnyRow>(
     stages: &mut [StageOf<R>],
     level: u32,
@@ -24,10 +25,16 @@ pub(crate) fn pass<R: AnyRow>(
     let Some((stage, behind)) = stages.split_first_mut() else {
         return Some(first);
     };
-    match stage.pass(level, row) {
-        Passed::On => pass(behind, level, first + 1, row),
-        Passed::Stays => None,
-        Passed::Over => Some(first),
+    let mut other = R::empty();
+    match stage.pass(level, row, &mut other) {
+        Passage::Same => pass(behind, level, first + 1, row),
+        Passage::Other => {
+            let operator = pass(behind, level, first + 1, &mut other)?;
+            *row = other;
+            Some(operator)
+        }
+        Passage::Stays => None,
+        Passage::Over => Some(first),
     }
 }
 

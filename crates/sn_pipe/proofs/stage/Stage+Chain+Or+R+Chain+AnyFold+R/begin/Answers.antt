@@ -8,10 +8,10 @@ use Rattle.sn_types.specs.declared.typed_op.TCond.{TCond}
 use Rattle.sn_types.specs.declared.typed_op.TReduce.{TReduce}
 use Rattle.sn_types.specs.Values.{holds}
 use Rattle.sn_pipe.specs.AnyStage.{Stage}
-use Rattle.sn_pipe.specs.Passing.{CanTake, as_other, has_overflowed}
+use Rattle.sn_pipe.specs.Passing.{CanTake}
 use Rattle.sn_pipe.specs.declared.stage.Stage.TheVariants.{Reduce}
-use Rattle.sn_pipe.specs.Stages.{after_row, answer_to, flows, is_new, is_over, overflows}
-use Rattle.sn_pipe.proofs.Begins.{over_as, word_had}
+use Rattle.sn_pipe.specs.Stages.{after_row, answer_to, flows, is_over, overflows}
+use Rattle.sn_pipe.proofs.Begins.{word_had}
 use Rattle.sn_pipe.proofs.stage.Stage+Chain+Or+R+Chain+AnyFold+R.begin.Goals as goal
 
 pub returns-in-Filter-clause-gone : goal.returns-in-Filter-clause-gone
@@ -25,9 +25,8 @@ returns-in-Filter-clause-gone g c =
 pub returns-after-spilled-clause-over : goal.returns-after-spilled-clause-over
 returns-after-spilled-clause-over g c =
     let packet : Row = c.args.packet.now in
-    let answer = c.offer-answer.result in
-    ap has_overflowed (c.as_other.ensures ∙ ap as_other (c.first_only.ensures packet))
-    ∙ over_as (is_over answer) (cond (is_new answer) (Some packet) None)
+    c.as_made.ensures.over
+    ∙ c.first_only.ensures.over
     ∙ ap is_over (c.offer-answer.ensures.answer ∙ ap (answer_to c.in-Distinct.chain) c.put_into.ensures)
     ∙ ap (λ s. overflows s packet) (sym c.in-Distinct.is)
 
@@ -35,8 +34,7 @@ pub returns-in-Reduce-clause-over : goal.returns-in-Reduce-clause-over
 returns-in-Reduce-clause-over g c =
     let packet : Row = c.args.packet.now in
     let key : g.R.Columns.columns c.columns_into.new.key ≡ columns_at c.in-Reduce.r.keys packet = c.columns_into.ensures ∙ ap (λ (ks : List ℕ). columns_at ks packet) c.as_slice-in-Reduce.ensures in
-    ap has_overflowed (c.as_other-in-Reduce.ensures ∙ ap as_other c.folded.ensures)
-    ∙ over_as (is_over c.offer.result) None
+    c.folded.ensures.over
     ∙ ap is_over (c.offer.ensures.answer ∙ ap (answer_to c.in-Reduce.chain) key)
     ∙ ap (λ s. overflows s packet) (sym c.in-Reduce.is)
 

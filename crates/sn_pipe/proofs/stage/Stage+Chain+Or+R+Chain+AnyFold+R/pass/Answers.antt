@@ -1,12 +1,14 @@
-use Rattle.std.proofs.Common.{◌≡◌, List, ℕ, None, ap, sym, subst, ◌∙◌, slice_index}
+use Rattle.std.proofs.Common.{◌≡◌, List, ℕ, Some, None, cond, ap, sym, subst, ◌∙◌, slice_index}
+use Rattle.std.specs.List.{list_all}
 use Rattle.sn_base.specs.AnyFold.{any_has, any_step}
 use Rattle.sn_base.specs.Groups.{Row, columns_at}
 use Rattle.sn_base.specs.declared.any_fold.AnyFold.{AnyFold}
 use Rattle.sn_chain.specs.Chain.{ChainState, after_offer}
-use Rattle.sn_chain.specs.declared.offer.Offer.{Offer}
+use Rattle.sn_types.specs.declared.typed_op.TCond.{TCond}
 use Rattle.sn_types.specs.declared.typed_op.TReduce.{TReduce}
+use Rattle.sn_types.specs.Values.{holds}
 use Rattle.sn_pipe.specs.AnyStage.{Stage}
-use Rattle.sn_pipe.specs.Passing.{CanTake, passed_as}
+use Rattle.sn_pipe.specs.Passing.{CanTake}
 use Rattle.sn_pipe.specs.declared.stage.Stage.TheVariants.{Reduce}
 use Rattle.sn_pipe.specs.Stages.{after_row, answer_to, flows, is_over, overflows}
 use Rattle.sn_pipe.proofs.Begins.{word_had}
@@ -20,14 +22,14 @@ offer-requires g c =
     let can : CanTake (Reduce r chain) row = subst (λ (s : Stage). CanTake s row) c.in-Reduce.is c.requires in
     subst (any_has chain.fold) (sym (word_had chain.fold c.word.result _ (slice_index row r.value) c.word.ensures c.column.ensures can.3)) can.3
 
-pub returns-in-Reduce-clause-passed : goal.returns-in-Reduce-clause-passed
-returns-in-Reduce-clause-passed g c =
+pub returns-in-Reduce-clause-over : goal.returns-in-Reduce-clause-over
+returns-in-Reduce-clause-over g c =
     let row : Row = g.R.Columns.columns c.args.row.now in
     let chain : ChainState AnyFold = c.in-Reduce.chain in
     let key : g.R.Columns.columns c.columns_into.new.key ≡ columns_at c.in-Reduce.r.keys row = c.columns_into.ensures ∙ ap (λ (ks : List ℕ). columns_at ks row) c.as_slice-in-Reduce.ensures in
-    c.folded.ensures
-    ∙ ap (λ (answer : Offer). passed_as (is_over answer) None) (c.offer.ensures.answer ∙ ap (answer_to chain) key)
-    ∙ ap (λ s. passed_as (overflows s row) (flows c.args.level s row)) (sym c.in-Reduce.is)
+    c.folded.ensures.over
+    ∙ ap is_over (c.offer.ensures.answer ∙ ap (answer_to chain) key)
+    ∙ ap (λ s. overflows s row) (sym c.in-Reduce.is)
 
 pub returns-in-Reduce-clause-after : goal.returns-in-Reduce-clause-after
 returns-in-Reduce-clause-after g c =
@@ -42,3 +44,11 @@ returns-in-Reduce-clause-after g c =
     ∙ ap (λ (k : List ℕ). after_offer any_step chain k c.word.result) key
     ∙ ap (λ (v : ℕ). after_offer any_step chain (columns_at r.keys row) v) word)
     ∙ ap (λ s. after_row s row) (sym c.in-Reduce.is)
+
+pub returns-in-Filter-clause-gone : goal.returns-in-Filter-clause-gone
+returns-in-Filter-clause-gone g c =
+    let level = c.args.level in
+    let row : Row = g.R.Columns.columns c.args.row.now in
+    c.same_if.ensures.gone row (g.R.Columns.columns c.args.other.now)
+    ∙ ap (λ b. cond b (Some row) None) (c.passes.ensures ∙ ap (list_all (λ (x : TCond). holds level x row)) c.as_slice.ensures)
+    ∙ ap (λ s. flows level s row) (sym c.in-Filter.is)
