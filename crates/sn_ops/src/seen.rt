@@ -76,6 +76,19 @@ pub fn unseen<R: AnyRow>(alloc: Global, seed: Seed, ops: &[TOp]) -> Result<Vec<S
     Ok(seen)
 }
 
+/// Tells each operator to expect as many rows and groups as the one at its place has seen in `before`, the window before. Room
+/// is made for them once, with the first that comes, in place of growing by doubling, and takes at most what that window took.
+/// Where none comes none is made. No answer depends on it.
+pub fn expect_all<R: AnyRow>(seen: &mut [Seen<R>], before: &[Seen<R>])
+    ensures { seen.new ≡ seen.old }
+{
+    for (place, next) in seen.iter_mut().enumerate() {
+        if let Some(last) = before.get(place) {
+            next.expect(last);
+        }
+    }
+}
+
 impl<R: AnyRow> Seen<R> {
     /// Nothing. What is seen is found by hashes from this seed.
     pub fn new(alloc: Global, seed: Seed) -> Seen<R>
@@ -86,6 +99,14 @@ impl<R: AnyRow> Seen<R> {
             rows: Rows::new(alloc, seed),
             groups: Table::new(alloc, seed),
         }
+    }
+
+    /// Tells that as many rows and groups will come as `before` has. No answer depends on it.
+    fn expect(&mut self, before: &Seen<R>)
+        ensures { self.new ≡ self.old }
+    {
+        self.rows.expect(before.rows.len());
+        self.groups.expect(before.groups.len());
     }
 
     /// The groups of a reduce.

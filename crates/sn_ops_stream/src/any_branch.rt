@@ -44,6 +44,18 @@ impl<'a> AnyBranch<'a> {
         }
     }
 
+    /// Tells its operators to expect as much as those of `before` have seen, which is the same branch in the window before. Both
+    /// are short then, or both wide; of a branch of the other kind nothing is expected. No answer depends on it.
+    pub(crate) fn expect(&mut self, before: &AnyBranch<'_>)
+        ensures { self.new ≡ self.old }
+    {
+        match (self, before) {
+            (AnyBranch::Short(branch), AnyBranch::Short(before)) => branch.expect(before),
+            (AnyBranch::Wide(branch), AnyBranch::Wide(before)) => branch.expect(before),
+            _ => {}
+        }
+    }
+
     /// Takes the next tuples. The kind of rows is asked once for all of them.
     pub fn take(&mut self, tuples: &[Tuple]) -> Result<(), Memory>
         requires { IsTaking (branch_in self.old) }

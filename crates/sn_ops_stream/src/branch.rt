@@ -11,7 +11,7 @@ use sn_base::row_seq::RowSeq;
 use sn_base::seed::Seed;
 use sn_fields::tuple::Tuple;
 use sn_ops::finish::finish;
-use sn_ops::seen::{Seen, unseen};
+use sn_ops::seen::{Seen, expect_all, unseen};
 use sn_ops::start::start;
 use sn_types::packet::Packets;
 use sn_types::typed::Typed;
@@ -69,6 +69,14 @@ impl<'a, R: AnyRow> BranchStream<'a, R> {
             row: R::empty(),
             out: RowSeq::new(alloc),
         })
+    }
+
+    /// Tells its operators to expect as many rows and groups as those of `before` have seen, which is the same branch in the
+    /// window before. Room is made for them once, with the first that comes. No answer depends on it.
+    pub(crate) fn expect(&mut self, before: &BranchStream<'_, R>)
+        ensures { self.new ≡ self.old }
+    {
+        expect_all(&mut self.seen, &before.seen);
     }
 
     /// Takes the next tuple.

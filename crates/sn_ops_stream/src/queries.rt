@@ -21,6 +21,17 @@ pub(crate) fn begin_all<'a>(alloc: Global, t: &'a Typed) -> Result<Vec<QueryStre
     Ok(streams)
 }
 
+/// Tells each query to expect as much as the one at its place has seen in `before`, the window before. No answer depends on it.
+pub(crate) fn expect_all(streams: &mut [QueryStream<'_>], before: &[QueryStream<'_>])
+    ensures { streams.new ≡ streams.old }
+{
+    for (place, next) in streams.iter_mut().enumerate() {
+        if let Some(last) = before.get(place) {
+            next.expect(last);
+        }
+    }
+}
+
 /// All queries take the next tuples, one query after another.
 pub(crate) fn take_all(streams: &mut [QueryStream<'_>], tuples: &[Tuple]) -> Result<(), Memory>
     requires { (queries : List TypedQuery) × (before : List (List ℕ)) × AllHaveTaken queries before streams.old }

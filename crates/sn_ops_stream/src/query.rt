@@ -48,6 +48,17 @@ impl<'a> QueryStream<'a> {
         })
     }
 
+    /// Tells its branches to expect as much as those of `before` have seen, which is the same query in the window before. No
+    /// answer depends on it.
+    pub(crate) fn expect(&mut self, before: &QueryStream<'_>)
+        ensures { self.new ≡ self.old }
+    {
+        self.first.expect(&before.first);
+        if let (Some(second), Some(before)) = (&mut self.second, &before.second) {
+            second.expect(before);
+        }
+    }
+
     /// Takes the next tuples, one branch after the other.
     pub fn take(&mut self, tuples: &[Tuple]) -> Result<(), Memory>
         requires { QueryIsTaking self.old }

@@ -3,7 +3,7 @@ ghost use Rattle.std.specs.Prelude.{◌≡◌, ℕ, List, [], ◌∷◌, ◌++�
 ghost use Rattle.sn_types.specs.declared.typed_query.TypedQuery.{TypedQuery};
 ghost use Rattle.sn_ops_stream.specs.Streams.{AllHaveTaken, HaveCome};
 
-use crate::queries::{begin_all, take_all};
+use crate::queries::{begin_all, expect_all, take_all};
 use crate::query::QueryStream;
 use sn_base::memory::Memory;
 use sn_base::seq::Seq;
@@ -63,7 +63,9 @@ impl<'a> Streams<'a> {
         Ok(())
     }
 
-    /// The queries, which have taken all tuples. Others, to which none has come, are in their place.
+    /// The queries, which have taken all tuples. Others, to which none has come, are in their place, and expect as many keys as
+    /// the former have: each of their tables makes room once, with its first key, in place of growing by doubling. It takes at
+    /// most the room that the window before took. No answer depends on it.
     pub fn end(&mut self, alloc: Global, t: &'a Typed) -> Result<Vec<QueryStream<'a>>, Memory>
         requires { (queries : List TypedQuery) × (tuples : List (List ℕ)) × HaveCome queries tuples self.old }
         ensures taken { IfOk result (λ streams. (queries : List TypedQuery) (tuples : List (List ℕ)) → HaveCome queries tuples self.old →
@@ -71,7 +73,8 @@ impl<'a> Streams<'a> {
         ensures begun { OnOk result (HaveCome t.now.queries [] self.new) }
     {
         self.take_block()?;
-        let next = begin_all(alloc, t)?;
+        let mut next = begin_all(alloc, t)?;
+        expect_all(&mut next, &self.streams);
         Ok(mem::replace(&mut self.streams, next))
     }
 }
