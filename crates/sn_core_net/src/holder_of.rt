@@ -67,13 +67,7 @@ impl<R: LaneRow> HolderOf<SenderOf<Pipe<R>>, RingOf<R>> {
         ensures taken { self.new ≡ took tuple.now self.old }
         ensures gives { result ≡ is_some (item_of self.old.sender.pipe tuple.now) }
     {
-        match self.sender.packet(tuple) {
-            Some(frame) => {
-                self.ring.push(frame);
-                true
-            }
-            None => false,
-        }
+        self.ring.take_from(&mut self.sender, tuple)
     }
 
     /// Appends its next row, or after the last its End of this window, which it hasn't given.

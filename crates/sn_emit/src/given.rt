@@ -1,6 +1,7 @@
 //! Frames that lanes give.
 ghost use Rattle.std.specs.Prelude.{◌≡◌};
 
+use sn_base::any_row::AnyRow;
 use sn_base::lane::Lane;
 use sn_base::row::Row;
 use sn_base::short_row::ShortRow;
@@ -29,21 +30,26 @@ impl Model for Given {
     ghost view = { λ a. frame_in a.frame };
 }
 
+/// A frame that no lane gives, as a place for others. It has a row, so that the row of the first one is made in its place.
+pub fn unsent<R: AnyRow>() -> Frame<R> {
+    let lane = Lane {
+        query: 0,
+        level: 0,
+        branch: 0,
+    };
+    let item = Item {
+        tag: Tag::At(0),
+        row: R::empty(),
+    };
+    Frame::Row(lane, item)
+}
+
 impl Given {
     ghost use Rattle.sn_emit.specs.Kinds.{frame_in};
 
-    /// A frame that no lane gives, as a place for others. It has a row, so that the first frame's is made in its place.
+    /// A place for frames, most of which are over short rows.
     pub fn unsent() -> Given {
-        let lane = Lane {
-            query: 0,
-            level: 0,
-            branch: 0,
-        };
-        let item = Item {
-            tag: Tag::At(0),
-            row: ShortRow::empty(),
-        };
-        Given::of_short(Frame::Row(lane, item))
+        Given::of_short(unsent())
     }
 
     /// A frame over short rows.

@@ -60,6 +60,24 @@ fn of_wide(frame: Option<Frame<Row>>) -> Option<Given>
     }
 }
 
+/// A lane over short rows takes a tuple. What it gives takes the place of a frame over other rows. It stands apart from `give_short`, which
+/// would clear room for that frame for each tuple.
+#[inline(never)]
+fn replace_short(sender: &mut SenderOf<Pipe<ShortRow>>, tuple: &Tuple, into: &mut Given) -> bool
+    requires { sender.old.pipe.prefix.place ≡ 0 }
+    ensures frame { then_some result into.new ≡ option_map (row_frame sender.old.lane) (item_of sender.old.pipe tuple.now) }
+    ensures after { sender.new ≡ sender_next sender.old tuple.now }
+    ensures range { InRange sender.old.lane → IfSome (then_some result into.new) CanEncode }
+{
+    match sender.packet(tuple) {
+        Some(frame) => {
+            *into = Given::of_short(frame);
+            true
+        }
+        None => false,
+    }
+}
+
 /// A lane over short rows takes a tuple. `true` exactly where it gives a frame, which is then in `into`: in the place of the one that
 /// stands there, if that is over short rows too.
 #[inline(always)]
@@ -72,17 +90,28 @@ fn give_short(sender: &mut SenderOf<Pipe<ShortRow>>, tuple: &Tuple, into: &mut G
     if let AnyFrame::Short(frame) = &mut into.frame {
         return sender.packet_into(tuple, frame);
     }
+    replace_short(sender, tuple, into)
+}
+
+/// A lane over rows with columns of 128 bits takes a tuple. What it gives takes the place of a frame over other rows.
+#[inline(never)]
+fn replace_wide(sender: &mut SenderOf<Pipe<Row>>, tuple: &Tuple, into: &mut Given) -> bool
+    requires { sender.old.pipe.prefix.place ≡ 0 }
+    ensures frame { then_some result into.new ≡ option_map (row_frame sender.old.lane) (item_of sender.old.pipe tuple.now) }
+    ensures after { sender.new ≡ sender_next sender.old tuple.now }
+    ensures range { InRange sender.old.lane → IfSome (then_some result into.new) CanEncode }
+{
     match sender.packet(tuple) {
         Some(frame) => {
-            *into = Given::of_short(frame);
+            *into = Given::of_wide(frame);
             true
         }
         None => false,
     }
 }
 
-/// A lane over rows with columns of 128 bits takes a tuple, as one over short rows does.
-#[inline(always)]
+/// A lane over rows with columns of 128 bits takes a tuple, as `give_short` does for one over short rows.
+#[inline(never)]
 fn give_wide(sender: &mut SenderOf<Pipe<Row>>, tuple: &Tuple, into: &mut Given) -> bool
     requires { sender.old.pipe.prefix.place ≡ 0 }
     ensures frame { then_some result into.new ≡ option_map (row_frame sender.old.lane) (item_of sender.old.pipe tuple.now) }
@@ -92,13 +121,7 @@ fn give_wide(sender: &mut SenderOf<Pipe<Row>>, tuple: &Tuple, into: &mut Given) 
     if let AnyFrame::Wide(frame) = &mut into.frame {
         return sender.packet_into(tuple, frame);
     }
-    match sender.packet(tuple) {
-        Some(frame) => {
-            *into = Given::of_wide(frame);
-            true
-        }
-        None => false,
-    }
+    replace_wide(sender, tuple, into)
 }
 
 impl Sender {

@@ -67,6 +67,24 @@ impl<R: AnyRow> SenderOf<Pipe<R>> {
         }
     }
 
+    /// Takes a tuple, before any read-out. What it gives takes the place of an End. It stands apart from `packet_into`, which would clear
+    /// room for that frame for each tuple. Takes no memory.
+    #[inline(never)]
+    fn replace(&mut self, tuple: &Tuple, into: &mut Frame<R>) -> bool
+        requires { self.old.pipe.prefix.place ≡ 0 }
+        ensures frame { then_some result (frame_by R.columns into.new) ≡ option_map (row_frame self.old.lane) (item_of self.old.pipe tuple.now) }
+        ensures after { self.new ≡ sender_next self.old tuple.now }
+        ensures range { InRange self.old.lane → IfSome (then_some result (frame_by R.columns into.new)) CanEncode }
+    {
+        match self.packet(tuple) {
+            Some(frame) => {
+                *into = frame;
+                true
+            }
+            None => false,
+        }
+    }
+
     /// Takes a tuple, before any read-out. `true` exactly where the pipe gives an item, whose frame is then in `into`. Where a row stands
     /// there, the item's row is made in its place: one that is moved right after it was made is read before it has reached the
     /// processor's cache. Takes no memory.
@@ -85,13 +103,7 @@ impl<R: AnyRow> SenderOf<Pipe<R>> {
             item.tag = Tag::At(operator);
             return true;
         }
-        match self.packet(tuple) {
-            Some(frame) => {
-                *into = frame;
-                true
-            }
-            None => false,
-        }
+        self.replace(tuple, into)
     }
 
     /// The next frame of the read-out: the rows, then one End, then `None`. Takes no memory.
