@@ -4,7 +4,9 @@
 along     `run`, `emit` and `finish` with the queries of three.query and the plan of full.plan, on two generated captures; on `few` also `run` and `emit` with
           few.plan, whose registers are of a size that suits it (`fitting`). `emit` drives the lanes by a loop of its own, and along full.plan its engine
           takes no row, so `run` over it is what a machine and the engine cost. The answers of `run` and `finish`
-          are compared with those of `plain`, and the text of `run` with that of switch.c, which does by hand what this plan says.
+          are compared with those of `plain`, and the text of `run` with that of switch.c, which does by hand what this plan says, its queries and plan
+          compiled in (`C`). planned.c does by hand what `run` and `emit` do, and reads switch, queries and plan when it runs (`C engine`, `C engine emit`):
+          its text is compared with that of `run`, and its frames with the bytes of `emit`.
 late      `detect` with the same queries, along the plan of full.plan, whose paths have one level, and along paths of two. It answers each query twice, in one
           reading.
 following `replan` where no plan changes, whatever comes too early, against `live`, with the same queries, the switch of full.switch, and a training capture of
@@ -21,7 +23,7 @@ job       `job 7` against `plain` with its queries on the capture of 8.
 search    a million expanded nodes of a space in which the search doesn't end.
 reading   `plan` and `run` against planned.py, the slow reading in Python, on 20000 packets.
 
-What the program hasn't is left out. Nothing is left behind but with --keep. Needs a C compiler, and libpcap-dev for switch.c, which is left out without it."""
+What the program hasn't is left out. Nothing is left behind but with --keep. Needs a C compiler, and libpcap-dev for switch.c and planned.c, which are left out without it."""
 
 import argparse
 import os
@@ -90,27 +92,46 @@ def rows_of(name):
     return [line.split(b' emitted ')[0] for line in run.bytes_of(name).splitlines()]
 
 
+# The labels of what is written by hand, each with that of the command whose output it prints.
+BY_HAND = {'C': 'run', 'C engine': 'run', 'C engine emit': 'emit'}
+
+
 def by_hand(folder):
-    """The program written by hand, or None where it can't be built."""
+    """The programs written by hand, or None where they can't be built."""
     try:
-        return run.build('switch', folder, '-lpcap')
+        return [run.build(name, folder, '-lpcap') for name in ('switch', 'planned')]
     except subprocess.CalledProcessError:
-        print('switch.c: left out, it needs libpcap-dev')
+        print('switch.c, planned.c: left out, they need libpcap-dev')
         return None
 
 
+def add_by_hand(part, programs, files):
+    """Add the programs written by hand, where they could be built, on the files that `run` and `emit` are given."""
+    if programs:
+        switch, planned = programs
+        for label, words in zip(BY_HAND, ([switch, files[-1]], [planned, 'run', *files], [planned, 'emit', *files])):
+            part.add(label)
+            part.words[label] = words
+
+
+def prints_the_same(part):
+    """Tell the times over those of the programs written by hand. Whether each prints what its command does."""
+    pairs = [(label, command) for label, command in BY_HAND.items() if label in part.found and command in part.found]
+    for label, command in pairs:
+        part.over(command, label)
+    return all(run.bytes_of(part.outs[label]) == run.bytes_of(part.outs[command]) for label, command in pairs)
+
+
 def along(given, measurer, folder):
-    """Whether `run` and `finish` answer what `plain` does."""
-    good, switch = True, by_hand(folder)
+    """Whether `run` and `finish` answer what `plain` does, and the programs written by hand print what `run` and `emit` do."""
+    good, programs = True, by_hand(folder)
     for kind in given.kinds:
         capture = run.generate(kind, given.packets, given.number, folder)
         part = Part(given, measurer, folder, 'along a plan, %s: %d packets' % (kind, given.packets))
         four = SWITCH, run.QUERIES, PLAN, capture
         part.add('plain', 'plain', run.QUERIES, capture)
         part.add('run', 'run', *four)
-        if switch:
-            part.add('C')
-            part.words['C'] = [switch, capture]
+        add_by_hand(part, programs, four)
         reports = part.add('emit', 'emit', *four) if 'emit' in given.built else None
         if kind == 'few':
             for command in ('run', 'emit'):
@@ -124,9 +145,7 @@ def along(given, measurer, folder):
         for fitting in ('', ' fitting'):
             if 'emit' + fitting in part.found:
                 part.over('run' + fitting, 'emit' + fitting)
-        if switch:
-            part.over('run', 'C')
-        equal = (not switch or run.bytes_of(part.outs['C']) == run.bytes_of(part.outs['run'])) and all(rows_of(part.outs['plain']) == rows_of(part.outs[label]) for label in ('run', 'finish') if label in part.outs)
+        equal = prints_the_same(part) and all(rows_of(part.outs['plain']) == rows_of(part.outs[label]) for label in ('run', 'finish') if label in part.outs)
         print('  answers %s, statuses %s' % ('equal' if equal else 'DIFFER', sorted({one.status for one in part.found.values()})))
         good = good and equal
         os.remove(capture)
