@@ -21,25 +21,25 @@ typedef struct {
 
 static uint64_t seed;
 
-static void rows_push(Rows *r, const uint64_t *row)
+/* The next row, which is to be written. */
+static uint64_t *rows_next(Rows *r)
 {
     if (r->count == r->room) {
         r->room = r->room ? r->room * 2 : 1024;
         r->columns = must(realloc(r->columns, r->room * (size_t)r->width * sizeof *r->columns));
     }
-    memcpy(r->columns + r->count++ * (size_t)r->width, row, (size_t)r->width * sizeof *row);
+    return r->columns + r->count++ * (size_t)r->width;
 }
 
-/* Keys of some columns, each with a value, in the order in which they came first; and where each stands, by its hash. */
+static void rows_push(Rows *r, const uint64_t *row) { memcpy(rows_next(r), row, (size_t)r->width * sizeof *row); }
+
+/* Keys of some columns, each with its value after it, in the order in which they came first; and where each stands, by its hash. */
 typedef struct {
-    Rows keys;
-    uint64_t *values;
-    size_t value_room;
+    Rows keys; /* as wide as a key and its value */
     struct {
-        uint32_t round, at;
+        uint32_t tag, nth; /* some bits of the hash, so that most other keys aren't looked at, and the key's number from 1; 0 where the place is free */
     } *places;
     size_t room;
-    uint32_t round;
 } Groups;
 
 static uint64_t folded(uint64_t a, uint64_t b)
@@ -48,42 +48,52 @@ static uint64_t folded(uint64_t a, uint64_t b)
     return (uint64_t)product ^ (uint64_t)(product >> 64);
 }
 
-static size_t hash_of(const uint64_t *key, int width)
+static uint64_t hash_of(const uint64_t *key, int width)
 {
     uint64_t h = seed;
     for (int i = 0; i < width; i++)
         h = folded(h ^ key[i], 0x9E3779B97F4A7C15ull);
-    return (size_t)folded(h, seed);
+    return folded(h, seed);
 }
+
+static int key_width(const Groups *g) { return g->keys.width - 1; }
+
+static uint64_t *key_at(const Groups *g, size_t at) { return g->keys.columns + at * (size_t)g->keys.width; }
 
 static void groups_make(Groups *g, int width)
 {
-    *g = (Groups){.keys.width = width, .room = 1024, .round = 1};
+    *g = (Groups){.keys.width = width + 1, .room = 1024};
     g->places = must(calloc(g->room, sizeof *g->places));
 }
 
 static void groups_clear(Groups *g)
 {
     g->keys.count = 0;
-    g->round++;
+    memset(g->places, 0, g->room * sizeof *g->places);
 }
 
-static int is_key(const Groups *g, size_t at, const uint64_t *key)
+static int is_key(const uint64_t *other, const uint64_t *key, int width)
 {
-    const uint64_t *other = g->keys.columns + at * (size_t)g->keys.width;
-    for (int i = 0; i < g->keys.width; i++)
+    for (int i = 0; i < width; i++)
         if (other[i] != key[i])
             return 0;
     return 1;
 }
 
-/* The place where a key stands, or a free one. */
-static size_t groups_place(const Groups *g, const uint64_t *key)
+/* The place where a key of a hash stands, or a free one. */
+static size_t groups_place(const Groups *g, const uint64_t *key, uint64_t hash)
 {
-    size_t at = hash_of(key, g->keys.width) & (g->room - 1);
-    while (g->places[at].round == g->round && !is_key(g, g->places[at].at, key))
+    size_t at = hash & (g->room - 1);
+    uint32_t tag = (uint32_t)(hash >> 32);
+    while (g->places[at].nth && (g->places[at].tag != tag || !is_key(key_at(g, g->places[at].nth - 1), key, key_width(g))))
         at = (at + 1) & (g->room - 1);
     return at;
+}
+
+static void groups_put(Groups *g, size_t at, uint64_t hash, size_t nth)
+{
+    g->places[at].tag = (uint32_t)(hash >> 32);
+    g->places[at].nth = (uint32_t)nth;
 }
 
 static void groups_double(Groups *g)
@@ -92,32 +102,28 @@ static void groups_double(Groups *g)
     g->room *= 2;
     g->places = must(calloc(g->room, sizeof *g->places));
     for (size_t i = 0; i < g->keys.count; i++) {
-        size_t at = groups_place(g, g->keys.columns + i * (size_t)g->keys.width);
-        g->places[at].round = g->round;
-        g->places[at].at = (uint32_t)i;
+        uint64_t hash = hash_of(key_at(g, i), key_width(g));
+        groups_put(g, groups_place(g, key_at(g, i), hash), hash, i + 1);
     }
 }
 
 /* The value of a key, which is 0 where the key is new. */
 static uint64_t *value_of(Groups *g, const uint64_t *key, int *fresh)
 {
-    size_t at = groups_place(g, key);
-    *fresh = g->places[at].round != g->round;
+    uint64_t hash = hash_of(key, key_width(g));
+    size_t at = groups_place(g, key, hash);
+    *fresh = !g->places[at].nth;
     if (*fresh) {
         if (2 * (g->keys.count + 1) > g->room) {
             groups_double(g);
-            at = groups_place(g, key);
+            at = groups_place(g, key, hash);
         }
-        g->places[at].round = g->round;
-        g->places[at].at = (uint32_t)g->keys.count;
-        rows_push(&g->keys, key);
-        if (g->keys.room > g->value_room) {
-            g->value_room = g->keys.room;
-            g->values = must(realloc(g->values, g->value_room * sizeof *g->values));
-        }
-        g->values[g->places[at].at] = 0;
+        uint64_t *row = rows_next(&g->keys);
+        memcpy(row, key, (size_t)key_width(g) * sizeof *row);
+        row[key_width(g)] = 0;
+        groups_put(g, at, hash, g->keys.count);
     }
-    return g->values + g->places[at].at;
+    return key_at(g, g->places[at].nth - 1) + key_width(g);
 }
 
 /* ---- queries ---- */
@@ -518,8 +524,7 @@ static void finish(Steps *s)
         if (s->ops[i].kind == REDUCE) {
             Groups *g = &s->ops[i].seen;
             for (size_t k = 0; k < g->keys.count; k++) {
-                memcpy(row, g->keys.columns + k * (size_t)g->keys.width, (size_t)g->keys.width * sizeof *row);
-                row[g->keys.width] = g->values[k];
+                memcpy(row, key_at(g, k), (size_t)g->keys.width * sizeof *row);
                 take_row(s, i + 1, row);
             }
         }
