@@ -23,7 +23,7 @@ use Rattle.sn_types.specs.declared.typed_query.TypedQuery.{TypedQuery}
 
 -- ---- what is asked for
 
--- another level stands behind that of a lane on the path of its query: it admits what the lane's level is answered
+-- another level comes after that of a lane on the path of its query: it admits what the lane's level is answered
 abbrev pub is_asked : List Entry → Lane → Bool
 is_asked entries lane = option_map_or (λ (e : Entry). nat_lt (lane.level + 1) (length e.levels)) (slice_get entries lane.query) false
 

@@ -12,7 +12,7 @@ use sn_engine::lane_row::LaneRow;
 use sn_plan_grammar::plan::Entry;
 use sn_report::frame::Frame;
 
-/// Whether another level stands behind that of a lane on the path of its query: it admits what the lane's level is answered.
+/// Whether another level comes after that of a lane on the path of its query: it admits what the lane's level is answered.
 pub fn is_asked(plan: &[Entry], lane: Lane) -> bool
     ensures { result ≡ is_asked plan.now lane }
 {

@@ -21,13 +21,14 @@ use sn_engine::engine::Engine;
 use sn_fields::tuple::Tuple;
 use sn_plan_grammar::plan::Entry;
 
-/// Gives a tuple to all lanes, and sends what they give, in their order.
+/// Gives a tuple to all lanes, and sends what they give, in their order. `frame` is the place for it.
 pub(crate) fn give_lanes(
     plan: &[Entry],
     emitter: &mut Emitter,
     engine: &mut Engine,
     bytes: &mut Vec<u8>,
     tuple: &Tuple,
+    frame: &mut Given,
 ) -> Result<(), Memory>
     requires { AreUnread emitter.old }
     ensures work { OnOk result ((queries : List TypedQuery) (tables : Tables) (pieces : List Placed) (kept : Source → Set) (tuples : List (List ℕ)) →
@@ -42,9 +43,8 @@ pub(crate) fn give_lanes(
     ensures closed { engine.new.closed ≡ engine.old.closed }
     ensures prefixes { engine.new.kept ≡ engine.old.kept }
 {
-    let mut frame = Given::unsent();
     for lane in 0..emitter.lanes() {
-        give(plan, emitter, engine, bytes, lane, tuple, &mut frame)?;
+        give(plan, emitter, engine, bytes, lane, tuple, frame)?;
     }
     Ok(())
 }

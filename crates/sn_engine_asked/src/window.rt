@@ -45,7 +45,14 @@ pub fn packet(
     ensures prefixes { driver.new.engine.kept ≡ driver.old.engine.kept }
     ensures sources { driver.new.sources ≡ driver.old.sources }
 {
-    give_lanes(plan, &mut driver.emitter, &mut driver.engine, bytes, tuple)
+    give_lanes(
+        plan,
+        &mut driver.emitter,
+        &mut driver.engine,
+        bytes,
+        tuple,
+        &mut driver.place,
+    )
 }
 
 /// Reads all lanes out, adds the bytes of their frames to those before, and closes the window. The answers have the prefixes of the

@@ -24,6 +24,7 @@ use crate::source::{Source, sources};
 use crate::wire::Wire;
 use sn_base::memory::Memory;
 use sn_base::seq::Seq;
+use sn_emit::given::Given;
 use sn_emit::lanes::Emitter;
 use sn_emit::tables::Tables;
 use sn_engine::engine::Engine;
@@ -44,6 +45,8 @@ pub struct Driver {
     pub sources: Seq<Source>,
     pub emitter: Emitter,
     pub engine: Engine,
+    /// Where a lane writes what it gives for a tuple, before the engine takes it. What stands there is of no account after that.
+    pub place: Given,
 }
 
 impl Driver {
@@ -86,6 +89,7 @@ impl Driver {
             sources,
             emitter,
             engine,
+            place: Given::unsent(),
         })
     }
 
@@ -134,7 +138,13 @@ impl Driver {
         ensures prefixes { self.new.engine.kept ≡ self.old.engine.kept }
         ensures sources { self.new.sources ≡ self.old.sources }
     {
-        give_lanes(&mut self.emitter, &mut self.engine, wire, tuple)
+        give_lanes(
+            &mut self.emitter,
+            &mut self.engine,
+            wire,
+            tuple,
+            &mut self.place,
+        )
     }
 
     /// Reads all lanes out. The engine takes what they send, and the wire is told of it. Then the engine holds all items of the

@@ -50,12 +50,13 @@ pub(crate) fn begin_lanes(
     Ok(())
 }
 
-/// Gives a tuple to all lanes, and sends what they give, in their order.
+/// Gives a tuple to all lanes, and sends what they give, in their order. `frame` is the place for it.
 pub(crate) fn give_lanes<W: Wire>(
     emitter: &mut Emitter,
     engine: &mut Engine,
     wire: &mut W,
     tuple: &Tuple,
+    frame: &mut Given,
 ) -> Result<(), Memory>
     requires { AreUnread emitter.old }
     ensures work { OnOk result ((queries : List TypedQuery) (tables : Tables) (pieces : List Placed) (kept : Source → Set) (tuples : List (List ℕ)) →
@@ -70,9 +71,8 @@ pub(crate) fn give_lanes<W: Wire>(
     ensures closed { engine.new.closed ≡ engine.old.closed }
     ensures prefixes { engine.new.kept ≡ engine.old.kept }
 {
-    let mut frame = Given::unsent();
     for lane in 0..emitter.lanes() {
-        give(emitter, engine, wire, lane, tuple, &mut frame)?;
+        give(emitter, engine, wire, lane, tuple, frame)?;
     }
     Ok(())
 }

@@ -17,7 +17,7 @@ use crate::stages::clear;
 use crate::start::start;
 use sn_base::any_row::AnyRow;
 use sn_base::memory::Memory;
-use sn_report::frame::{Item, Tag};
+use sn_report::frame::Item;
 use sn_types::packet::PacketRow;
 use sn_types::typed_op::TOp;
 use std::alloc::Global;

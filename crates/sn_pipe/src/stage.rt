@@ -1,6 +1,5 @@
 //! The operators of a pipe, with their registers.
-ghost use Rattle.std.specs.Prelude.{◌≡◌, ◌<◌, ◌≤◌, ℕ, All, List, Some, None, false, length, unwrap_or, if◌then◌else◌};
-ghost use Rattle.sn_base.specs.Groups.{columns_at};
+ghost use Rattle.std.specs.Prelude.{◌≡◌, ◌<◌, ℕ, List, Some, None, false, if◌then◌else◌};
 ghost use Rattle.sn_pipe.specs.Passing.{CanTake, gone_as, has_overflowed};
 ghost use Rattle.sn_pipe.specs.Stages.{after_row, cleared, flows, is_new, is_over, overflows};
 
