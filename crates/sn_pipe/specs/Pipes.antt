@@ -15,6 +15,7 @@ use Rattle.sn_types.specs.declared.typed_query.TypedQuery.{TypedQuery}
 use Rattle.sn_types.specs.Typed.{branch_of, packet_row}
 use Rattle.sn_pipe.specs.AnyStage.{Stage}
 use Rattle.sn_pipe.specs.declared.gate.Gate.{Gate}
+use Rattle.sn_pipe.specs.declared.rows.PacketRows.{PacketRows}
 use Rattle.sn_pipe.specs.declared.stage.Stage.TheVariants.{Filter, Map, Distinct, Reduce}
 use Rattle.sn_types.specs.Cuts.{size_at}
 use Rattle.sn_pipe.specs.Making.{AreStagesOf}
@@ -85,6 +86,10 @@ pub record IsPipe (query : TypedQuery) (branch : ℕ) (coarser : Option Gate) (p
   pub before : IsCoarser query (bits_of coarser)
   pub operators : map top_of prefix.stages ≡ take cut (branch_of query branch).ops
   pub folds : FoldsAgree prefix.stages
+
+-- packet rows of a branch at a level
+abbrev pub AreRowsOf : TypedQuery → ℕ → ℕ → PacketRows → Type 0
+AreRowsOf query branch level rows = (rows.refined ≡ query.field) × (rows.level ≡ level) × (rows.fields ≡ (branch_of query branch).fields)
 
 -- a pipe as it is made: with these operators at this level, empty registers and an empty prefix set
 pub record IsNewPipe (query : TypedQuery) (branch level : ℕ) (coarser : Option Gate) (ops : List TOp) (depth : ℕ) (sizes : List ℕ)

@@ -15,6 +15,7 @@ ghost use Rattle.sn_chain.specs.Limits.{largest_register};
 
 use crate::gate::{Gate, asks, lets_in};
 use crate::prefix::Prefix;
+use crate::rows::PacketRows;
 use sn_base::any_row::AnyRow;
 use sn_base::members::Members;
 use sn_base::memory::Memory;
@@ -35,6 +36,8 @@ pub struct Pipe<R: AnyRow> {
     members: Members,
     /// The bits of the prefix that each tuple of this window is asked for, if it is asked.
     asks: Option<u32>,
+    /// What its packet rows have in common.
+    rows: PacketRows,
     prefix: Prefix<R>,
 }
 
@@ -43,7 +46,7 @@ impl<R: AnyRow> Model for Pipe<R> {
     ghost use Rattle.std.specs.Coded.{codes, coded_ℕ};
     ghost use Rattle.std.specs.FinSet as set;
     ghost use Rattle.std.specs.Ordering.{nat_cmp};
-    ghost use Rattle.sn_pipe.specs.Pipes.{IsPipe, PipeState, asking, passing};
+    ghost use Rattle.sn_pipe.specs.Pipes.{AreRowsOf, IsPipe, PipeState, asking, passing};
     ghost use Rattle.sn_types.specs.Kinds.{AreBelow};
     ghost use Rattle.sn_types.specs.Typed.{branch_at, query_at};
 
@@ -54,7 +57,8 @@ impl<R: AnyRow> Model for Pipe<R> {
     ghost view = { λ a. record { query = query_at a.t.queries a.q; branch = a.b; coarser = a.coarser; members = a.members; prefix = a.prefix } };
 
     ghost invariant = { λ a. (a.q < length a.t.queries) × IsPipe (query_at a.t.queries a.q) a.b a.coarser a.prefix ×
-        AreBelow R.Number.limit (branch_at a.t.queries a.q a.b).fields × (asking a.asks a.members ≡ passing a.coarser a.members) };
+        AreBelow R.Number.limit (branch_at a.t.queries a.q a.b).fields × (asking a.asks a.members ≡ passing a.coarser a.members) ×
+        AreRowsOf (query_at a.t.queries a.q) a.b a.prefix.level a.rows };
 }
 
 /// The first n operators of a branch.
@@ -99,6 +103,7 @@ impl<R: AnyRow> Pipe<R> {
         ensures { IfOk result (λ pipe. IsNewPipe (query_at t.now.queries q) b level coarser (take cut (branch_at t.now.queries q b).ops) chain slots.now pipe) }
     {
         let prefix = Prefix::make(alloc, level, front(t, q, b, cut), chain, slots)?;
+        let rows = PacketRows::of(alloc, &t.packets(q, b, level))?;
         let members = Members::new(alloc);
         Ok(Pipe {
             t: t.copy()?,
@@ -107,6 +112,7 @@ impl<R: AnyRow> Pipe<R> {
             coarser,
             asks: asks(coarser, &members),
             members,
+            rows,
             prefix,
         })
     }
@@ -123,7 +129,7 @@ impl<R: AnyRow> Pipe<R> {
         if !lets_in(&self.t, self.q, self.asks, &self.members, tuple) {
             return None;
         }
-        let packet = self.t.packet(self.q, self.b, self.prefix.level(), tuple);
+        let packet = self.rows.row(tuple);
         self.prefix.take(&packet, row)
     }
 
