@@ -4,3 +4,4 @@ mod Folding
 mod Grouping
 pub mod Keeping
 mod Seating
+mod Smaller

@@ -1,4 +1,5 @@
 pub mod Counts
+pub mod Largest
 pub mod Marks
 pub mod Numbered
 pub mod Places

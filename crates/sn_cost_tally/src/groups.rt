@@ -7,6 +7,7 @@ ghost use Rattle.sn_cost_seats.specs.Tallies.{tallied};
 ghost use Rattle.sn_cost_tally.specs.Counts.{counted};
 ghost use Rattle.sn_cost_tally.specs.Numbered.{folded_into, zipped};
 
+use crate::largest::of_keys;
 use crate::tally::{COUNT, Tally};
 use sn_base::any_fold::AnyFold;
 use sn_base::any_row::AnyRow;
@@ -95,7 +96,8 @@ fn fold_keys<R: AnyRow>(
         fold_in(COUNT, &mut times, number, 1)?;
         fold_in(fold, &mut totals, number, row.column(value).word())?;
     }
-    let tally = Tally { keys, times };
+    let slots = of_keys(alloc, keys.as_slice())?;
+    let tally = Tally { keys, times, slots };
     Ok(Folded { tally, totals })
 }
 

@@ -3,6 +3,7 @@
 
 pub mod groups;
 pub mod kept;
+pub mod largest;
 pub mod marks;
 pub mod room;
 pub mod seats;

@@ -87,6 +87,7 @@ impl Room {
             depth,
             slots,
             tally.keys.as_slice(),
+            tally.slots.as_slice(),
             &mut self.homes,
         )?;
         let over = over(self.homes.as_slice(), tally.times.as_slice());

@@ -4,25 +4,34 @@ ghost use Rattle.sn_base.specs.Groups.{Apart, same_row};
 ghost use Rattle.sn_chain.specs.Chain.{has_home, place_for};
 ghost use Rattle.sn_chain.specs.Limits.{largest_register};
 ghost use Rattle.sn_cost_seats.specs.Marks.{free_for, taken_with};
+ghost use Rattle.sn_cost_tally.specs.Largest.{largest_slots};
 
+use crate::largest::slot_in;
 use crate::marks::Marks;
 use sn_base::any_row::AnyRow;
 use sn_base::memory::Memory;
-use sn_base::slot::slot_of;
 use std::alloc::Global;
 
 /// A key's place in a register: slot `s` of register `i` is place `i * slots + s`.
-fn place_of<R: AnyRow>(register: u32, slots: u32, key: &R) -> usize
+fn place_of<R: AnyRow>(register: u32, slots: u32, key: &R, known: &[u32; 2]) -> usize
+    requires known { known.now ≡ largest_slots (R.columns key.now) }
     requires register { register < 4 }
     requires some { 1 ≤ slots }
     requires most { slots ≤ largest_register }
     ensures { result ≡ place_for slots (R.columns key.now) register }
 {
-    register as usize * slots as usize + slot_of(register, key, slots) as usize
+    register as usize * slots as usize + slot_in(register, key, known, slots) as usize
 }
 
 /// Takes the first of a key's places that is free. Whether there is one.
-fn take_seat<R: AnyRow>(marks: &mut Marks, depth: u32, slots: u32, key: &R) -> bool
+fn take_seat<R: AnyRow>(
+    marks: &mut Marks,
+    depth: u32,
+    slots: u32,
+    key: &R,
+    known: &[u32; 2],
+) -> bool
+    requires known { known.now ≡ largest_slots (R.columns key.now) }
     requires most_depth { depth ≤ 4 }
     requires some_slots { 1 ≤ slots }
     requires most_slots { slots ≤ largest_register }
@@ -31,7 +40,7 @@ fn take_seat<R: AnyRow>(marks: &mut Marks, depth: u32, slots: u32, key: &R) -> b
     ensures taken { marks.new ≡ taken_with marks.old (free_for depth slots marks.old (R.columns key.now)) }
 {
     for register in 0..depth {
-        if marks.take(place_of(register, slots, key)) {
+        if marks.take(place_of(register, slots, key, known)) {
             return true;
         }
     }
@@ -50,8 +59,10 @@ pub fn seat<R: AnyRow>(
     depth: u32,
     slots: u32,
     keys: &[R],
+    known: &[[u32; 2]],
     homes: &mut Vec<bool>,
 ) -> Result<(), Memory>
+    requires known { known.now ≡ map largest_slots (map R.columns keys.now) }
     requires most_depth { depth ≤ 4 }
     requires some_slots { 1 ≤ slots }
     requires most_slots { slots ≤ largest_register }
@@ -60,8 +71,8 @@ pub fn seat<R: AnyRow>(
 {
     marks.clear(alloc, depth as usize * slots as usize)?;
     homes.clear();
-    for key in keys {
-        let home = take_seat(marks, depth, slots, key);
+    for place in 0..keys.len() {
+        let home = take_seat(marks, depth, slots, &keys[place], &known[place]);
         homes.push(home)?;
     }
     Ok(())

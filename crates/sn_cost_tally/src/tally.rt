@@ -3,7 +3,9 @@ ghost use Rattle.std.specs.Prelude.{◌≡◌, ◌≤◌, length, map, IfOk};
 ghost use Rattle.sn_base.specs.Groups.{once, same_row};
 ghost use Rattle.sn_cost_seats.specs.Tallies.{tallied};
 ghost use Rattle.sn_cost_tally.specs.Counts.{counted};
+ghost use Rattle.sn_cost_tally.specs.Largest.{largest_slots};
 
+use crate::largest::of_keys;
 use sn_base::any_fold::AnyFold;
 use sn_base::any_row::AnyRow;
 use sn_base::fold::SatSum;
@@ -21,6 +23,9 @@ pub(crate) const COUNT: AnyFold = AnyFold::SatSum(SatSum { v: 64 });
 pub struct Tally<R: AnyRow> {
     pub keys: RowSeq<R>,
     pub times: Vec<u64>,
+    /// The keys' slots in the first two registers, if these had the largest size.
+    pub slots: Vec<[u32; 2]>,
+    ghost known: { slots.items ≡ map largest_slots keys },
 }
 
 /// How often each of these rows comes.
@@ -50,7 +55,8 @@ fn entries_of<R: AnyRow>(alloc: Global, table: &Table<R>) -> Result<Tally<R>, Me
         keys.push(&key)?;
         times.push(count)?;
     }
-    Ok(Tally { keys, times })
+    let slots = of_keys(alloc, keys.as_slice())?;
+    Ok(Tally { keys, times, slots })
 }
 
 /// The distinct rows of at most 4,194,304, in the order of first places, and how often each comes. The table of rows

@@ -1,5 +1,6 @@
 //! Registers that are given the slots of keys.
-ghost use Rattle.std.specs.Prelude.{◌≡◌, [], ◌∷◌};
+ghost use Rattle.std.specs.Prelude.{◌≡◌, ◌≤◌, [], ◌∷◌};
+ghost use Rattle.sn_chain.specs.Limits.{largest_register};
 
 use sn_base::fold::SatSum;
 use sn_base::short_row::ShortRow;
@@ -7,6 +8,7 @@ use sn_chain::chain::Chain;
 use sn_chain::offer::Offer;
 use sn_cost_seats::slots::slots_of;
 use sn_cost_seats::tally::over;
+use sn_cost_tally::largest::of_keys;
 use sn_cost_tally::marks::Marks;
 use sn_cost_tally::seats::seat;
 use std::test::Fail;
@@ -38,16 +40,48 @@ fn finds_the_slots_of_keys(rt: HostRuntime) -> Result<(), Fail> {
     Ok(())
 }
 
-/// One place holds the first key, and two the first two.
-#[test]
-fn seats_the_first_keys(rt: HostRuntime) -> Result<(), Fail> {
+/// Which of the keys 1, 2 and 3 find room in registers with this many slots.
+fn homes_of(rt: &HostRuntime, depth: u32, slots: u32) -> Result<Vec<bool>, Fail>
+    requires depth { depth ≤ 4 }
+    requires some { 1 ≤ slots }
+    requires most { slots ≤ largest_register }
+{
     let keys = [key(1), key(2), key(3)];
+    let known = of_keys(rt.alloc(), &keys)?;
     let mut marks = Marks::new(rt.alloc());
     let mut homes = Vec::new(rt.alloc());
-    seat(rt.alloc(), &mut marks, 1, 1, &keys, &mut homes)?;
-    assert_eq!(rt; homes.as_slice(), [true, false, false].as_slice());
-    seat(rt.alloc(), &mut marks, 2, 1, &keys, &mut homes)?;
-    assert_eq!(rt; homes.as_slice(), [true, true, false].as_slice());
+    seat(
+        rt.alloc(),
+        &mut marks,
+        depth,
+        slots,
+        &keys,
+        known.as_slice(),
+        &mut homes,
+    )?;
+    Ok(homes)
+}
+
+/// One place holds the first key, and two the first two. Of three slots, which don't divide the most that a register may have, the first
+/// two keys want the same one; in a second register they want others. By the formula in whole numbers, worked out elsewhere.
+#[test]
+fn seats_the_first_keys(rt: HostRuntime) -> Result<(), Fail> {
+    assert_eq!(rt;
+        homes_of(&rt, 1, 1)?.as_slice(),
+        [true, false, false].as_slice()
+    );
+    assert_eq!(rt;
+        homes_of(&rt, 2, 1)?.as_slice(),
+        [true, true, false].as_slice()
+    );
+    assert_eq!(rt;
+        homes_of(&rt, 1, 3)?.as_slice(),
+        [true, false, true].as_slice()
+    );
+    assert_eq!(rt;
+        homes_of(&rt, 2, 3)?.as_slice(),
+        [true, true, true].as_slice()
+    );
     Ok(())
 }
 
