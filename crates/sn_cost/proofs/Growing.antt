@@ -1,13 +1,8 @@
 -- Tables that grow step by step.
-use Rattle.std.proofs.Common.{◌≡◌, ℕ, zero, suc, ◌+◌, ◌*◌, ◌^◌, ◌≤◌, ◌<◌, List, [], ◌∷◌, length, Bool, true, false, nat_eq, nat_lt, slice_index, refl, ap, sym, subst, ◌∙◌, arith, zero-add, filter, Option}
+use Rattle.std.proofs.Common.{◌≡◌, ℕ, zero, suc, ◌+◌, ◌*◌, ◌^◌, ◌≤◌, ◌<◌, List, [], ◌∷◌, length, Bool, true, false, nat_eq, nat_lt, slice_index, refl, ap, sym, subst, ◌∙◌, arith, zero-add}
 use Rattle.std.specs.Prelude.{Result, Ok, Err, OnOk}
-use Rattle.std.proofs.lemmas.List.{length-map}
-use Rattle.sn_ops.specs.Packets.{is_kept, packet_rows}
-use Rattle.sn_ops.specs.declared.packets.Kept.{Kept}
-use Rattle.sn_types.specs.declared.typed_query.TypedQuery.{TypedQuery}
-use Rattle.sn_types.specs.Typed.{branch_of, packet_row}
 use Rattle.std.proofs.lemmas.Bool.{false≢true, lt-ltb, ltb-false, ltb-true}
-use Rattle.sn_base.proofs.Lists.{by_test, nat_same, nat_self, filter_short}
+use Rattle.sn_base.proofs.Lists.{by_test, nat_same, nat_self}
 use Rattle.sn_plan_choices.specs.declared.costs.CostTable.{CostTable}
 use Rattle.sn_plan_choices.specs.Costs.{HasPlaces, IsPlace, OthersStay, entry_in}
 use Rattle.sn_cost.specs.Adding.{Adds, AreSmall, Entries, HasRoom, of_branches, of_counts, where_so, with_fee}
@@ -215,14 +210,6 @@ small_more P i below here b lt = by_test (nat_eq i b) (λ is. subst P (nat_same 
   where
     less : (i b : ℕ) → b < i + 1 → (i ≡ b → ⊥) → b < i
     less i b lt apart = omega (arith, lt, apart)
-
--- ---- packet rows
-
-pub packets_few : (query : TypedQuery) (b level : ℕ) (kept : Option Kept) (tuples : List (List ℕ)) → length (packet_rows query b level kept tuples) ≤ length tuples
-packets_few query b level kept tuples =
-    let a = filter_short (is_kept query.field kept) tuples in
-    let e = length-map (filter (is_kept query.field kept) tuples) (packet_row query.field level (branch_of query b).fields) in
-    omega (arith, a, e)
 
 -- ---- answers of calls
 

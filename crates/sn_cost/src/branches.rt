@@ -13,13 +13,12 @@ use crate::adding::add_counts;
 use sn_base::any_row::AnyRow;
 use sn_base::memory::Memory;
 use sn_base::row::Row;
-use sn_base::row_seq::RowSeq;
 use sn_base::seq::Seq;
 use sn_base::short_row::ShortRow;
 use sn_cost_counts::branch::counts_of;
 use sn_cost_tally::room::Room;
 use sn_fields::tuple::Tuple;
-use sn_ops::packets::{Kept, packet_rows};
+use sn_ops::packets::Kept;
 use sn_plan_choices::costs::CostTable;
 use sn_plan_choices::setting::options;
 use sn_switch::switch::Switch;
@@ -46,8 +45,8 @@ fn counts_over<R: AnyRow>(
     ensures counts { IfOk result (λ counts. counts ≡ kept_counts s.now (query_at t.now.queries q) level kept.entry tuples.now b) }
     ensures small { IfOk result (λ counts. AreSmall counts) }
 {
-    let rows: RowSeq<R> = packet_rows(t.alloc, t, q, b, level, kept, tuples)?;
-    counts_of(room, t, q, b, level, s.chain, s.slots.as_slice(), rows)
+    let slots = s.slots.as_slice();
+    counts_of::<R>(room, t, q, b, level, s.chain, slots, kept, tuples)
 }
 
 /// The counts of a branch at a level, over the tuples of a window that are kept. Its packet rows are short where it isn't wide: that

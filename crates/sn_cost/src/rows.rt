@@ -17,14 +17,13 @@ use sn_base::any_row::AnyRow;
 use sn_base::memory::Memory;
 use sn_base::row::Row;
 use sn_base::row_list::RowList;
-use sn_base::row_seq::RowSeq;
 use sn_base::seq::Seq;
 use sn_base::short_row::ShortRow;
 use sn_cost_counts::branch::{Counted, counts_and_rows};
 use sn_cost_tally::room::Room;
 use sn_fields::tuple::Tuple;
 use sn_ops::lists::join_lists;
-use sn_ops::packets::{Kept, packet_rows};
+use sn_ops::packets::Kept;
 use sn_plan_choices::costs::CostTable;
 use sn_plan_choices::setting::options;
 use sn_switch::switch::Switch;
@@ -60,8 +59,8 @@ fn counted_over<R: AnyRow>(
     ensures rows { IfOk result (λ found. found.rows ≡ branch_rows (query_at t.now.queries q) b level kept.entry tuples.now) }
     ensures columns { IfOk result (λ found. AllByRecursion (IsOf (end_columns (branch_at t.now.queries q b))) found.rows) }
 {
-    let rows: RowSeq<R> = packet_rows(t.alloc, t, q, b, level, kept, tuples)?;
-    counts_and_rows(room, t, q, b, level, s.chain, s.slots.as_slice(), rows)
+    let slots = s.slots.as_slice();
+    counts_and_rows(room, t, q, b, level, s.chain, slots, kept, tuples)
 }
 
 /// The counts of a branch at a level, and its rows, over the tuples of a window that are kept. The kind of its rows is asked once.

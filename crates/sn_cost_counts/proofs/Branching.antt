@@ -64,7 +64,7 @@ takes_prop level (ops.Map exprs ∷ os) row = hlevel (fits_prop (ops.Map exprs),
 takes_prop level (ops.Distinct ∷ os) row = takes_prop level os row
 takes_prop level (ops.Reduce r ∷ os) row = hlevel (fits_prop (ops.Reduce r), has_prop, takes_prop level os)
 
-takes_front : (level cut : ℕ) (os : List TOp) (row : Row) → Takes level os row → Takes level (take cut os) row
+pub takes_front : (level cut : ℕ) (os : List TOp) (row : Row) → Takes level os row → Takes level (take cut os) row
 takes_front level zero os row h = tt
 takes_front level (suc c) [] row h = tt
 takes_front level (suc c) (ops.Filter conds ∷ os) row h = (h.0, takes_front level c os row h.1)

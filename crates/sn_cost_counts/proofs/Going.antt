@@ -180,8 +180,8 @@ all_fit level passed op os fs h =
 -- ---- operators one after another
 
 -- the counts of the operators before this one are there, and its rows with them
-pub record Along (depth level : ℕ) (slots : List ℕ) (os : List TOp) (first : List Flow) (i : ℕ) (fs : List Flow) (counts : List ℕ) : Type 0 where
-  pub told : counts ++ counts_from depth level slots (drop i os) fs ≡ counts_from depth level slots os first
+pub record Along (depth level : ℕ) (slots : List ℕ) (os : List TOp) (all : List ℕ) (i : ℕ) (fs : List Flow) (counts : List ℕ) : Type 0 where
+  pub told : counts ++ counts_from depth level slots (drop i os) fs ≡ all
   pub go : AllGo level i (drop i os) fs
 
 pub operators_ahead : (os : List TOp) (i : ℕ) (op : TOp) → i < length os → op ≡ get_or os i op → drop i os ≡ op ∷ drop (i + 1) os
@@ -192,12 +192,12 @@ operators_ahead os i op lt at =
 pub one_ahead : (level i : ℕ) (os : List TOp) (op : TOp) (fs : List Flow) → i < length os → op ≡ get_or os i op → AllGo level i (drop i os) fs → AllGo level i (op ∷ drop (i + 1) os) fs
 one_ahead level i os op fs lt at h = subst (λ (xs : List TOp). AllGo level i xs fs) (operators_ahead os i op lt at) h
 
-pub at_first : (depth level : ℕ) (slots : List ℕ) (os : List TOp) (first : List Flow) → AllGo level 0 os first → Along depth level slots os first 0 first []
-at_first depth level slots os first h = record { told = refl; go = h }
+pub at_first : (depth level : ℕ) (slots : List ℕ) (os : List TOp) (first : List Flow) (before : List ℕ) → AllGo level 0 os first → Along depth level slots os (before ++ counts_from depth level slots os first) 0 first before
+at_first depth level slots os first before h = record { told = refl; go = h }
 
-pub one_along : (depth level : ℕ) (slots : List ℕ) (os : List TOp) (first : List Flow) (i : ℕ) (op : TOp) (fs next : List Flow) (counts more : List ℕ) → i < length os → op ≡ get_or os i op
-    → Along depth level slots os first i fs counts → more ≡ counts ++ map counted fs → next ≡ wider depth level slots op fs → Along depth level slots os first (i + 1) next more
-one_along depth level slots os first i op fs next counts more lt at so_far grown wide =
+pub one_along : (depth level : ℕ) (slots : List ℕ) (os : List TOp) (all : List ℕ) (i : ℕ) (op : TOp) (fs next : List Flow) (counts more : List ℕ) → i < length os → op ≡ get_or os i op
+    → Along depth level slots os all i fs counts → more ≡ counts ++ map counted fs → next ≡ wider depth level slots op fs → Along depth level slots os all (i + 1) next more
+one_along depth level slots os all i op fs next counts more lt at so_far grown wide =
     let n : suc i ≡ i + 1 = omega arith in
     let go : AllGo level (i + 1) (drop (i + 1) os) (wider depth level slots op fs) =
     subst (λ m. AllGo level m (drop (i + 1) os) (wider depth level slots op fs)) n (wider_go level i depth slots op (drop (i + 1) os) fs (one_ahead level i os op fs lt at so_far.go)) in
@@ -211,9 +211,8 @@ one_along depth level slots os first i op fs next counts more lt at so_far grown
       go = subst (AllGo level (i + 1) (drop (i + 1) os)) (sym wide) go;
     }
 
-pub all_along : (depth level : ℕ) (slots : List ℕ) (os : List TOp) (first : List Flow) (i : ℕ) (fs : List Flow) (counts more : List ℕ) → length os ≤ i → Along depth level slots os first i fs counts → more ≡ counts ++ map counted fs
-    → more ≡ counts_from depth level slots os first
-all_along depth level slots os first i fs counts more le so_far grown =
+pub all_along : (depth level : ℕ) (slots : List ℕ) (os : List TOp) (all : List ℕ) (i : ℕ) (fs : List Flow) (counts more : List ℕ) → length os ≤ i → Along depth level slots os all i fs counts → more ≡ counts ++ map counted fs → more ≡ all
+all_along depth level slots os all i fs counts more le so_far grown =
     grown ∙ sym (ap (λ (xs : List TOp). counts ++ counts_from depth level slots xs fs) (drop_all i os le)) ∙ so_far.told
 
 -- ---- what is after an operator

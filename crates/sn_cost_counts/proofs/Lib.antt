@@ -6,3 +6,6 @@ pub mod Unsplit
 pub mod Orders
 pub mod Counting
 pub mod Branching
+pub mod OneRow
+pub mod Arrivals
+pub mod Ahead

@@ -1,5 +1,6 @@
 pub mod AnyFlow
 pub mod Flows
+pub mod Coming
 pub mod Fitting
 pub mod Passing
 pub mod Settings

@@ -1,22 +1,27 @@
 //! The counts of a branch, and its rows.
-ghost use Rattle.std.specs.Prelude.{◌≡◌, ◌≤◌, ◌<◌, ◌*◌, All, Some, None, length, map, take, nat_eq, true, IfOk, if◌then◌else◌};
+ghost use Rattle.std.specs.Prelude.{◌≡◌, ◌≤◌, ◌<◌, ◌*◌, All, Some, None, length, map, take, nat_eq, true, IfOk, OnOk, if◌then◌else◌};
 ghost use Rattle.std.specs.List.{AllByRecursion, list_any};
 ghost use Rattle.sn_base.specs.Columns.{IsOf};
 ghost use Rattle.sn_base.specs.Operators.{through};
 ghost use Rattle.sn_cost_counts.specs.Counts.{counts_of, setting_count};
 ghost use Rattle.sn_cost_counts.specs.Settings.{settings};
+ghost use Rattle.sn_ops.specs.Packets.{OfALevel, packet_rows};
+ghost use Rattle.sn_types.specs.Kinds.{AreBelow};
 ghost use Rattle.sn_types.specs.Typed.{branch_at, branch_of, end_columns, first_columns, query_at};
 ghost use Rattle.sn_types.specs.Values.{op_at};
 ghost use Rattle.sn_chain.specs.Limits.{largest_register};
 ghost use Rattle.sn_windows.specs.Blocks.{most_records};
 
+use crate::coming::{ahead, come_through};
 use crate::counts::{Along, counts_along};
 use sn_base::any_row::AnyRow;
 use sn_base::memory::Memory;
 use sn_base::row_seq::RowSeq;
 use sn_base::seq::Seq;
 use sn_cost_tally::room::Room;
+use sn_fields::tuple::Tuple;
 use sn_ops::flow::run;
+use sn_ops::packets::Kept;
 use sn_types::typed::Typed;
 
 /// The counts of a branch, and the rows that it gives with no switch.
@@ -28,7 +33,11 @@ pub struct Counted<R: AnyRow> {
     pub rows: RowSeq<R>,
 }
 
-/// What comes of a window's packet rows along the longest prefix of a branch.
+/// As many counts as most branches have, for which room is taken at once.
+const COMMON_COUNTS: usize = 32;
+
+/// What comes of the packet rows of the tuples that are kept along the longest prefix of a branch. They go through the filters and maps
+/// before the first distinct or reduce one by one, and no list is made of them before.
 fn along_prefix<R: AnyRow>(
     room: &mut Room,
     t: &Typed,
@@ -37,26 +46,35 @@ fn along_prefix<R: AnyRow>(
     level: u32,
     chain: u32,
     slots: &[u32],
-    rows: RowSeq<R>,
-    kept: bool,
+    kept: Option<Kept>,
+    tuples: &[Tuple],
+    asked: bool,
 ) -> Result<Along<R>, Memory>
     requires query { q < length t.now.queries }
     requires branch { b < length (query_at t.now.queries q).branches }
+    requires level { list_any (nat_eq level) (query_at t.now.queries q).levels ≡ true }
+    requires kept { OfALevel (query_at t.now.queries q) kept }
+    requires below { AreBelow R.Number.limit (branch_at t.now.queries q b).fields }
     requires some_depth { 1 ≤ chain }
     requires most_depth { chain ≤ 4 }
     requires sizes { All (λ size. (1 ≤ size) × (size ≤ largest_register)) slots.now }
-    requires few { length rows ≤ most_records }
-    requires columns { AllByRecursion (IsOf (first_columns (branch_at t.now.queries q b))) rows }
-    ensures counts { IfOk result (λ along. along.counts ≡ counts_of (branch_at t.now.queries q b) level chain slots.now rows) }
+    requires few { length tuples.now ≤ most_records }
+    ensures counts { IfOk result (λ along. along.counts ≡ counts_of (branch_at t.now.queries q b) level chain slots.now
+        (packet_rows (query_at t.now.queries q) b level kept.entry tuples.now)) }
     ensures small { IfOk result (λ along. AllByRecursion (λ n. n ≤ 13 * most_records) along.counts) }
     ensures unsplit { let branch = branch_at t.now.queries q b in IfOk result (λ along.
-        along.unsplit ≡ (if kept then Some (through (map (op_at level) (take branch.max_cut branch.ops)) rows) else None)) }
+        along.unsplit ≡ (if asked then Some (through (map (op_at level) (take branch.max_cut branch.ops)) (packet_rows (query_at t.now.queries q) b level kept.entry tuples.now)) else None)) }
+    ensures columns { OnOk result (AllByRecursion (IsOf (first_columns (branch_at t.now.queries q b))) (packet_rows (query_at t.now.queries q) b level kept.entry tuples.now)) }
 {
-    let (front, _) = t.operators(q, b).split_at(t.max_cut(q, b) as usize);
-    counts_along(room, front, level, chain, slots, rows, kept)
+    let (ops, _) = t.operators(q, b).split_at(t.max_cut(q, b) as usize);
+    let (front, rest) = ops.split_at(ahead(ops));
+    let found = come_through(room.alloc, t, q, b, level, kept, tuples, front)?;
+    let mut counts = Seq::from_vec(Vec::with_capacity(room.alloc, COMMON_COUNTS)?);
+    found.add_counts(front, &mut counts)?;
+    counts_along(room, rest, level, chain, slots, counts, found.rows, asked)
 }
 
-/// How many items a branch at a level sends of a window's packet rows, for each cut and all sizes of its registers: by
+/// How many items a branch at a level sends of the packet rows of the tuples that are kept, for each cut and all sizes of its registers: by
 /// cut, and within a cut by the sizes of the stateful operators before it, in lexicographic order of `slots`. Each of them
 /// has `chain` registers.
 ///
@@ -70,19 +88,23 @@ pub fn counts_of<R: AnyRow>(
     level: u32,
     chain: u32,
     slots: &[u32],
-    rows: RowSeq<R>,
+    kept: Option<Kept>,
+    tuples: &[Tuple],
 ) -> Result<Seq<u64>, Memory>
     requires query { q < length t.now.queries }
     requires branch { b < length (query_at t.now.queries q).branches }
+    requires level { list_any (nat_eq level) (query_at t.now.queries q).levels ≡ true }
+    requires kept { OfALevel (query_at t.now.queries q) kept }
+    requires below { AreBelow R.Number.limit (branch_at t.now.queries q b).fields }
     requires some_depth { 1 ≤ chain }
     requires most_depth { chain ≤ 4 }
     requires sizes { All (λ size. (1 ≤ size) × (size ≤ largest_register)) slots.now }
-    requires few { length rows ≤ most_records }
-    requires columns { AllByRecursion (IsOf (first_columns (branch_at t.now.queries q b))) rows }
-    ensures counts { IfOk result (λ counts. counts ≡ counts_of (branch_at t.now.queries q b) level chain slots.now rows) }
+    requires few { length tuples.now ≤ most_records }
+    ensures counts { IfOk result (λ counts. counts ≡ counts_of (branch_at t.now.queries q b) level chain slots.now
+        (packet_rows (query_at t.now.queries q) b level kept.entry tuples.now)) }
     ensures small { IfOk result (λ counts. AllByRecursion (λ n. n ≤ 13 * most_records) counts) }
 {
-    let along = along_prefix(room, t, q, b, level, chain, slots, rows, false)?;
+    let along = along_prefix::<R>(room, t, q, b, level, chain, slots, kept, tuples, false)?;
     Ok(along.counts)
 }
 
@@ -99,21 +121,28 @@ pub fn counts_and_rows<R: AnyRow>(
     level: u32,
     chain: u32,
     slots: &[u32],
-    rows: RowSeq<R>,
+    kept: Option<Kept>,
+    tuples: &[Tuple],
 ) -> Result<Counted<R>, Memory>
     requires query { q < length t.now.queries }
     requires branch { b < length (query_at t.now.queries q).branches }
+    requires level { list_any (nat_eq level) (query_at t.now.queries q).levels ≡ true }
+    requires kept { OfALevel (query_at t.now.queries q) kept }
+    requires below { AreBelow R.Number.limit (branch_at t.now.queries q b).fields }
     requires some_depth { 1 ≤ chain }
     requires most_depth { chain ≤ 4 }
     requires sizes { All (λ size. (1 ≤ size) × (size ≤ largest_register)) slots.now }
-    requires few { length rows ≤ most_records }
-    requires columns { AllByRecursion (IsOf (first_columns (branch_at t.now.queries q b))) rows }
-    ensures counts { IfOk result (λ c. c.counts ≡ counts_of (branch_at t.now.queries q b) level chain slots.now rows) }
+    requires few { length tuples.now ≤ most_records }
+    ensures counts { IfOk result (λ c. c.counts ≡ counts_of (branch_at t.now.queries q b) level chain slots.now
+        (packet_rows (query_at t.now.queries q) b level kept.entry tuples.now)) }
     ensures small { IfOk result (λ c. AllByRecursion (λ n. n ≤ 13 * most_records) c.counts) }
-    ensures rows { IfOk result (λ c. c.rows ≡ through (map (op_at level) (branch_at t.now.queries q b).ops) rows) }
+    ensures rows { IfOk result (λ c. c.rows ≡ through (map (op_at level) (branch_at t.now.queries q b).ops)
+        (packet_rows (query_at t.now.queries q) b level kept.entry tuples.now)) }
     ensures columns { IfOk result (λ c. AllByRecursion (IsOf (end_columns (branch_at t.now.queries q b))) c.rows) }
 {
-    let Along { counts, unsplit } = along_prefix(room, t, q, b, level, chain, slots, rows, true)?;
+    let Along { counts, unsplit } = along_prefix(
+        room, t, q, b, level, chain, slots, kept, tuples, true,
+    )?;
     let Some(unsplit) = unsplit else {
         unreachable!();
     };

@@ -1,5 +1,5 @@
 //! The counts of all settings of a prefix.
-ghost use Rattle.std.specs.Prelude.{◌≡◌, ◌*◌, ◌≤◌, ◌∷◌, [], All, Some, None, length, map, IfOk, if◌then◌else◌};
+ghost use Rattle.std.specs.Prelude.{◌≡◌, ◌*◌, ◌≤◌, ◌++◌, ◌∷◌, [], All, Some, None, length, map, IfOk, if◌then◌else◌};
 ghost use Rattle.std.specs.List.{AllByRecursion};
 ghost use Rattle.sn_base.specs.Operators.{through};
 ghost use Rattle.sn_cost_counts.specs.Flows.{counts_from, starting};
@@ -26,19 +26,17 @@ pub(crate) struct Along<R: AnyRow> {
     pub unsplit: Option<RowSeq<R>>,
 }
 
-/// As many counts as most branches have, for which room is taken at once.
-const COMMON_COUNTS: usize = 32;
-
-/// How many items a prefix of these operators sends of these rows, for each cut and all sizes of its registers; and, if `kept`,
-/// what the operators give of them.
+/// Adds to the counts before how many items a prefix of these operators sends of these rows, for each cut and all sizes of its registers; and,
+/// if it's asked for, what the operators give of them.
 pub(crate) fn counts_along<R: AnyRow>(
     room: &mut Room,
     ops: &[TOp],
     level: u32,
     depth: u32,
     slots: &[u32],
+    before: Seq<u64>,
     rows: RowSeq<R>,
-    kept: bool,
+    asked: bool,
 ) -> Result<Along<R>, Memory>
     requires most_depth { depth ≤ 4 }
     requires sizes { All (λ size. (1 ≤ size) × (size ≤ largest_register)) slots.now }
@@ -47,11 +45,11 @@ pub(crate) fn counts_along<R: AnyRow>(
     requires takes { AllByRecursion (Takes level ops.now) rows }
     requires fits { AllFit level ops.now [] }
     requires fits_all { AllFit level ops.now rows }
-    ensures counts { IfOk result (λ along. along.counts ≡ counts_from depth level slots.now ops.now (starting rows ∷ [])) }
-    ensures unsplit { IfOk result (λ along. along.unsplit ≡ (if kept then Some (through (map (op_at level) ops.now) rows) else None)) }
+    ensures counts { IfOk result (λ along. along.counts ≡ before ++ counts_from depth level slots.now ops.now (starting rows ∷ [])) }
+    ensures unsplit { IfOk result (λ along. along.unsplit ≡ (if asked then Some (through (map (op_at level) ops.now) rows) else None)) }
 {
-    let mut counts = Seq::from_vec(Vec::with_capacity(room.alloc, COMMON_COUNTS)?);
-    let mut passing = Passing::Together(rows, 0, kept);
+    let mut counts = before;
+    let mut passing = Passing::Together(rows, 0, asked);
     for op in ops {
         passing.add_counts(&mut counts)?;
         passing = passing.after(room, op, level, depth, slots)?;

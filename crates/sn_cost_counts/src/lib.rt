@@ -2,6 +2,7 @@
 #![tactic(auto)]
 
 pub mod branch;
+mod coming;
 mod counts;
 pub mod flow;
 mod grouped;

@@ -7,13 +7,11 @@ use crate::texts::{DEEP, queries, syn, syn6};
 use sn_base::any_row::AnyRow;
 use sn_base::memory::Memory;
 use sn_base::row::Row;
-use sn_base::row_seq::RowSeq;
 use sn_base::seq::Seq;
 use sn_base::short_row::ShortRow;
 use sn_cost_counts::branch::counts_of;
 use sn_cost_tally::room::Room;
 use sn_fields::tuple::Tuple;
-use sn_ops::packets::packet_rows;
 use sn_types::typed::Typed;
 use std::alloc::Global;
 use std::test::Fail;
@@ -31,13 +29,12 @@ fn counts_over<R: AnyRow>(
     requires some { 1 ≤ chain }
     requires most { chain ≤ 4 }
 {
-    let level = t.finest_level(0);
-    let rows: RowSeq<R> = packet_rows(alloc, t, 0, 0, level, None, tuples)?;
-    if rows.len() > 1000 {
+    if tuples.len() > 1000 {
         return Err(Memory);
     }
+    let level = t.finest_level(0);
     let mut room = Room::new(alloc, t.seed);
-    counts_of(&mut room, t, 0, 0, level, chain, &[1], rows)
+    counts_of::<R>(&mut room, t, 0, 0, level, chain, &[1], None, tuples)
 }
 
 /// The counts of the one query of a text, in chains of registers with one slot each.

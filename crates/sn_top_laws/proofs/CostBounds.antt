@@ -11,7 +11,7 @@ use Rattle.sn_base.specs.Groups.{Row}
 use Rattle.sn_cost.specs.Entries.{cost_in, entry_count, front_of, records, sent_in, sent_of, trained}
 use Rattle.sn_cost.specs.Training.{NeverFall}
 use Rattle.sn_cost.proofs.Bounded.{entry_most}
-use Rattle.sn_cost.proofs.Growing.{packets_few}
+use Rattle.sn_cost_counts.proofs.Arrivals.{few_packets}
 use Rattle.sn_cost_laws.specs.Space.{trained_entry, trained_plans}
 use Rattle.sn_ops.specs.Packets.{packet_rows}
 use Rattle.sn_plan_choices.specs.Options.{Setting, option_at}
@@ -102,7 +102,7 @@ sent_few : (query : TypedQuery) (b level depth : ℕ) (o : Setting) (seen : Opti
 sent_few query b level depth o None ops h = omega arith
 sent_few query b level depth o (Some tuples) ops h =
     let rows = packet_rows query b level None tuples in
-    let r = packets_few query b level None tuples in
+    let r = few_packets query b level None tuples in
     let k = items_few depth (size_at (branch_of query b).ops o.1) o.0 (map (op_at level) (branch_of query b).ops) rows (omega (arith, r, h)) in
     let m = length-map (branch_of query b).ops (op_at level) in
     omega (arith, k, m, ops)

@@ -3,11 +3,12 @@ use Rattle.sn_base.specs.Groups.{Row}
 use Rattle.sn_base.specs.Operators.{through}
 use Rattle.sn_base.proofs.Lists.{some_same}
 use Rattle.sn_ops.specs.Flow.{AllFit}
+use Rattle.sn_ops.specs.Packets.{packet_rows}
 use Rattle.sn_ops.proofs.Branches.{branch_fit, branch_of_end}
 use Rattle.sn_pipe.proofs.Fronts.{cut_within}
 use Rattle.sn_types.specs.declared.typed_op.TOp.{TOp}
 use Rattle.sn_types.specs.declared.typed_query.TypedBranch.{TypedBranch}
-use Rattle.sn_types.specs.Typed.{branch_at, end_columns}
+use Rattle.sn_types.specs.Typed.{branch_at, end_columns, query_at}
 use Rattle.sn_types.specs.Values.{op_at}
 use Rattle.sn_types.proofs.RowsAfter.{AreOf}
 use Rattle.sn_cost_counts.proofs.Unsplit.{fit_rest, through_rest}
@@ -27,20 +28,22 @@ pub run-requires : goal.run-requires
 run-requires g c =
     let a = c.args in
     let t = a.t.now in
+    let packets : List Row = packet_rows (query_at t.queries a.q) a.b a.level a.kept a.tuples.now in
     let branch : TypedBranch = branch_at t.queries a.q a.b in
-    let all : List Row = through (map (op_at a.level) (take branch.max_cut branch.ops)) a.rows in
+    let all : List Row = through (map (op_at a.level) (take branch.max_cut branch.ops)) packets in
     let unsplit : c.in-Some.unsplit ≡ all = some_same c.in-Some.unsplit all (sym c.in-Some.is ∙ c.in_ok-counts.ensures.unsplit) in
     let rest : c.split_at.result.1.now ≡ drop branch.max_cut branch.ops = c.split_at.ensures.back ∙ ap (drop c.max_cut.result) c.operators.ensures ∙ ap (λ n. drop n branch.ops) c.max_cut.ensures in
     subst (λ (os : List TOp). AllFit a.level os c.in-Some.unsplit) (sym rest)
     (subst (AllFit a.level (drop branch.max_cut branch.ops)) (sym unsplit)
-    (fit_rest a.level branch.max_cut branch.ops a.rows (branch_fit t.window_us t.queries a.q a.b a.level a.rows t.typed c.requires.query c.requires.branch c.requires.columns)))
+    (fit_rest a.level branch.max_cut branch.ops packets (branch_fit t.window_us t.queries a.q a.b a.level packets t.typed c.requires.query c.requires.branch c.in_ok-counts.ensures.columns)))
 
 pub returns-clause-rows : goal.returns-clause-rows
 returns-clause-rows g c =
     let a = c.args in
+    let packets : List Row = packet_rows (query_at a.t.now.queries a.q) a.b a.level a.kept a.tuples.now in
     let branch : TypedBranch = branch_at a.t.now.queries a.q a.b in
-    let all : List Row = through (map (op_at a.level) (take branch.max_cut branch.ops)) a.rows in
-    gone_on a.level branch.max_cut branch.ops c.split_at.result.1.now a.rows c.in-Some.unsplit c.in_ok-rows.rows
+    let all : List Row = through (map (op_at a.level) (take branch.max_cut branch.ops)) packets in
+    gone_on a.level branch.max_cut branch.ops c.split_at.result.1.now packets c.in-Some.unsplit c.in_ok-rows.rows
     (c.split_at.ensures.back ∙ ap (drop c.max_cut.result) c.operators.ensures ∙ ap (λ n. drop n branch.ops) c.max_cut.ensures)
     (some_same c.in-Some.unsplit all (sym c.in-Some.is ∙ c.in_ok-counts.ensures.unsplit)) c.in_ok-rows.ensures
 
@@ -48,10 +51,11 @@ pub returns-clause-columns : goal.returns-clause-columns
 returns-clause-columns g c =
     let a = c.args in
     let t = a.t.now in
+    let packets : List Row = packet_rows (query_at t.queries a.q) a.b a.level a.kept a.tuples.now in
     let branch : TypedBranch = branch_at t.queries a.q a.b in
-    let all : List Row = through (map (op_at a.level) (take branch.max_cut branch.ops)) a.rows in
-    let gives : c.in_ok-rows.rows ≡ through (map (op_at a.level) branch.ops) a.rows =
-    gone_on a.level branch.max_cut branch.ops c.split_at.result.1.now a.rows c.in-Some.unsplit c.in_ok-rows.rows
+    let all : List Row = through (map (op_at a.level) (take branch.max_cut branch.ops)) packets in
+    let gives : c.in_ok-rows.rows ≡ through (map (op_at a.level) branch.ops) packets =
+    gone_on a.level branch.max_cut branch.ops c.split_at.result.1.now packets c.in-Some.unsplit c.in_ok-rows.rows
     (c.split_at.ensures.back ∙ ap (drop c.max_cut.result) c.operators.ensures ∙ ap (λ n. drop n branch.ops) c.max_cut.ensures)
     (some_same c.in-Some.unsplit all (sym c.in-Some.is ∙ c.in_ok-counts.ensures.unsplit)) c.in_ok-rows.ensures in
-    subst (AreOf (end_columns branch)) (sym gives) (branch_of_end t.window_us t.queries a.q a.b a.level a.rows t.typed c.requires.query c.requires.branch c.requires.columns)
+    subst (AreOf (end_columns branch)) (sym gives) (branch_of_end t.window_us t.queries a.q a.b a.level packets t.typed c.requires.query c.requires.branch c.in_ok-counts.ensures.columns)

@@ -1,8 +1,8 @@
-use Rattle.std.proofs.Common.{ℕ, ◌+◌, List, ◌∷◌, [], drop, sym, subst, ◌∙◌, arith}
-use Rattle.sn_cost_counts.specs.Flows.{starting}
+use Rattle.std.proofs.Common.{◌+◌, ◌∷◌, ◌++◌, [], drop, ◌∙◌, arith}
+use Rattle.sn_cost_counts.specs.Flows.{counts_from, starting}
 use Rattle.sn_cost_counts.specs.Passing.{flows_of, unsplit_of}
 use Rattle.sn_cost_counts.proofs.Branching.{started}
-use Rattle.sn_cost_counts.proofs.Going.{Along, all_few, all_sent, at_first, one_ahead, one_along}
+use Rattle.sn_cost_counts.proofs.Going.{all_along, all_few, all_sent, at_first, one_ahead, one_along}
 use Rattle.sn_cost_counts.proofs.Unsplit.{fits_one, follows_all, follows_first, follows_next}
 use Rattle.sn_cost_counts.proofs.counts.counts_along.Goals as goal
 
@@ -10,9 +10,8 @@ pub loop-op-init : goal.loop-op-init
 loop-op-init g c =
     let a = c.args in
     record {
-      along = subst (λ (counts : List ℕ). Along a.depth a.level a.slots.now a.ops.now (starting a.rows ∷ []) 0 (starting a.rows ∷ []) counts) (sym (c.from_vec-counts.ensures ∙ c.in_ok-with_capacity.ensures.items))
-          (at_first a.depth a.level a.slots.now a.ops.now (starting a.rows ∷ []) (started a.level a.ops.now a.rows c.requires.few c.requires.takes c.requires.fits));
-      follows = follows_first a.kept a.level a.ops.now a.rows c.requires.fits_all;
+      along = at_first a.depth a.level a.slots.now a.ops.now (starting a.rows ∷ []) a.before (started a.level a.ops.now a.rows c.requires.few c.requires.takes c.requires.fits);
+      follows = follows_first a.asked a.level a.ops.now a.rows c.requires.fits_all;
     }
 
 pub add_counts-requires-clause-sent : goal.add_counts-requires-clause-sent
@@ -36,7 +35,7 @@ after-requires-clause-go g c =
 pub after-requires-clause-fits : goal.after-requires-clause-fits
 after-requires-clause-fits g c =
     let a = c.args in
-    fits_one a.kept a.level a.ops.now a.rows c.loop-op.op-index c.op-item.result (unsplit_of c.loop-op.passing) c.loop-op-test.true c.op-item.is c.loop-op.invariant.follows
+    fits_one a.asked a.level a.ops.now a.rows c.loop-op.op-index c.op-item.result (unsplit_of c.loop-op.passing) c.loop-op-test.true c.op-item.is c.loop-op.invariant.follows
 
 pub loop-op-preserved : goal.loop-op-preserved
 loop-op-preserved g c =
@@ -44,9 +43,9 @@ loop-op-preserved g c =
     let i = c.loop-op.op-index in
     let op = c.op-item.result in
     record {
-      along = one_along a.depth a.level a.slots.now a.ops.now (starting a.rows ∷ []) i op (flows_of c.loop-op.passing) (flows_of c.in_ok-passing.passing) c.loop-op.counts c.add_counts.new.counts
+      along = one_along a.depth a.level a.slots.now a.ops.now (a.before ++ counts_from a.depth a.level a.slots.now a.ops.now (starting a.rows ∷ [])) i op (flows_of c.loop-op.passing) (flows_of c.in_ok-passing.passing) c.loop-op.counts c.add_counts.new.counts
           c.loop-op-test.true c.op-item.is c.loop-op.invariant.along c.in_ok-add_counts.ensures c.in_ok-passing.ensures.flows;
-      follows = follows_next a.kept a.level a.ops.now a.rows i op (unsplit_of c.loop-op.passing) (unsplit_of c.in_ok-passing.passing) c.loop-op-test.true c.op-item.is c.loop-op.invariant.follows c.in_ok-passing.ensures.unsplit;
+      follows = follows_next a.asked a.level a.ops.now a.rows i op (unsplit_of c.loop-op.passing) (unsplit_of c.in_ok-passing.passing) c.loop-op-test.true c.op-item.is c.loop-op.invariant.follows c.in_ok-passing.ensures.unsplit;
     }
 
 pub add_counts-requires-2-clause-sent : goal.add_counts-requires-2-clause-sent
@@ -60,4 +59,10 @@ add_counts-requires-2-clause-few g c = all_few c.args.level c.loop-op.op-index (
 pub returns-clause-unsplit : goal.returns-clause-unsplit
 returns-clause-unsplit g c =
     let a = c.args in
-    c.into_unsplit.ensures ∙ follows_all a.kept a.level a.ops.now a.rows c.loop-op.op-index (unsplit_of c.loop-op.passing) (omega arith) c.loop-op.invariant.follows
+    c.into_unsplit.ensures ∙ follows_all a.asked a.level a.ops.now a.rows c.loop-op.op-index (unsplit_of c.loop-op.passing) (omega arith) c.loop-op.invariant.follows
+
+pub returns-clause-counts : goal.returns-clause-counts
+returns-clause-counts g c =
+    let a = c.args in
+    all_along a.depth a.level a.slots.now a.ops.now (a.before ++ counts_from a.depth a.level a.slots.now a.ops.now (starting a.rows ∷ [])) c.loop-op.op-index (flows_of c.loop-op.passing) c.loop-op.counts c.add_counts-2.new.counts (omega arith)
+    c.loop-op.invariant.along c.in_ok-add_counts-2.ensures

@@ -1,0 +1,13 @@
+use Rattle.std.proofs.Common.{take}
+use Rattle.std.specs.List.{AllByRecursion}
+use Rattle.sn_base.specs.Columns.{IsOf}
+use Rattle.sn_types.specs.Typed.{branch_at, first_columns, query_at}
+use Rattle.sn_ops.specs.Packets.{packet_rows}
+use Rattle.sn_cost_counts.specs.Coming.{HaveCome}
+use Rattle.sn_cost_counts.proofs.coming.come_through.Given as goal
+
+abbrev pub invariant-loop-tuple : goal.invariant-loop-tuple
+invariant-loop-tuple g l = record {
+  come : HaveCome l.level l.ops (packet_rows (query_at l.t.queries l.q) l.b l.level l.kept (take l.tuple-index l.tuples)) l.found.seen l.found.passed l.found.rows;
+  columns : AllByRecursion (IsOf (first_columns (branch_at l.t.queries l.q l.b))) (packet_rows (query_at l.t.queries l.q) l.b l.level l.kept (take l.tuple-index l.tuples));
+}

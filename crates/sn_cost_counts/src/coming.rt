@@ -1,0 +1,209 @@
+//! Packets that come through the filters and maps before the first distinct or reduce.
+ghost use Rattle.std.specs.Prelude.{◌≡◌, ℕ, List, ◌≤◌, ◌<◌, ◌*◌, ◌++◌, ◌∷◌, [], Some, length, map, nat_eq, true, IfOk, OnOk};
+ghost use Rattle.std.specs.List.{AllByRecursion, list_any};
+ghost use Rattle.sn_base.specs.Columns.{IsOf};
+ghost use Rattle.sn_base.specs.Groups.{Row};
+ghost use Rattle.sn_cost_counts.specs.Coming.{HaveCome, ahead, coming_to};
+ghost use Rattle.sn_cost_counts.specs.Fitting.{Takes};
+ghost use Rattle.sn_cost_seats.specs.Ways.{AreStateless, come, reach};
+ghost use Rattle.sn_ops.specs.Packets.{OfALevel, packet_rows};
+ghost use Rattle.sn_types.specs.Kinds.{AreBelow};
+ghost use Rattle.sn_types.specs.Typed.{branch_at, first_columns, query_at};
+ghost use Rattle.sn_types.specs.Values.{op_at};
+ghost use Rattle.sn_types.specs.declared.typed_op.TOp.{TOp};
+ghost use Rattle.sn_windows.specs.Blocks.{most_records};
+
+use sn_base::any_row::AnyRow;
+use sn_base::memory::Memory;
+use sn_base::row_seq::RowSeq;
+use sn_base::seq::Seq;
+use sn_fields::tuple::Tuple;
+use sn_ops::packets::{Kept, is_kept};
+use sn_types::cuts::is_stateful;
+use sn_types::evaluate::{map_into, passes};
+use sn_types::packet::PacketRow;
+use sn_types::typed::Typed;
+use sn_types::typed_op::TOp;
+use std::alloc::Global;
+
+/// How many operators stand before the first distinct or reduce.
+pub(crate) fn ahead(ops: &[TOp]) -> usize
+    ensures value { result ≡ ahead ops.now }
+    ensures most { result ≤ length ops.now }
+{
+    let mut count = 0;
+    let mut rest = ops;
+    while let Some((op, after)) = rest.split_first() {
+        if is_stateful(op) {
+            return count;
+        }
+        count += 1;
+        rest = after;
+    }
+    count
+}
+
+/// How many of these filters and maps a row passes. Where it passes all, `row` is then the row after them.
+fn go<R: AnyRow>(ops: &[TOp], level: u32, row: &mut R) -> u32
+    requires few { length ops.now ≤ 12 }
+    requires stateless { AreStateless (map (op_at level) ops.now) }
+    requires takes { Takes level ops.now (R.columns row.old) }
+    ensures reach { result ≡ reach (map (op_at level) ops.now) (R.columns row.old) }
+    ensures most { result ≤ length ops.now }
+    ensures come { result ≡ length ops.now → come (map (op_at level) ops.now) (R.columns row.old) ≡ Some (R.columns row.new) }
+{
+    let Some((op, after)) = ops.split_first() else {
+        return 0;
+    };
+    match op {
+        TOp::Filter(conds) => {
+            if passes(conds.as_slice(), level, row) {
+                1 + go(after, level, row)
+            } else {
+                0
+            }
+        }
+        TOp::Map(exprs) => {
+            let before = *row;
+            map_into(&before, exprs.as_slice(), row);
+            1 + go(after, level, row)
+        }
+        TOp::Distinct | TOp::Reduce(_) => unreachable!(),
+    }
+}
+
+/// How many of these filters and maps a packet passes. Where it passes all, `row` is then the row after them. No row is made of it for
+/// the filters at their front, nor for a map after these.
+pub(crate) fn start<R: AnyRow>(
+    ops: &[TOp],
+    level: u32,
+    packet: &PacketRow<'_, R::Number>,
+    row: &mut R,
+) -> u32
+    requires few { length ops.now ≤ 12 }
+    requires stateless { AreStateless (map (op_at level) ops.now) }
+    requires takes { Takes level ops.now packet.now }
+    ensures reach { result ≡ reach (map (op_at level) ops.now) packet.now }
+    ensures most { result ≤ length ops.now }
+    ensures come { result ≡ length ops.now → come (map (op_at level) ops.now) packet.now ≡ Some (R.columns row.new) }
+{
+    let Some((op, after)) = ops.split_first() else {
+        packet.put_into(row);
+        return 0;
+    };
+    match op {
+        TOp::Filter(conds) => {
+            if passes(conds.as_slice(), level, packet) {
+                1 + start(after, level, packet, row)
+            } else {
+                0
+            }
+        }
+        TOp::Map(exprs) => {
+            map_into(packet, exprs.as_slice(), row);
+            1 + go(after, level, row)
+        }
+        TOp::Distinct | TOp::Reduce(_) => unreachable!(),
+    }
+}
+
+/// One more than the operators of a branch can be: a row passes fewer than so many.
+const PLACES: usize = 13;
+
+/// What comes of packets through filters and maps.
+#[derive(Drop)]
+pub(crate) struct Arrivals<R: AnyRow> {
+    /// How many packets there are.
+    pub seen: u64,
+    /// How many of them pass so many of the operators and no more, by how many.
+    pub passed: [u64; PLACES],
+    /// What those are after all operators that pass all.
+    pub rows: RowSeq<R>,
+}
+
+impl<R: AnyRow> Arrivals<R> {
+    /// Of no packet.
+    fn new(alloc: Global) -> Arrivals<R>
+        ensures { (level : ℕ) (ops : List TOp) → AreStateless (map (op_at level) ops) → HaveCome level ops [] result.seen result.passed result.rows }
+    {
+        Arrivals {
+            seen: 0,
+            passed: [0; PLACES],
+            rows: RowSeq::new(alloc),
+        }
+    }
+
+    /// One packet more. `row` lends its place.
+    fn add(
+        &mut self,
+        ops: &[TOp],
+        level: u32,
+        packet: &PacketRow<'_, R::Number>,
+        row: &mut R,
+    ) -> Result<(), Memory>
+        requires short { length ops.now ≤ 12 }
+        requires stateless { AreStateless (map (op_at level) ops.now) }
+        requires takes { Takes level ops.now packet.now }
+        requires few { (rows : List Row) × (length rows < most_records) × HaveCome level ops.now rows self.old.seen self.old.passed self.old.rows }
+        ensures { (rows : List Row) → HaveCome level ops.now rows self.old.seen self.old.passed self.old.rows →
+            OnOk result (HaveCome level ops.now (rows ++ packet.now ∷ []) self.new.seen self.new.passed self.new.rows) }
+    {
+        let passed = start(ops, level, packet, row);
+        self.seen += 1;
+        self.passed[passed as usize] += 1;
+        if passed < ops.len() as u32 {
+            return Ok(());
+        }
+        self.rows.push(row)
+    }
+
+    /// Adds how many of the packets come to each of the operators.
+    pub(crate) fn add_counts(&self, ops: &[TOp], counts: &mut Seq<u64>) -> Result<(), Memory>
+        requires short { length ops.now ≤ 12 }
+        requires come { (level : ℕ) × (rows : List Row) × HaveCome level ops.now rows self.now.seen self.now.passed self.now.rows }
+        ensures { (level : ℕ) (rows : List Row) → HaveCome level ops.now rows self.now.seen self.now.passed self.now.rows →
+            OnOk result (counts.new ≡ counts.old ++ coming_to level ops.now rows) }
+    {
+        let mut left = self.seen;
+        for place in 0..ops.len() {
+            counts.push(left)?;
+            left -= self.passed[place];
+        }
+        Ok(())
+    }
+}
+
+/// What comes of the packet rows of the tuples that are kept through filters and maps at the front of a branch.
+pub(crate) fn come_through<R: AnyRow>(
+    alloc: Global,
+    t: &Typed,
+    q: u32,
+    b: u32,
+    level: u32,
+    kept: Option<Kept>,
+    tuples: &[Tuple],
+    ops: &[TOp],
+) -> Result<Arrivals<R>, Memory>
+    requires query { q < length t.now.queries }
+    requires branch { b < length (query_at t.now.queries q).branches }
+    requires level { list_any (nat_eq level) (query_at t.now.queries q).levels ≡ true }
+    requires kept { OfALevel (query_at t.now.queries q) kept }
+    requires below { AreBelow R.Number.limit (branch_at t.now.queries q b).fields }
+    requires few { length tuples.now ≤ most_records }
+    requires short { length ops.now ≤ 12 }
+    requires stateless { AreStateless (map (op_at level) ops.now) }
+    requires takes { (row : Row) → IsOf (first_columns (branch_at t.now.queries q b)) row → Takes level ops.now row }
+    ensures come { IfOk result (λ found. HaveCome level ops.now (packet_rows (query_at t.now.queries q) b level kept.entry tuples.now) found.seen found.passed found.rows) }
+    ensures columns { OnOk result (AllByRecursion (IsOf (first_columns (branch_at t.now.queries q b))) (packet_rows (query_at t.now.queries q) b level kept.entry tuples.now)) }
+{
+    let packets = t.packets(q, b, level);
+    let mut found = Arrivals::new(alloc);
+    let mut row = R::empty();
+    for tuple in tuples {
+        if is_kept(t, q, kept, tuple) {
+            let packet = packets.row(tuple);
+            found.add(ops, level, &packet, &mut row)?;
+        }
+    }
+    Ok(found)
+}
