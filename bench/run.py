@@ -1,5 +1,5 @@
 #!/usr/bin/env python3
-"""Measures `sonata plain` with the queries of three.query against a program in C over libpcap, and against a bare count by tcpdump.
+"""Measures `sonata plain` with the queries of three.query against a program in C over libpcap, a bare count by tcpdump, and cat, which reads the bytes and no more.
 
 Builds the C program, generates two captures into a temporary folder, runs all on both, and prints whether the answers are equal, the processor
 time (user and system), packets a second, peak memory, and the ratios. An engine in C, which reads the queries when it runs and whose tables are seeded, is
@@ -97,8 +97,9 @@ def capture_figures(kind, given, programs, folder):
     """Measure all programs on one generated capture. True where the answers are equal."""
     capture = generate(kind, given.packets, given.number, folder)
     words = {'sonata': [programs['sonata'], 'plain', QUERIES, capture], 'C': [programs['C'], capture],
-             'C engine': [programs['C engine'], QUERIES, capture], 'tcpdump': ['tcpdump', '-r', capture, '--count']}
+             'C engine': [programs['C engine'], QUERIES, capture], 'tcpdump': ['tcpdump', '-r', capture, '--count'], 'cat': ['cat', capture]}
     outs = {label: os.path.join(folder, '%s.%s' % (kind, label.replace(' ', '-'))) for label in words}
+    outs['cat'] = os.devnull
     if not shutil.which('tcpdump'):
         del words['tcpdump']
     read_once(capture)
@@ -122,6 +123,7 @@ def ratios(found, size):
             print('  processor time over %s: %.2f' % (label, ours.seconds / found[label].seconds))
     if found['C'].seconds:
         print('  processor time of the C engine over C: %.2f' % (found['C engine'].seconds / found['C'].seconds))
+    print('  bytes of the capture a second: %.0f million' % (size / 1e6 / ours.seconds))
     print('  peak memory over the capture\'s bytes: %.2f; over the C program\'s peak: %.2f' % (ours.peak_bytes / size, ours.peak_bytes / found['C'].peak_bytes))
 
 

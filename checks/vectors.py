@@ -3,11 +3,10 @@
 
     python3 checks/vectors.py PROGRAM
 
-PROGRAM is one that was built natively and has its symbols: the program, once it calls the kernels of sn_lanes, or the tests of a crate that
-calls them. Disassembles it by objdump, and counts in the functions of each kernel the instructions that compare, mask and multiply two
-or more numbers at once. A kernel whose functions all stand in their callers has no symbol, and counts as one without. Prints a line for
-each kernel; the status is 0 only where each has all the kinds that it is named with. Needs objdump. Python 3 alone.
-"""
+PROGRAM is the tests of sn_test_lanes as the gate or `rt test` builds them for this machine, with their symbols. Disassembles it by objdump, and counts in the
+functions of each kernel the instructions that compare, mask and multiply two or more numbers at once. Where the compiler took a kernel into its caller, that
+is the function of the tests that calls it and no other kernel. Prints a line for each kernel; the status is 0 only where each has all the kinds that it is
+named with. Needs objdump. Python 3 alone."""
 
 import collections
 import re
@@ -21,10 +20,11 @@ KINDS = {
     "masks": re.compile(r"v?(pandn?[dq]?|andn?p[sd])"),
     "products": re.compile(r"v?(pmuludq|pmull[dq])"),
 }
+# The functions of each kernel, with those that it may stand in, and what it must have.
 KERNELS = {
-    "sn_lanes::compare": ["comparisons", "masks"],
-    "sn_lanes::masks": ["masks"],
-    "sn_lanes::slots8": ["masks", "products"],
+    "compare": (re.compile(r"sn_lanes::compare::|sn_test_lanes::columns::compares\b"), ["comparisons", "masks"]),
+    "masks": (re.compile(r"sn_lanes::masks::|sn_test_lanes::columns::keeps\b"), ["masks"]),
+    "slots8": (re.compile(r"sn_lanes::slots8::|sn_test_lanes::columns::hashes\b"), ["masks", "products"]),
 }
 
 
@@ -35,7 +35,7 @@ def counted(program):
     for line in listing.splitlines():
         function = FUNCTION.match(line)
         if function:
-            kernel = next((name for name in KERNELS if function[1].startswith(name + "::")), None)
+            kernel = next((name for name, (functions, _) in KERNELS.items() if functions.match(function[1])), None)
         elif kernel:
             instruction = INSTRUCTION.match(line)
             if instruction:
@@ -48,7 +48,7 @@ def main():
         sys.exit(__doc__)
     complete = True
     for kernel, found in counted(sys.argv[1]).items():
-        sums = {kind: sum(count for name, count in found.items() if KINDS[kind].fullmatch(name)) for kind in KERNELS[kernel]}
+        sums = {kind: sum(count for name, count in found.items() if KINDS[kind].fullmatch(name)) for kind in KERNELS[kernel][1]}
         complete &= all(sums.values())
         print(f"{kernel}: {sum(found.values())} instructions, " + ", ".join(f"{count} vector {kind}" for kind, count in sums.items()))
     sys.exit(0 if complete else 1)
