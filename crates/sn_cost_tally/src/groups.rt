@@ -35,17 +35,17 @@ struct Folded<R: AnyRow> {
     totals: Vec<u64>,
 }
 
-/// The key that stands at these places of a row.
-fn key_at<R: AnyRow>(row: &R, places: &[u32]) -> R
+/// Makes `key` the key that stands at these places of a row, whatever it was before. It is made in its place: a copy of columns that have
+/// just been written would wait until the memory has them.
+fn key_into<R: AnyRow>(row: &R, places: &[u32], key: &mut R)
     requires places { All (λ place. place < length (R.columns row.now)) places.now }
     requires few { length places.now ≤ 8 }
-    ensures { R.columns result ≡ columns_at places.now (R.columns row.now) }
+    ensures { R.columns key.new ≡ columns_at places.now (R.columns row.now) }
 {
-    let mut key = R::empty();
+    *key = R::empty();
     for place in places {
         key.push(row.column(*place));
     }
-    key
 }
 
 /// Folds a value into the number at a place, or, after the last one, into one more.
@@ -86,9 +86,10 @@ fn fold_keys<R: AnyRow>(
     let mut keys = RowSeq::new(alloc);
     let mut times = Vec::new(alloc);
     let mut totals = Vec::new(alloc);
+    let mut key = R::empty();
     for place in 0..rows.len() {
         let row = rows.at(place);
-        let key = key_at(row, places);
+        key_into(row, places, &mut key);
         let number = numbers.number(&key)?;
         if number == keys.len() {
             keys.push(&key)?;

@@ -22,7 +22,7 @@ at_number P key unit ks held ns number long same is h = subst P (so_far_at key u
 pub fold_in-requires-clause-so_far : goal.fold_in-requires-clause-so_far
 fold_in-requires-clause-so_far g c =
     let f : Row → Row = columns_at c.args.places.now in
-    let key : Row = g.R.Columns.columns c.key_at-key.result in
+    let key : Row = g.R.Columns.columns c.key_into.new.key in
     let before = c.loop-place.invariant in
     at_number (HasBits 64) key 0 c.loop-place.keys c.loop-place.numbers.keys c.loop-place.times.items c.in_ok-number.number before.times_long before.same c.in_ok-number.ensures.number
     (counted_had (take c.loop-place.place (map f c.args.rows.now)) (zipped c.loop-place.keys c.loop-place.times.items) key before.times)
@@ -33,7 +33,7 @@ column-requires g c = all_at (λ (row : Row). c.args.value < length row) c.args.
 pub fold_in-requires-in-loop-place-clause-so_far : goal.fold_in-requires-in-loop-place-clause-so_far
 fold_in-requires-in-loop-place-clause-so_far g c =
     let a = c.args in
-    let key : Row = g.R.Columns.columns c.key_at-key.result in
+    let key : Row = g.R.Columns.columns c.key_into.new.key in
     let before = c.loop-place.invariant in
     at_number (any_has a.fold) key (any_unit a.fold) c.loop-place.keys c.loop-place.numbers.keys c.loop-place.totals.items c.in_ok-number.number before.totals_long before.same c.in_ok-number.ensures.number
     (folded_had a.fold a.places.now a.value a.rows.now c.loop-place.place (zipped c.loop-place.keys c.loop-place.totals.items) key c.requires.had before.totals)
@@ -51,7 +51,7 @@ loop-place-preserved g c =
     let i = c.loop-place.place in
     let f : Row → Row = columns_at a.places.now in
     let row : Row = g.R.Columns.columns c.at-row.result.now in
-    let key : Row = g.R.Columns.columns c.key_at-key.result in
+    let key : Row = g.R.Columns.columns c.key_into.new.key in
     let ks : List Row = c.loop-place.keys in
     let now : List Row = c.if-number-len.keys in
     let number : ℕ = c.in_ok-number.number in
@@ -68,7 +68,7 @@ loop-place-preserved g c =
     let added : now ≡ insert_key same_row ks key = same ∙ grown in
     let times : List ℕ = c.loop-place.times.items in
     let totals : List ℕ = c.loop-place.totals.items in
-    let at_key : key ≡ f row = c.key_at-key.ensures in
+    let at_key : key ≡ f row = c.key_into.ensures in
     record {
       same = same;
       times = one_counted (map f a.rows.now) i (zipped ks times) (zipped now c.fold_in.new.numbers.items) key (got_map f a.rows.now i row c.at-row.ensures ∙ ap Some (sym at_key)) before.times
