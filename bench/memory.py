@@ -1,6 +1,6 @@
 #!/usr/bin/env python3
 """Measures the memory that one window of `sonata plain` takes: bytes a packet, a key of each operator, and a printed row; and the peak of `sonata finish` over
-reports of many windows.
+reports of many windows, and of `sonata check` over a long tree.
 
 Generates two captures of one window each, of as many packets as sources: with somewhat fewer than tables and lists have room for before they double, and with
 somewhat more. Tells the peak over that of a window of one packet, divided by the packets; of keys and rows what they take beside the packets. The reports are
@@ -31,6 +31,9 @@ QUERIES = [
 
 # Rows of a window of reports, and how many windows there are.
 ROWS, WINDOWS = 10000, 250
+
+# Lines of a tree, of two bytes each.
+NODES = 20000000
 
 
 def capture(packets, folder):
@@ -74,6 +77,24 @@ def finish_peak(program, measurer, windows, folder):
     return done.peak_bytes, os.path.getsize(reports)
 
 
+def check_peak(program, measurer, folder):
+    """The peak of `check` over a plan whose tree is lines that expand a node, and the bytes of these."""
+    queries, switch, certificate = (os.path.join(folder, name) for name in ('one.query', 'one.switch', 'certificate'))
+    with open(queries, 'w') as file:
+        file.write('window 1000000\nquery one {\n  refine ip.src: 8, 16, 32; packets | map ip.src as s, 1 as n | reduce s: sum(n) width 32;\n}\n')
+    with open(switch, 'w') as file:
+        file.write('stages 16; actions 8; bits 8388608; meta 4096; chain 2; slots 256, 1024, 4096;\n')
+    given = [program, 'plan', switch, queries, capture(1, folder)]
+    if run.run_once(measurer, given, certificate).status:
+        sys.exit('no plan')
+    with open(certificate) as file:
+        plan = file.read().partition('tree\n')[0]
+    with open(certificate, 'w') as file:
+        file.write(plan + 'tree\n' + 'X\n' * NODES)
+    done = run.run_once(measurer, [program, 'check', switch, queries, given[-1], certificate], os.path.join(folder, 'out'))
+    return done.peak_bytes, os.path.getsize(certificate)
+
+
 def main():
     words = argparse.ArgumentParser(description=__doc__, formatter_class=argparse.RawDescriptionHelpFormatter)
     words.add_argument('--sonata', default=run.USUAL, help='the program to measure (default: the one that this clone built)')
@@ -97,6 +118,8 @@ def main():
         for windows in (1, WINDOWS):
             most, size = finish_peak(os.path.abspath(given.sonata), measurer, windows, folder)
             print('%-54s %4.1f MB, %.2f times the reports' % ('`finish`, reports of %d windows, %.1f MB' % (windows, size / 1e6), most / 1e6, most / size))
+        most, size = check_peak(os.path.abspath(given.sonata), measurer, folder)
+        print('%-54s %4.1f MB, %.2f times the file' % ('`check`, a tree of %.1f MB' % (size / 1e6), most / 1e6, most / size))
     return 0
 
 
