@@ -1,10 +1,12 @@
 pub mod AnswerLemmas
 pub mod ChainLemmas
+pub mod CodeLemmas
 pub mod HomeLemmas
 pub mod MarkLemmas
 pub mod OfferLemmas
 pub mod Places
 pub mod RegisterLemmas
 pub mod ResidenceLemmas
+pub mod ShownLemmas
 pub mod StandLemmas
 pub mod StoredLemmas

@@ -110,6 +110,9 @@ none_set n i = elim (cases_lt i n) [
   | inr past ↦ get_or_past (replicate n 0) i 0 (omega (arith, length-replicate {A = ℕ} n 0))
 ]
 
+pub none_marked : (n p : ℕ) → mark_at (replicate n 0) p ≡ 0
+none_marked n p = ap (λ w. bit_at w (p % 64)) (none_set n (p / 64)) ∙ bit_at-zero (p % 64)
+
 none_held : {X : Type 0} (n p : ℕ) → let none : List (Option X) = replicate n None in cell none p ≡ None
 none_held zero p = refl
 none_held (suc n) zero = refl
@@ -121,7 +124,7 @@ marks_bare {X = X} n words cells is bare =
     record {
       level = ap length is ∙ length-replicate (div_ceil n 64) 0 ∙ ap (λ m. div_ceil m 64) (sym (ap length bare ∙ length-replicate n None));
       each = λ p.
-          ap (λ (ws : List ℕ). mark_at ws p) is ∙ ap (λ w. bit_at w (p % 64)) (none_set (div_ceil n 64) (p / 64)) ∙ bit_at-zero (p % 64)
+          ap (λ (ws : List ℕ). mark_at ws p) is ∙ none_marked (div_ceil n 64) p
           ∙ sym (ap mark_of (ap (λ (cs : List (Option X)). cell cs p) bare ∙ none_held n p));
     }
 

@@ -1,15 +1,12 @@
 -- The places of a key, register by register.
-use Rattle.std.proofs.Common.{zero, nat_eq, ◌||◌, ◌≡◌, ℕ, suc, ◌+◌, ◌-◌, ◌*◌, ◌<◌, ◌≤◌, ◌⊎◌, inl, inr, List, Bool, true, false, cond, Some, None, get_or, length, ap, sym, ◌∙◌, arith}
+use Rattle.std.proofs.Common.{zero, nat_eq, ◌||◌, ◌≡◌, ℕ, suc, ◌+◌, ◌-◌, ◌*◌, ◌<◌, ◌≤◌, ◌⊎◌, inl, inr, Bool, true, false, cond, Some, None, ap, sym, ◌∙◌, arith}
 use Rattle.std.specs.List.{find, list_any}
 use Rattle.std.proofs.lemmas.Bool.{cases_eq, false≢true}
 use Rattle.std.proofs.lemmas.Nat.{mod_below, mul-le}
-use Rattle.std.proofs.lemmas.List.{get_or-map}
 use Rattle.sn_base.specs.Groups.{Row}
 use Rattle.sn_base.specs.Slot.{row_hash}
 use Rattle.sn_base.proofs.Lists.{by_test, nat_same}
-use Rattle.sn_chain.specs.Cells.{Cell, shown_by, all_shown_by}
 use Rattle.sn_chain.specs.Chain.{place_for, places_from, places_of}
-use Rattle.sn_chain.specs.Registers.{cell}
 
 one_left : (depth register : ℕ) → register < depth → depth - register ≡ suc (depth - (register + 1))
 one_left depth register h = omega arith
@@ -30,10 +27,6 @@ pub place_passed : (t : ℕ → Bool) (slots register depth : ℕ) (key : Row) �
 place_passed t slots register depth key within fails =
     sym (place_first t slots register depth key within
     ∙ ap (λ b. cond b (Some (place_for slots key register)) (find t (places_from slots (register + 1) (depth - (register + 1)) key))) fails)
-
--- what a cell that was read shows
-pub read_cell : (round : ℕ) (cells : List Cell) (at : ℕ) (x : Cell) → at < length cells → x ≡ get_or cells at x → cell (all_shown_by round cells) at ≡ shown_by round x
-read_cell round cells at x inside is = get_or-map (shown_by round) cells at x None inside ∙ ap (shown_by round) (sym is)
 
 -- ---- places within the cells
 

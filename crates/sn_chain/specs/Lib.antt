@@ -1,5 +1,6 @@
 pub mod Cells
 pub mod Chain
+pub mod Codes
 pub mod Found
 pub mod Homes
 pub mod Limits

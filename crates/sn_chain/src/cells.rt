@@ -1,172 +1,178 @@
 //! The cells of a chain, as they lie in memory.
-ghost use Rattle.std.specs.Prelude.{◌≡◌, ◌<◌, ◌≤◌, ◌+◌, ◌++◌, length, map, replicate, take, slice_set, slice_index_or, is_none, None, Some, IfOk};
-ghost use Rattle.std.specs.Option.{option_map};
-ghost use Rattle.std.specs.Prelude.{if◌then◌else◌};
+ghost use Rattle.std.specs.Prelude.{◌≡◌, ◌<◌, ◌+◌, ◌*◌, ◌^◌, [], length, replicate, slice_set, slice_index_or, IfOk};
 ghost use Rattle.sn_base.specs.Groups.{same_row};
-ghost use Rattle.sn_chain.specs.Cells.{all_shown_by, forgotten, untaken, with_value};
-ghost use Rattle.sn_chain.specs.Registers.{cell, holds};
-ghost use Rattle.sn_chain.specs.Stored.{put_back, untaken_head, untaken_tail};
+ghost use Rattle.sn_chain.specs.Cells.{with_value};
+ghost use Rattle.sn_chain.specs.Codes.{key_in};
+ghost use Rattle.sn_chain.specs.Stored.{bare_head, code_in};
 
+use crate::code::{WHOLE, code_of};
 use crate::head::Head;
-use crate::tail::Tail;
 use sn_base::any_row::AnyRow;
 use sn_base::memory::Memory;
 use sn_base::number::Number;
+use sn_base::row_seq::RowSeq;
 use std::alloc::Global;
 use std::marker::Model;
 
-/// The cells of a chain. A search looks at a few cells that lie far apart, and most of its time goes by in
-/// waiting for them, so what it looks at is small and lies together: 40 bytes a cell, of which the nearer
-/// caches hold more. The columns after a key's third lie elsewhere, and are touched only where a key has
-/// them.
+/// The cells of a chain, each with the key that took it last and the fold of its values. Which cells are in use, the chain's marks say.
+/// A search looks at a few cells that lie far apart, and most of its time goes by in waiting for them, so what it looks at is small: 25
+/// bytes a cell, of which the nearer caches hold more. Keys that don't fit two words lie elsewhere, and are touched only where there
+/// are some.
 #[derive(Drop)]
 pub(crate) struct Cells<R: AnyRow> {
-    heads: Vec<Head<R::Number>>,
-    tails: Vec<Tail<R::Number>>,
+    heads: Vec<Head>,
+    /// The kind of each key.
+    kinds: Vec<u8>,
+    wholes: Vec<R>,
 }
 
 impl<R: AnyRow> Model for Cells<R> {
-    ghost use Rattle.std.specs.Prelude.{List};
-    ghost use Rattle.sn_chain.specs.Cells.{Cell};
+    ghost use Rattle.std.specs.Prelude.{List, ℕ, map};
+    ghost use Rattle.sn_base.specs.Groups.{Row};
 
-    ghost Value = { List Cell };
+    ghost Value = { List (Row × ℕ) };
 
     ghost use Rattle.sn_chain.specs.Stored.{cells_of, AreStored};
 
-    ghost view = { λ a. cells_of a.heads.items a.tails.items };
+    ghost view = { λ a. cells_of a.heads.items a.kinds.items (map R.columns a.wholes.items) };
 
-    ghost invariant = { λ a. AreStored a.heads.items a.tails.items };
+    ghost invariant = { λ a. AreStored R.Number.limit a.heads.items a.kinds.items (map R.columns a.wholes.items) };
 }
 
 impl<R: AnyRow> Cells<R> {
-    /// This many cells, taken in no round, each with this value. All memory that they ever need is taken here.
+    /// This many cells, each with the key of no column and this value. All memory that they ever need is taken here.
     pub fn make(alloc: Global, count: usize, value: u64) -> Result<Cells<R>, Memory>
-        ensures { IfOk result (λ cells. cells ≡ replicate count (untaken value)) }
+        ensures { IfOk result (λ cells. cells ≡ replicate count ([], value)) }
     {
-        let heads = untaken_heads(alloc, count, value)?;
-        let tails = untaken_tails(alloc, count)?;
-        Ok(Cells { heads, tails })
+        let heads = bare_heads(alloc, count, value)?;
+        let kinds = bare_kinds(alloc, count)?;
+        let wholes = bare_wholes(alloc, count)?.into_vec();
+        Ok(Cells {
+            heads,
+            kinds,
+            wholes,
+        })
     }
 
-    /// Whether a cell holds a key in a round. The columns are compared where they lie.
-    pub fn holds(&self, at: usize, round: u32, key: &R) -> bool
+    /// Whether a cell has a key.
+    #[inline(always)]
+    pub fn has(&self, at: usize, key: &R) -> bool
         requires { at < length self.now }
-        ensures { result ≡ holds same_row (R.columns key.now) (cell (all_shown_by round self.now) at) }
+        ensures { result ≡ same_row (R.columns key.now) (slice_index_or self.now at ([], 0)).0 }
     {
-        let head = &self.heads[at];
-        let count = head.count();
-        let long = key.len();
-        if head.round() != round || count != long {
+        let code = code_of(key);
+        if self.kinds[at] != code.kind {
             return false;
         }
-        if count <= 3 {
-            return head.begins(key);
+        if code.kind == WHOLE {
+            return self.wholes[at] == *key;
         }
-        head.begins(key) && self.tails[at].ends(key)
+        let head = &self.heads[at];
+        head.first == code.first && head.second == code.second
     }
 
-    /// What a cell holds in a round. `None` exactly where the cell is empty or past the end.
-    pub fn shown(&self, at: usize, round: u32) -> Option<(R, u64)>
-        ensures { option_map (λ e. (R.columns e.0, e.1)) result ≡ cell (all_shown_by round self.now) at }
+    /// The key and the value of a cell.
+    pub fn at(&self, at: usize) -> (R, u64)
+        requires { at < length self.now }
+        ensures { (R.columns result.0, result.1) ≡ slice_index_or self.now at ([], 0) }
     {
-        let head = self.heads.get(at)?;
-        if head.round() != round {
-            return None;
-        }
-        let count = head.count();
-        let mut key = R::empty();
-        put_front(&mut key, head, count.min(3));
-        if count > 3 {
-            put_rest(&mut key, &self.tails[at], count - 3);
-        }
-        Some((key, head.value()))
+        let head = &self.heads[at];
+        let key = key_of(self.kinds[at], head, &self.wholes[at]);
+        (key, head.value)
     }
 
-    /// A key takes a cell in a round, with a value.
-    pub fn take(&mut self, at: usize, round: u32, key: &R, value: u64)
+    /// A key takes a cell, with a value.
+    #[inline(always)]
+    pub fn take(&mut self, at: usize, key: &R, value: u64)
         requires { at < length self.old }
-        ensures { self.new ≡ slice_set self.old at (record { round = round; key = R.columns key.now; value = value }) }
+        ensures { self.new ≡ slice_set self.old at (R.columns key.now, value) }
     {
-        let count = key.len();
-        self.heads[at] = Head::taken(round, key, value);
-        if count > 3 {
-            self.tails[at] = Tail::of_key(key);
+        let code = code_of(key);
+        self.heads[at] = Head {
+            first: code.first,
+            second: code.second,
+            value,
+        };
+        self.kinds[at] = code.kind;
+        if code.kind == WHOLE {
+            self.wholes[at] = *key;
         }
     }
 
     /// The value of a cell.
     pub fn value(&self, at: usize) -> u64
         requires { at < length self.now }
-        ensures { result ≡ (slice_index_or self.now at (untaken 0)).value }
+        ensures { result ≡ (slice_index_or self.now at ([], 0)).1 }
     {
-        self.heads[at].value()
+        self.heads[at].value
     }
 
     /// Sets the value of a cell.
     pub fn set_value(&mut self, at: usize, value: u64)
         requires { at < length self.old }
-        ensures { self.new ≡ slice_set self.old at (with_value value (slice_index_or self.old at (untaken 0))) }
+        ensures { self.new ≡ slice_set self.old at (with_value value (slice_index_or self.old at ([], 0))) }
     {
-        self.heads[at].set_value(value);
-    }
-
-    /// Puts every cell back to the round before the first.
-    pub fn forget(&mut self)
-        ensures { self.new ≡ map forgotten self.old }
-    {
-        put_back(&mut self.heads);
+        self.heads[at].value = value;
     }
 }
 
-/// The heads of this many cells that no key took yet.
-fn untaken_heads<N: Number>(alloc: Global, count: usize, value: u64) -> Result<Vec<Head<N>>, Memory>
-    ensures { IfOk result (λ heads. heads.items ≡ replicate count (untaken_head value)) }
+/// The key that a cell has, by its kind and its head, and by the key that it holds whole.
+fn key_of<R: AnyRow>(kind: u8, head: &Head, whole: &R) -> R
+    requires { kind ≡ 1 → head.now.first + head.now.second * 2 ^ 64 < R.Number.limit }
+    ensures { R.columns result ≡ key_in (code_in kind head.now) (R.columns whole.now) }
 {
+    const HALF: u64 = 1 << 32;
+    let mut key = R::empty();
+    match kind {
+        1 => {
+            let number = u128::from(head.second) * (1 << 64) + u128::from(head.first);
+            key.push(R::Number::of_whole(number));
+        }
+        2 => {
+            key.push(R::Number::of_word(head.first));
+            key.push(R::Number::of_word(head.second));
+        }
+        3 => {
+            key.push(R::Number::of_word(head.first));
+            key.push(R::Number::of_word(head.second % HALF));
+            key.push(R::Number::of_word(head.second / HALF));
+        }
+        _ => return *whole,
+    }
+    key
+}
+
+/// The heads of this many cells with the key of no column.
+fn bare_heads(alloc: Global, count: usize, value: u64) -> Result<Vec<Head>, Memory>
+    ensures { IfOk result (λ heads. heads.items ≡ replicate count (bare_head value)) }
+{
+    let bare = Head {
+        first: 0,
+        second: 0,
+        value,
+    };
     let mut heads = Vec::with_capacity(alloc, count)?;
     for _place in 0..count {
-        heads.push(Head::untaken(value))?;
+        heads.push(bare)?;
     }
     Ok(heads)
 }
 
-/// The tails of this many cells that no key took yet.
-fn untaken_tails<N: Number>(alloc: Global, count: usize) -> Result<Vec<Tail<N>>, Memory>
-    ensures { IfOk result (λ tails. tails.items ≡ replicate count untaken_tail) }
+/// Their kinds.
+fn bare_kinds(alloc: Global, count: usize) -> Result<Vec<u8>, Memory>
+    ensures { IfOk result (λ kinds. kinds.items ≡ replicate count 9) }
 {
-    let mut tails = Vec::with_capacity(alloc, count)?;
+    Ok(vec![in alloc; WHOLE; count]?)
+}
+
+/// Room for a whole key in each of them.
+fn bare_wholes<R: AnyRow>(alloc: Global, count: usize) -> Result<RowSeq<R>, Memory>
+    ensures { IfOk result (λ wholes. wholes ≡ replicate count []) }
+{
+    let none = R::empty();
+    let mut wholes = RowSeq::with_room(alloc, count)?;
     for _place in 0..count {
-        tails.push(Tail::untaken())?;
+        wholes.push(&none)?;
     }
-    Ok(tails)
-}
-
-/// Puts every head back to the round before the first.
-fn put_back<N: Number>(heads: &mut [Head<N>])
-    ensures { heads.new ≡ map put_back heads.old }
-{
-    for head in heads.iter_mut() {
-        head.put_back();
-    }
-}
-
-/// Puts this many columns of a head after those of a row.
-fn put_front<R: AnyRow>(row: &mut R, head: &Head<R::Number>, count: usize)
-    requires few { count ≤ 3 }
-    requires room { length (R.columns row.old) + count ≤ 8 }
-    ensures { R.columns row.new ≡ R.columns row.old ++ take count head.now.front }
-{
-    for place in 0..count {
-        row.push(head.column(place as u32));
-    }
-}
-
-/// Puts this many columns of a tail after those of a row.
-fn put_rest<R: AnyRow>(row: &mut R, tail: &Tail<R::Number>, count: usize)
-    requires few { count ≤ 5 }
-    requires room { length (R.columns row.old) + count ≤ 8 }
-    ensures { R.columns row.new ≡ R.columns row.old ++ take count tail.now }
-{
-    for place in 0..count {
-        row.push(tail.column(place as u32));
-    }
+    Ok(wholes)
 }

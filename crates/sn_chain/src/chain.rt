@@ -7,7 +7,7 @@ ghost use Rattle.sn_chain.specs.Limits.{largest_register};
 ghost use Rattle.sn_chain.specs.Registers.{cell};
 
 use crate::cells::Cells;
-use crate::marks::{mark, next_marked, unmark_all, unmarked};
+use crate::marks::{is_marked, mark, next_marked, unmark_all, unmarked};
 use crate::offer::Offer;
 use crate::register::{Found, look};
 use sn_base::any_row::AnyRow;
@@ -26,23 +26,22 @@ pub struct Chain<F: Fold, R: AnyRow> {
     fold: F,
     depth: u32,
     slots: u32,
-    round: u32,
     cells: Cells<R>,
-    /// A bit for each cell: 1 exactly where it was taken in the round.
+    /// A bit for each cell: 1 exactly where it is in use. So a chain is emptied without a write to any cell.
     marks: Vec<u64>,
 }
 
 impl<F: Fold, R: AnyRow> Model for Chain<F, R> {
     ghost use Rattle.sn_chain.specs.Chain.{ChainState, chain_code};
-    ghost use Rattle.sn_chain.specs.Cells.{all_shown_by, AreCells};
+    ghost use Rattle.sn_chain.specs.Cells.{all_shown, AreCells};
 
     ghost Value = { ChainState F };
 
     ghost coded = { chain_code F.code };
 
-    ghost view = { λ a. record { fold = a.fold; depth = a.depth; slots = a.slots; cells = all_shown_by a.round a.cells } };
+    ghost view = { λ a. record { fold = a.fold; depth = a.depth; slots = a.slots; cells = all_shown a.marks.items a.cells } };
 
-    ghost invariant = { λ a. AreCells (F.takes a.fold) a.depth a.slots a.round a.cells a.marks.items };
+    ghost invariant = { λ a. AreCells (F.takes a.fold) a.depth a.slots a.cells a.marks.items };
 }
 
 impl<F: Fold, R: AnyRow> Chain<F, R> {
@@ -55,24 +54,6 @@ impl<F: Fold, R: AnyRow> Chain<F, R> {
         requires most_slots { slots ≤ largest_register }
         ensures { IfOk result (λ chain. chain ≡ empty_chain fold depth slots) }
     {
-        Chain::make_in_round(alloc, fold, depth, slots, 1)
-    }
-
-    /// What `make` gives, in a later round: as if it had been cleared once for each round before this one.
-    pub fn make_in_round(
-        alloc: Global,
-        fold: F,
-        depth: u32,
-        slots: u32,
-        round: u32,
-    ) -> Result<Chain<F, R>, Memory>
-        requires some_depth { 1 ≤ depth }
-        requires most_depth { depth ≤ 4 }
-        requires some_slots { 1 ≤ slots }
-        requires most_slots { slots ≤ largest_register }
-        requires first_round { 1 ≤ round }
-        ensures { IfOk result (λ chain. chain ≡ empty_chain fold depth slots) }
-    {
         let value = fold.unit();
         let places = depth as usize * slots as usize;
         let cells = Cells::make(alloc, places, value)?;
@@ -81,7 +62,6 @@ impl<F: Fold, R: AnyRow> Chain<F, R> {
             fold,
             depth,
             slots,
-            round,
             cells,
             marks,
         })
@@ -115,22 +95,14 @@ impl<F: Fold, R: AnyRow> Chain<F, R> {
         ensures answer { result ≡ answer_at (holder self.old (R.columns key.now)) (vacancy self.old (R.columns key.now)) }
         ensures after { self.new ≡ after_offer F.join self.old (R.columns key.now) v }
     {
-        match look(
-            &self.cells,
-            &self.marks,
-            self.round,
-            self.depth,
-            self.slots,
-            key,
-            known,
-        ) {
+        match look(&self.cells, &self.marks, self.depth, self.slots, key, known) {
             Found::Held(at) => {
                 let value = self.fold.step(self.cells.value(at), v);
                 self.cells.set_value(at, value);
                 Offer::Held
             }
             Found::Empty(at) => {
-                self.cells.take(at, self.round, key, v);
+                self.cells.take(at, key, v);
                 mark(&mut self.marks, at);
                 Offer::New
             }
@@ -145,7 +117,10 @@ impl<F: Fold, R: AnyRow> Chain<F, R> {
         ensures had { IfSome result (λ e. F.takes self.now.fold e.1) }
         ensures held { IfSome result (λ e. holder self.now (R.columns e.0) ≡ Some place) }
     {
-        self.cells.shown(place as usize, self.round)
+        if place >= self.places() || !is_marked(&self.marks, place as usize) {
+            return None;
+        }
+        Some(self.cells.at(place as usize))
     }
 
     /// The first place from this one on that holds a key. Where none does, the larger of this one and the number
@@ -178,16 +153,10 @@ impl<F: Fold, R: AnyRow> Chain<F, R> {
         self.depth * self.slots
     }
 
-    /// Empties the chain. This begins a new round, and writes to no cell, only a word for each 64 of them. Only
-    /// where the number of rounds would pass 32 bits every cell is written once. Takes no memory.
+    /// Empties the chain. It writes to no cell, only a word for each 64 of them. Takes no memory.
     pub fn clear(&mut self)
         ensures { self.new ≡ empty_chain self.old.fold self.old.depth self.old.slots }
     {
         unmark_all(&mut self.marks);
-        if self.round == u32::MAX {
-            self.cells.forget();
-            self.round = 0;
-        }
-        self.round += 1;
     }
 }

@@ -3,10 +3,9 @@
 
 mod cells;
 pub mod chain;
+mod code;
 mod head;
 pub mod law;
 mod marks;
-mod number_at;
 pub mod offer;
 mod register;
-mod tail;

@@ -3,7 +3,7 @@ ghost use Rattle.std.specs.Prelude.{◌≡◌, ◌*◌, ◌+◌, ◌<◌, ◌≤
 ghost use Rattle.std.specs.Option.{ForSome};
 ghost use Rattle.sn_base.specs.Groups.{same_row};
 ghost use Rattle.sn_base.specs.Slot.{slot};
-ghost use Rattle.sn_chain.specs.Cells.{all_shown_by};
+ghost use Rattle.sn_chain.specs.Cells.{all_shown};
 ghost use Rattle.sn_chain.specs.Chain.{AreSlots, KeysStand, place_for, places_of};
 ghost use Rattle.sn_chain.specs.Limits.{largest_register};
 ghost use Rattle.sn_chain.specs.Found.{found_at, IsWithin};
@@ -48,7 +48,6 @@ fn place<R: AnyRow>(register: u32, key: &R, slots: u32, known: Option<&[u32; 4]>
 pub(crate) fn look<R: AnyRow>(
     cells: &Cells<R>,
     marks: &[u64],
-    round: u32,
     depth: u32,
     slots: u32,
     key: &R,
@@ -58,11 +57,11 @@ pub(crate) fn look<R: AnyRow>(
     requires some { 1 ≤ slots }
     requires most { slots ≤ largest_register }
     requires cells { length cells.now ≡ depth * slots }
-    requires stand { KeysStand depth slots (all_shown_by round cells.now) }
-    requires marks { AreMarks marks.now (all_shown_by round cells.now) }
+    requires stand { KeysStand depth slots (all_shown marks.now cells.now) }
+    requires marks { AreMarks marks.now (all_shown marks.now cells.now) }
     requires known { ForSome known (λ at. AreSlots depth slots (R.columns key.now) at.now) }
-    ensures found { result ≡ found_at (held_place same_row (all_shown_by round cells.now) (places_of depth slots (R.columns key.now)) (R.columns key.now))
-        (empty_place (all_shown_by round cells.now) (places_of depth slots (R.columns key.now))) }
+    ensures found { result ≡ found_at (held_place same_row (all_shown marks.now cells.now) (places_of depth slots (R.columns key.now)) (R.columns key.now))
+        (empty_place (all_shown marks.now cells.now) (places_of depth slots (R.columns key.now))) }
     ensures within { IsWithin result (length cells.now) }
 {
     for register in 0..depth {
@@ -70,7 +69,7 @@ pub(crate) fn look<R: AnyRow>(
         if !is_marked(marks, at) {
             return Found::Empty(at);
         }
-        if cells.holds(at, round, key) {
+        if cells.has(at, key) {
             return Found::Held(at);
         }
     }

@@ -1,5 +1,5 @@
 //! Chains of registers.
-use crate::texts::row;
+use crate::texts::{row, wide_row};
 use sn_base::any_fold::AnyFold;
 use sn_base::fold::{Max, SatSum};
 use sn_base::memory::Memory;
@@ -94,16 +94,41 @@ fn shows_nothing_of_what_was_cleared(rt: HostRuntime) -> Result<(), Fail> {
     Ok(())
 }
 
+/// Keys that differ in one bit of a column or in how many they have, at the numbers up to which they fit two words: the second of each
+/// pair finds the only cell taken by another key.
 #[test]
-fn clears_in_the_last_round(rt: HostRuntime) -> Result<(), Fail> {
-    let mut chain = Chain::make_in_round(rt.alloc(), SatSum { v: 16 }, 2, 1, u32::MAX)?;
-    assert_eq!(rt; chain.offer(&row(&[1]), 1), Offer::New);
-    assert_eq!(rt; chain.offer(&row(&[2]), 2), Offer::New);
-    chain.clear();
-    assert_eq!(rt; chain.get(0), None);
-    assert_eq!(rt; chain.get(1), None);
-    assert_eq!(rt; chain.offer(&row(&[2]), 3), Offer::New);
-    assert_eq!(rt; chain.get(0), Some((row(&[2]), 3)));
+fn tells_keys_apart(rt: HostRuntime) -> Result<(), Fail> {
+    const WORD: u128 = 1 << 64;
+    const HALF: u128 = 1 << 32;
+    let pairs: [(&[u128], &[u128]); 14] = [
+        (&[], &[0]),
+        (&[0], &[0, 0]),
+        (&[5], &[WORD + 5]),
+        (&[u128::MAX], &[WORD - 1]),
+        (&[1, WORD - 1], &[1, WORD]),
+        (&[WORD - 1, 0], &[WORD, 0]),
+        (&[5, 6], &[6, 5]),
+        (&[5, 6, 0], &[5, 6]),
+        (&[5, 1, 2], &[5, 2 * HALF + 1, 0]),
+        (&[5, HALF - 1, HALF - 1], &[5, HALF - 1, HALF]),
+        (&[5, 6, 7], &[5, 7, 6]),
+        (&[WORD - 1, 0, 0], &[WORD, 0, 0]),
+        (&[1, 2, 3, 4], &[1, 2, 3, 5]),
+        (&[1, 2, 3, 4, 5, 6, 7, 8], &[1, 2, 3, 4, 5, 6, 7, 9]),
+    ];
+    let mut chain = Chain::make(rt.alloc(), SatSum { v: 16 }, 1, 1)?;
+    for (one, other) in pairs {
+        let (one, other) = (wide_row(one), wide_row(other));
+        chain.clear();
+        assert_eq!(rt; chain.offer(&one, 1), Offer::New);
+        assert_eq!(rt; chain.offer(&other, 1), Offer::Over);
+        assert_eq!(rt; chain.offer(&one, 1), Offer::Held);
+        assert_eq!(rt; chain.get(0), Some((one, 2)));
+        chain.clear();
+        assert_eq!(rt; chain.offer(&other, 1), Offer::New);
+        assert_eq!(rt; chain.offer(&one, 1), Offer::Over);
+        assert_eq!(rt; chain.get(0), Some((other, 1)));
+    }
     Ok(())
 }
 

@@ -5,6 +5,7 @@ ghost use Rattle.sn_switch.specs.Texts.{IsSwitch};
 
 use sn_base::lane::Lane;
 use sn_base::link::Link;
+use sn_base::row::Row;
 use sn_base::short_row::ShortRow;
 use sn_fields::tuple::{Tuple, tuple_of};
 use sn_plan_fit::fits;
@@ -70,6 +71,16 @@ pub(crate) fn row(columns: &[u64]) -> ShortRow
     ensures { result ≡ columns.now }
 {
     match ShortRow::new(columns) {
+        Some(row) => row,
+        None => unreachable!(),
+    }
+}
+
+pub(crate) fn wide_row(columns: &[u128]) -> Row
+    requires { length columns.now ≤ 8 }
+    ensures { result ≡ columns.now }
+{
+    match Row::new(columns) {
         Some(row) => row,
         None => unreachable!(),
     }

@@ -1,44 +1,91 @@
-use Rattle.std.proofs.Common.{ℕ, List, [], get_or, set, ap, ◌∙◌, arith}
+use Rattle.std.proofs.Common.{ℕ, List, [], map, get_or, set, refl, ap, sym, subst, ◌∙◌, arith}
+use Rattle.std.proofs.lemmas.List.{length-map, map-set}
 use Rattle.sn_base.specs.Groups.{Row}
-use Rattle.sn_chain.specs.Cells.{Cell}
-use Rattle.sn_chain.specs.Stored.{HeadState, cell_of, cells_of, head_of, tail_of}
-use Rattle.sn_chain.proofs.StoredLemmas.{within_heads, within_tails, head_written, both_written, key_written, short_written, front_begins, tail_begins}
+use Rattle.sn_chain.specs.Stored.{cell_of, cells_of, AreStored}
+use Rattle.sn_chain.specs.declared.head.Head.{Head}
+use Rattle.sn_chain.proofs.CodeLemmas.{key_told, told_stored}
+use Rattle.sn_chain.proofs.StoredLemmas.{within_heads, within_kinds, within_wholes, kind_written, all_written, kind_stored, all_stored}
 use Rattle.sn_chain.proofs.cells.Cells.take.Goals as goal
 
 pub index_mut-requires : goal.index_mut-requires
 index_mut-requires g c =
     let a = c.self.inside in
-    omega (arith, within_heads a.heads.items a.tails.items c.args.self.now c.self.view_is c.self.invariant c.args.at c.requires, a.heads.ok.0)
+    let s = c.args.self.now in
+    let at = c.args.at in
+    let limit = g.R.Number.Number.limit in
+    let wholes = map g.R.Columns.columns a.wholes.items in
+    omega (arith, within_heads limit a.heads.items a.kinds.items wholes s c.self.view_is c.self.invariant at c.requires, a.heads.ok.0)
 
-pub index_mut-requires-then-count-gt3 : goal.index_mut-requires-then-count-gt3
-index_mut-requires-then-count-gt3 g c =
-    let a = c.self.inside in
-    omega (arith, within_tails a.heads.items a.tails.items c.args.self.now c.self.view_is c.self.invariant c.args.at c.requires, a.tails.ok.0)
-
-pub returns-then-count-gt3 : goal.returns-then-count-gt3
-returns-then-count-gt3 g c =
+pub index_mut-requires-2 : goal.index_mut-requires-2
+index_mut-requires-2 g c =
     let a = c.self.inside in
     let s = c.args.self.now in
     let at = c.args.at in
-    let key = g.R.Columns.columns c.args.key.now in
-    let head = head_of c.args.round key c.args.value in
-    ap (λ (h : HeadState). cells_of (set a.heads.items at h) (set a.tails.items at c.of_key.result)) c.taken.ensures
-    ∙ ap (λ (t : List ℕ). cells_of (set a.heads.items at head) (set a.tails.items at t)) c.of_key.ensures
-    ∙ both_written a.heads.items a.tails.items at head (tail_of key) c.self.invariant.level
-    ∙ ap (λ (cells : List Cell). set cells at (cell_of head (tail_of key))) c.self.view_is
-    ∙ ap (λ (k : Row). set s at (record { round = c.args.round; key = k; value = c.args.value }))
-    (key_written key head.front (tail_of key) (front_begins key) (tail_begins key (omega (arith, c.len-count.ensures.value, c.len-count.ensures.most))))
+    let limit = g.R.Number.Number.limit in
+    let wholes = map g.R.Columns.columns a.wholes.items in
+    omega (arith, within_kinds limit a.heads.items a.kinds.items wholes s c.self.view_is c.self.invariant at c.requires, a.kinds.ok.0)
 
-pub returns-else-count-gt3 : goal.returns-else-count-gt3
-returns-else-count-gt3 g c =
+pub index_mut-requires-then-code-eq-WHOLE : goal.index_mut-requires-then-code-eq-WHOLE
+index_mut-requires-then-code-eq-WHOLE g c =
     let a = c.self.inside in
     let s = c.args.self.now in
     let at = c.args.at in
+    let limit = g.R.Number.Number.limit in
+    let wholes = map g.R.Columns.columns a.wholes.items in
+    omega (arith, within_wholes limit a.heads.items a.kinds.items wholes s c.self.view_is c.self.invariant at c.requires, length-map a.wholes.items g.R.Columns.columns, a.wholes.ok.0)
+
+pub invariant_of-self : goal.invariant_of-self
+invariant_of-self g c =
+    let a = c.self.inside in
+    let s = c.args.self.now in
+    let at = c.args.at in
+    let limit = g.R.Number.Number.limit in
+    let wholes = map g.R.Columns.columns a.wholes.items in
+    let code = c.code_of-code.result in
     let key = g.R.Columns.columns c.args.key.now in
-    let head = head_of c.args.round key c.args.value in
-    let tail = get_or a.tails.items at [] in
-    ap (λ (h : HeadState). cells_of (set a.heads.items at h) a.tails.items) c.taken.ensures
-    ∙ head_written a.heads.items a.tails.items at head c.self.invariant.level
-    ∙ ap (λ (cells : List Cell). set cells at (cell_of head tail)) c.self.view_is
-    ∙ ap (λ (k : Row). set s at (record { round = c.args.round; key = k; value = c.args.value }))
-    (short_written key head.front tail (omega (arith, c.len-count.ensures.value, c.if-count-gt3.false)) (front_begins key))
+    let head : Head = record { first = code.first; second = code.second; value = c.args.value } in
+    subst (λ (ws : List Row). AreStored limit (set a.heads.items at head) (set a.kinds.items at code.kind) ws) (sym (map-set g.R.Columns.columns a.wholes.items at c.args.key.now))
+    (all_stored limit a.heads.items a.kinds.items wholes c.self.invariant at head code.kind key (told_stored limit code key key c.code_of-code.ensures.code (λ nine. refl) c.code_of-code.ensures.single))
+
+pub invariant_of-self-else-code-eq-WHOLE : goal.invariant_of-self-else-code-eq-WHOLE
+invariant_of-self-else-code-eq-WHOLE g c =
+    let a = c.self.inside in
+    let s = c.args.self.now in
+    let at = c.args.at in
+    let limit = g.R.Number.Number.limit in
+    let wholes = map g.R.Columns.columns a.wholes.items in
+    let code = c.code_of-code.result in
+    let key = g.R.Columns.columns c.args.key.now in
+    let head : Head = record { first = code.first; second = code.second; value = c.args.value } in
+    kind_stored limit a.heads.items a.kinds.items wholes c.self.invariant at head code.kind
+    (λ there. told_stored limit code key (get_or wholes at []) c.code_of-code.ensures.code (λ nine. absurd (c.if-code-eq-WHOLE.false nine)) c.code_of-code.ensures.single)
+
+pub returns-then-code-eq-WHOLE : goal.returns-then-code-eq-WHOLE
+returns-then-code-eq-WHOLE g c =
+    let a = c.self.inside in
+    let s = c.args.self.now in
+    let at = c.args.at in
+    let limit = g.R.Number.Number.limit in
+    let wholes = map g.R.Columns.columns a.wholes.items in
+    let code = c.code_of-code.result in
+    let key = g.R.Columns.columns c.args.key.now in
+    let head : Head = record { first = code.first; second = code.second; value = c.args.value } in
+    ap (λ (ws : List Row). cells_of (set a.heads.items at head) (set a.kinds.items at code.kind) ws) (map-set g.R.Columns.columns a.wholes.items at c.args.key.now)
+    ∙ all_written a.heads.items a.kinds.items wholes at head code.kind key c.self.invariant.kinds_level c.self.invariant.wholes_level
+    ∙ ap (λ (cells : List (Row × ℕ)). set cells at (cell_of head code.kind key)) c.self.view_is
+    ∙ ap (λ (k : Row). set s at (k, c.args.value)) (key_told limit code key key c.code_of-code.ensures.code (λ nine. refl))
+
+pub returns-else-code-eq-WHOLE : goal.returns-else-code-eq-WHOLE
+returns-else-code-eq-WHOLE g c =
+    let a = c.self.inside in
+    let s = c.args.self.now in
+    let at = c.args.at in
+    let limit = g.R.Number.Number.limit in
+    let wholes = map g.R.Columns.columns a.wholes.items in
+    let code = c.code_of-code.result in
+    let key = g.R.Columns.columns c.args.key.now in
+    let whole = get_or wholes at [] in
+    let head : Head = record { first = code.first; second = code.second; value = c.args.value } in
+    kind_written a.heads.items a.kinds.items wholes at head code.kind c.self.invariant.kinds_level c.self.invariant.wholes_level
+    ∙ ap (λ (cells : List (Row × ℕ)). set cells at (cell_of head code.kind whole)) c.self.view_is
+    ∙ ap (λ (k : Row). set s at (k, c.args.value)) (key_told limit code key whole c.code_of-code.ensures.code (λ nine. absurd (c.if-code-eq-WHOLE.false nine)))
