@@ -3,6 +3,7 @@ pub mod Flows
 pub mod Fronts
 pub mod ItemLaw
 pub mod KeptLaw
+pub mod Leads
 pub mod Makings
 pub mod ReadOuts
 pub mod Residing

@@ -1,6 +1,6 @@
 -- serves proofs
 -- A pipe: the prefix of a branch at a level, for the tuples that a coarser level admits.
-use Rattle.std.specs.Prelude.{◌≡◌, ℕ, ◌<◌, List, [], ◌∷◌, ◌++◌, map, filter, fold, take, length, Bool, true, false, nat_eq, Option, None, Some, IsSome}
+use Rattle.std.specs.Prelude.{◌≡◌, ℕ, ◌<◌, List, [], ◌∷◌, ◌++◌, map, filter, fold, take, length, Bool, true, nat_eq, Option, None, Some, IsSome}
 use Rattle.std.specs.Prelude.{if◌then◌else◌}
 use Rattle.std.specs.List.{list_any}
 use Rattle.std.specs.Ordering.{nat_cmp}

@@ -89,7 +89,7 @@ impl<R: AnyRow> Prefix<R> {
         ensures after { self.new ≡ record self.old { stages = stages_after self.old.level self.old.stages packet.now } }
         ensures operator { IfSome result (λ i. i ≤ 12) }
     {
-        start(&mut self.stages, self.level, 0, packet, row)
+        start(&mut self.stages, self.level, packet, row)
     }
 
     /// The next item that is read out. `None` exactly where none is left. Takes no memory.
