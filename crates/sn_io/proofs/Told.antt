@@ -1,10 +1,10 @@
-use Rattle.std.proofs.Common.{◌≡◌, ℕ, ◌+◌, ◌-◌, List, [], Option, None, Some, ◌++◌, length, take, drop, is_some, IfSome, IsSomeAnd, refl, ap, subst, ◌∙◌, sym, append_assoc, length-drop, arith}
+use Rattle.std.proofs.Common.{◌≡◌, ℕ, ◌+◌, ◌-◌, ◌≤◌, List, [], Option, None, Some, ◌++◌, length, take, drop, is_some, IfSome, IsSomeAnd, refl, ap, ◌∙◌, sym, append_assoc, length-drop, arith}
 use Rattle.std.proofs.Math.Seq.{take-add}
-use Rattle.std.proofs.lemmas.List.{take_all, append-nil}
+use Rattle.std.proofs.lemmas.List.{length-take-le, take-append-le, take-take, take_all, append-nil}
 use Rattle.std.specs.FinMap.{get}
 use Rattle.std.specs.Io.KnownBytes.{append_known}
 use Rattle.sn_io.specs.Counts.{ByName}
-use Rattle.sn_io.specs.Inputs.{told_file}
+use Rattle.sn_io.specs.Inputs.{Reads, told_file}
 
 -- what `&piece[done..]` has
 pub rest_is : (piece : List ℕ) (done : ℕ) → take (length piece - done) (drop done piece) ≡ drop done piece
@@ -35,3 +35,17 @@ append_known-append (Some out) first second = ap (λ ys. Some ys) (append_assoc 
 pub append_known-nil : (told : Option (List ℕ)) → append_known told [] ≡ told
 append_known-nil None = refl
 append_known-nil (Some out) = ap (λ ys. Some ys) (append-nil out)
+
+-- what a read gives goes on from the front that was read before
+pub front_read : (told : Option (List ℕ)) (at count after : ℕ) (bytes more old new : List ℕ) →
+    IfSome told (λ file. (bytes ≡ take at file) × (at ≤ length file)) → IfSome told (λ file. Reads file at count old new) →
+    more ≡ bytes ++ take count new → after ≡ at + count → IfSome told (λ file. (more ≡ take after file) × (after ≤ length file))
+front_read None at count after bytes more old new front read grown later = front
+front_read (Some file) at count after bytes more old new front read grown later =
+    let piece : take count new ≡ take count (drop at file) =
+    ap (take count) read.bytes
+    ∙ take-append-le count (take count (drop at file)) (drop count old) (omega (arith, length-take-le count (drop at file) read.within))
+    ∙ take-take count count (drop at file) (omega arith) in (
+      grown ∙ ap (λ ys. bytes ++ ys) piece ∙ ap (λ ys. ys ++ take count (drop at file)) front.0 ∙ sym (take-add at count file) ∙ ap (λ n. take n file) (sym later),
+      omega (arith, front.1, read.within, length-drop at file, later),
+    )

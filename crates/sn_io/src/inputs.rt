@@ -1,5 +1,5 @@
 //! Files that are read by name, with a count of faults for each name.
-ghost use Rattle.std.specs.Prelude.{◌≡◌, ℕ, ◌<◌, ◌≤◌, ◌↔◌, ◌⊎◌, List, Option, None, Some, is_some, length, IfOk, OnErr, IfSome, IsSomeAnd, IsErrOf, IsOkUnless};
+ghost use Rattle.std.specs.Prelude.{◌≡◌, ℕ, ◌<◌, ◌≤◌, ◌↔◌, ◌⊎◌, List, [], Option, None, Some, is_some, length, IfOk, OnErr, IfSome, IsSomeAnd, IsErrOf, IsOkUnless};
 ghost use Rattle.std.specs.FinMap.{get};
 ghost use Rattle.sn_io.specs.Counts.{ByName, OnlyRises, RoseAt};
 ghost use Rattle.sn_io.specs.Inputs.{Reads, told_file};
@@ -41,6 +41,12 @@ pub trait Inputs {
         Seed::new(0)
     }
 
+    /// About how many bytes a file has, as far as that is known before it is read. It is a hint for room: nothing
+    /// but time depends on it, and nothing of it is promised.
+    fn expected_bytes(&self, _name: &str) -> u64 {
+        0
+    }
+
     /// Where contents are known, the names held are the names known.
     ghost same_names: { (s : Self) (files : ByName (List ℕ)) (name : List ℕ) → told s ≡ Some files → is_some (get files name) ≡ is_some (get (faults s) name) };
 }
@@ -59,6 +65,18 @@ pub enum ReadError {
     TooLarge,
     /// Out of memory.
     Memory,
+}
+
+/// No bytes, with room for as many as a file is expected to have, if not more than `limit`. Where there isn't as much
+/// memory there is room for none: the file may have fewer.
+fn room_for<I: Inputs>(alloc: Global, files: &I, name: &str, limit: u64) -> Vec<u8>
+    ensures { result.items ≡ [] }
+{
+    let room = files.expected_bytes(name).min(limit);
+    match Vec::with_capacity(alloc, room as usize) {
+        Ok(bytes) => bytes,
+        Err(_) => Vec::new(alloc),
+    }
 }
 
 /// Reads a whole file of at most `limit` bytes, piece by piece. `Missing` comes exactly where the name isn't known,
@@ -86,7 +104,7 @@ pub fn read_whole<I: Inputs>(
     ensures told { I.told files.new ≡ I.told files.old }
     ensures faults { OnlyRises name.now (I.faults files.old) (I.faults files.new) }
 {
-    let mut bytes = Vec::new(alloc);
+    let mut bytes = room_for(alloc, files, name, limit);
     let mut piece = [0; PIECE];
     loop {
         match files.read_at(name, bytes.len() as u64, &mut piece) {

@@ -12,10 +12,10 @@ use crate::sink::{Failed, Sink};
 use sn_base::memory::Memory;
 use sn_base::seed::Seed;
 use std::alloc::Global;
-use std::io;
 use std::io::{Stderr, Stdout, Write};
 use std::marker::Model;
 use std::random::RandomSource;
+use std::{fs, io};
 
 #[derive(Drop)]
 enum Stream {
@@ -156,6 +156,17 @@ impl Inputs for RealInputs {
         match self.rt.fill_bytes(&mut bytes) {
             Ok(()) => Seed::new(u64::from_le_bytes(bytes)),
             Err(_) => Seed::new(0),
+        }
+    }
+
+    /// What the system says of its size. A name that isn't known isn't asked for.
+    fn expected_bytes(&self, name: &str) -> u64 {
+        if place_of(&self.known, name).is_none() {
+            return 0;
+        }
+        match fs::metadata(&self.rt, name) {
+            Ok(metadata) => metadata.len(),
+            Err(_) => 0,
         }
     }
 }
