@@ -2,6 +2,7 @@ pub mod Columns
 pub mod Counts
 pub mod Drops
 pub mod Ends
+pub mod FewColumns
 pub mod Firsts
 pub mod Frames
 pub mod Lanes

@@ -55,10 +55,37 @@ pub(crate) fn all_widened(alloc: Global, items: &[Item<ShortRow>]) -> Result<Seq
     Ok(wide)
 }
 
+/// Adds an item over a short row. The first columns are read one by one, each as it was written: two that are read at once right after
+/// they were written one by one are waited for until they have reached the processor's cache.
+#[tactic(auto, using(crate::proofs::FewColumns::no_column, crate::proofs::FewColumns::one_column, crate::proofs::FewColumns::two_columns, crate::proofs::FewColumns::three_columns))]
+fn push_short(items: &mut Seq<Item<ShortRow>>, item: &Item<ShortRow>) -> Result<(), Memory>
+    ensures ok { OnOk result (items.new ≡ items.old ++ item.now ∷ []) }
+    ensures err { OnErr result (items.new ≡ items.old) }
+{
+    let tag = item.tag;
+    let mut row = ShortRow::empty();
+    let Some(first) = item.row.get(0) else {
+        return items.push(Item { tag, row });
+    };
+    row.push(first);
+    let Some(second) = item.row.get(1) else {
+        return items.push(Item { tag, row });
+    };
+    row.push(second);
+    let Some(third) = item.row.get(2) else {
+        return items.push(Item { tag, row });
+    };
+    row.push(third);
+    if item.row.len() == 3 {
+        return items.push(Item { tag, row });
+    }
+    items.push(*item)
+}
+
 impl LaneRow for ShortRow {
     fn push_to(_alloc: Global, item: &Item<ShortRow>, items: &mut AnyItems) -> Result<(), Memory> {
         match items {
-            AnyItems::Short(items) => items.push(*item),
+            AnyItems::Short(items) => push_short(items, item),
             AnyItems::Wide(items) => items.push(widened(item)),
         }
     }
