@@ -94,9 +94,13 @@ fn reads_real_files(rt: HostRuntime) -> Result<(), Fail> {
     fs::write(&rt, "here.bin", b"real bytes".as_slice())?;
     let whole = read_whole(alloc, &mut files, "here.bin", 10);
     let large = read_whole(alloc, &mut files, "here.bin", 9);
+    let expected = files.expected_bytes("here.bin");
     fs::remove_file(&rt, "here.bin")?;
     assert_eq!(rt; whole?.as_slice(), b"real bytes".as_slice());
     assert_eq!(rt; large.err(), Some(ReadError::TooLarge));
+    assert_eq!(rt; expected, 10);
+    assert_eq!(rt; files.expected_bytes("nowhere.bin"), 0);
+    assert_eq!(rt; files.expected_bytes("unknown"), 0);
     let mut piece = [0; 4];
     assert_eq!(rt;
         files.read_at("nowhere.bin", 0, &mut piece),
