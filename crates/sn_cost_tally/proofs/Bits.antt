@@ -1,10 +1,12 @@
 -- Marks as bits.
-use Rattle.std.proofs.Common.{◌≡◌, ◌≢◌, ℕ, zero, suc, set, ◌+◌, ◌*◌, ◌/◌, ◌%◌, ◌^◌, ◌≤◌, ◌<◌, List, ◌∷◌, ◌++◌, map, take, drop, replicate, length, get_or, Bool, true, false, nat_eq, refl, ap, sym, ◌∙◌, arith}
+use Rattle.std.proofs.Common.{◌≡◌, ◌≢◌, ℕ, zero, suc, set, ◌+◌, ◌*◌, ◌/◌, ◌%◌, ◌^◌, ◌≤◌, ◌<◌, List, ◌∷◌, ◌++◌, map, take, drop, replicate, length, get_or, Bool, true, false, if◌then◌else◌, nat_eq, refl, ap, sym, ◌∙◌, arith}
+use mir.Val.{bool_byte}
 use Rattle.std.specs.Prelude.{bit_and, bit_or}
 use Rattle.std.specs.List.{range_with_len}
 use Rattle.std.specs.Int.{bit_at, w64}
+use Rattle.std.specs.Int.Bits.{or_zero_r}
 use Rattle.std.proofs.lemmas.Nat.Bits.{bit_at-zero, bit_at_set_same, bit_at_set_other, shr_and_one}
-use Rattle.std.proofs.lemmas.List.{append-nil, drop_all, get_or_default, get_or-set_same, get_or-set_other, length-append, length-drop, length-replicate, take_all}
+use Rattle.std.proofs.lemmas.List.{append-nil, drop_all, set-get_or, get_or_default, get_or-set_same, get_or-set_other, length-append, length-drop, length-replicate, take_all}
 use Rattle.std.proofs.lemmas.List.FromFn.{get_or-map-range_with_len, length-map-range_with_len}
 use Rattle.std.proofs.lemmas.Bool.{false≢true}
 use Rattle.sn_base.proofs.Lists.{by_test, nat_same, nat_self, not_true}
@@ -96,6 +98,19 @@ mark_set count words marks p w le seen lt is =
     ap (λ x. marks_of count (set words (p / 64) (bit_or x (1 * 2 ^ (p % 64) % 2 ^ 64)))) (is ∙ get_or_default words (p / 64) w 0 (word_there count words marks p le seen lt))
     ∙ one_set count words p (omega (arith, lt, marks_long count words, ap length seen)) le
     ∙ ap (λ ms. set ms p true) seen
+
+-- where no place is looked for a word stays as it was
+pub none_looked_for : (words : List ℕ) (p w : ℕ) → w ≡ get_or words (p / 64) w → set words (p / 64) (bit_or w (0 * 2 ^ (p % 64) % 2 ^ 64)) ≡ words
+none_looked_for words p w is = let none : 0 * 2 ^ (p % 64) % 2 ^ 64 ≡ 0 = omega arith in ap (λ n. set words (p / 64) (bit_or w n)) none ∙ ap (set words (p / 64)) (or_zero_r w ∙ is) ∙ set-get_or words (p / 64) w
+
+-- the marks after a place, if one is looked for
+pub mark_looked : (count : ℕ) (words : List ℕ) (marks : List Bool) (p w : ℕ) (looking : Bool) (n : ℕ) → n ≡ bool_byte looking → count ≤ 64 * length words → marks_of count words ≡ marks → p < length marks → w ≡ get_or words (p / 64) w
+    → marks_of count (set words (p / 64) (bit_or w (n * 2 ^ (p % 64) % 2 ^ 64))) ≡ (if looking then set marks p true else marks)
+mark_looked count words marks p w looking n byte le seen lt is = ap (λ m. marks_of count (set words (p / 64) (bit_or w (m * 2 ^ (p % 64) % 2 ^ 64)))) byte ∙ by_looking looking
+  where
+    by_looking : (looking : Bool) → marks_of count (set words (p / 64) (bit_or w (bool_byte looking * 2 ^ (p % 64) % 2 ^ 64))) ≡ (if looking then set marks p true else marks)
+    by_looking true = mark_set count words marks p w le seen lt is
+    by_looking false = ap (marks_of count) (none_looked_for words p w is) ∙ seen
 
 -- a test of a bit
 pub bit_set : (b : ℕ) → b ≡ 1 → nat_eq b 1 ≡ true

@@ -1,6 +1,7 @@
 //! The slots of keys in registers of the largest size. Those in registers of a size that divides it follow from them.
-ghost use Rattle.std.specs.Prelude.{◌≡◌, ◌≤◌, map, IfOk};
+ghost use Rattle.std.specs.Prelude.{◌≡◌, ◌≤◌, ◌%◌, map, nat_eq, IfOk};
 ghost use Rattle.sn_base.specs.Slot.{slot};
+ghost use Rattle.sn_chain.specs.Limits.{largest_register};
 ghost use Rattle.sn_cost_tally.specs.Largest.{largest_slots};
 
 use sn_base::any_row::AnyRow;
@@ -30,14 +31,29 @@ pub fn of_keys<R: AnyRow>(alloc: Global, keys: &[R]) -> Result<Vec<[u32; 2]>, Me
     Ok(found)
 }
 
+/// Whether a size divides the largest one.
+pub(crate) fn divides(slots: u32) -> bool
+    requires { 1 ≤ slots }
+    ensures { result ≡ nat_eq (largest_register % slots) 0 }
+{
+    LARGEST % slots == 0
+}
+
 /// A key's slot in a register. It is hashed for that where the register comes after the second, or where its size doesn't divide the
-/// largest one.
-pub(crate) fn slot_in<R: AnyRow>(register: u32, key: &R, known: &[u32; 2], slots: u32) -> u32
+/// largest one. Whether it does is asked once for all keys: a division takes longer than all else.
+pub(crate) fn slot_in<R: AnyRow>(
+    register: u32,
+    key: &R,
+    known: &[u32; 2],
+    slots: u32,
+    even: bool,
+) -> u32
     requires some { 1 ≤ slots }
     requires known { known.now ≡ largest_slots (R.columns key.now) }
+    requires even { even ≡ nat_eq (largest_register % slots) 0 }
     ensures { result ≡ slot register (R.columns key.now) slots }
 {
-    if LARGEST % slots != 0 {
+    if !even {
         return slot_of(register, key, slots);
     }
     match register {

@@ -1,5 +1,5 @@
 //! A mark for each place of a chain of registers, as one bit.
-ghost use Rattle.std.specs.Prelude.{◌≡◌, ◌<◌, ◌≤◌, ◌++◌, length, drop, replicate, false, true, not, slice_index_or, slice_set, IfOk, OnOk, if◌then◌else◌};
+ghost use Rattle.std.specs.Prelude.{◌≡◌, ◌<◌, ◌≤◌, ◌++◌, length, drop, replicate, false, true, ◌&&◌, slice_index_or, slice_set, IfOk, OnOk, if◌then◌else◌};
 
 use sn_base::memory::Memory;
 use std::alloc::Global;
@@ -66,18 +66,17 @@ impl Marks {
         Ok(())
     }
 
-    /// Sets the mark of a place. Whether it wasn't set.
-    pub fn take(&mut self, place: usize) -> bool
+    /// Sets the mark of a place, if a place is looked for. Whether one is looked for still, since the mark was set before. No jump depends
+    /// on a mark: which of them are set can't be foreseen.
+    pub fn take(&mut self, place: usize, looking: bool) -> bool
         requires { place < length self.old }
-        ensures free { result ≡ not (slice_index_or self.old place false) }
-        ensures taken { self.new ≡ (if result then slice_set self.old place true else self.old) }
+        ensures still { result ≡ (looking && slice_index_or self.old place false) }
+        ensures taken { self.new ≡ (if looking then slice_set self.old place true else self.old) }
     {
         let word = &mut self.words[place / 64];
         let bit = place % 64;
-        if *word >> bit & 1 == 1 {
-            return false;
-        }
-        *word |= 1 << bit;
-        true
+        let taken = *word >> bit & 1 == 1;
+        *word |= u64::from(looking) << bit;
+        looking & taken
     }
 }

@@ -1,33 +1,36 @@
 //! Which keys find room in registers of a size.
-ghost use Rattle.std.specs.Prelude.{◌≡◌, ◌≤◌, ◌<◌, ◌*◌, map, length, is_some, OnOk};
+ghost use Rattle.std.specs.Prelude.{◌≡◌, ◌≤◌, ◌<◌, ◌*◌, ◌%◌, map, length, nat_eq, is_some, OnOk};
 ghost use Rattle.sn_base.specs.Groups.{Apart, same_row};
 ghost use Rattle.sn_chain.specs.Chain.{has_home, place_for};
 ghost use Rattle.sn_chain.specs.Limits.{largest_register};
 ghost use Rattle.sn_cost_seats.specs.Marks.{free_for, taken_with};
 ghost use Rattle.sn_cost_tally.specs.Largest.{largest_slots};
 
-use crate::largest::slot_in;
+use crate::largest::{divides, slot_in};
 use crate::marks::Marks;
 use sn_base::any_row::AnyRow;
 use sn_base::memory::Memory;
 use std::alloc::Global;
 
 /// A key's place in a register: slot `s` of register `i` is place `i * slots + s`.
-fn place_of<R: AnyRow>(register: u32, slots: u32, key: &R, known: &[u32; 2]) -> usize
+fn place_of<R: AnyRow>(register: u32, slots: u32, even: bool, key: &R, known: &[u32; 2]) -> usize
     requires known { known.now ≡ largest_slots (R.columns key.now) }
     requires register { register < 4 }
     requires some { 1 ≤ slots }
     requires most { slots ≤ largest_register }
+    requires even { even ≡ nat_eq (largest_register % slots) 0 }
     ensures { result ≡ place_for slots (R.columns key.now) register }
 {
-    register as usize * slots as usize + slot_in(register, key, known, slots) as usize
+    register as usize * slots as usize + slot_in(register, key, known, slots, even) as usize
 }
 
-/// Takes the first of a key's places that is free. Whether there is one.
+/// Takes the first of a key's places that is free. Whether there is one. The places in the first two registers are known, and both are
+/// read before it's asked which of them was free; only for a later one the key is hashed.
 fn take_seat<R: AnyRow>(
     marks: &mut Marks,
     depth: u32,
     slots: u32,
+    even: bool,
     key: &R,
     known: &[u32; 2],
 ) -> bool
@@ -35,16 +38,19 @@ fn take_seat<R: AnyRow>(
     requires most_depth { depth ≤ 4 }
     requires some_slots { 1 ≤ slots }
     requires most_slots { slots ≤ largest_register }
+    requires even { even ≡ nat_eq (largest_register % slots) 0 }
     requires long { length marks.old ≡ depth * slots }
     ensures home { result ≡ is_some (free_for depth slots marks.old (R.columns key.now)) }
     ensures taken { marks.new ≡ taken_with marks.old (free_for depth slots marks.old (R.columns key.now)) }
 {
+    let mut looking = true;
     for register in 0..depth {
-        if marks.take(place_of(register, slots, key, known)) {
+        if register > 1 && !looking {
             return true;
         }
+        looking = marks.take(place_of(register, slots, even, key, known), looking);
     }
-    false
+    !looking
 }
 
 /// Whether each of some keys, no two the same, resides in a chain of `depth` registers with `slots` slots each, at most 4
@@ -71,8 +77,9 @@ pub fn seat<R: AnyRow>(
 {
     marks.clear(alloc, depth as usize * slots as usize)?;
     homes.clear();
+    let even = divides(slots);
     for place in 0..keys.len() {
-        let home = take_seat(marks, depth, slots, &keys[place], &known[place]);
+        let home = take_seat(marks, depth, slots, even, &keys[place], &known[place]);
         homes.push(home)?;
     }
     Ok(())
