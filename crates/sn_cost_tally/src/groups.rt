@@ -1,14 +1,15 @@
 //! Groups of rows: distinct keys, how often each comes, and the fold of its values.
-ghost use Rattle.std.specs.Prelude.{◌≡◌, ◌≤◌, ◌<◌, ◌++◌, ◌∷◌, [], All, length, map, slice_index, slice_index_or, IfOk, OnOk};
+ghost use Rattle.std.specs.Prelude.{◌≡◌, ◌≤◌, ◌<◌, ◌++◌, ◌∷◌, [], All, length, map, slice_index, IfOk};
 ghost use Rattle.sn_base.specs.AnyFold.{any_has, any_step, any_unit};
 ghost use Rattle.sn_base.specs.Groups.{columns_at, folded, keyed, once, same_row};
 ghost use Rattle.sn_base.specs.Operators.{grouped};
 ghost use Rattle.sn_cost_seats.specs.Tallies.{tallied};
 ghost use Rattle.sn_cost_tally.specs.Counts.{counted};
-ghost use Rattle.sn_cost_tally.specs.Numbered.{folded_into, zipped};
+ghost use Rattle.sn_cost_tally.specs.Numbered.{zipped};
 
+use crate::folds::{COUNT, fold_in};
 use crate::largest::of_keys;
-use crate::tally::{COUNT, Tally};
+use crate::tally::Tally;
 use sn_base::any_fold::AnyFold;
 use sn_base::any_row::AnyRow;
 use sn_base::columns::Columns;
@@ -46,20 +47,6 @@ fn key_into<R: AnyRow>(row: &R, places: &[u32], key: &mut R)
     for place in places {
         key.push(row.column(*place));
     }
-}
-
-/// Folds a value into the number at a place, or, after the last one, into one more.
-fn fold_in(fold: AnyFold, numbers: &mut Vec<u64>, place: usize, value: u64) -> Result<(), Memory>
-    requires so_far { any_has fold (slice_index_or numbers.old.items place (any_unit fold)) }
-    requires value { any_has fold value }
-    ensures { OnOk result (numbers.new.items ≡ folded_into (any_step fold) (any_unit fold) numbers.old.items place value) }
-{
-    if place < numbers.len() {
-        numbers[place] = fold.step(numbers[place], value);
-    } else {
-        numbers.push(fold.step(fold.unit(), value))?;
-    }
-    Ok(())
 }
 
 /// The distinct keys of rows, each of them looked up once.

@@ -1,6 +1,7 @@
 //! Distinct keys of rows, how often each comes, and which of them find room in registers of a size.
 #![tactic(auto)]
 
+mod folds;
 pub mod groups;
 pub mod kept;
 pub mod largest;

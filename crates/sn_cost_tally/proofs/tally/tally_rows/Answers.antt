@@ -1,16 +1,61 @@
-use Rattle.std.proofs.Common.{◌≡◌, ℕ, List, map, ap, ◌∙◌}
-use Rattle.sn_base.specs.Groups.{Row}
-use Rattle.sn_cost_tally.proofs.Counting.{if_ok, keys_of, times_of}
+use Rattle.std.proofs.Common.{◌≡◌, ℕ, List, map, slice_index_or, take, unwrap_or, ap, sym, subst, ◌∙◌, arith}
+use Rattle.std.specs.List.{position_or_len}
+use Rattle.std.specs.Map.{lookup}
+use Rattle.std.proofs.lemmas.List.{take_all}
+use Rattle.indexmap.specs.IndexSet.{insert_key}
+use Rattle.sn_base.specs.Folds.{HasBits, capped_sum}
+use Rattle.sn_base.specs.Groups.{Row, same_row}
+use Rattle.sn_cost_tally.specs.Counts.{counted}
+use Rattle.sn_cost_tally.specs.Numbered.{zipped}
+use Rattle.sn_cost_tally.proofs.Counting.{counted_had, insert_is_put, keys_of, one_counted, times_of}
+use Rattle.sn_cost_tally.proofs.Folding.{folded_long, keys_next, keys_same, so_far_at, value_folded, zip_keys, zip_numbers}
 use Rattle.sn_cost_tally.proofs.tally.tally_rows.Goals as goal
+use Rattle.sn_cost_tally.proofs.tally.tally_rows.Goals.{then-number-len+in_ok-push, else-number-len}
+
+pub fold_in-requires-clause-so_far : goal.fold_in-requires-clause-so_far
+fold_in-requires-clause-so_far g c =
+    let key : Row = g.R.Columns.columns c.at-row.result.now in
+    let ks : List Row = c.loop-place.keys in
+    let ns : List ℕ = c.loop-place.times.items in
+    let before = c.loop-place.invariant in
+    subst (HasBits 64) (so_far_at key 0 ks ns before.long ∙ ap (λ m. slice_index_or ns m 0) (sym (c.in_ok-number.ensures.number ∙ ap (position_or_len (same_row key)) (sym before.same))))
+    (counted_had (take c.loop-place.place c.args.rows.now) (zipped ks ns) key before.times)
+
+pub loop-place-preserved : goal.loop-place-preserved
+loop-place-preserved g c =
+    let i = c.loop-place.place in
+    let key : Row = g.R.Columns.columns c.at-row.result.now in
+    let ks : List Row = c.loop-place.keys in
+    let now : List Row = c.if-number-len.keys in
+    let number : ℕ = c.in_ok-number.number in
+    let times : List ℕ = c.loop-place.times.items in
+    let before = c.loop-place.invariant in
+    let is : number ≡ position_or_len (same_row key) ks = c.in_ok-number.ensures.number ∙ ap (position_or_len (same_row key)) (sym before.same) in
+    let grown : c.number.new.self.keys ≡ insert_key same_row ks key = c.in_ok-number.ensures.keys ∙ ap (λ xs. insert_key same_row xs key) (sym before.same) in
+    let same : now ≡ c.number.new.self.keys =
+    elim c.if-number-len.branch [
+      | then-number-len+in_ok-push w ↦ keys_next key ks c.number.new.self.keys now grown (sym is ∙ w.if-number-len.true ∙ c.len-in-loop-place.ensures) (w.keys-is ∙ w.in_ok-push.ensures.ok)
+      | else-number-len w ↦ w.keys-is ∙ keys_same key ks c.number.new.self.keys grown (λ e. w.if-number-len.false (is ∙ e ∙ sym c.len-in-loop-place.ensures))
+    ] in
+    let added : now ≡ insert_key same_row ks key = same ∙ grown in
+    record {
+      same = same;
+      times = one_counted c.args.rows.now i (zipped ks times) (zipped now c.fold_in.new.numbers.items) key c.at-row.ensures before.times
+          (value_folded key (capped_sum 64) 0 1 ks now times c.fold_in.new.numbers.items number before.long added is c.in_ok-fold_in.ensures
+          ∙ sym (insert_is_put (zipped ks times) key (capped_sum 64 (unwrap_or (lookup (same_row key) (zipped ks times)) 0) 1)));
+      long = folded_long key (capped_sum 64) 0 1 ks now times c.fold_in.new.numbers.items number before.long added is c.in_ok-fold_in.ensures;
+    }
 
 pub returns-clause-keys : goal.returns-clause-keys
 returns-clause-keys g c =
-    let keys : List Row = c.args.rows.now in
-    if_ok c.entries_of.result (λ tally. tally.keys ≡ map (λ (e : Row × ℕ). e.0) c.in_ok-table.table.entries) _
-    (λ tally is. is ∙ ap (map (λ (e : Row × ℕ). e.0)) c.in_ok-table.ensures ∙ keys_of keys) c.entries_of.ensures.keys
+    let rows : List Row = c.args.rows.now in
+    let so_far = c.loop-place.invariant in
+    let all : zipped c.loop-place.keys c.loop-place.times.items ≡ counted rows = so_far.times ∙ ap counted (take_all c.loop-place.place rows (omega (arith, c.loop-place-test.false, c.len-place-end.ensures))) in
+    sym (zip_keys c.loop-place.keys c.loop-place.times.items so_far.long) ∙ ap (map (λ (e : Row × ℕ). e.0)) all ∙ keys_of rows
 
 pub returns-clause-times : goal.returns-clause-times
 returns-clause-times g c =
-    let keys : List Row = c.args.rows.now in
-    if_ok c.entries_of.result (λ tally. tally.times.items ≡ map (λ (e : Row × ℕ). e.1) c.in_ok-table.table.entries) _
-    (λ tally is. is ∙ ap (map (λ (e : Row × ℕ). e.1)) c.in_ok-table.ensures ∙ times_of keys c.requires) c.entries_of.ensures.times
+    let rows : List Row = c.args.rows.now in
+    let so_far = c.loop-place.invariant in
+    let all : zipped c.loop-place.keys c.loop-place.times.items ≡ counted rows = so_far.times ∙ ap counted (take_all c.loop-place.place rows (omega (arith, c.loop-place-test.false, c.len-place-end.ensures))) in
+    sym (zip_numbers c.loop-place.keys c.loop-place.times.items so_far.long) ∙ ap (map (λ (e : Row × ℕ). e.1)) all ∙ times_of rows c.requires

@@ -1,0 +1,30 @@
+//! Numbers by place, into which values are folded.
+ghost use Rattle.std.specs.Prelude.{◌≡◌, slice_index_or, OnOk};
+ghost use Rattle.sn_base.specs.AnyFold.{any_has, any_step, any_unit};
+ghost use Rattle.sn_cost_tally.specs.Numbered.{folded_into};
+
+use sn_base::any_fold::AnyFold;
+use sn_base::fold::{Fold, SatSum};
+use sn_base::memory::Memory;
+
+/// The fold that counts: each comes with the value 1.
+pub(crate) const COUNT: AnyFold = AnyFold::SatSum(SatSum { v: 64 });
+
+/// Folds a value into the number at a place, or, after the last one, into one more.
+pub(crate) fn fold_in(
+    fold: AnyFold,
+    numbers: &mut Vec<u64>,
+    place: usize,
+    value: u64,
+) -> Result<(), Memory>
+    requires so_far { any_has fold (slice_index_or numbers.old.items place (any_unit fold)) }
+    requires value { any_has fold value }
+    ensures { OnOk result (numbers.new.items ≡ folded_into (any_step fold) (any_unit fold) numbers.old.items place value) }
+{
+    if place < numbers.len() {
+        numbers[place] = fold.step(numbers[place], value);
+    } else {
+        numbers.push(fold.step(fold.unit(), value))?;
+    }
+    Ok(())
+}
