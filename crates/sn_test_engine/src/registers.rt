@@ -3,6 +3,7 @@ use crate::texts::{row, wide_row};
 use sn_base::any_fold::AnyFold;
 use sn_base::fold::{Max, SatSum};
 use sn_base::memory::Memory;
+use sn_base::row::Row;
 use sn_base::short_row::ShortRow;
 use sn_base::slot::slot_of;
 use sn_chain::chain::Chain;
@@ -95,7 +96,7 @@ fn shows_nothing_of_what_was_cleared(rt: HostRuntime) -> Result<(), Fail> {
 }
 
 /// Whether a chain of one cell keeps the first of two keys, and has no place for the second.
-fn keeps_the_first(alloc: Global, one: &ShortRow, other: &ShortRow) -> Result<bool, Memory> {
+fn keeps_the_first(alloc: Global, one: &Row, other: &Row) -> Result<bool, Memory> {
     let mut chain = Chain::make(alloc, SatSum { v: 16 }, 1, 1)?;
     let came = chain.offer(one, 1) == Offer::New && chain.offer(other, 1) == Offer::Over;
     let again = chain.offer(one, 1) == Offer::Held;
