@@ -214,4 +214,15 @@ impl AnyRow for Row {
         self.columns[self.count] = number;
         self.count += 1;
     }
+
+    fn resize(&mut self, count: usize) {
+        if count < self.count {
+            self.columns[count..].fill(0);
+        }
+        self.count = count;
+    }
+
+    fn set(&mut self, place: usize, number: u128) {
+        self.columns[..self.count][place] = number;
+    }
 }

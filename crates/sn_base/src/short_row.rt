@@ -187,4 +187,15 @@ impl AnyRow for ShortRow {
         self.columns[self.count] = number;
         self.count += 1;
     }
+
+    fn resize(&mut self, count: usize) {
+        if count < self.count {
+            self.columns[count..].fill(0);
+        }
+        self.count = count;
+    }
+
+    fn set(&mut self, place: usize, number: u64) {
+        self.columns[..self.count][place] = number;
+    }
 }

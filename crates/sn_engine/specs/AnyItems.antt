@@ -8,8 +8,8 @@ use Rattle.sn_engine.specs.declared.left.Left.{Left}
 use Rattle.sn_engine.specs.declared.left.Left.TheVariants as lefts
 
 abbrev pub items_in : AnyItems → List Item
-items_in (Short items) = items
-items_in (Wide items) = items
+items_in (Short items) = items.items
+items_in (Wide items) = items.items
 
 -- items of a lane that are left, or all of them
 abbrev pub items_left : Left → List Item

@@ -8,7 +8,6 @@ use crate::lane_row::{LaneRow, all_widened};
 use crate::turned::turn_all;
 use sn_base::memory::Memory;
 use sn_base::row::Row;
-use sn_base::seq::Seq;
 use sn_base::short_row::ShortRow;
 use sn_report::frame::{Item, Tag};
 use std::alloc::Global;
@@ -18,8 +17,8 @@ use std::mem;
 /// Items over rows of one kind.
 #[derive(Drop)]
 pub enum AnyItems {
-    Short(Seq<Item<ShortRow>>),
-    Wide(Seq<Item<Row>>),
+    Short(Vec<Item<ShortRow>>),
+    Wide(Vec<Item<Row>>),
 }
 
 /// The items of a lane, in the order in which they came: over short rows until one comes that these don't hold, and over wide ones
@@ -42,18 +41,13 @@ impl Model for Items {
 }
 
 /// Moves the items of a list after those of another. An `Err` changes nothing.
-fn append<T: Drop>(alloc: Global, items: &mut Seq<T>, more: &mut Seq<T>) -> Result<(), Memory>
-    ensures ok { OnOk result (items.new ≡ items.old ++ more.old) }
-    ensures moved { OnOk result (more.new ≡ []) }
-    ensures err { OnErr result (items.new ≡ items.old) }
-    ensures left { OnErr result (more.new ≡ more.old) }
+fn append<T: Drop>(items: &mut Vec<T>, more: &mut Vec<T>) -> Result<(), Memory>
+    ensures ok { OnOk result (items.new.items ≡ items.old.items ++ more.old.items) }
+    ensures moved { OnOk result (more.new.items ≡ []) }
+    ensures err { OnErr result (items.new.items ≡ items.old.items) }
+    ensures left { OnErr result (more.new.items ≡ more.old.items) }
 {
-    let mut all = mem::replace(items, Seq::new(alloc)).into_vec();
-    let mut others = mem::replace(more, Seq::new(alloc)).into_vec();
-    let moved = all.append(&mut others);
-    *items = Seq::from_vec(all);
-    *more = Seq::from_vec(others);
-    moved?;
+    items.append(more)?;
     Ok(())
 }
 
@@ -61,18 +55,18 @@ fn append<T: Drop>(alloc: Global, items: &mut Seq<T>, more: &mut Seq<T>) -> Resu
 fn append_short(
     alloc: Global,
     items: &mut AnyItems,
-    more: &mut Seq<Item<ShortRow>>,
+    more: &mut Vec<Item<ShortRow>>,
 ) -> Result<(), Memory>
-    ensures ok { OnOk result (items_in items.new ≡ items_in items.old ++ more.old) }
-    ensures moved { OnOk result (more.new ≡ []) }
+    ensures ok { OnOk result (items_in items.new ≡ items_in items.old ++ more.old.items) }
+    ensures moved { OnOk result (more.new.items ≡ []) }
     ensures err { OnErr result (items_in items.new ≡ items_in items.old) }
-    ensures left { OnErr result (more.new ≡ more.old) }
+    ensures left { OnErr result (more.new.items ≡ more.old.items) }
 {
     match items {
-        AnyItems::Short(items) => append(alloc, items, more),
+        AnyItems::Short(items) => append(items, more),
         AnyItems::Wide(items) => {
             let mut wide = all_widened(alloc, more.as_slice())?;
-            append(alloc, items, &mut wide)?;
+            append(items, &mut wide)?;
             more.clear();
             Ok(())
         }
@@ -80,17 +74,17 @@ fn append_short(
 }
 
 /// Moves items over wide rows after others of either kind. An `Err` changes nothing.
-fn append_wide(alloc: Global, items: &mut AnyItems, more: &mut Seq<Item<Row>>) -> Result<(), Memory>
-    ensures ok { OnOk result (items_in items.new ≡ items_in items.old ++ more.old) }
-    ensures moved { OnOk result (more.new ≡ []) }
+fn append_wide(alloc: Global, items: &mut AnyItems, more: &mut Vec<Item<Row>>) -> Result<(), Memory>
+    ensures ok { OnOk result (items_in items.new ≡ items_in items.old ++ more.old.items) }
+    ensures moved { OnOk result (more.new.items ≡ []) }
     ensures err { OnErr result (items_in items.new ≡ items_in items.old) }
-    ensures left { OnErr result (more.new ≡ more.old) }
+    ensures left { OnErr result (more.new.items ≡ more.old.items) }
 {
     let mut wide = match items {
-        AnyItems::Wide(items) => return append(alloc, items, more),
+        AnyItems::Wide(items) => return append(items, more),
         AnyItems::Short(items) => all_widened(alloc, items.as_slice())?,
     };
-    append(alloc, &mut wide, more)?;
+    append(&mut wide, more)?;
     *items = AnyItems::Wide(wide);
     Ok(())
 }
@@ -104,7 +98,7 @@ impl Items {
     {
         Items {
             alloc,
-            held: AnyItems::Short(Seq::new(alloc)),
+            held: AnyItems::Short(Vec::new(alloc)),
         }
     }
 
@@ -147,8 +141,8 @@ impl Items {
     {
         if let Some(tag) = held {
             match &mut self.held {
-                AnyItems::Short(items) => turn_all(self.alloc, items, tag),
-                AnyItems::Wide(items) => turn_all(self.alloc, items, tag),
+                AnyItems::Short(items) => turn_all(items, tag),
+                AnyItems::Wide(items) => turn_all(items, tag),
             }
         }
     }

@@ -7,7 +7,6 @@ use crate::items::AnyItems;
 use sn_base::any_row::AnyRow;
 use sn_base::memory::Memory;
 use sn_base::row::Row;
-use sn_base::seq::Seq;
 use sn_base::short_row::ShortRow;
 use sn_report::frame::Item;
 use std::alloc::Global;
@@ -34,6 +33,15 @@ pub(crate) fn narrow(row: &Row) -> Option<ShortRow>
     Some(short)
 }
 
+/// Adds an item.
+fn add_item<R: Drop>(items: &mut Vec<Item<R>>, item: Item<R>) -> Result<(), Memory>
+    ensures ok { OnOk result (items.new.items ≡ items.old.items ++ item ∷ []) }
+    ensures err { OnErr result (items.new.items ≡ items.old.items) }
+{
+    items.push(item)?;
+    Ok(())
+}
+
 /// The item over a wide row.
 fn widened(item: &Item<ShortRow>) -> Item<Row>
     ensures { result ≡ item.now }
@@ -45,48 +53,59 @@ fn widened(item: &Item<ShortRow>) -> Item<Row>
 }
 
 /// The items over wide rows.
-pub(crate) fn all_widened(alloc: Global, items: &[Item<ShortRow>]) -> Result<Seq<Item<Row>>, Memory>
-    ensures { IfOk result (λ wide. wide ≡ items.now) }
+pub(crate) fn all_widened(alloc: Global, items: &[Item<ShortRow>]) -> Result<Vec<Item<Row>>, Memory>
+    ensures { IfOk result (λ wide. wide.items ≡ items.now) }
 {
-    let mut wide = Seq::new(alloc);
+    let mut wide = Vec::new(alloc);
     for item in items {
         wide.push(widened(item))?;
     }
     Ok(wide)
 }
 
-/// Adds an item over a short row. The first columns are read one by one, each as it was written: two that are read at once right after
-/// they were written one by one are waited for until they have reached the processor's cache.
+/// Makes a row without columns a copy of another. The first columns are read one by one, each as it was written: two that are read at
+/// once right after they were written one by one are waited for until they have reached the processor's cache.
 #[tactic(auto, using(crate::proofs::FewColumns::no_column, crate::proofs::FewColumns::one_column, crate::proofs::FewColumns::two_columns, crate::proofs::FewColumns::three_columns))]
-fn push_short(items: &mut Seq<Item<ShortRow>>, item: &Item<ShortRow>) -> Result<(), Memory>
-    ensures ok { OnOk result (items.new ≡ items.old ++ item.now ∷ []) }
-    ensures err { OnErr result (items.new ≡ items.old) }
+fn fill_row(row: &mut ShortRow, from: &ShortRow)
+    requires { row.old ≡ [] }
+    ensures { row.new ≡ from.now }
 {
-    let tag = item.tag;
-    let mut row = ShortRow::empty();
-    let Some(first) = item.row.get(0) else {
-        return items.push(Item { tag, row });
+    let Some(first) = from.get(0) else {
+        return;
     };
     row.push(first);
-    let Some(second) = item.row.get(1) else {
-        return items.push(Item { tag, row });
+    let Some(second) = from.get(1) else {
+        return;
     };
     row.push(second);
-    let Some(third) = item.row.get(2) else {
-        return items.push(Item { tag, row });
+    let Some(third) = from.get(2) else {
+        return;
     };
     row.push(third);
-    if item.row.len() == 3 {
-        return items.push(Item { tag, row });
+    if from.len() != 3 {
+        *row = *from;
     }
-    items.push(*item)
+}
+
+/// Adds an item over a short row, which is written in its place: a row made elsewhere would be read again right after.
+fn push_short(items: &mut Vec<Item<ShortRow>>, item: &Item<ShortRow>) -> Result<(), Memory>
+    ensures ok { OnOk result (items.new.items ≡ items.old.items ++ item.now ∷ []) }
+    ensures err { OnErr result (items.new.items ≡ items.old.items) }
+{
+    let last = items.len();
+    items.push(Item {
+        tag: item.tag,
+        row: ShortRow::empty(),
+    })?;
+    fill_row(&mut items[last].row, &item.row);
+    Ok(())
 }
 
 impl LaneRow for ShortRow {
     fn push_to(_alloc: Global, item: &Item<ShortRow>, items: &mut AnyItems) -> Result<(), Memory> {
         match items {
             AnyItems::Short(items) => push_short(items, item),
-            AnyItems::Wide(items) => items.push(widened(item)),
+            AnyItems::Wide(items) => add_item(items, widened(item)),
         }
     }
 }
@@ -94,9 +113,9 @@ impl LaneRow for ShortRow {
 impl LaneRow for Row {
     fn push_to(alloc: Global, item: &Item<Row>, items: &mut AnyItems) -> Result<(), Memory> {
         let mut wide = match items {
-            AnyItems::Wide(items) => return items.push(*item),
+            AnyItems::Wide(items) => return add_item(items, *item),
             AnyItems::Short(items) => match narrow(&item.row) {
-                Some(row) => return items.push(Item { tag: item.tag, row }),
+                Some(row) => return add_item(items, Item { tag: item.tag, row }),
                 None => all_widened(alloc, items.as_slice())?,
             },
         };

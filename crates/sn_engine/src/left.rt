@@ -14,7 +14,6 @@ use sn_base::columns::Columns;
 use sn_base::members::Members;
 use sn_base::memory::Memory;
 use sn_base::number::Number;
-use sn_base::seq::Seq;
 use sn_fields::field::Field;
 use sn_report::frame::{Item, Tag};
 use sn_types::typed::Typed;
@@ -110,15 +109,15 @@ fn first_dropped<R: AnyRow>(
 
 /// Adds those of these items that are left.
 fn push_left<R: AnyRow>(
-    found: &mut Seq<Item<R>>,
+    found: &mut Vec<Item<R>>,
     branch: &TypedBranch,
     field: Field,
     bits: u32,
     members: &Members,
     items: &[Item<R>],
 ) -> Result<(), Memory>
-    ensures { OnOk result (map (item_by R.columns) found.new
-        ≡ map (item_by R.columns) found.old ++ left_of (keeps_in (Some field) branch.now (Some (bits, members.now))) (map (item_by R.columns) items.now)) }
+    ensures { OnOk result (map (item_by R.columns) found.new.items
+        ≡ map (item_by R.columns) found.old.items ++ left_of (keeps_in (Some field) branch.now (Some (bits, members.now))) (map (item_by R.columns) items.now)) }
 {
     for item in items {
         if is_left(branch, field, bits, members, item) {
@@ -136,14 +135,14 @@ fn left_of_kind<R: AnyRow>(
     bits: u32,
     members: &Members,
     items: &[Item<R>],
-) -> Result<Option<Seq<Item<R>>>, Memory>
-    ensures { IfOk result (λ found. unwrap_or (option_map (map (item_by R.columns)) found) (map (item_by R.columns) items.now)
+) -> Result<Option<Vec<Item<R>>>, Memory>
+    ensures { IfOk result (λ found. unwrap_or (option_map (λ left. map (item_by R.columns) left.items) found) (map (item_by R.columns) items.now)
         ≡ left_of (keeps_in (Some field) branch.now (Some (bits, members.now))) (map (item_by R.columns) items.now)) }
 {
     let Some(first) = first_dropped(branch, field, bits, members, items) else {
         return Ok(None);
     };
-    let mut found = Seq::from_slice(alloc, &items[..first])?;
+    let mut found = Vec::from_slice(alloc, &items[..first])?;
     push_left(
         &mut found,
         branch,

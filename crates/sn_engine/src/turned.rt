@@ -4,10 +4,7 @@ ghost use Rattle.sn_engine.specs.Turns.{turn};
 ghost use Rattle.sn_pipe_items.specs.Value.{is_at};
 ghost use Rattle.sn_report.specs.Frames.{operator_of};
 
-use sn_base::seq::Seq;
 use sn_report::frame::{Item, Tag};
-use std::alloc::Global;
-use std::mem;
 
 /// Whether an item with this tag stands after the operator of a tag.
 fn is_after(held: Tag, own: Tag) -> bool
@@ -31,19 +28,11 @@ fn turn<R>(item: &mut Item<R>, held: Tag)
     }
 }
 
-fn turn_each<R>(items: &mut [Item<R>], held: Tag)
+/// Gives this tag to the items that stand after its operator.
+pub(crate) fn turn_all<R>(items: &mut [Item<R>], held: Tag)
     ensures { items.new ≡ map (turn (Some held)) items.old }
 {
     for item in items.iter_mut() {
         turn(item, held);
     }
-}
-
-/// Gives this tag to the items that stand after its operator. Takes no memory.
-pub(crate) fn turn_all<R: Drop>(alloc: Global, items: &mut Seq<Item<R>>, held: Tag)
-    ensures { items.new ≡ map (turn (Some held)) items.old }
-{
-    let mut taken = mem::replace(items, Seq::new(alloc)).into_vec();
-    turn_each(&mut taken, held);
-    *items = Seq::from_vec(taken);
 }

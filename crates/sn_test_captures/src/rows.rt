@@ -1,5 +1,6 @@
 //! Rows, their schemas, and what is made of their columns.
 use sn_base::any_fold::AnyFold;
+use sn_base::any_row::AnyRow;
 use sn_base::column::Column;
 use sn_base::fold::{Fold, Max, Min, Or, SatSum};
 use sn_base::mask::mask;
@@ -45,6 +46,21 @@ fn wide_rows_hold_eight_columns(rt: HostRuntime) -> Result<(), Fail> {
     assert_eq!(rt; row.and_then(|row| row.get(7)), Some(u128::MAX));
     assert!(rt; row.is_some_and(|row| row.with(9).is_none()));
     assert!(rt; Row::empty() < Row::empty().with(0).unwrap_or(Row::empty()));
+    Ok(())
+}
+
+#[test]
+fn columns_that_are_cut_come_back_as_zeros(rt: HostRuntime) -> Result<(), Fail> {
+    let mut short = ShortRow::new(&[1, 2, 3]).ok_or("no row")?;
+    short.resize(2);
+    short.resize(4);
+    short.set(3, 9);
+    assert_eq!(rt; Some(short), ShortRow::new(&[1, 2, 0, 9]));
+    let mut wide = Row::new(&[1, 2, 3]).ok_or("no row")?;
+    wide.resize(2);
+    wide.resize(4);
+    wide.set(3, u128::MAX);
+    assert_eq!(rt; Some(wide), Row::new(&[1, 2, 0, u128::MAX]));
     Ok(())
 }
 

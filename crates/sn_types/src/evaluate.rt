@@ -121,9 +121,9 @@ pub fn map_into<C: Columns, R: AnyRow + Columns<Number = C::Number>>(
     requires reads { All (λ e. ReadsWithin (length (C.columns row.now)) e) cols.now }
     ensures { R.columns out.new ≡ map (λ e. value_of e (C.columns row.now)) cols.now }
 {
-    *out = R::empty();
-    for col in cols {
-        out.push(expr(col, row));
+    out.resize(cols.len());
+    for (place, col) in cols.iter().enumerate() {
+        out.set(place, expr(col, row));
     }
 }
 
@@ -137,9 +137,9 @@ pub fn columns_into<C: Columns, R: AnyRow + Columns<Number = C::Number>>(
     requires few { length places.now ≤ 8 }
     ensures { R.columns key.new ≡ columns_at places.now (C.columns row.now) }
 {
-    *key = R::empty();
-    for place in places {
-        key.push(row.column(*place));
+    key.resize(places.len());
+    for (at, place) in places.iter().enumerate() {
+        key.set(at, row.column(*place));
     }
 }
 

@@ -65,9 +65,9 @@ fn row_into<R: AnyRow>(
     ensures row { R.columns row.new ≡ packet_row refined level fields.now tuple.now }
     ensures columns { IsOf (map field_column fields.now) (R.columns row.new) }
 {
-    *row = R::empty();
-    for field in fields {
-        row.push(read_at(refined, level, tuple, *field));
+    row.resize(fields.len());
+    for (place, field) in fields.iter().enumerate() {
+        row.set(place, read_at(refined, level, tuple, *field));
     }
 }
 

@@ -13,24 +13,32 @@ abbrev as_lists : List Item → List Item
 as_lists items = map (item_by (λ (row : Row). row)) items
 
 -- what is left of items: those that are given, or all
-given : (test : List Item → List Item) (held items : List Item) (found : Option (List Item)) → held ≡ items → unwrap_or (option_map as_lists found) (as_lists held) ≡ test (as_lists held)
-    → unwrap_or found items ≡ test items
-given test held items None same is = sym same ∙ sym (same_items held) ∙ is ∙ ap test (same_items held ∙ same)
-given test held items (Some found) same is = sym (same_items found) ∙ is ∙ ap test (same_items held ∙ same)
+given : {V : Type 0} (found : Option V) (of : V → List Item) (test : List Item → List Item) (held items : List Item) → held ≡ items
+    → unwrap_or (option_map (λ left. as_lists (of left)) found) (as_lists held) ≡ test (as_lists held) → unwrap_or (option_map of found) items ≡ test items
+given None of test held items same is = sym same ∙ sym (same_items held) ∙ is ∙ ap test (same_items held ∙ same)
+given (Some left) of test held items same is = sym (same_items (of left)) ∙ is ∙ ap test (same_items held ∙ same)
+
+all_left : {V : Type 0} (found : Option V) (of : V → List Item) (items : List Item) → found ≡ None → items ≡ unwrap_or (option_map of found) items
+all_left found of items is = sym (ap (λ o. unwrap_or (option_map of o) items) is)
+
+some_left : {V : Type 0} (found : Option V) (of : V → List Item) (items : List Item) (left : V) → found ≡ Some left → of left ≡ unwrap_or (option_map of found) items
+some_left found of items left is = sym (ap (λ o. unwrap_or (option_map of o) items) is)
 
 pub returns-in-None : goal.returns-in-None
 returns-in-None c =
     let items = c.args.items.now in
     let test : List Item → List Item = left_of (keeps_in (Some c.args.field) c.args.branch.now (Some (c.args.bits, c.args.members.now))) in
-    let same : c.as_slice.result.now ≡ items = c.as_slice.ensures ∙ ap items_in (sym c.in-Short.is) ∙ c.kind.ensures in
-    sym (ap (λ (o : Option (List Item)). unwrap_or o items) c.in-None.is) ∙ given test c.as_slice.result.now items c.in_ok-found-in-Short.field-0 same c.in_ok-found-in-Short.ensures
+    let found = c.in_ok-found-in-Short.field-0 in
+    let same : c.as_slice.result.now ≡ items = c.as_slice.ensures.value ∙ ap items_in (sym c.in-Short.is) ∙ c.kind.ensures in
+    all_left found (λ left. left.items) items c.in-None.is ∙ given found (λ left. left.items) test c.as_slice.result.now items same c.in_ok-found-in-Short.ensures
 
 pub returns-in-None-2 : goal.returns-in-None-2
 returns-in-None-2 c =
     let items = c.args.items.now in
     let test : List Item → List Item = left_of (keeps_in (Some c.args.field) c.args.branch.now (Some (c.args.bits, c.args.members.now))) in
-    let same : c.as_slice-in-Wide.result.now ≡ items = c.as_slice-in-Wide.ensures ∙ ap items_in (sym c.in-Wide.is) ∙ c.kind.ensures in
-    sym (ap (λ (o : Option (List Item)). unwrap_or o items) c.in-None-2.is) ∙ given test c.as_slice-in-Wide.result.now items c.in_ok-found-in-Wide.field-0 same c.in_ok-found-in-Wide.ensures
+    let found = c.in_ok-found-in-Wide.field-0 in
+    let same : c.as_slice-in-Wide.result.now ≡ items = c.as_slice-in-Wide.ensures.value ∙ ap items_in (sym c.in-Wide.is) ∙ c.kind.ensures in
+    all_left found (λ left. left.items) items c.in-None-2.is ∙ given found (λ left. left.items) test c.as_slice-in-Wide.result.now items same c.in_ok-found-in-Wide.ensures
 
 pub returns : goal.returns
 returns c =
@@ -38,11 +46,13 @@ returns c =
     let test : List Item → List Item = left_of (keeps_in (Some c.args.field) c.args.branch.now (Some (c.args.bits, c.args.members.now))) in
     c.of.ensures ∙ elim c.match-kind.branch [
       | in-Short+in_ok-found-in-Short+in-Some w ↦
-          let same : w.as_slice.result.now ≡ items = w.as_slice.ensures ∙ ap items_in (sym w.in-Short.is) ∙ c.kind.ensures in
-          ap items_in w.held-is ∙ sym (ap (λ (o : Option (List Item)). unwrap_or o items) w.in-Some.is)
-          ∙ given test w.as_slice.result.now items w.in_ok-found-in-Short.field-0 same w.in_ok-found-in-Short.ensures
+          let found = w.in_ok-found-in-Short.field-0 in
+          let same : w.as_slice.result.now ≡ items = w.as_slice.ensures.value ∙ ap items_in (sym w.in-Short.is) ∙ c.kind.ensures in
+          ap items_in w.held-is ∙ some_left found (λ left. left.items) items w.in-Some.found w.in-Some.is
+          ∙ given found (λ left. left.items) test w.as_slice.result.now items same w.in_ok-found-in-Short.ensures
       | in-Wide+in_ok-found-in-Wide+in-Some-2 w ↦
-          let same : w.as_slice-in-Wide.result.now ≡ items = w.as_slice-in-Wide.ensures ∙ ap items_in (sym w.in-Wide.is) ∙ c.kind.ensures in
-          ap items_in w.held-is ∙ sym (ap (λ (o : Option (List Item)). unwrap_or o items) w.in-Some-2.is)
-          ∙ given test w.as_slice-in-Wide.result.now items w.in_ok-found-in-Wide.field-0 same w.in_ok-found-in-Wide.ensures
+          let found = w.in_ok-found-in-Wide.field-0 in
+          let same : w.as_slice-in-Wide.result.now ≡ items = w.as_slice-in-Wide.ensures.value ∙ ap items_in (sym w.in-Wide.is) ∙ c.kind.ensures in
+          ap items_in w.held-is ∙ some_left found (λ left. left.items) items w.in-Some-2.found w.in-Some-2.is
+          ∙ given found (λ left. left.items) test w.as_slice-in-Wide.result.now items same w.in_ok-found-in-Wide.ensures
     ]

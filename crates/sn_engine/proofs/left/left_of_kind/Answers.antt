@@ -20,7 +20,7 @@ returns g c =
     let keeps : Item → Bool = λ x. keeps_at test x.tag x.row in
     let next : i + 1 ≡ suc i = omega arith in
     c.in_ok-push_left.ensures
-    ∙ ap (λ xs. map by xs ++ left_of test (map by (take (length items - (i + 1)) (drop (i + 1) items)))) c.in_ok-found.ensures
+    ∙ ap (λ xs. map by xs ++ left_of test (map by (take (length items - (i + 1)) (drop (i + 1) items)))) c.in_ok-found.ensures.items
     ∙ ap (λ xs. map by (take i items) ++ left_of test (map by xs)) (rest_is items (i + 1))
     ∙ ap (λ (n : ℕ). map by (take i items) ++ left_of test (map by (drop n items))) next
     ∙ first_drops by keeps items i (sym c.first_dropped.ensures.first ∙ c.in-Some.is)

@@ -5,5 +5,5 @@ use Rattle.sn_report.specs.Items.{item_by}
 use Rattle.sn_engine.proofs.left.push_left.Given as goal
 
 abbrev pub invariant-loop-item : goal.invariant-loop-item
-invariant-loop-item g l = map (item_by g.R.Columns.columns) l.found
-    ≡ map (item_by g.R.Columns.columns) l.initial.found ++ left_of (keeps_in (Some l.field) l.branch (Some (l.bits, l.members))) (map (item_by g.R.Columns.columns) (take l.item-index l.items))
+invariant-loop-item g l = map (item_by g.R.Columns.columns) l.found.items
+    ≡ map (item_by g.R.Columns.columns) l.initial.found.items ++ left_of (keeps_in (Some l.field) l.branch (Some (l.bits, l.members))) (map (item_by g.R.Columns.columns) (take l.item-index l.items))

@@ -1,4 +1,4 @@
-use Rattle.std.proofs.Common.{sym, ap, ◌∙◌, suc, Option, Some}
+use Rattle.std.proofs.Common.{sym, ap, ◌∙◌, suc, Some}
 use Rattle.sn_engine.specs.Moving.{keeps_columns}
 use Rattle.sn_types.specs.Typed.{schema_at}
 use Rattle.sn_engine.proofs.Moves.{own_widths}

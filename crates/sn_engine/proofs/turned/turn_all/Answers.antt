@@ -1,7 +1,7 @@
 use Rattle.std.proofs.Common.{set, Some, ap, sym, ◌∙◌}
 use Rattle.std.proofs.lemmas.List.Edits.{map_over_more}
 use Rattle.sn_engine.specs.Turns.{turn}
-use Rattle.sn_engine.proofs.turned.turn_each.Goals as goal
+use Rattle.sn_engine.proofs.turned.turn_all.Goals as goal
 
 pub loop-item-preserved : goal.loop-item-preserved
 loop-item-preserved g c =
