@@ -13,3 +13,4 @@ pub mod Bounded
 pub mod Built
 pub mod Counting
 pub mod Nothing
+mod Packing

@@ -3,6 +3,7 @@ ghost use Rattle.std.specs.Prelude.{◌≡◌, ℕ, ◌<◌, ◌≤◌, ◌+◌,
 ghost use Rattle.std.specs.List.{list_any};
 ghost use Rattle.sn_plan_choices.specs.Costs.{HasPlaces};
 ghost use Rattle.sn_cost.specs.Adding.{Adds, AreSmall, HasRoom, kept_counts, of_branches, with_fee};
+ghost use Rattle.sn_cost_counts.specs.Standing.{ArePacked, IsPacked};
 ghost use Rattle.sn_ops.specs.Packets.{OfALevel};
 ghost use Rattle.sn_switch.specs.Texts.{IsSwitch};
 ghost use Rattle.sn_types.specs.Kinds.{AreBelow};
@@ -16,6 +17,7 @@ use sn_base::row::Row;
 use sn_base::seq::Seq;
 use sn_base::short_row::ShortRow;
 use sn_cost_counts::branch::counts_of;
+use sn_cost_counts::packed::Packed;
 use sn_cost_tally::room::Room;
 use sn_fields::tuple::Tuple;
 use sn_ops::packets::Kept;
@@ -34,6 +36,7 @@ fn counts_over<R: AnyRow>(
     level: u32,
     kept: Option<Kept>,
     tuples: &[Tuple],
+    packed: &Packed,
 ) -> Result<Seq<u64>, Memory>
     requires switch { IsSwitch s.now }
     requires query { q < length t.now.queries }
@@ -42,11 +45,12 @@ fn counts_over<R: AnyRow>(
     requires kept { OfALevel (query_at t.now.queries q) kept }
     requires below { AreBelow R.Number.limit (branch_at t.now.queries q b).fields }
     requires few { length tuples.now ≤ most_records }
+    requires packed { IsPacked (query_at t.now.queries q) b tuples.now packed.now }
     ensures counts { IfOk result (λ counts. counts ≡ kept_counts s.now (query_at t.now.queries q) level kept.entry tuples.now b) }
     ensures small { IfOk result (λ counts. AreSmall counts) }
 {
     let slots = s.slots.as_slice();
-    counts_of::<R>(room, t, q, b, level, s.chain, slots, kept, tuples)
+    counts_of::<R>(room, t, q, b, level, s.chain, slots, kept, tuples, packed)
 }
 
 /// The counts of a branch at a level, over the tuples of a window that are kept. Its packet rows are short where it isn't wide: that
@@ -60,6 +64,7 @@ fn kept_counts(
     level: u32,
     kept: Option<Kept>,
     tuples: &[Tuple],
+    packed: &Packed,
 ) -> Result<Seq<u64>, Memory>
     requires switch { IsSwitch s.now }
     requires query { q < length t.now.queries }
@@ -67,13 +72,14 @@ fn kept_counts(
     requires level { list_any (nat_eq level) (query_at t.now.queries q).levels ≡ true }
     requires kept { OfALevel (query_at t.now.queries q) kept }
     requires few { length tuples.now ≤ most_records }
+    requires packed { IsPacked (query_at t.now.queries q) b tuples.now packed.now }
     ensures counts { IfOk result (λ counts. counts ≡ kept_counts s.now (query_at t.now.queries q) level kept.entry tuples.now b) }
     ensures small { IfOk result (λ counts. AreSmall counts) }
 {
     if t.is_wide(q, b) {
-        counts_over::<Row>(room, t, s, q, b, level, kept, tuples)
+        counts_over::<Row>(room, t, s, q, b, level, kept, tuples, packed)
     } else {
-        counts_over::<ShortRow>(room, t, s, q, b, level, kept, tuples)
+        counts_over::<ShortRow>(room, t, s, q, b, level, kept, tuples, packed)
     }
 }
 
@@ -87,6 +93,7 @@ pub(crate) fn add_branches(
     level: u32,
     kept: Option<Kept>,
     tuples: &[Tuple],
+    packed: &[Packed],
     fee: u64,
     table: &mut CostTable,
 ) -> Result<(), Memory>
@@ -95,6 +102,7 @@ pub(crate) fn add_branches(
     requires level { list_any (nat_eq level) (query_at t.now.queries q).levels ≡ true }
     requires kept { OfALevel (query_at t.now.queries q) kept }
     requires few { length tuples.now ≤ most_records }
+    requires packed { ArePacked (query_at t.now.queries q) tuples.now packed.now }
     requires places { HasPlaces table.old (q + 1) }
     requires prefix { prefix < 16 }
     requires room { (b : ℕ) → b < 2 → HasRoom table.old q prefix b fee }
@@ -104,7 +112,7 @@ pub(crate) fn add_branches(
         (Adds table.old table.new (of_branches q prefix (length query.branches) (λ b. with_fee fee (kept_counts s.now query level kept.entry tuples.now b)))) }
 {
     for b in 0..t.branches(q) {
-        let counts = kept_counts(room, t, s, q, b, level, kept, tuples)?;
+        let counts = kept_counts(room, t, s, q, b, level, kept, tuples, &packed[b as usize])?;
         add_counts(
             table,
             q,

@@ -6,6 +6,7 @@ ghost use Rattle.sn_base.specs.Sorted.{sorted_rows};
 ghost use Rattle.sn_plan_choices.specs.Costs.{HasPlaces};
 ghost use Rattle.sn_cost.specs.Adding.{Adds, AreSmall, HasRoom, kept_counts, of_branches, with_fee};
 ghost use Rattle.sn_cost.specs.Training.{AddsFront, HasFrontRoom, IsNext, admitted, answered_by, fee_of, kept_size, sees_nothing, stays_open};
+ghost use Rattle.sn_cost_counts.specs.Standing.{ArePacked};
 ghost use Rattle.sn_engine_split.specs.Opened.{is_open};
 ghost use Rattle.sn_ops.specs.Packets.{OfALevel};
 ghost use Rattle.sn_ops.specs.Plain.{query_rows};
@@ -21,6 +22,7 @@ use crate::fronts::Fronts;
 use crate::rows::add_query_rows;
 use sn_base::members::Members;
 use sn_base::memory::Memory;
+use sn_cost_counts::packed::Packed;
 use sn_cost_tally::room::Room;
 use sn_fields::tuple::Tuple;
 use sn_ops::lists::plain_list;
@@ -95,6 +97,7 @@ fn count_front(
     level: u32,
     kept: Option<Kept>,
     tuples: &[Tuple],
+    packed: &[Packed],
     table: &mut CostTable,
 ) -> Result<(), Memory>
     requires switch { IsSwitch s.now }
@@ -102,6 +105,7 @@ fn count_front(
     requires level { list_any (nat_eq level) (query_at t.now.queries q).levels ≡ true }
     requires kept { OfALevel (query_at t.now.queries q) kept }
     requires few { length tuples.now ≤ most_records }
+    requires packed { ArePacked (query_at t.now.queries q) tuples.now packed.now }
     requires places { HasPlaces table.old (q + 1) }
     requires front { front < 16 }
     requires room { (b : ℕ) → b < 2 → HasRoom table.old q front b (s.now.weight * kept_size kept) }
@@ -112,7 +116,9 @@ fn count_front(
 {
     let installed = admitted(s.entries, kept);
     let fee = fee_of(s, installed);
-    add_branches(room, t, s, q, front, level, installed, tuples, fee, table)
+    add_branches(
+        room, t, s, q, front, level, installed, tuples, packed, fee, table,
+    )
 }
 
 /// The prefixes that a level answers of the tuples of a window that are kept.
@@ -145,6 +151,7 @@ fn count_and_answer(
     level: u32,
     kept: Option<Kept>,
     tuples: &[Tuple],
+    packed: &[Packed],
     table: &mut CostTable,
 ) -> Result<Members, Memory>
     requires switch { IsSwitch s.now }
@@ -152,6 +159,7 @@ fn count_and_answer(
     requires level { list_any (nat_eq level) (query_at t.now.queries q).levels ≡ true }
     requires kept { OfALevel (query_at t.now.queries q) kept }
     requires few { length tuples.now ≤ most_records }
+    requires packed { ArePacked (query_at t.now.queries q) tuples.now packed.now }
     requires places { HasPlaces table.old (q + 1) }
     requires front { front < 16 }
     requires room { (b : ℕ) → b < 2 → HasRoom table.old q front b (s.now.weight * kept_size kept) }
@@ -163,11 +171,13 @@ fn count_and_answer(
         (λ answered. answered ≡ prefixes_of query (sorted_rows (query_rows query level kept.entry tuples.now))) }
 {
     if stays_open(s.entries, kept) {
-        count_front(room, t, s, q, front, level, kept, tuples, table)?;
+        count_front(room, t, s, q, front, level, kept, tuples, packed, table)?;
         return answered(t, q, level, kept, tuples);
     }
     let fee = fee_of(s, kept);
-    let rows = add_query_rows(room, t, s, q, front, level, kept, tuples, fee, table)?;
+    let rows = add_query_rows(
+        room, t, s, q, front, level, kept, tuples, packed, fee, table,
+    )?;
     members(t.alloc, t, q, &AnswerRows::sorted(rows)?)
 }
 
@@ -183,6 +193,7 @@ pub(crate) fn add_front(
     fronts: &Fronts,
     w: u64,
     tuples: &[Tuple],
+    packed: &[Packed],
     table: &mut CostTable,
 ) -> Result<Members, Memory>
     requires switch { IsSwitch s.now }
@@ -191,6 +202,7 @@ pub(crate) fn add_front(
     requires front { front < 2 ^ length (query_at t.now.queries q).levels }
     requires above { IsAbove fronts.now.last w }
     requires few { length tuples.now ≤ most_records }
+    requires packed { ArePacked (query_at t.now.queries q) tuples.now packed.now }
     requires places { HasPlaces table.old (q + 1) }
     requires room { HasFrontRoom table.old q front s.now.weight fronts.now.sets }
     ensures adds { OnOk result (AddsFront s.now q (query_at t.now.queries q) front fronts.now.last fronts.now.sets w tuples.now table.old table.new) }
@@ -207,8 +219,8 @@ pub(crate) fn add_front(
         return Ok(Members::new(t.alloc));
     }
     if top as usize + 1 == levels.len() {
-        count_front(room, t, s, q, front, level, kept, tuples, table)?;
+        count_front(room, t, s, q, front, level, kept, tuples, packed, table)?;
         return Ok(Members::new(t.alloc));
     }
-    count_and_answer(room, t, s, q, front, level, kept, tuples, table)
+    count_and_answer(room, t, s, q, front, level, kept, tuples, packed, table)
 }

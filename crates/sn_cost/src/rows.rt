@@ -5,6 +5,7 @@ ghost use Rattle.sn_base.specs.Columns.{IsOf};
 ghost use Rattle.sn_base.specs.RowLists.{rows_in};
 ghost use Rattle.sn_plan_choices.specs.Costs.{HasPlaces};
 ghost use Rattle.sn_cost.specs.Adding.{Adds, AreSmall, HasRoom, kept_counts, of_branches, of_counts, with_fee};
+ghost use Rattle.sn_cost_counts.specs.Standing.{ArePacked, IsPacked};
 ghost use Rattle.sn_ops.specs.Packets.{OfALevel};
 ghost use Rattle.sn_ops.specs.Plain.{branch_rows, query_rows};
 ghost use Rattle.sn_switch.specs.Texts.{IsSwitch};
@@ -20,6 +21,7 @@ use sn_base::row_list::RowList;
 use sn_base::seq::Seq;
 use sn_base::short_row::ShortRow;
 use sn_cost_counts::branch::{Counted, counts_and_rows};
+use sn_cost_counts::packed::Packed;
 use sn_cost_tally::room::Room;
 use sn_fields::tuple::Tuple;
 use sn_ops::lists::join_lists;
@@ -46,6 +48,7 @@ fn counted_over<R: AnyRow>(
     level: u32,
     kept: Option<Kept>,
     tuples: &[Tuple],
+    packed: &Packed,
 ) -> Result<Counted<R>, Memory>
     requires switch { IsSwitch s.now }
     requires query { q < length t.now.queries }
@@ -54,13 +57,14 @@ fn counted_over<R: AnyRow>(
     requires kept { OfALevel (query_at t.now.queries q) kept }
     requires below { AreBelow R.Number.limit (branch_at t.now.queries q b).fields }
     requires few { length tuples.now ≤ most_records }
+    requires packed { IsPacked (query_at t.now.queries q) b tuples.now packed.now }
     ensures counts { IfOk result (λ found. found.counts ≡ kept_counts s.now (query_at t.now.queries q) level kept.entry tuples.now b) }
     ensures small { IfOk result (λ found. AreSmall found.counts) }
     ensures rows { IfOk result (λ found. found.rows ≡ branch_rows (query_at t.now.queries q) b level kept.entry tuples.now) }
     ensures columns { IfOk result (λ found. AllByRecursion (IsOf (end_columns (branch_at t.now.queries q b))) found.rows) }
 {
     let slots = s.slots.as_slice();
-    counts_and_rows(room, t, q, b, level, s.chain, slots, kept, tuples)
+    counts_and_rows(room, t, q, b, level, s.chain, slots, kept, tuples, packed)
 }
 
 /// The counts of a branch at a level, and its rows, over the tuples of a window that are kept. The kind of its rows is asked once.
@@ -73,6 +77,7 @@ fn counted(
     level: u32,
     kept: Option<Kept>,
     tuples: &[Tuple],
+    packed: &Packed,
 ) -> Result<BranchCounts, Memory>
     requires switch { IsSwitch s.now }
     requires query { q < length t.now.queries }
@@ -80,18 +85,21 @@ fn counted(
     requires level { list_any (nat_eq level) (query_at t.now.queries q).levels ≡ true }
     requires kept { OfALevel (query_at t.now.queries q) kept }
     requires few { length tuples.now ≤ most_records }
+    requires packed { IsPacked (query_at t.now.queries q) b tuples.now packed.now }
     ensures counts { IfOk result (λ found. found.counts ≡ kept_counts s.now (query_at t.now.queries q) level kept.entry tuples.now b) }
     ensures small { IfOk result (λ found. AreSmall found.counts) }
     ensures rows { IfOk result (λ found. rows_in found.rows ≡ branch_rows (query_at t.now.queries q) b level kept.entry tuples.now) }
     ensures columns { IfOk result (λ found. AllByRecursion (IsOf (end_columns (branch_at t.now.queries q b))) (rows_in found.rows)) }
 {
     if t.is_wide(q, b) {
-        let Counted { counts, rows } = counted_over::<Row>(room, t, s, q, b, level, kept, tuples)?;
+        let Counted { counts, rows } = counted_over::<Row>(
+            room, t, s, q, b, level, kept, tuples, packed,
+        )?;
         let rows = RowList::Wide(rows);
         Ok(BranchCounts { counts, rows })
     } else {
         let Counted { counts, rows } = counted_over::<ShortRow>(
-            room, t, s, q, b, level, kept, tuples,
+            room, t, s, q, b, level, kept, tuples, packed,
         )?;
         let rows = RowList::Short(rows);
         Ok(BranchCounts { counts, rows })
@@ -110,6 +118,7 @@ fn add_branch(
     level: u32,
     kept: Option<Kept>,
     tuples: &[Tuple],
+    packed: &Packed,
     fee: u64,
     table: &mut CostTable,
 ) -> Result<RowList, Memory>
@@ -119,6 +128,7 @@ fn add_branch(
     requires level { list_any (nat_eq level) (query_at t.now.queries q).levels ≡ true }
     requires kept { OfALevel (query_at t.now.queries q) kept }
     requires few { length tuples.now ≤ most_records }
+    requires packed { IsPacked (query_at t.now.queries q) b tuples.now packed.now }
     requires places { HasPlaces table.old (q + 1) }
     requires front { front < 16 }
     requires room { HasRoom table.old q front b fee }
@@ -127,7 +137,7 @@ fn add_branch(
     ensures rows { IfOk result (λ list. rows_in list ≡ branch_rows (query_at t.now.queries q) b level kept.entry tuples.now) }
     ensures columns { IfOk result (λ list. AllByRecursion (IsOf (end_columns (branch_at t.now.queries q b))) (rows_in list)) }
 {
-    let BranchCounts { counts, rows } = counted(room, t, s, q, b, level, kept, tuples)?;
+    let BranchCounts { counts, rows } = counted(room, t, s, q, b, level, kept, tuples, packed)?;
     add_counts(
         table,
         q,
@@ -151,6 +161,7 @@ pub(crate) fn add_query_rows(
     level: u32,
     kept: Option<Kept>,
     tuples: &[Tuple],
+    packed: &[Packed],
     fee: u64,
     table: &mut CostTable,
 ) -> Result<RowList, Memory>
@@ -159,6 +170,7 @@ pub(crate) fn add_query_rows(
     requires level { list_any (nat_eq level) (query_at t.now.queries q).levels ≡ true }
     requires kept { OfALevel (query_at t.now.queries q) kept }
     requires few { length tuples.now ≤ most_records }
+    requires packed { ArePacked (query_at t.now.queries q) tuples.now packed.now }
     requires places { HasPlaces table.old (q + 1) }
     requires front { front < 16 }
     requires room { (b : ℕ) → b < 2 → HasRoom table.old q front b fee }
@@ -168,10 +180,14 @@ pub(crate) fn add_query_rows(
         (Adds table.old table.new (of_branches q front (length query.branches) (λ b. with_fee fee (kept_counts s.now query level kept.entry tuples.now b)))) }
     ensures rows { IfOk result (λ list. rows_in list ≡ query_rows (query_at t.now.queries q) level kept.entry tuples.now) }
 {
-    let left = add_branch(room, t, s, q, front, 0, level, kept, tuples, fee, table)?;
+    let left = add_branch(
+        room, t, s, q, front, 0, level, kept, tuples, &packed[0], fee, table,
+    )?;
     if t.branches(q) != 2 {
         return Ok(left);
     }
-    let right = add_branch(room, t, s, q, front, 1, level, kept, tuples, fee, table)?;
+    let right = add_branch(
+        room, t, s, q, front, 1, level, kept, tuples, &packed[1], fee, table,
+    )?;
     join_lists(t.alloc, t, q, level, left, right)
 }

@@ -1,6 +1,6 @@
 -- Packets that come through filters and maps: one packet more, and one operator further.
-use Rattle.std.proofs.Common.{◌≡◌, ℕ, zero, suc, ◌+◌, ◌-◌, ◌≤◌, ◌<◌, List, [], ◌∷◌, ◌++◌, map, filter, take, length, replicate, set, get_or, slice_index, Bool, true, false, cond, nat_eq, nat_le, Option, Some, None, Result, Ok, Err, OnOk, refl, ap, sym, ◌∙◌, arith, append_assoc, append-nil}
-use Rattle.std.specs.List.{cons_option}
+use Rattle.std.proofs.Common.{◌≡◌, ℕ, zero, suc, ◌+◌, ◌-◌, ◌≤◌, ◌<◌, List, [], ◌∷◌, ◌++◌, map, filter, take, length, replicate, set, get_or, slice_index, Bool, true, false, cond, nat_eq, nat_le, Option, Some, None, Result, Ok, Err, OnOk, refl, ap, sym, subst, ◌∙◌, arith, append_assoc, append-nil}
+use Rattle.std.specs.List.{cons_option, filter_map}
 use Rattle.std.proofs.lemmas.Bool.{false≢true, true≢false, le-leb, leb-false, leb-true, lt-leb}
 use Rattle.std.proofs.lemmas.List.{get_or-replicate, get_or-set_other, get_or-set_same, length-append, length-map, length-replicate, length-set, take_all, take_more}
 use Rattle.std.proofs.lemmas.List.Elements.{filter-append, filter_map-append}
@@ -32,6 +32,9 @@ stopped (Map f ∷ os) h row lt = stopped os h (f row) (omega (arith, lt))
 stopped (Distinct ∷ os) h row lt = absurd h
 stopped (Reduce g ∷ os) h row lt = absurd h
 
+nat_less : (n m : ℕ) → n ≤ m → nat_eq n m ≡ false → n < m
+nat_less n m le isnt = by_test (nat_le m n) (λ is. let ge = leb-true m n is in let same : n ≡ m = omega (arith, le, ge) in absurd (true≢false (sym (nat_self m) ∙ ap (λ k. nat_eq k m) (sym same) ∙ isnt))) (λ no. leb-false m n no)
+
 -- ---- one packet more
 
 pub few_packets : (query : TypedQuery) (b level : ℕ) (kept : Option Kept) (tuples : List (List ℕ)) → length (packet_rows query b level kept tuples) ≤ length tuples
@@ -48,15 +51,39 @@ pub on_ok : {A E : Type 0} (P Q : Type 0) (r : Result A E) → (P → Q) → OnO
 on_ok P Q (Ok x) f h = f h
 on_ok P Q (Err e) f h = tt
 
-passed_more : (far : Row → ℕ) (n : ℕ) (rows : List Row) (row : Row) → length (filter (λ x. nat_eq n (far x)) (rows ++ row ∷ [])) ≡ length (filter (λ x. nat_eq n (far x)) rows) + cond (nat_eq n (far row)) 1 0
-passed_more far n rows row =
-    let t : Row → Bool = λ x. nat_eq n (far x) in
-    ap length (filter-append t rows (row ∷ [])) ∙ length-append (filter t rows) (filter t (row ∷ []))
-    ∙ ap (λ k. length (filter t rows) + k) (elim (nat_eq n (far row)) as (λ b. length (cond b (row ∷ []) []) ≡ cond b 1 0) [ true ↦ refl | false ↦ refl ])
+same_either : (b : Bool) (n : ℕ) → n ≡ cond b n n
+same_either true n = refl
+same_either false n = refl
 
-through_more : (os : List Op) → AreStateless os → (rows : List Row) (row : Row) → through os (rows ++ row ∷ []) ≡ through os rows ++ cons_option (come os row) []
-through_more os h rows row =
-    through_come os h (rows ++ row ∷ []) ∙ filter_map-append (come os) rows (row ∷ []) ∙ ap (λ xs. xs ++ cons_option (come os row) []) (sym (through_come os h rows))
+-- how many of some that are all the same pass a test
+filter_each : (t : Row → Bool) (row : Row) (times : ℕ) → length (filter t (replicate times row)) ≡ cond (t row) times 0
+filter_each t row zero = same_either (t row) 0
+filter_each t row (suc times) =
+    let rest : List Row = filter t (replicate times row) in
+    let e : length rest ≡ cond (t row) times 0 = filter_each t row times in
+    by_test (t row)
+    (λ is. ap (λ b. length (cond b (row ∷ rest) rest)) is ∙ ap suc (e ∙ ap (λ b. cond b times 0) is) ∙ sym (ap (λ b. cond b (suc times) 0) is))
+    (λ isnt. ap (λ b. length (cond b (row ∷ rest) rest)) isnt ∙ e ∙ ap (λ b. cond b times 0) isnt ∙ sym (ap (λ b. cond b (suc times) 0) isnt))
+
+passed_more : (far : Row → ℕ) (n : ℕ) (rows : List Row) (row : Row) (times : ℕ) → length (filter (λ x. nat_eq n (far x)) (rows ++ replicate times row)) ≡ length (filter (λ x. nat_eq n (far x)) rows) + cond (nat_eq n (far row)) times 0
+passed_more far n rows row times =
+    let t : Row → Bool = λ x. nat_eq n (far x) in
+    ap length (filter-append t rows (replicate times row)) ∙ length-append (filter t rows) (filter t (replicate times row))
+    ∙ ap (λ k. length (filter t rows) + k) (filter_each t row times)
+
+-- what comes of so many that are all the same
+abbrev each_come : Option Row → ℕ → List Row
+each_come None times = []
+each_come (Some row) times = replicate times row
+
+come_each : (next : Row → Option Row) (row : Row) (times : ℕ) → filter_map next (replicate times row) ≡ each_come (next row) times
+come_each next row zero = elim (next row) as (λ o. [] ≡ each_come o 0) [ None ↦ refl | Some x ↦ refl ]
+come_each next row (suc times) = ap (cons_option (next row)) (come_each next row times) ∙ elim (next row) as (λ o. cons_option o (each_come o times) ≡ each_come o (suc times)) [ None ↦ refl | Some x ↦ refl ]
+
+through_more : (os : List Op) → AreStateless os → (rows : List Row) (row : Row) (times : ℕ) → through os (rows ++ replicate times row) ≡ through os rows ++ each_come (come os row) times
+through_more os h rows row times =
+    through_come os h (rows ++ replicate times row) ∙ filter_map-append (come os) rows (replicate times row)
+    ∙ ap (λ xs. filter_map (come os) rows ++ xs) (come_each (come os) row times) ∙ ap (λ xs. xs ++ each_come (come os row) times) (sym (through_come os h rows))
 
 -- as many as pass so many operators aren't more than the packets
 pub passed_few : (level : ℕ) (ops : List TOp) (rows out : List Row) (seen n : ℕ) (passed : List ℕ) → n < 13 → HaveCome level ops rows seen passed out → slice_index passed n ≤ length rows
@@ -72,47 +99,56 @@ none_come level ops seen passed out none zeros empty h = record {
   come = empty ∙ sym (through_come (map (op_at level) ops) h []);
 }
 
-module _ (level : ℕ) (ops : List TOp) (rows : List Row) (row : Row) (n seen next : ℕ) (passed found : List ℕ) (out : List Row) (h : HaveCome level ops rows seen passed out) (far : n ≡ reach (map (op_at level) ops) row)
-    (within : n < 13) (one : next ≡ seen + 1) (told : found ≡ set passed n (slice_index passed n + 1)) where
+module _ (level : ℕ) (ops : List TOp) (rows : List Row) (row : Row) (times n seen next : ℕ) (passed found : List ℕ) (out : List Row) (h : HaveCome level ops rows seen passed out) (far : n ≡ reach (map (op_at level) ops) row)
+    (within : n < 13) (more : next ≡ seen + times) (told : found ≡ set passed n (slice_index passed n + times)) where
   abbrev os : List Op
   os = map (op_at level) ops
 
-  counted : (k : ℕ) → k < 13 → slice_index found k ≡ length (filter (λ x. nat_eq k (reach os x)) (rows ++ row ∷ []))
+  counted : (k : ℕ) → k < 13 → slice_index found k ≡ length (filter (λ x. nat_eq k (reach os x)) (rows ++ replicate times row))
   counted k lt =
-      let more : length (filter (λ x. nat_eq k (reach os x)) (rows ++ row ∷ [])) ≡ length (filter (λ x. nat_eq k (reach os x)) rows) + cond (nat_eq k n) 1 0 =
-      passed_more (reach os) k rows row ∙ ap (λ m. length (filter (λ x. nat_eq k (reach os x)) rows) + cond (nat_eq k m) 1 0) (sym far) in
+      let grown : length (filter (λ x. nat_eq k (reach os x)) (rows ++ replicate times row)) ≡ length (filter (λ x. nat_eq k (reach os x)) rows) + cond (nat_eq k n) times 0 =
+      passed_more (reach os) k rows row times ∙ ap (λ m. length (filter (λ x. nat_eq k (reach os x)) rows) + cond (nat_eq k m) times 0) (sym far) in
       by_test (nat_eq k n)
       (λ is.
       let e : k ≡ n = nat_same k n is in
-      let a = ap (λ ns. slice_index ns k) told ∙ ap (slice_index (set passed n (slice_index passed n + 1))) e ∙ get_or-set_same passed n (slice_index passed n + 1) 0 (omega (arith, within, h.places)) in
+      let a = ap (λ ns. slice_index ns k) told ∙ ap (slice_index (set passed n (slice_index passed n + times))) e ∙ get_or-set_same passed n (slice_index passed n + times) 0 (omega (arith, within, h.places)) in
       let b = h.each n within in
       let c = ap {B = ℕ} (λ m. length (filter (λ x. nat_eq m (reach os x)) rows)) e in
-      let d = ap {B = ℕ} (λ t. cond t 1 0) is in
-      omega (arith, a, b, c, d, more))
+      let d = ap {B = ℕ} (λ t. cond t times 0) is in
+      omega (arith, a, b, c, d, grown))
       (λ isnt.
-      let a = ap (λ ns. slice_index ns k) told ∙ get_or-set_other passed n k (slice_index passed n + 1) 0 (λ e. true≢false (sym (nat_self n) ∙ ap (λ m. nat_eq m n) (sym e) ∙ isnt)) in
+      let a = ap (λ ns. slice_index ns k) told ∙ get_or-set_other passed n k (slice_index passed n + times) 0 (λ e. true≢false (sym (nat_self n) ∙ ap (λ m. nat_eq m n) (sym e) ∙ isnt)) in
       let b = h.each k lt in
-      let d = ap {B = ℕ} (λ t. cond t 1 0) isnt in
-      omega (arith, a, b, d, more))
+      let d = ap {B = ℕ} (λ t. cond t times 0) isnt in
+      omega (arith, a, b, d, grown))
 
-  come_as : (more : List Row) → more ≡ out ++ cons_option (come os row) [] → HaveCome level ops (rows ++ row ∷ []) next found more
-  come_as more grown = record {
+  come_as : (all : List Row) → all ≡ out ++ each_come (come os row) times → HaveCome level ops (rows ++ replicate times row) next found all
+  come_as all grown = record {
     stateless = h.stateless;
-    total = let a = length-append rows (row ∷ []) in let b = h.total in omega (arith, a, b, one);
-    places = ap length told ∙ length-set passed n (slice_index passed n + 1) ∙ h.places;
+    total = let a = length-append rows (replicate times row) in let b = h.total in let c = length-replicate {A = Row} times row in omega (arith, a, b, c, more);
+    places = ap length told ∙ length-set passed n (slice_index passed n + times) ∙ h.places;
     each = counted;
-    come = grown ∙ ap (λ xs. xs ++ cons_option (come os row) []) h.come ∙ sym (through_more os h.stateless rows row);
+    come = grown ∙ ap (λ xs. xs ++ each_come (come os row) times) h.come ∙ sym (through_more os h.stateless rows row times);
   }
 
-  -- one that doesn't pass all
-  pub one_stops : n < length ops → HaveCome level ops (rows ++ row ∷ []) next found out
-  one_stops lt =
+  -- those that don't pass all
+  pub they_stop : n < length ops → HaveCome level ops (rows ++ replicate times row) next found (out ++ [])
+  they_stop lt =
       let none : come os row ≡ None = stopped os h.stateless row (let long = length-map ops (op_at level) in omega (arith, lt, far, long)) in
-      come_as out (sym (append-nil out) ∙ ap (λ (o : Option Row). out ++ cons_option o []) (sym none))
+      come_as (out ++ []) (ap (λ (o : Option Row). out ++ each_come o times) (sym none))
 
-  -- and one that does
-  pub one_comes : (x : Row) (more : List Row) → come os row ≡ Some x → more ≡ out ++ x ∷ [] → HaveCome level ops (rows ++ row ∷ []) next found more
-  one_comes x more some grown = come_as more (grown ∙ ap (λ (o : Option Row). out ++ cons_option o []) (sym some))
+  -- and those that do
+  pub they_come : (x : Row) → come os row ≡ Some x → HaveCome level ops (rows ++ replicate times row) next found (out ++ replicate times x)
+  they_come x some = come_as (out ++ replicate times x) (ap (λ (o : Option Row). out ++ each_come o times) (sym some))
+
+  -- which of both, as it's told
+  pub all_or_some : n ≤ length ops → (x : Row) → (n ≡ length ops → come os row ≡ Some x) → HaveCome level ops (rows ++ replicate times row) next found (out ++ cond (nat_eq n (length ops)) (replicate times x) [])
+  all_or_some most x comes =
+      by_test (nat_eq n (length ops))
+      (λ is. subst (λ b. HaveCome level ops (rows ++ replicate times row) next found (out ++ cond b (replicate times x) [])) (sym is) (they_come x (comes (nat_same n (length ops) is))))
+      (λ isnt.
+      let less : n < length ops = nat_less n (length ops) most isnt in
+      subst (λ b. HaveCome level ops (rows ++ replicate times row) next found (out ++ cond b (replicate times x) [])) (sym isnt) (they_stop less))
 
 -- ---- one operator further
 
@@ -193,6 +229,14 @@ module _ (level : ℕ) (ops : List TOp) (rows : List Row) (first : List ℕ) (se
             ∙ ap (λ m. first ++ (take i (coming_to level ops rows) ++ m ∷ [])) here
             ∙ ap (λ ns. first ++ ns) (sym (take_more (coming_to level ops rows) i 0 (let long = coming_long level ops rows in omega (arith, lt, long))));
       }
+
+  -- how many pass all of them
+  pub place_left : (i left : ℕ) (counts : List ℕ) → length ops ≤ i → i ≤ length ops → AtPlace level ops rows first i left counts → left ≡ length out
+  place_left i left counts le ge place =
+      let os : List Op = map (op_at level) ops in
+      let long : length os ≡ length ops = length-map ops (op_at level) in
+      place.at ∙ sym (reached os i h.stateless (omega (arith, ge, long)) rows)
+      ∙ ap (λ (xs : List Op). length (through xs rows)) (take_all i os (omega (arith, le, long))) ∙ sym (ap length h.come)
 
   pub place_end : (i left : ℕ) (counts : List ℕ) → length ops ≤ i → AtPlace level ops rows first i left counts → counts ≡ first ++ coming_to level ops rows
   place_end i left counts le place = place.told ∙ ap (λ ns. first ++ ns) (take_all i (coming_to level ops rows) (let long = coming_long level ops rows in omega (arith, le, long)))

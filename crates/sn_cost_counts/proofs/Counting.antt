@@ -24,7 +24,7 @@ use Rattle.sn_cost_counts.specs.Flows.{counted, held_rows, run, starting, steppe
 use Rattle.sn_cost_counts.specs.Flows as flows
 use Rattle.sn_cost_counts.proofs.Holding.{held_bag}
 
-bag_long : {A : Type 0} (xs ys : List A) → SameBag xs ys → length xs ≡ length ys
+pub bag_long : {A : Type 0} (xs ys : List A) → SameBag xs ys → length xs ≡ length ys
 bag_long _ _ (stays xs) = refl
 bag_long _ _ (behind x xs ys b) = ap suc (bag_long xs ys b)
 bag_long _ _ (turned x y xs) = refl

@@ -3,7 +3,7 @@ use Rattle.std.proofs.Common.{◌≡◌, ℕ, suc, ◌+◌, ◌*◌, ◌≤◌, 
 use Rattle.std.specs.List.{AllByRecursion, flat_map, list_all}
 use Rattle.std.proofs.Math.Seq.{drop-cons}
 use Rattle.std.proofs.lemmas.Grind.{flat_map-append}
-use Rattle.std.proofs.lemmas.List.{append-nil, drop_all, length-map, map-append, take_all, take_more}
+use Rattle.std.proofs.lemmas.List.{append-nil, drop_all, length-map, take_all, take_more}
 use Rattle.std.proofs.lemmas.List.Elements.{All-from_recursion, recursion_from_All}
 use Rattle.sn_base.specs.AnyFold.{any_has}
 use Rattle.sn_base.specs.Groups.{Row, once, same_row}
@@ -180,27 +180,27 @@ all_fit level passed op os fs h =
 -- ---- operators one after another
 
 -- the counts of the operators before this one are there, and its rows with them
-pub record Along (depth level : ℕ) (slots : List ℕ) (os : List TOp) (all : List ℕ) (i : ℕ) (fs : List Flow) (counts : List ℕ) : Type 0 where
+pub record Along (depth level : ℕ) (slots : List ℕ) (os : List TOp) (all : List ℕ) (passed i : ℕ) (fs : List Flow) (counts : List ℕ) : Type 0 where
   pub told : counts ++ counts_from depth level slots (drop i os) fs ≡ all
-  pub go : AllGo level i (drop i os) fs
+  pub go : AllGo level (passed + i) (drop i os) fs
 
 pub operators_ahead : (os : List TOp) (i : ℕ) (op : TOp) → i < length os → op ≡ get_or os i op → drop i os ≡ op ∷ drop (i + 1) os
 operators_ahead os i op lt at =
     let next : suc i ≡ i + 1 = omega arith in
     drop-cons os i op lt ∙ ap (λ x. x ∷ drop (suc i) os) (sym at) ∙ ap (λ n. op ∷ drop n os) next
 
-pub one_ahead : (level i : ℕ) (os : List TOp) (op : TOp) (fs : List Flow) → i < length os → op ≡ get_or os i op → AllGo level i (drop i os) fs → AllGo level i (op ∷ drop (i + 1) os) fs
-one_ahead level i os op fs lt at h = subst (λ (xs : List TOp). AllGo level i xs fs) (operators_ahead os i op lt at) h
+pub one_ahead : (level passed i : ℕ) (os : List TOp) (op : TOp) (fs : List Flow) → i < length os → op ≡ get_or os i op → AllGo level passed (drop i os) fs → AllGo level passed (op ∷ drop (i + 1) os) fs
+one_ahead level passed i os op fs lt at h = subst (λ (xs : List TOp). AllGo level passed xs fs) (operators_ahead os i op lt at) h
 
-pub at_first : (depth level : ℕ) (slots : List ℕ) (os : List TOp) (first : List Flow) (before : List ℕ) → AllGo level 0 os first → Along depth level slots os (before ++ counts_from depth level slots os first) 0 first before
-at_first depth level slots os first before h = record { told = refl; go = h }
+pub at_first : (depth level : ℕ) (slots : List ℕ) (os : List TOp) (passed : ℕ) (first : List Flow) (before : List ℕ) → AllGo level passed os first → Along depth level slots os (before ++ counts_from depth level slots os first) passed 0 first before
+at_first depth level slots os passed first before h = let e : passed ≡ passed + 0 = omega arith in record { told = refl; go = subst (λ n. AllGo level n os first) e h }
 
-pub one_along : (depth level : ℕ) (slots : List ℕ) (os : List TOp) (all : List ℕ) (i : ℕ) (op : TOp) (fs next : List Flow) (counts more : List ℕ) → i < length os → op ≡ get_or os i op
-    → Along depth level slots os all i fs counts → more ≡ counts ++ map counted fs → next ≡ wider depth level slots op fs → Along depth level slots os all (i + 1) next more
-one_along depth level slots os all i op fs next counts more lt at so_far grown wide =
-    let n : suc i ≡ i + 1 = omega arith in
-    let go : AllGo level (i + 1) (drop (i + 1) os) (wider depth level slots op fs) =
-    subst (λ m. AllGo level m (drop (i + 1) os) (wider depth level slots op fs)) n (wider_go level i depth slots op (drop (i + 1) os) fs (one_ahead level i os op fs lt at so_far.go)) in
+pub one_along : (depth level : ℕ) (slots : List ℕ) (os : List TOp) (all : List ℕ) (passed i : ℕ) (op : TOp) (fs next : List Flow) (counts more : List ℕ) → i < length os → op ≡ get_or os i op
+    → Along depth level slots os all passed i fs counts → more ≡ counts ++ map counted fs → next ≡ wider depth level slots op fs → Along depth level slots os all passed (i + 1) next more
+one_along depth level slots os all passed i op fs next counts more lt at so_far grown wide =
+    let n : suc (passed + i) ≡ passed + (i + 1) = omega arith in
+    let go : AllGo level (passed + (i + 1)) (drop (i + 1) os) (wider depth level slots op fs) =
+    subst (λ m. AllGo level m (drop (i + 1) os) (wider depth level slots op fs)) n (wider_go level (passed + i) depth slots op (drop (i + 1) os) fs (one_ahead level (passed + i) i os op fs lt at so_far.go)) in
     record {
       told =
           ap (λ xs. xs ++ counts_from depth level slots (drop (i + 1) os) next) grown
@@ -208,11 +208,11 @@ one_along depth level slots os all i op fs next counts more lt at so_far grown w
           ∙ ap (λ x. counts ++ (map counted fs ++ counts_from depth level slots (drop (i + 1) os) x)) wide
           ∙ sym (ap (λ (xs : List TOp). counts ++ counts_from depth level slots xs fs) (operators_ahead os i op lt at))
           ∙ so_far.told;
-      go = subst (AllGo level (i + 1) (drop (i + 1) os)) (sym wide) go;
+      go = subst (AllGo level (passed + (i + 1)) (drop (i + 1) os)) (sym wide) go;
     }
 
-pub all_along : (depth level : ℕ) (slots : List ℕ) (os : List TOp) (all : List ℕ) (i : ℕ) (fs : List Flow) (counts more : List ℕ) → length os ≤ i → Along depth level slots os all i fs counts → more ≡ counts ++ map counted fs → more ≡ all
-all_along depth level slots os all i fs counts more le so_far grown =
+pub all_along : (depth level : ℕ) (slots : List ℕ) (os : List TOp) (all : List ℕ) (passed i : ℕ) (fs : List Flow) (counts more : List ℕ) → length os ≤ i → Along depth level slots os all passed i fs counts → more ≡ counts ++ map counted fs → more ≡ all
+all_along depth level slots os all passed i fs counts more le so_far grown =
     grown ∙ sym (ap (λ (xs : List TOp). counts ++ counts_from depth level slots xs fs) (drop_all i os le)) ∙ so_far.told
 
 -- ---- what is after an operator
@@ -230,12 +230,6 @@ wide_one depth level slots ops.Distinct fs isnt = absurd cc
 wide_one depth level slots (ops.Reduce r) fs isnt = absurd cc
 
 -- ---- lists that grow
-
-pub sizes_grown : (f : ℕ → Flow) (first out more : List Flow) (slots : List ℕ) (i : ℕ) (next : Flow) → i < length slots → out ≡ first ++ map f (take i slots) → more ≡ out ++ next ∷ [] → next ≡ f (get_or slots i 0)
-    → more ≡ first ++ map f (take (i + 1) slots)
-sizes_grown f first out more slots i next lt so_far grown is =
-    grown ∙ ap (λ xs. xs ++ next ∷ []) so_far ∙ append_assoc first (map f (take i slots)) (next ∷ []) ∙ ap (λ x. first ++ (map f (take i slots) ++ x ∷ [])) is
-    ∙ ap (λ xs. first ++ xs) (sym (ap (map f) (take_more slots i 0 lt) ∙ map-append f (take i slots) (get_or slots i 0 ∷ [])))
 
 pub flows_grown : (f : Flow → List Flow) (out more flows : List Flow) (i : ℕ) (x : Flow) → i < length flows → x ≡ get_or flows i x → out ≡ flat_map f (take i flows) → more ≡ out ++ f x → more ≡ flat_map f (take (i + 1) flows)
 flows_grown f out more flows i x lt at so_far grown =

@@ -1,4 +1,5 @@
 pub mod Settling
+pub mod Sharing
 pub mod Holding
 pub mod Going
 pub mod Together
@@ -9,3 +10,7 @@ pub mod Branching
 pub mod OneRow
 pub mod Arrivals
 pub mod Ahead
+pub mod Alike
+pub mod Standing
+mod Weighing
+mod Remaking

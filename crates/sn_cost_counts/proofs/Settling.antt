@@ -45,6 +45,12 @@ distinct_rows depth slots rows keys out are is = is ∙ ap (λ ks. marked (homes
 
 -- ---- a reduce
 
+pub marked_map : (f : Row → Row) (marks : List Bool) (xs : List Row) → marked marks (map f xs) ≡ map f (marked marks xs)
+marked_map f [] xs = refl
+marked_map f (m ∷ ms) [] = refl
+marked_map f (m ∷ ms) (x ∷ xs) =
+    ap (λ ys. cond m (f x ∷ ys) ys) (marked_map f ms xs) ∙ elim m as (λ b. cond b (f x ∷ map f (marked ms xs)) (map f (marked ms xs)) ≡ map f (cond b (x ∷ marked ms xs) (marked ms xs))) [ true ↦ refl | false ↦ refl ]
+
 module _ (depth slots : ℕ) (g : Grouping) (rows : List Row) where
   abbrev all : List Row
   all = map (key_of g) rows
@@ -52,12 +58,6 @@ module _ (depth slots : ℕ) (g : Grouping) (rows : List Row) where
   pub reduce_over : (over : ℕ) (keys : List Row) (times : List ℕ) → keys ≡ once same_row all → times ≡ tallied all → over ≡ sum_unmarked (homes_among depth slots keys) times → over ≡ length (over_reduce depth slots g rows)
   reduce_over over keys times are counted is =
       is ∙ ap (λ ks. sum_unmarked (homes_among depth slots ks) times) are ∙ ap (sum_unmarked (homes_among depth slots (once same_row all))) counted ∙ over_counted depth slots g rows
-
-  marked_map : (f : Row → Row) (marks : List Bool) (xs : List Row) → marked marks (map f xs) ≡ map f (marked marks xs)
-  marked_map f [] xs = refl
-  marked_map f (m ∷ ms) [] = refl
-  marked_map f (m ∷ ms) (x ∷ xs) =
-      ap (λ ys. cond m (f x ∷ ys) ys) (marked_map f ms xs) ∙ elim m as (λ b. cond b (f x ∷ map f (marked ms xs)) (map f (marked ms xs)) ≡ map f (cond b (x ∷ marked ms xs) (marked ms xs))) [ true ↦ refl | false ↦ refl ]
 
   -- the rows of all keys
   pub grouped_is : apply (Reduce g) rows ≡ map (row_for g (map (pair_of g) rows)) (once same_row all)

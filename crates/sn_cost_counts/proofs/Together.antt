@@ -1,7 +1,7 @@
 -- Rows that are the same for all lists of sizes, as long as no register overflows.
 use Rattle.std.proofs.Common.{◌≡◌, ℕ, zero, suc, ◌+◌, ◌*◌, ◌≤◌, List, [], ◌∷◌, ◌++◌, map, filter, length, replicate, nat_eq, nat_lt, Bool, true, false, not, ◌||◌, cond, refl, ap, sym, ◌∙◌, arith, append_assoc, zero-add, Result, Ok, Err, OnOk}
 use Rattle.std.specs.List.{AllByRecursion, flat_map, list_all}
-use Rattle.std.proofs.lemmas.List.{length-map, replicate-append-replicate, replicate_more, flat_map_more}
+use Rattle.std.proofs.lemmas.List.{length-map, replicate-append-replicate}
 use Rattle.sn_base.specs.Groups.{Row, once, same_row}
 use Rattle.sn_base.specs.Operators.{Grouping, apply, key_of, pair_of, row_for}
 use Rattle.sn_base.specs.Operators.Op.{Distinct, Reduce}
@@ -139,36 +139,20 @@ pub one_held : (depth : ℕ) (slots : List ℕ) (op : TOp) (rows all : List Row)
     → starting all ∷ replicate after (starting all) ≡ wider depth 0 slots op (starting rows ∷ replicate more (starting rows))
 one_held depth slots op rows all more after stateful some one gives count = held depth slots op rows all more after stateful (none_alone depth slots op rows stateful some one) gives count
 
-pub same_held : (depth : ℕ) (slots : List ℕ) (op : TOp) (rows all : List Row) (more after : ℕ) (flow : Flow) (flows : List Flow) → is_stateful op ≡ true → flow ≡ starting rows → all ≡ apply (op_at 0 op) flow.rows
-    → flows ≡ by_size depth slots op flow → list_all (λ (f : Flow). nat_eq f.sent 0) flows ≡ true → suc after ≡ suc more * length flows
+pub same_held : (depth : ℕ) (slots : List ℕ) (op : TOp) (rows all : List Row) (more after : ℕ) (flows : List Flow) → is_stateful op ≡ true → all ≡ apply (op_at 0 op) rows
+    → flows ≡ by_size depth slots op (starting rows) → list_all (λ (f : Flow). nat_eq f.sent 0) flows ≡ true → suc after ≡ suc more * length flows
     → starting all ∷ replicate after (starting all) ≡ wider depth 0 slots op (starting rows ∷ replicate more (starting rows))
-same_held depth slots op rows all more after flow flows stateful at gives are none count =
-    let made : flows ≡ by_size depth slots op (starting rows) = are ∙ ap (by_size depth slots op) at in
-    let long : length flows ≡ length slots = ap length made ∙ length-map slots (λ size. stepped depth size (op_at 0 op) (starting rows)) in
+same_held depth slots op rows all more after flows stateful gives are none count =
+    let long : length flows ≡ length slots = ap length are ∙ length-map slots (λ size. stepped depth size (op_at 0 op) (starting rows)) in
     held depth slots op rows all more after stateful
-    (none_of (by_size depth slots op (starting rows)) (sym (ap (list_all (λ (f : Flow). nat_eq f.sent 0)) made) ∙ none))
-    (gives ∙ ap (λ (f : Flow). apply (op_at 0 op) f.rows) at)
+    (none_of (by_size depth slots op (starting rows)) (sym (ap (list_all (λ (f : Flow). nat_eq f.sent 0)) are) ∙ none)) gives
     (count ∙ ap (λ n. suc more * n) long)
-
--- where one overflows there are those for each list of sizes
-pub repeated_held : (depth : ℕ) (slots : List ℕ) (op : TOp) (rows : List Row) (more : ℕ) (flow : Flow) (first out : List Flow) → is_stateful op ≡ true → flow ≡ starting rows → first ≡ by_size depth slots op flow
-    → out ≡ first ++ flat_map (by_size depth slots op) (replicate more flow) → out ≡ wider depth 0 slots op (starting rows ∷ replicate more (starting rows))
-repeated_held depth slots op rows more flow first out stateful at are is =
-    is
-    ∙ ap (λ (fs : List Flow). fs ++ flat_map (by_size depth slots op) (replicate more flow)) are
-    ∙ ap (λ (f : Flow). by_size depth slots op f ++ flat_map (by_size depth slots op) (replicate more f)) at
-    ∙ wide_sizes depth 0 slots op (starting rows ∷ replicate more (starting rows)) stateful
 
 pub wide_levels : (depth level : ℕ) (slots : List ℕ) (op : TOp) (fs : List Flow) → is_stateful op ≡ true → wider depth 0 slots op fs ≡ wider depth level slots op fs
 wide_levels depth level slots (ops.Filter conds) fs is = absurd cc
 wide_levels depth level slots (ops.Map exprs) fs is = absurd cc
 wide_levels depth level slots ops.Distinct fs is = refl
 wide_levels depth level slots (ops.Reduce r) fs is = refl
-
--- once more
-pub once_more : (f : Flow → List Flow) (first out new : List Flow) (i : ℕ) (x : Flow) → out ≡ first ++ flat_map f (replicate i x) → new ≡ out ++ f x → new ≡ first ++ flat_map f (replicate (i + 1) x)
-once_more f first out new i x so_far grown =
-    grown ∙ ap (λ (fs : List Flow). fs ++ f x) so_far ∙ flat_map_more f first (replicate i x) x ∙ ap (λ (fs : List Flow). first ++ flat_map f fs) (replicate_more i x)
 
 -- ---- counts
 

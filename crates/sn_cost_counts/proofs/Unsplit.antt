@@ -9,8 +9,6 @@ use Rattle.sn_types.specs.declared.typed_op.TOp.{TOp}
 use Rattle.sn_types.specs.declared.typed_op.TOp.TheVariants as ops
 use Rattle.sn_types.specs.Cuts.{is_stateful}
 use Rattle.sn_types.specs.Values.{op_at}
-use Rattle.sn_cost_counts.specs.AnyFlow.{Flow}
-use Rattle.sn_cost_counts.specs.Flows.{starting}
 use Rattle.sn_cost_counts.proofs.Going.{operators_ahead}
 
 -- ---- a distinct or a reduce
@@ -21,9 +19,6 @@ at_all_levels level (ops.Filter conds) is = absurd cc
 at_all_levels level (ops.Map exprs) is = absurd cc
 at_all_levels level ops.Distinct is = refl
 at_all_levels level (ops.Reduce r) is = refl
-
-pub all_at : (level : ℕ) (op : TOp) (rows all : List Row) (flow : Flow) → is_stateful op ≡ true → flow ≡ starting rows → all ≡ apply (op_at 0 op) flow.rows → all ≡ apply (op_at level op) rows
-all_at level op rows all flow stateful at is = is ∙ ap (λ (f : Flow). apply (op_at 0 op) f.rows) at ∙ ap (λ o. apply o rows) (at_all_levels level op stateful)
 
 -- ---- one operator after another
 
@@ -47,39 +42,44 @@ if_mapped f (Some x) P h = h
 abbrev pub given : Bool → ℕ → List TOp → List Row → Option (List Row)
 given kept level os rows = cond kept (Some (through (map (op_at level) os) rows)) None
 
--- the operators ahead give of what is kept what all of them give of the rows
-pub record Follows (kept : Bool) (level : ℕ) (os : List TOp) (rows : List Row) (i : ℕ) (o : Option (List Row)) : Type 0 where
-  pub fit : IfSome o (AllFit level (drop i os))
-  pub same : option_map (through (map (op_at level) (drop i os))) o ≡ given kept level os rows
+-- the operators ahead give of what is kept this, which all of them give of the first
+abbrev pub Follows : ℕ → List TOp → Option (List Row) → ℕ → Option (List Row) → Type 0
+Follows level os all i o = option_map (through (map (op_at level) (drop i os))) o ≡ all
 
-pub follows_first : (kept : Bool) (level : ℕ) (os : List TOp) (rows : List Row) → AllFit level os rows → Follows kept level os rows 0 (cond kept (Some rows) None)
-follows_first true level os rows h = record { fit = h; same = refl }
-follows_first false level os rows h = record { fit = tt; same = refl }
-
-fits_ahead : (kept : Bool) (level : ℕ) (os : List TOp) (rows : List Row) (i : ℕ) (op : TOp) (o : Option (List Row)) → i < length os → op ≡ get_or os i op → Follows kept level os rows i o → IfSome o (AllFit level (op ∷ drop (i + 1) os))
-fits_ahead kept level os rows i op o lt at h = subst (λ (xs : List TOp). IfSome o (AllFit level xs)) (operators_ahead os i op lt at) h.fit
-
-pub fits_one : (kept : Bool) (level : ℕ) (os : List TOp) (rows : List Row) (i : ℕ) (op : TOp) (o : Option (List Row)) → i < length os → op ≡ get_or os i op → Follows kept level os rows i o → IfSome o (Fits op)
-fits_one kept level os rows i op o lt at h = if_some o (AllFit level (op ∷ drop (i + 1) os)) (Fits op) (λ x f. f.0) (fits_ahead kept level os rows i op o lt at h)
-
-pub follows_next : (kept : Bool) (level : ℕ) (os : List TOp) (rows : List Row) (i : ℕ) (op : TOp) (o next : Option (List Row)) → i < length os → op ≡ get_or os i op → Follows kept level os rows i o
-    → next ≡ option_map (apply (op_at level op)) o → Follows kept level os rows (i + 1) next
-follows_next kept level os rows i op o next lt at h is =
+pub follows_next : (level : ℕ) (os : List TOp) (all : Option (List Row)) (i : ℕ) (op : TOp) (o next : Option (List Row)) → i < length os → op ≡ get_or os i op → Follows level os all i o
+    → next ≡ option_map (apply (op_at level op)) o → Follows level os all (i + 1) next
+follows_next level os all i op o next lt at so_far is =
     let behind : List TOp = drop (i + 1) os in
-    record {
-      fit = subst (λ (x : Option (List Row)). IfSome x (AllFit level behind)) (sym is)
-          (if_mapped (apply (op_at level op)) o (AllFit level behind)
-          (if_some o (AllFit level (op ∷ behind)) (λ (x : List Row). AllFit level behind (apply (op_at level op) x)) (λ x f. f.1) (fits_ahead kept level os rows i op o lt at h)));
-      same =
-          ap (option_map (through (map (op_at level) behind))) is
-          ∙ map_twice (apply (op_at level op)) (through (map (op_at level) behind)) o
-          ∙ sym (ap (λ (xs : List TOp). option_map (through (map (op_at level) xs)) o) (operators_ahead os i op lt at))
-          ∙ h.same;
-    }
+    ap (option_map (through (map (op_at level) behind))) is
+    ∙ map_twice (apply (op_at level op)) (through (map (op_at level) behind)) o
+    ∙ sym (ap (λ (xs : List TOp). option_map (through (map (op_at level) xs)) o) (operators_ahead os i op lt at))
+    ∙ so_far
 
-pub follows_all : (kept : Bool) (level : ℕ) (os : List TOp) (rows : List Row) (i : ℕ) (o : Option (List Row)) → length os ≤ i → Follows kept level os rows i o → o ≡ given kept level os rows
-follows_all kept level os rows i o le h =
-    sym (map_same o) ∙ sym (ap (λ (xs : List TOp). option_map (through (map (op_at level) xs)) o) (drop_all i os le)) ∙ h.same
+pub follows_all : (level : ℕ) (os : List TOp) (all : Option (List Row)) (i : ℕ) (o : Option (List Row)) → length os ≤ i → Follows level os all i o → o ≡ all
+follows_all level os all i o le so_far = sym (map_same o) ∙ sym (ap (λ (xs : List TOp). option_map (through (map (op_at level) xs)) o) (drop_all i os le)) ∙ so_far
+
+-- ---- operators fit all rows, as long as they're held
+
+fits_ahead : (level : ℕ) (os : List TOp) (i : ℕ) (op : TOp) (held : Option (List Row)) → i < length os → op ≡ get_or os i op → IfSome held (AllFit level (drop i os)) → IfSome held (AllFit level (op ∷ drop (i + 1) os))
+fits_ahead level os i op held lt at fit = subst (λ (xs : List TOp). IfSome held (AllFit level xs)) (operators_ahead os i op lt at) fit
+
+pub fits_one : (level : ℕ) (os : List TOp) (i : ℕ) (op : TOp) (held : Option (List Row)) → i < length os → op ≡ get_or os i op → IfSome held (AllFit level (drop i os)) → IfSome held (Fits op)
+fits_one level os i op held lt at fit = if_some held (AllFit level (op ∷ drop (i + 1) os)) (Fits op) (λ x f. f.0) (fits_ahead level os i op held lt at fit)
+
+-- where rows are held after an operator, they're what it gives of those held before
+pub fits_after : (level : ℕ) (os : List TOp) (i : ℕ) (op : TOp) (held next : Option (List Row)) → i < length os → op ≡ get_or os i op → IfSome held (AllFit level (drop i os))
+    → IfSome next (λ rows. option_map (apply (op_at level op)) held ≡ Some rows) → IfSome next (AllFit level (drop (i + 1) os))
+fits_after level os i op held None lt at fit is = tt
+fits_after level os i op held (Some rows) lt at fit is =
+    let behind : List TOp = drop (i + 1) os in
+    subst (λ (x : Option (List Row)). IfSome x (AllFit level behind)) is
+    (if_mapped (apply (op_at level op)) held (AllFit level behind)
+    (if_some held (AllFit level (op ∷ behind)) (λ (x : List Row). AllFit level behind (apply (op_at level op) x)) (λ x f. f.1) (fits_ahead level os i op held lt at fit)))
+
+-- where all rows are kept, or none
+pub map_given : (asked : Bool) (f : List Row → List Row) (rows : List Row) → option_map f (cond asked (Some rows) None) ≡ cond asked (Some (f rows)) None
+map_given true f rows = refl
+map_given false f rows = refl
 
 -- ---- the operators after a cut
 

@@ -2,6 +2,10 @@ pub mod AnyFlow
 pub mod Flows
 pub mod Coming
 pub mod Fitting
+pub mod Alike
+pub mod Standing
+pub mod Shared
 pub mod Passing
 pub mod Settings
 pub mod Counts
+pub mod Again

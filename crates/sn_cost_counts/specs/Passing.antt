@@ -4,8 +4,9 @@ use Rattle.std.specs.Prelude.{List, ◌∷◌, replicate, Option, Some, None, if
 use Rattle.sn_base.specs.Groups.{Row}
 use Rattle.sn_cost_counts.specs.AnyFlow.{Flow}
 use Rattle.sn_cost_counts.specs.Flows.{starting}
+use Rattle.sn_cost_counts.specs.Shared.{flows_in}
 use Rattle.sn_cost_counts.specs.declared.passing.Passing.{Passing as PassingOf}
-use Rattle.sn_cost_counts.specs.declared.passing.Passing.TheVariants.{Together, Apart}
+use Rattle.sn_cost_counts.specs.declared.passing.Passing.TheVariants.{Together, Marked, Apart}
 
 abbrev pub Passing : Type 0
 Passing = PassingOf (List Row)
@@ -13,9 +14,17 @@ Passing = PassingOf (List Row)
 -- those for each list of sizes
 abbrev pub flows_of : Passing → List Flow
 flows_of (Together rows more kept) = starting rows ∷ replicate more (starting rows)
+flows_of (Marked shared kept) = flows_in shared
 flows_of (Apart flows unsplit) = flows.items
+
+-- all rows, where they are there: as long as they're together or shared, or where they're kept
+abbrev pub held_by : Passing → Option (List Row)
+held_by (Together rows more kept) = Some rows
+held_by (Marked shared kept) = Some shared.rows
+held_by (Apart flows unsplit) = unsplit
 
 -- what the operators give of all rows, where that is kept
 abbrev pub unsplit_of : Passing → Option (List Row)
 unsplit_of (Together rows more kept) = if kept then Some rows else None
+unsplit_of (Marked shared kept) = if kept then Some shared.rows else None
 unsplit_of (Apart flows unsplit) = unsplit

@@ -1,5 +1,5 @@
 //! Packets that come through the filters and maps before the first distinct or reduce.
-ghost use Rattle.std.specs.Prelude.{◌≡◌, ℕ, List, ◌≤◌, ◌<◌, ◌*◌, ◌++◌, ◌∷◌, [], Some, length, map, nat_eq, true, IfOk, OnOk};
+ghost use Rattle.std.specs.Prelude.{◌≡◌, ℕ, List, ◌≤◌, ◌<◌, ◌*◌, ◌+◌, ◌++◌, ◌∷◌, [], Some, length, map, nat_eq, replicate, true, IfOk, OnOk, if◌then◌else◌};
 ghost use Rattle.std.specs.List.{AllByRecursion, list_any};
 ghost use Rattle.sn_base.specs.Columns.{IsOf};
 ghost use Rattle.sn_base.specs.Groups.{Row};
@@ -110,13 +110,71 @@ pub(crate) fn start<R: AnyRow>(
 /// One more than the operators of a branch can be: a row passes fewer than so many.
 const PLACES: usize = 13;
 
+/// How far packets come through filters and maps.
+#[derive(Drop)]
+pub(crate) struct Reached {
+    /// How many packets there are.
+    seen: u64,
+    /// How many of them pass so many of the operators and no more, by how many.
+    passed: [u64; PLACES],
+}
+
+impl Reached {
+    /// Of no packet.
+    pub(crate) fn new() -> Reached
+        ensures { (level : ℕ) (ops : List TOp) → AreStateless (map (op_at level) ops) → HaveCome level ops [] result.seen result.passed [] }
+    {
+        Reached {
+            seen: 0,
+            passed: [0; PLACES],
+        }
+    }
+
+    /// Takes in `times` packets more, all the same as this one. Whether they pass all operators: then `row` is the row after them.
+    pub(crate) fn count<R: AnyRow>(
+        &mut self,
+        ops: &[TOp],
+        level: u32,
+        packet: &PacketRow<'_, R::Number>,
+        times: u64,
+        row: &mut R,
+    ) -> bool
+        requires short { length ops.now ≤ 12 }
+        requires stateless { AreStateless (map (op_at level) ops.now) }
+        requires takes { Takes level ops.now packet.now }
+        requires few { (rows out : List Row) × (length rows + times ≤ most_records) × HaveCome level ops.now rows self.old.seen self.old.passed out }
+        ensures { (rows out : List Row) → HaveCome level ops.now rows self.old.seen self.old.passed out →
+            HaveCome level ops.now (rows ++ replicate times packet.now) self.new.seen self.new.passed (out ++ (if result then replicate times (R.columns row.new) else [])) }
+    {
+        let passed = start(ops, level, packet, row);
+        self.seen += times;
+        self.passed[passed as usize] += times;
+        passed as usize == ops.len()
+    }
+
+    /// Adds how many of the packets come to each of the operators. How many pass all.
+    pub(crate) fn add_counts(&self, ops: &[TOp], counts: &mut Seq<u64>) -> Result<u64, Memory>
+        requires short { length ops.now ≤ 12 }
+        requires come { (level : ℕ) × (rows out : List Row) × HaveCome level ops.now rows self.now.seen self.now.passed out }
+        ensures counts { (level : ℕ) (rows out : List Row) → HaveCome level ops.now rows self.now.seen self.now.passed out →
+            OnOk result (counts.new ≡ counts.old ++ coming_to level ops.now rows) }
+        ensures left { (level : ℕ) (rows out : List Row) → HaveCome level ops.now rows self.now.seen self.now.passed out →
+            IfOk result (λ left. left ≡ length out) }
+    {
+        let mut left = self.seen;
+        for place in 0..ops.len() {
+            counts.push(left)?;
+            left -= self.passed[place];
+        }
+        Ok(left)
+    }
+}
+
 /// What comes of packets through filters and maps.
 #[derive(Drop)]
 pub(crate) struct Arrivals<R: AnyRow> {
-    /// How many packets there are.
-    pub seen: u64,
-    /// How many of them pass so many of the operators and no more, by how many.
-    pub passed: [u64; PLACES],
+    /// How far they come.
+    pub reached: Reached,
     /// What those are after all operators that pass all.
     pub rows: RowSeq<R>,
 }
@@ -124,11 +182,10 @@ pub(crate) struct Arrivals<R: AnyRow> {
 impl<R: AnyRow> Arrivals<R> {
     /// Of no packet.
     fn new(alloc: Global) -> Arrivals<R>
-        ensures { (level : ℕ) (ops : List TOp) → AreStateless (map (op_at level) ops) → HaveCome level ops [] result.seen result.passed result.rows }
+        ensures { (level : ℕ) (ops : List TOp) → AreStateless (map (op_at level) ops) → HaveCome level ops [] result.reached.seen result.reached.passed result.rows }
     {
         Arrivals {
-            seen: 0,
-            passed: [0; PLACES],
+            reached: Reached::new(),
             rows: RowSeq::new(alloc),
         }
     }
@@ -144,32 +201,14 @@ impl<R: AnyRow> Arrivals<R> {
         requires short { length ops.now ≤ 12 }
         requires stateless { AreStateless (map (op_at level) ops.now) }
         requires takes { Takes level ops.now packet.now }
-        requires few { (rows : List Row) × (length rows < most_records) × HaveCome level ops.now rows self.old.seen self.old.passed self.old.rows }
-        ensures { (rows : List Row) → HaveCome level ops.now rows self.old.seen self.old.passed self.old.rows →
-            OnOk result (HaveCome level ops.now (rows ++ packet.now ∷ []) self.new.seen self.new.passed self.new.rows) }
+        requires few { (rows : List Row) × (length rows < most_records) × HaveCome level ops.now rows self.old.reached.seen self.old.reached.passed self.old.rows }
+        ensures { (rows : List Row) → HaveCome level ops.now rows self.old.reached.seen self.old.reached.passed self.old.rows →
+            OnOk result (HaveCome level ops.now (rows ++ packet.now ∷ []) self.new.reached.seen self.new.reached.passed self.new.rows) }
     {
-        let passed = start(ops, level, packet, row);
-        self.seen += 1;
-        self.passed[passed as usize] += 1;
-        if passed < ops.len() as u32 {
+        if !self.reached.count(ops, level, packet, 1, row) {
             return Ok(());
         }
         self.rows.push(row)
-    }
-
-    /// Adds how many of the packets come to each of the operators.
-    pub(crate) fn add_counts(&self, ops: &[TOp], counts: &mut Seq<u64>) -> Result<(), Memory>
-        requires short { length ops.now ≤ 12 }
-        requires come { (level : ℕ) × (rows : List Row) × HaveCome level ops.now rows self.now.seen self.now.passed self.now.rows }
-        ensures { (level : ℕ) (rows : List Row) → HaveCome level ops.now rows self.now.seen self.now.passed self.now.rows →
-            OnOk result (counts.new ≡ counts.old ++ coming_to level ops.now rows) }
-    {
-        let mut left = self.seen;
-        for place in 0..ops.len() {
-            counts.push(left)?;
-            left -= self.passed[place];
-        }
-        Ok(())
     }
 }
 
@@ -193,7 +232,7 @@ pub(crate) fn come_through<R: AnyRow>(
     requires short { length ops.now ≤ 12 }
     requires stateless { AreStateless (map (op_at level) ops.now) }
     requires takes { (row : Row) → IsOf (first_columns (branch_at t.now.queries q b)) row → Takes level ops.now row }
-    ensures come { IfOk result (λ found. HaveCome level ops.now (packet_rows (query_at t.now.queries q) b level kept.entry tuples.now) found.seen found.passed found.rows) }
+    ensures come { IfOk result (λ found. HaveCome level ops.now (packet_rows (query_at t.now.queries q) b level kept.entry tuples.now) found.reached.seen found.reached.passed found.rows) }
     ensures columns { OnOk result (AllByRecursion (IsOf (first_columns (branch_at t.now.queries q b))) (packet_rows (query_at t.now.queries q) b level kept.entry tuples.now)) }
 {
     let packets = t.packets(q, b, level);

@@ -1,6 +1,6 @@
 //! Rows on their way through operators.
 ghost use Rattle.std.specs.Prelude.{◌≡◌, ◌*◌, ◌+◌, ◌≤◌, length};
-ghost use Rattle.sn_cost_counts.specs.Flows.{counted, starting};
+ghost use Rattle.sn_cost_counts.specs.Flows.{counted};
 ghost use Rattle.sn_windows.specs.Blocks.{most_records};
 
 use sn_base::any_row::AnyRow;
@@ -24,18 +24,6 @@ pub struct Flow<L> {
 pub type FlowOf<R> = Flow<RowSeq<R>>;
 
 impl<R: AnyRow> Flow<RowSeq<R>> {
-    /// The rows of a window before the first operator.
-    pub(crate) fn starting(rows: RowSeq<R>) -> FlowOf<R>
-        ensures { result ≡ starting rows }
-    {
-        Flow {
-            sent: 0,
-            rows,
-            spilled: false,
-            whole: false,
-        }
-    }
-
     /// How many items are sent where the prefix ends here.
     pub(crate) fn count(&self) -> u64
         requires sent { self.now.sent ≤ 13 * most_records }

@@ -1,12 +1,16 @@
 //! Counts the items that a branch sends of a window's rows, for every cut and all sizes of its registers.
 #![tactic(auto)]
 
+mod again;
 pub mod branch;
 mod coming;
 mod counts;
 pub mod flow;
 mod grouped;
 mod once;
+pub mod packed;
 mod passing;
+mod shared;
 mod sizes;
 mod stateless;
+mod weighed;

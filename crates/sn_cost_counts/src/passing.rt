@@ -1,10 +1,11 @@
 //! Rows on their way through the operators of a prefix.
-ghost use Rattle.std.specs.Prelude.{◌≡◌, ◌*◌, ℕ, suc, List, ◌≤◌, ◌<◌, ◌∷◌, ◌++◌, All, length, map, replicate, nat_eq, option_map, Some, None, [], false, true, IfOk, IfSome, OnOk, if◌then◌else◌};
-ghost use Rattle.std.specs.List.{list_all};
+ghost use Rattle.std.specs.Prelude.{◌≡◌, ◌*◌, ℕ, suc, List, ◌≤◌, ◌<◌, ◌∷◌, ◌++◌, All, length, map, replicate, option_copied, option_map, Some, None, true, IfOk, IfSome, OnOk, if◌then◌else◌};
 ghost use Rattle.sn_base.specs.Operators.{apply};
 ghost use Rattle.sn_cost_counts.specs.Fitting.{AllGo};
-ghost use Rattle.sn_cost_counts.specs.Flows.{counted, starting, stepped, wider};
-ghost use Rattle.sn_cost_counts.specs.Passing.{flows_of, unsplit_of};
+ghost use Rattle.sn_cost_counts.specs.Flows.{counted, starting, wider};
+ghost use Rattle.sn_cost_counts.specs.Shared.{flows_in};
+ghost use Rattle.sn_cost_counts.specs.Passing.{flows_of, held_by, unsplit_of};
+ghost use Rattle.sn_cost_tally.specs.Weighed.{AreWeights, weighed};
 ghost use Rattle.sn_ops.specs.Flow.{Fits};
 ghost use Rattle.sn_types.specs.declared.typed_op.TOp.{TOp};
 ghost use Rattle.sn_types.specs.Cuts.{is_stateful};
@@ -12,8 +13,10 @@ ghost use Rattle.sn_types.specs.Values.{op_at};
 ghost use Rattle.sn_chain.specs.Limits.{largest_register};
 ghost use Rattle.sn_windows.specs.Blocks.{most_records};
 
+use crate::again::by_marks;
 use crate::flow::{Flow, FlowOf};
-use crate::sizes::{add_repeated, add_sizes, by_size};
+use crate::shared::{Shared, SharedOf, add_marked, none_over, passed, repeated};
+use crate::sizes::{by_size, first};
 use crate::stateless::pass_all;
 use sn_base::any_row::AnyRow;
 use sn_base::memory::Memory;
@@ -30,6 +33,9 @@ pub(crate) enum Passing<L> {
     /// As long as no register overflows: the same for all lists of sizes, of which there are this many after the first. Whether
     /// they're to be kept with no register, too.
     Together(L, usize, bool),
+    /// After the first operator at which one overflowed, and filters and maps after it: those with no register, held once, and
+    /// for each list of sizes which of them have a home. Whether they're to be kept with no register, too.
+    Marked(Shared<L>, bool),
     /// Then: those for each list of sizes, and, where they're kept, what the operators give of all rows, with no register.
     Apart(Vec<Flow<L>>, Option<L>),
 }
@@ -98,13 +104,6 @@ fn after_all<R: AnyRow>(
     Ok(Some(next))
 }
 
-/// Whether no register overflowed.
-fn none_sent<R: AnyRow>(flows: &[FlowOf<R>]) -> bool
-    ensures { result ≡ list_all (λ f. nat_eq f.sent 0) flows.now }
-{
-    flows.iter().all(|flow| flow.sent == 0)
-}
-
 /// How many lists of sizes stand after the first, where each of this many after the first, and the first, goes on with this many
 /// sizes. None where there is no list, or where there are more than a number counts.
 fn longer(more: usize, sizes: usize) -> Option<usize>
@@ -127,13 +126,15 @@ fn of_one<R: AnyRow>(room: &Room, op: &TOp, rows: RowSeq<R>) -> Result<RowSeq<R>
 }
 
 /// Rows after a distinct or a reduce, before which they're the same for this many lists of sizes after the first, and for the first.
-/// They stay the same where no register overflows. What it gives of all rows comes by the way, where it finds the distinct keys.
-fn after_registers<R: AnyRow>(
+/// They stay the same where no register overflows. What it gives of all rows comes by the way, where it finds the distinct keys. The same
+/// registers overflow for each list of sizes before, so that the marks are copied for them. Where there are weights, each row stands for as many as its weight says.
+pub(crate) fn after_registers<R: AnyRow>(
     room: &mut Room,
     op: &TOp,
     depth: u32,
     slots: &[u32],
     rows: RowSeq<R>,
+    weights: Option<&[u64]>,
     more: usize,
     kept: bool,
 ) -> Result<PassingOf<R>, Memory>
@@ -141,21 +142,29 @@ fn after_registers<R: AnyRow>(
     requires most_depth { depth ≤ 4 }
     requires sizes { All (λ size. (1 ≤ size) × (size ≤ largest_register)) slots.now }
     requires fits { Fits op.now rows }
-    requires few { length rows ≤ most_records }
-    ensures flows { IfOk result (λ next. flows_of next ≡ wider depth 0 slots.now op.now (starting rows ∷ replicate more (starting rows))) }
-    ensures unsplit { IfOk result (λ next. unsplit_of next ≡ (if kept then Some (apply (op_at 0 op.now) rows) else None)) }
+    requires weights { AreWeights rows (option_copied weights) }
+    requires few { length (weighed rows (option_copied weights)) ≤ most_records }
+    ensures flows { IfOk result (λ next. flows_of next ≡ wider depth 0 slots.now op.now (starting (weighed rows (option_copied weights.entry)) ∷ replicate more (starting (weighed rows (option_copied weights.entry))))) }
+    ensures unsplit { IfOk result (λ next. unsplit_of next ≡ (if kept then Some (apply (op_at 0 op.now) (weighed rows (option_copied weights.entry))) else None)) }
+    ensures held { IfOk result (λ next. held_by next ≡ Some (apply (op_at 0 op.now) (weighed rows (option_copied weights.entry)))) }
 {
-    let flow = Flow::starting(rows);
-    let mut flows = Vec::with_capacity(room.alloc, slots.len())?;
-    let all = add_sizes(room, op, depth, slots, &flow, &mut flows)?;
-    if none_sent(flows.as_slice()) {
-        if let Some(after) = longer(more, flows.len()) {
-            return Ok(Passing::Together(all, after, kept));
+    let Shared {
+        rows,
+        homes,
+        distinct,
+    } = first(room, op, depth, slots, &rows, weights)?;
+    if none_over(homes.as_slice()) {
+        if let Some(after) = longer(more, homes.len()) {
+            return Ok(Passing::Together(rows, after, kept));
         }
     }
-    add_repeated(room, op, depth, slots, &flow, more, &mut flows)?;
-    let unsplit = if kept { Some(all) } else { None };
-    Ok(Passing::Apart(flows, unsplit))
+    let homes = repeated(room.alloc, homes, more)?;
+    let shared = Shared {
+        rows,
+        homes,
+        distinct,
+    };
+    Ok(Passing::Marked(shared, kept))
 }
 
 /// Rows after a distinct or a reduce that are one row at most, before which they're the same for this many lists of sizes after the
@@ -177,10 +186,11 @@ fn after_one<R: AnyRow>(
     requires one { length rows ≤ 1 }
     ensures flows { IfOk result (λ next. flows_of next ≡ wider depth 0 slots.now op.now (starting rows ∷ replicate more (starting rows))) }
     ensures unsplit { IfOk result (λ next. unsplit_of next ≡ (if kept then Some (apply (op_at 0 op.now) rows) else None)) }
+    ensures held { IfOk result (λ next. held_by next ≡ Some (apply (op_at 0 op.now) rows)) }
 {
     match longer(more, slots.len()) {
         Some(after) => Ok(Passing::Together(of_one(room, op, rows)?, after, kept)),
-        None => after_registers(room, op, depth, slots, rows, more, kept),
+        None => after_registers(room, op, depth, slots, rows, None, more, kept),
     }
 }
 
@@ -201,6 +211,7 @@ fn after_same<R: AnyRow>(
     requires few { length rows ≤ most_records }
     ensures flows { IfOk result (λ next. flows_of next ≡ wider depth level slots.now op.now (starting rows ∷ replicate more (starting rows))) }
     ensures unsplit { IfOk result (λ next. unsplit_of next ≡ (if kept then Some (apply (op_at level op.now) rows) else None)) }
+    ensures held { IfOk result (λ next. held_by next ≡ Some (apply (op_at level op.now) rows)) }
 {
     if !is_stateful(op) {
         let next = operate(room.alloc, room.seed, op, level, &rows)?;
@@ -208,8 +219,61 @@ fn after_same<R: AnyRow>(
     } else if rows.len() <= 1 && depth > 0 {
         after_one(room, op, depth, slots, rows, more, kept)
     } else {
-        after_registers(room, op, depth, slots, rows, more, kept)
+        after_registers(room, op, depth, slots, rows, None, more, kept)
     }
+}
+
+/// Rows for each list of sizes, and all rows, after an operator.
+fn after_apart<R: AnyRow>(
+    room: &mut Room,
+    op: &TOp,
+    level: u32,
+    depth: u32,
+    slots: &[u32],
+    flows: Vec<FlowOf<R>>,
+    unsplit: Option<RowSeq<R>>,
+) -> Result<PassingOf<R>, Memory>
+    requires most_depth { depth ≤ 4 }
+    requires sizes { All (λ size. (1 ≤ size) × (size ≤ largest_register)) slots.now }
+    requires go { (passed : ℕ) × (ahead : List TOp) × (passed < 12) × AllGo level passed (op.now ∷ ahead) flows.items }
+    requires fits { IfSome unsplit (Fits op.now) }
+    ensures flows { IfOk result (λ next. flows_of next ≡ wider depth level slots.now op.now flows.items) }
+    ensures unsplit { IfOk result (λ next. unsplit_of next ≡ option_map (apply (op_at level op.now)) unsplit) }
+    ensures held { IfOk result (λ next. held_by next ≡ option_map (apply (op_at level op.now)) unsplit) }
+{
+    let flows = after_each(room, op, level, depth, slots, flows)?;
+    let unsplit = after_all(room, op, level, unsplit)?;
+    Ok(Passing::Apart(flows, unsplit))
+}
+
+/// Shared rows after an operator. They stay shared after a filter or a map, so that each row goes through it once for all lists of sizes,
+/// whether or not it has a home there. At the next distinct or reduce each list of sizes has other rows in its registers: they go
+/// apart, and each row's key is looked up once for all of them.
+fn after_marked<R: AnyRow>(
+    room: &mut Room,
+    op: &TOp,
+    level: u32,
+    depth: u32,
+    slots: &[u32],
+    shared: SharedOf<R>,
+    kept: bool,
+) -> Result<PassingOf<R>, Memory>
+    requires most_depth { depth ≤ 4 }
+    requires sizes { All (λ size. (1 ≤ size) × (size ≤ largest_register)) slots.now }
+    requires go { (passed : ℕ) × (ahead : List TOp) × (passed < 12) × AllGo level passed (op.now ∷ ahead) (flows_in shared) }
+    requires fits { Fits op.now shared.rows }
+    ensures flows { IfOk result (λ next. flows_of next ≡ wider depth level slots.now op.now (flows_in shared)) }
+    ensures unsplit { IfOk result (λ next. unsplit_of next ≡ option_map (apply (op_at level op.now)) (if kept then Some shared.rows else None)) }
+    ensures held { IfOk result (λ next. IfSome (held_by next) (λ rows. Some (apply (op_at level op.now) shared.rows) ≡ Some rows)) }
+{
+    if !is_stateful(op) {
+        let next = passed(room.alloc, op, level, shared)?;
+        return Ok(Passing::Marked(next, kept));
+    }
+    let flows = by_marks(room, op, depth, slots, &shared)?;
+    let unsplit = if kept { Some(shared.rows) } else { None };
+    let unsplit = after_all(room, op, level, unsplit)?;
+    Ok(Passing::Apart(flows, unsplit))
 }
 
 impl<R: AnyRow> Passing<RowSeq<R>> {
@@ -225,11 +289,14 @@ impl<R: AnyRow> Passing<RowSeq<R>> {
                 counts.push(count)?;
                 add_repeated_count(count, *more, counts)
             }
+            Passing::Marked(shared, _) => {
+                add_marked(&shared.rows, shared.homes.as_slice(), counts)
+            }
             Passing::Apart(flows, _) => add_each(flows.as_slice(), counts),
         }
     }
 
-    /// The rows after an operator.
+    /// The rows after an operator, which fits all rows as long as they're held. What is held after it comes of them.
     pub(crate) fn after(
         self,
         room: &mut Room,
@@ -241,18 +308,20 @@ impl<R: AnyRow> Passing<RowSeq<R>> {
         requires most_depth { depth ≤ 4 }
         requires sizes { All (λ size. (1 ≤ size) × (size ≤ largest_register)) slots.now }
         requires go { (passed : ℕ) × (ahead : List TOp) × (passed < 12) × AllGo level passed (op.now ∷ ahead) (flows_of self) }
-        requires fits { IfSome (unsplit_of self) (Fits op.now) }
+        requires fits { IfSome (held_by self) (Fits op.now) }
         ensures flows { IfOk result (λ next. flows_of next ≡ wider depth level slots.now op.now (flows_of self)) }
         ensures unsplit { IfOk result (λ next. unsplit_of next ≡ option_map (apply (op_at level op.now)) (unsplit_of self)) }
+        ensures held { IfOk result (λ next. IfSome (held_by next) (λ rows. option_map (apply (op_at level op.now)) (held_by self) ≡ Some rows)) }
     {
         match self {
             Passing::Together(rows, more, kept) => {
                 after_same(room, op, level, depth, slots, rows, more, kept)
             }
+            Passing::Marked(shared, kept) => {
+                after_marked(room, op, level, depth, slots, shared, kept)
+            }
             Passing::Apart(flows, unsplit) => {
-                let flows = after_each(room, op, level, depth, slots, flows)?;
-                let unsplit = after_all(room, op, level, unsplit)?;
-                Ok(Passing::Apart(flows, unsplit))
+                after_apart(room, op, level, depth, slots, flows, unsplit)
             }
         }
     }
@@ -263,6 +332,7 @@ impl<R: AnyRow> Passing<RowSeq<R>> {
     {
         match self {
             Passing::Together(rows, _, kept) => { if kept { Some(rows) } else { None } }
+            Passing::Marked(shared, kept) => { if kept { Some(shared.rows) } else { None } }
             Passing::Apart(_, unsplit) => unsplit,
         }
     }

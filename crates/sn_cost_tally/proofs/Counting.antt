@@ -1,35 +1,15 @@
 -- How often keys come, as a table counts them.
-use Rattle.std.proofs.Common.{◌≡◌, ℕ, zero, suc, ◌+◌, ◌≤◌, List, [], ◌∷◌, map, filter, fold, take, length, true, false, cond, unwrap_or, slice_get, Result, Ok, Err, IfOk, Some, refl, ap, sym, subst, ◌∙◌, arith}
+use Rattle.std.proofs.Common.{◌≡◌, ℕ, suc, ◌+◌, ◌≤◌, List, [], ◌∷◌, map, filter, fold, length, true, false, cond, unwrap_or, refl, ap, sym, subst, ◌∙◌, arith}
 use Rattle.std.specs.List.{AllByRecursion}
 use Rattle.std.specs.Map.{lookup}
 use Rattle.std.specs.Cmp.Lexicographic.{nat_list_eq_equiv}
-use Rattle.std.proofs.lemmas.List.{map-append}
-use Rattle.indexmap.specs.IndexMap.{insert_entry}
 use Rattle.sn_base.specs.Folds.{HasBits, capped_sum, capped_sum_laws}
-use Rattle.sn_base.specs.Groups.{Row, folded, once, paired, put_entry, same_row, values_at}
+use Rattle.sn_base.specs.Groups.{Row, once, paired, same_row, values_at}
 use Rattle.sn_base.proofs.FoldLemmas.{fold_had}
-use Rattle.sn_base.proofs.FoldedLemmas.{folded_at, folded_push, same_row_exact}
-use Rattle.sn_base.proofs.Lists.{all_filter, all_map, all_of, map_agree, map_both, none_some, some_same, take_one}
+use Rattle.sn_base.proofs.FoldedLemmas.{folded_at, same_row_exact}
+use Rattle.sn_base.proofs.Lists.{all_filter, all_map, all_of, map_agree, map_both}
 use Rattle.sn_cost_seats.specs.Tallies.{tallied, times_in}
 use Rattle.sn_cost_tally.specs.Counts.{counted, one}
-
-pub insert_is_put : (es : List (Row × ℕ)) (k : Row) (n : ℕ) → insert_entry same_row es k n ≡ put_entry same_row es k n
-insert_is_put [] k n = refl
-insert_is_put (e ∷ es) k n = ap (λ rest. cond (same_row k e.0) ((e.0, n) ∷ es) (e ∷ rest)) (insert_is_put es k n)
-
--- one key more
-pub one_counted : (keys : List Row) (i : ℕ) (entries new : List (Row × ℕ)) (key : Row) → slice_get keys i ≡ Some key → entries ≡ counted (take i keys)
-    → new ≡ insert_entry same_row entries key (capped_sum 64 (unwrap_or (lookup (same_row key) entries) 0) 1) → new ≡ counted (take (i + 1) keys)
-one_counted keys i entries new key is so_far now =
-    let before : List Row = take i keys in
-    let step : ℕ → ℕ → ℕ = capped_sum 64 in
-    now
-    ∙ insert_is_put entries key (step (unwrap_or (lookup (same_row key) entries) 0) 1)
-    ∙ ap (λ es. put_entry same_row es key (step (unwrap_or (lookup (same_row key) es) 0) 1)) so_far
-    ∙ ap (λ (n : ℕ). put_entry same_row (counted before) key (step n 1)) (folded_at nat_list_eq_equiv same_row_exact step 0 (map one before) key)
-    ∙ sym (folded_push nat_list_eq_equiv same_row_exact step 0 (map one before) key 1)
-    ∙ ap (folded same_row step 0) (sym (map-append one before (key ∷ [])))
-    ∙ ap counted (sym (take_one keys i key is))
 
 -- so far the sum of a key's ones is a number of 64 bits
 pub counted_had : (keys : List Row) (entries : List (Row × ℕ)) (key : Row) → entries ≡ counted keys → HasBits 64 (unwrap_or (lookup (same_row key) entries) 0)
@@ -76,15 +56,3 @@ times_of keys few =
     map_both (paired f) (λ (e : Row × ℕ). e.1) (once same_row (map (λ (p : Row × ℕ). p.0) (map one keys)))
     ∙ ap (λ ks. map f (once same_row ks)) (first_of keys)
     ∙ map_agree f (times_in keys) (λ k. let e = ones_summed k keys 0 (omega (arith, few)) in omega (arith, e)) (once same_row keys)
-
--- ---- results and places
-
-pub if_ok : {A E : Type 0} (r : Result A E) (P Q : A → Type 0) → ((x : A) → P x → Q x) → IfOk r P → IfOk r Q
-if_ok (Ok x) P Q f h = f x h
-if_ok (Err e) P Q f h = tt
-
--- what a function gives of the item at a place
-pub got_map : {X Y : Type 0} (f : X → Y) (xs : List X) (i : ℕ) (x : X) → slice_get xs i ≡ Some x → slice_get (map f xs) i ≡ Some (f x)
-got_map f [] i x is = absurd (none_some is)
-got_map f (y ∷ xs) zero x is = ap Some (ap f (some_same y x is))
-got_map f (y ∷ xs) (suc i) x is = got_map f xs i x is

@@ -4,7 +4,7 @@ ghost use Rattle.std.specs.List.{position_or_len};
 ghost use Rattle.indexmap.specs.IndexSet.{insert_key};
 ghost use Rattle.sn_base.specs.Groups.{Apart, same_row};
 
-use crate::keys::{Keys, clear, count, put, read, widen};
+use crate::keys::{Keys, clear, count, put, read, reserve, widen};
 use indexmap::IndexSet;
 use sn_base::any_row::AnyRow;
 use sn_base::memory::Memory;
@@ -42,6 +42,19 @@ impl<R: AnyRow> Numbers<R> {
         Numbers {
             held: Keys::Narrow(0, IndexSet::with_hasher(alloc, seed)),
         }
+    }
+
+    /// Numbers of no row, with room for this many rows, as long as they are held as numbers of 128 bits. Rows are found by hashes
+    /// from this seed.
+    ///
+    /// # Errors
+    /// Out of memory.
+    pub fn with_room(alloc: Global, seed: Seed, rows: usize) -> Result<Numbers<R>, Memory>
+        ensures { IfOk result (λ numbers. numbers.keys ≡ []) }
+    {
+        let mut numbers = Numbers::new(alloc, seed);
+        reserve(&mut numbers.held, rows)?;
+        Ok(numbers)
     }
 
     /// The number of a row, which takes the next one if it has none. The row is looked up once. An `Err` changes nothing.

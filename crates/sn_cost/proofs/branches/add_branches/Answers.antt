@@ -9,6 +9,7 @@ use Rattle.sn_types.specs.Typed.{branch_at, query_at}
 use Rattle.sn_types.proofs.Facts.{few_branches}
 use Rattle.sn_cost.specs.Adding.{AreSmall, kept_counts, with_fee}
 use Rattle.sn_cost.proofs.Growing.{one_branch, room_left, small_more}
+use Rattle.sn_cost.proofs.Packing.{read_at}
 use Rattle.sn_cost.proofs.branches.add_branches.Goals as goal
 
 pub add_counts-requires-clause-query : goal.add_counts-requires-clause-query
@@ -48,3 +49,9 @@ loop-b-preserved c =
       adds = one_branch a.table.now c.loop-b.table c.add_counts.new.table a.q a.prefix c.loop-b.b (λ b. with_fee a.fee (kept b)) (with_fee a.fee c.as_slice.result.now) c.loop-b.invariant.adds
           (ap (with_fee a.fee) (c.as_slice.ensures ∙ counts)) c.add_counts.ensures;
     }
+
+pub kept_counts-requires-clause-packed : goal.kept_counts-requires-clause-packed
+kept_counts-requires-clause-packed c =
+    let packed = c.requires.packed in
+    let long = packed.long in
+    packed.each c.loop-b.b c.index-packed-b.result (read_at c.args.packed.now c.loop-b.b c.index-packed-b.result (omega (arith, c.loop-b-test.true, c.branches-b-end.ensures, long)) c.index-packed-b.is)

@@ -5,6 +5,7 @@ use Rattle.sn_types.specs.Typed.{query_at}
 use Rattle.sn_types.proofs.Facts.{few_branches}
 use Rattle.sn_cost.specs.Adding.{Adds, AreSmall, kept_counts, of_branches, with_fee}
 use Rattle.sn_cost.proofs.Growing.{always, no_branches, one_branch, room_left}
+use Rattle.sn_cost.proofs.Packing.{read_at}
 use Rattle.sn_cost.proofs.rows.add_query_rows.Goals as goal
 
 pub add_branch-requires-clause-branch : goal.add_branch-requires-clause-branch
@@ -60,3 +61,22 @@ returns-clause-adds c =
     let two : 1 + 1 ≡ length query.branches = omega (arith, c.branches.ensures, c.if-branches-ne2.false) in
     always c.join_lists.result (Adds a.table.now c.add_branch-2.new.table (of_branches a.q a.front (length query.branches) counts))
     (subst (λ n. Adds a.table.now c.add_branch-2.new.table (of_branches a.q a.front n counts)) two both)
+
+pub bounds-packed-0 : goal.bounds-packed-0
+bounds-packed-0 c =
+    let t = c.args.t.now in
+    let some = some_branch t.window_us t.queries c.args.q t.typed c.requires.query in
+    let long = c.requires.packed.long in
+    omega (arith, some, long)
+
+pub add_branch-requires-clause-packed : goal.add_branch-requires-clause-packed
+add_branch-requires-clause-packed c =
+    let t = c.args.t.now in
+    let some = some_branch t.window_us t.queries c.args.q t.typed c.requires.query in
+    let long = c.requires.packed.long in
+    c.requires.packed.each 0 c.index-packed-0.result (read_at c.args.packed.now 0 c.index-packed-0.result (omega (arith, some, long)) c.index-packed-0.is)
+
+pub add_branch-requires-2-clause-packed : goal.add_branch-requires-2-clause-packed
+add_branch-requires-2-clause-packed c =
+    let long = c.requires.packed.long in
+    c.requires.packed.each 1 c.index-packed-1.result (read_at c.args.packed.now 1 c.index-packed-1.result (omega (arith, c.if-branches-ne2.false, c.branches.ensures, long)) c.index-packed-1.is)

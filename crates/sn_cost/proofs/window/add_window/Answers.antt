@@ -63,9 +63,9 @@ loop-front-preserved c =
     let end = one_shl (length c.levels.result.now) 32 (omega (arith, few, ap length c.levels.ensures)) in
     let within : front < 2 ^ length query.levels = omega (arith, end, c.loop-front-test.true, ap (λ (xs : List ℕ). 2 ^ length xs) c.levels.ensures) in
     record {
-      adds = next_front a.s.now a.q query f.last f.sets a.w a.tuples.now a.table.now c.loop-front.table c.add_front.new.table front c.loop-front.auto.front within c.loop-front.invariant.adds c.in_ok-add_front.ensures.adds;
+      adds = next_front a.s.now a.q query f.last f.sets a.w a.tuples.now a.table.now c.loop-front.table c.add_front.new.table front c.loop-front.auto.front within c.loop-front.invariant.adds c.in_ok-answered.ensures.adds;
       answer = subst (Answer a.s.now a.q query f.last f.sets a.w a.tuples.now (front + 1)) (sym c.in_ok-push-2.ensures.ok)
-          (next_answer a.s.now a.q query f.last f.sets a.w a.tuples.now front c.loop-front.sets c.in_ok-add_front.field-0 c.loop-front.invariant.answer c.in_ok-add_front.ensures.few c.in_ok-add_front.ensures.answers);
+          (next_answer a.s.now a.q query f.last f.sets a.w a.tuples.now front c.loop-front.sets c.in_ok-answered.answered c.loop-front.invariant.answer c.in_ok-answered.ensures.few c.in_ok-answered.ensures.answers);
     }
 
 pub returns-clause-adds : goal.returns-clause-adds

@@ -49,13 +49,13 @@ loop-tuple-preserved g c =
         | then-is_kept+in_ok-add w ↦
             (let row : Row = w.row-packet.result in
             let is = w.row-packet.ensures.row ∙ same_packet_row made.refined query.field made.level a.level made.fields.now fields tuple same.refined same.level same.fields in
-            subst (λ rows. HaveCome a.level a.ops.now rows c.if-is_kept.found.seen c.if-is_kept.found.passed c.if-is_kept.found.rows)
+            subst (λ rows. HaveCome a.level a.ops.now rows c.if-is_kept.found.reached.seen c.if-is_kept.found.reached.passed c.if-is_kept.found.rows)
             (one_kept query a.b a.level a.kept tuples i tuple row within c.tuple-item.is (sym c.is_kept.ensures ∙ w.if-is_kept.true) is)
-            (subst (λ found. HaveCome a.level a.ops.now (before ++ row ∷ []) found.seen found.passed found.rows) (sym w.found-is) (w.in_ok-add.ensures before c.loop-tuple.invariant.come)))
+            (subst (λ found. HaveCome a.level a.ops.now (before ++ row ∷ []) found.reached.seen found.reached.passed found.rows) (sym w.found-is) (w.in_ok-add.ensures before c.loop-tuple.invariant.come)))
         | else-is_kept w ↦
-            (subst (λ rows. HaveCome a.level a.ops.now rows c.if-is_kept.found.seen c.if-is_kept.found.passed c.if-is_kept.found.rows)
+            (subst (λ rows. HaveCome a.level a.ops.now rows c.if-is_kept.found.reached.seen c.if-is_kept.found.reached.passed c.if-is_kept.found.rows)
             (one_left query a.b a.level a.kept tuples i tuple within c.tuple-item.is (sym c.is_kept.ensures ∙ w.if-is_kept.false))
-            (subst (λ found. HaveCome a.level a.ops.now before found.seen found.passed found.rows) (sym w.found-is) c.loop-tuple.invariant.come))
+            (subst (λ found. HaveCome a.level a.ops.now before found.reached.seen found.reached.passed found.rows) (sym w.found-is) c.loop-tuple.invariant.come))
       ];
       columns = elim c.if-is_kept.branch [
         | then-is_kept+in_ok-add w ↦

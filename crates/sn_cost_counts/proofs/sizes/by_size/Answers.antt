@@ -7,4 +7,4 @@ use Rattle.sn_cost_counts.proofs.sizes.by_size.Goals as goal
 pub loop-flow-preserved : goal.loop-flow-preserved
 loop-flow-preserved g c =
     flows_grown (λ f. map (λ size. stepped c.args.depth size (op_at 0 c.args.op.now) f) c.args.slots.now) c.loop-flow.out.items c.add_sizes.new.out.items c.args.flows.now c.loop-flow.flow-index c.flow-item.result
-    c.loop-flow-test.true c.flow-item.is c.loop-flow.invariant c.in_ok-add_sizes.ensures.flows
+    c.loop-flow-test.true c.flow-item.is c.loop-flow.invariant c.in_ok-add_sizes.ensures

@@ -1,0 +1,19 @@
+use Rattle.std.proofs.Common.{ℕ, ◌+◌, ◌≤◌, ◌++◌, IfSome, drop, length, map}
+use Rattle.std.specs.Option.{option_map}
+use Rattle.sn_base.specs.Operators.{through}
+use Rattle.sn_ops.specs.Flow.{AllFit}
+use Rattle.sn_types.specs.Values.{op_at}
+use Rattle.sn_cost_counts.specs.Fitting.{AllGo}
+use Rattle.sn_cost_counts.specs.Flows.{counts_from}
+use Rattle.sn_cost_counts.specs.Passing.{flows_of, held_by, unsplit_of}
+use Rattle.sn_cost_counts.proofs.Going.{Along}
+use Rattle.sn_cost_counts.proofs.Unsplit.{Follows}
+use Rattle.sn_cost_counts.proofs.counts.counts_on.Given as goal
+
+abbrev pub invariant-loop-op : goal.invariant-loop-op
+invariant-loop-op g l = record {
+  along : (passed : ℕ) → passed + length l.ops ≤ 12 → AllGo l.level passed l.ops (flows_of l.fn.passing)
+      → Along l.depth l.level l.slots l.ops (l.fn.before ++ counts_from l.depth l.level l.slots l.ops (flows_of l.fn.passing)) passed l.op-index (flows_of l.passing) l.counts;
+  held : IfSome (held_by l.passing) (AllFit l.level (drop l.op-index l.ops));
+  follows : Follows l.level l.ops (option_map (through (map (op_at l.level) l.ops)) (unsplit_of l.fn.passing)) l.op-index (unsplit_of l.passing);
+}

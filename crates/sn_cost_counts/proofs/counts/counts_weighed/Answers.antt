@@ -1,0 +1,65 @@
+use Rattle.std.proofs.Common.{◌≡◌, ℕ, ◌+◌, ◌≤◌, List, [], ◌∷◌, ◌++◌, length, true, ap, sym, subst, ◌∙◌, arith, append_assoc}
+use Rattle.std.specs.List.{AllByRecursion}
+use Rattle.std.proofs.lemmas.List.Elements.{recursion_from_All}
+use Rattle.sn_base.specs.Groups.{Row}
+use Rattle.sn_cost_tally.specs.Weighed.{repeated}
+use Rattle.sn_ops.specs.Flow.{AllFit}
+use Rattle.sn_types.specs.declared.typed_op.TOp.{TOp}
+use Rattle.sn_types.specs.Cuts.{is_stateful}
+use Rattle.sn_cost_counts.specs.Coming.{ahead}
+use Rattle.sn_cost_counts.specs.Fitting.{AllGo, Takes}
+use Rattle.sn_cost_counts.specs.Flows.{counts_from, starting, wider}
+use Rattle.sn_cost_counts.specs.Passing.{flows_of}
+use Rattle.sn_cost_counts.proofs.Branching.{started}
+use Rattle.sn_cost_counts.proofs.Going.{fits_next, if_ok, wider_go}
+use Rattle.sn_cost_counts.proofs.Weighing.{all_stand, none_ahead, wide_first}
+use Rattle.sn_cost_counts.proofs.counts.counts_weighed.Goals as goal
+
+pub after_registers-requires-clause-fits : goal.after_registers-requires-clause-fits
+after_registers-requires-clause-fits g c =
+    let a = c.args in
+    let op : TOp = c.in-Some.op.now in
+    let after : List TOp = c.in-Some.after.now in
+    let are : a.ops.now ≡ op ∷ after = c.in-Some.ensures.cases.0 in
+    let weights = c.requires.weights in
+    let takes : AllByRecursion (Takes a.level (op ∷ after)) a.rows =
+    subst (λ (os : List TOp). AllByRecursion (Takes a.level os) a.rows) are
+    (all_stand (Takes a.level a.ops.now) a.rows a.weights.items weights.0 (recursion_from_All (λ n. 1 ≤ n) a.weights.items weights.1) c.requires.takes) in
+    fits_next a.level op after a.rows (subst (λ (os : List TOp). AllFit a.level os []) are c.requires.fits) takes
+
+pub counts_on-requires-clause-go : goal.counts_on-requires-clause-go
+counts_on-requires-clause-go g c =
+    let a = c.args in
+    let op : TOp = c.in-Some.op.now in
+    let after : List TOp = c.in-Some.after.now in
+    let are : a.ops.now ≡ op ∷ after = c.in-Some.ensures.cases.0 in
+    let rows : List Row = repeated a.rows a.weights.items in
+    let first : is_stateful op ≡ true = none_ahead op after (ap ahead (sym are) ∙ c.requires.first.1) in
+    let long = ap length are in
+    let go : AllGo a.level 1 after (wider a.depth a.level a.slots.now op (starting rows ∷ [])) =
+    wider_go a.level 0 a.depth a.slots.now op after (starting rows ∷ [])
+    (subst (λ (os : List TOp). AllGo a.level 0 os (starting rows ∷ [])) are (started a.level a.ops.now rows c.requires.few c.requires.takes c.requires.fits)) in
+    let is : flows_of c.in_ok-passing.passing ≡ wider a.depth a.level a.slots.now op (starting rows ∷ []) =
+    c.in_ok-passing.ensures.flows ∙ ap (λ ns. wider a.depth 0 a.slots.now op (starting (repeated a.rows ns) ∷ [])) c.as_slice.ensures.value ∙ wide_first a.depth a.level a.slots.now op (starting rows ∷ []) first in
+    (1, omega (arith, long, c.requires.operators), subst (AllGo a.level 1 after) (sym is) go)
+
+pub returns-clause-counts : goal.returns-clause-counts
+returns-clause-counts g c =
+    let a = c.args in
+    let op : TOp = c.in-Some.op.now in
+    let after : List TOp = c.in-Some.after.now in
+    let are : a.ops.now ≡ op ∷ after = c.in-Some.ensures.cases.0 in
+    let rows : List Row = repeated a.rows a.weights.items in
+    let first : is_stateful op ≡ true = none_ahead op after (ap ahead (sym are) ∙ c.requires.first.1) in
+    let is : flows_of c.in_ok-passing.passing ≡ wider a.depth a.level a.slots.now op (starting rows ∷ []) =
+    c.in_ok-passing.ensures.flows ∙ ap (λ ns. wider a.depth 0 a.slots.now op (starting (repeated a.rows ns) ∷ [])) c.as_slice.ensures.value ∙ wide_first a.depth a.level a.slots.now op (starting rows ∷ []) first in
+    let all : ℕ → List ℕ = λ n. n ∷ counts_from a.depth a.level a.slots.now after (wider a.depth a.level a.slots.now op (starting rows ∷ [])) in
+    let none : length rows ≡ 0 + length rows = omega arith in
+    if_ok c.counts_on.result (λ along. along.counts ≡ c.push.new.self ++ counts_from a.depth a.level a.slots.now after (flows_of c.in_ok-passing.passing)) _
+    (λ along told.
+    told ∙ ap (λ ns. ns ++ counts_from a.depth a.level a.slots.now after (flows_of c.in_ok-passing.passing)) c.in_ok-push.ensures.ok
+    ∙ append_assoc a.before (a.together ∷ []) (counts_from a.depth a.level a.slots.now after (flows_of c.in_ok-passing.passing))
+    ∙ ap (λ fs. a.before ++ a.together ∷ counts_from a.depth a.level a.slots.now after fs) is
+    ∙ ap (λ n. a.before ++ all n) (c.requires.together ∙ none)
+    ∙ ap (λ (os : List TOp). a.before ++ counts_from a.depth a.level a.slots.now os (starting rows ∷ [])) (sym are))
+    c.counts_on.ensures.counts

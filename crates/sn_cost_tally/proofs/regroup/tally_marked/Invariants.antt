@@ -1,0 +1,14 @@
+use Rattle.std.proofs.Common.{◌≡◌, length, take}
+use Rattle.sn_cost_seats.specs.Seats.{rows_at}
+use Rattle.sn_cost_seats.specs.Tallies.{marked}
+use Rattle.sn_cost_tally.specs.Counts.{counted}
+use Rattle.sn_cost_tally.specs.Numbered.{zipped}
+use Rattle.sn_cost_tally.specs.Renumbered.{AreRenumbered}
+use Rattle.sn_cost_tally.proofs.regroup.tally_marked.Given as goal
+
+abbrev pub invariant-loop-place : goal.invariant-loop-place
+invariant-loop-place g l = record {
+  so_far : AreRenumbered l.all.keys l.own.keys l.own.places.items l.own.slots.items;
+  times : zipped l.own.keys l.times.items ≡ counted (marked l.marks (take l.place (rows_at l.all.keys l.all.of_rows.items)));
+  long : length l.times.items ≡ length l.own.keys;
+}
