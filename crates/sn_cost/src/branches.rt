@@ -1,5 +1,5 @@
 //! The counts of a window.
-ghost use Rattle.std.specs.Prelude.{◌≡◌, ℕ, ◌<◌, ◌≤◌, ◌+◌, length, nat_eq, true, IfOk, OnOk};
+ghost use Rattle.std.specs.Prelude.{◌≡◌, ℕ, ◌<◌, ◌≤◌, ◌+◌, length, nat_eq, option_copied, true, IfOk, OnOk};
 ghost use Rattle.std.specs.List.{list_any};
 ghost use Rattle.sn_plan_choices.specs.Costs.{HasPlaces};
 ghost use Rattle.sn_cost.specs.Adding.{Adds, AreSmall, HasRoom, kept_counts, of_branches, with_fee};
@@ -17,7 +17,7 @@ use sn_base::row::Row;
 use sn_base::seq::Seq;
 use sn_base::short_row::ShortRow;
 use sn_cost_counts::branch::counts_of;
-use sn_cost_counts::packed::Packed;
+use sn_cost_tally::firsts::Firsts;
 use sn_cost_tally::room::Room;
 use sn_fields::tuple::Tuple;
 use sn_ops::packets::Kept;
@@ -36,7 +36,7 @@ fn counts_over<R: AnyRow>(
     level: u32,
     kept: Option<Kept>,
     tuples: &[Tuple],
-    packed: &Packed,
+    packed: Option<&Firsts>,
 ) -> Result<Seq<u64>, Memory>
     requires switch { IsSwitch s.now }
     requires query { q < length t.now.queries }
@@ -45,7 +45,7 @@ fn counts_over<R: AnyRow>(
     requires kept { OfALevel (query_at t.now.queries q) kept }
     requires below { AreBelow R.Number.limit (branch_at t.now.queries q b).fields }
     requires few { length tuples.now ≤ most_records }
-    requires packed { IsPacked (query_at t.now.queries q) b tuples.now packed.now }
+    requires packed { IsPacked (query_at t.now.queries q) b tuples.now (option_copied packed) }
     ensures counts { IfOk result (λ counts. counts ≡ kept_counts s.now (query_at t.now.queries q) level kept.entry tuples.now b) }
     ensures small { IfOk result (λ counts. AreSmall counts) }
 {
@@ -64,7 +64,7 @@ fn kept_counts(
     level: u32,
     kept: Option<Kept>,
     tuples: &[Tuple],
-    packed: &Packed,
+    packed: Option<&Firsts>,
 ) -> Result<Seq<u64>, Memory>
     requires switch { IsSwitch s.now }
     requires query { q < length t.now.queries }
@@ -72,7 +72,7 @@ fn kept_counts(
     requires level { list_any (nat_eq level) (query_at t.now.queries q).levels ≡ true }
     requires kept { OfALevel (query_at t.now.queries q) kept }
     requires few { length tuples.now ≤ most_records }
-    requires packed { IsPacked (query_at t.now.queries q) b tuples.now packed.now }
+    requires packed { IsPacked (query_at t.now.queries q) b tuples.now (option_copied packed) }
     ensures counts { IfOk result (λ counts. counts ≡ kept_counts s.now (query_at t.now.queries q) level kept.entry tuples.now b) }
     ensures small { IfOk result (λ counts. AreSmall counts) }
 {
@@ -93,7 +93,7 @@ pub(crate) fn add_branches(
     level: u32,
     kept: Option<Kept>,
     tuples: &[Tuple],
-    packed: &[Packed],
+    packed: &[Option<Firsts>],
     fee: u64,
     table: &mut CostTable,
 ) -> Result<(), Memory>
@@ -112,7 +112,8 @@ pub(crate) fn add_branches(
         (Adds table.old table.new (of_branches q prefix (length query.branches) (λ b. with_fee fee (kept_counts s.now query level kept.entry tuples.now b)))) }
 {
     for b in 0..t.branches(q) {
-        let counts = kept_counts(room, t, s, q, b, level, kept, tuples, &packed[b as usize])?;
+        let own = packed[b as usize].as_ref();
+        let counts = kept_counts(room, t, s, q, b, level, kept, tuples, own)?;
         add_counts(
             table,
             q,

@@ -22,7 +22,7 @@ use crate::fronts::Fronts;
 use crate::rows::add_query_rows;
 use sn_base::members::Members;
 use sn_base::memory::Memory;
-use sn_cost_counts::packed::Packed;
+use sn_cost_tally::firsts::Firsts;
 use sn_cost_tally::room::Room;
 use sn_fields::tuple::Tuple;
 use sn_ops::lists::plain_list;
@@ -97,7 +97,7 @@ fn count_front(
     level: u32,
     kept: Option<Kept>,
     tuples: &[Tuple],
-    packed: &[Packed],
+    packed: &[Option<Firsts>],
     table: &mut CostTable,
 ) -> Result<(), Memory>
     requires switch { IsSwitch s.now }
@@ -151,7 +151,7 @@ fn count_and_answer(
     level: u32,
     kept: Option<Kept>,
     tuples: &[Tuple],
-    packed: &[Packed],
+    packed: &[Option<Firsts>],
     table: &mut CostTable,
 ) -> Result<Members, Memory>
     requires switch { IsSwitch s.now }
@@ -193,7 +193,7 @@ pub(crate) fn add_front(
     fronts: &Fronts,
     w: u64,
     tuples: &[Tuple],
-    packed: &[Packed],
+    packed: &[Option<Firsts>],
     table: &mut CostTable,
 ) -> Result<Members, Memory>
     requires switch { IsSwitch s.now }

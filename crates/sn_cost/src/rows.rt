@@ -1,5 +1,5 @@
 //! The counts of a window beside the rows that it gives, in one pass over its packet rows.
-ghost use Rattle.std.specs.Prelude.{◌≡◌, ℕ, ◌<◌, ◌≤◌, ◌+◌, length, nat_eq, true, IfOk, OnOk};
+ghost use Rattle.std.specs.Prelude.{◌≡◌, ℕ, ◌<◌, ◌≤◌, ◌+◌, length, nat_eq, option_copied, true, IfOk, OnOk};
 ghost use Rattle.std.specs.List.{AllByRecursion, list_any};
 ghost use Rattle.sn_base.specs.Columns.{IsOf};
 ghost use Rattle.sn_base.specs.RowLists.{rows_in};
@@ -21,7 +21,7 @@ use sn_base::row_list::RowList;
 use sn_base::seq::Seq;
 use sn_base::short_row::ShortRow;
 use sn_cost_counts::branch::{Counted, counts_and_rows};
-use sn_cost_counts::packed::Packed;
+use sn_cost_tally::firsts::Firsts;
 use sn_cost_tally::room::Room;
 use sn_fields::tuple::Tuple;
 use sn_ops::lists::join_lists;
@@ -48,7 +48,7 @@ fn counted_over<R: AnyRow>(
     level: u32,
     kept: Option<Kept>,
     tuples: &[Tuple],
-    packed: &Packed,
+    packed: Option<&Firsts>,
 ) -> Result<Counted<R>, Memory>
     requires switch { IsSwitch s.now }
     requires query { q < length t.now.queries }
@@ -57,7 +57,7 @@ fn counted_over<R: AnyRow>(
     requires kept { OfALevel (query_at t.now.queries q) kept }
     requires below { AreBelow R.Number.limit (branch_at t.now.queries q b).fields }
     requires few { length tuples.now ≤ most_records }
-    requires packed { IsPacked (query_at t.now.queries q) b tuples.now packed.now }
+    requires packed { IsPacked (query_at t.now.queries q) b tuples.now (option_copied packed) }
     ensures counts { IfOk result (λ found. found.counts ≡ kept_counts s.now (query_at t.now.queries q) level kept.entry tuples.now b) }
     ensures small { IfOk result (λ found. AreSmall found.counts) }
     ensures rows { IfOk result (λ found. found.rows ≡ branch_rows (query_at t.now.queries q) b level kept.entry tuples.now) }
@@ -77,7 +77,7 @@ fn counted(
     level: u32,
     kept: Option<Kept>,
     tuples: &[Tuple],
-    packed: &Packed,
+    packed: Option<&Firsts>,
 ) -> Result<BranchCounts, Memory>
     requires switch { IsSwitch s.now }
     requires query { q < length t.now.queries }
@@ -85,7 +85,7 @@ fn counted(
     requires level { list_any (nat_eq level) (query_at t.now.queries q).levels ≡ true }
     requires kept { OfALevel (query_at t.now.queries q) kept }
     requires few { length tuples.now ≤ most_records }
-    requires packed { IsPacked (query_at t.now.queries q) b tuples.now packed.now }
+    requires packed { IsPacked (query_at t.now.queries q) b tuples.now (option_copied packed) }
     ensures counts { IfOk result (λ found. found.counts ≡ kept_counts s.now (query_at t.now.queries q) level kept.entry tuples.now b) }
     ensures small { IfOk result (λ found. AreSmall found.counts) }
     ensures rows { IfOk result (λ found. rows_in found.rows ≡ branch_rows (query_at t.now.queries q) b level kept.entry tuples.now) }
@@ -118,7 +118,7 @@ fn add_branch(
     level: u32,
     kept: Option<Kept>,
     tuples: &[Tuple],
-    packed: &Packed,
+    packed: Option<&Firsts>,
     fee: u64,
     table: &mut CostTable,
 ) -> Result<RowList, Memory>
@@ -128,7 +128,7 @@ fn add_branch(
     requires level { list_any (nat_eq level) (query_at t.now.queries q).levels ≡ true }
     requires kept { OfALevel (query_at t.now.queries q) kept }
     requires few { length tuples.now ≤ most_records }
-    requires packed { IsPacked (query_at t.now.queries q) b tuples.now packed.now }
+    requires packed { IsPacked (query_at t.now.queries q) b tuples.now (option_copied packed) }
     requires places { HasPlaces table.old (q + 1) }
     requires front { front < 16 }
     requires room { HasRoom table.old q front b fee }
@@ -161,7 +161,7 @@ pub(crate) fn add_query_rows(
     level: u32,
     kept: Option<Kept>,
     tuples: &[Tuple],
-    packed: &[Packed],
+    packed: &[Option<Firsts>],
     fee: u64,
     table: &mut CostTable,
 ) -> Result<RowList, Memory>
@@ -181,13 +181,35 @@ pub(crate) fn add_query_rows(
     ensures rows { IfOk result (λ list. rows_in list ≡ query_rows (query_at t.now.queries q) level kept.entry tuples.now) }
 {
     let left = add_branch(
-        room, t, s, q, front, 0, level, kept, tuples, &packed[0], fee, table,
+        room,
+        t,
+        s,
+        q,
+        front,
+        0,
+        level,
+        kept,
+        tuples,
+        packed[0].as_ref(),
+        fee,
+        table,
     )?;
     if t.branches(q) != 2 {
         return Ok(left);
     }
     let right = add_branch(
-        room, t, s, q, front, 1, level, kept, tuples, &packed[1], fee, table,
+        room,
+        t,
+        s,
+        q,
+        front,
+        1,
+        level,
+        kept,
+        tuples,
+        packed[1].as_ref(),
+        fee,
+        table,
     )?;
     join_lists(t.alloc, t, q, level, left, right)
 }

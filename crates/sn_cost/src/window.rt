@@ -14,15 +14,17 @@ use crate::fronts::Fronts;
 use sn_base::members::Members;
 use sn_base::memory::Memory;
 use sn_base::seq::Seq;
-use sn_cost_counts::packed::{Packed, pack};
+use sn_cost_counts::packed::pack;
+use sn_cost_tally::firsts::Firsts;
 use sn_cost_tally::room::Room;
 use sn_fields::tuple::Tuple;
 use sn_plan_choices::costs::CostTable;
 use sn_switch::switch::Switch;
 use sn_types::typed::Typed;
 
-/// Which tuples of a window are alike for each branch of a query. It is the same at all fronts.
-fn pack_all(room: &Room, t: &Typed, q: u32, tuples: &[Tuple]) -> Result<Vec<Packed>, Memory>
+/// The first of the tuples of a window that are alike, for each branch of a query for which it pays to take them together. They are the same
+/// at all fronts.
+fn pack_all(room: &Room, t: &Typed, q: u32, tuples: &[Tuple]) -> Result<Vec<Option<Firsts>>, Memory>
     requires query { q < length t.now.queries }
     requires few { length tuples.now ≤ most_records }
     ensures { IfOk result (λ packed. ArePacked (query_at t.now.queries q) tuples.now packed.items) }

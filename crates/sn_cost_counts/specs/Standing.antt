@@ -1,6 +1,6 @@
 -- serves proofs
 -- Tuples of a window that stand for others, for the counts of a branch.
-use Rattle.std.specs.Prelude.{◌≡◌, ℕ, ◌≤◌, ◌<◌, List, length, take, Option, Some, Bool, true, nat_lt, slice_get}
+use Rattle.std.specs.Prelude.{◌≡◌, ℕ, ◌≤◌, ◌<◌, List, length, take, Option, Some, IfSome, Bool, true, nat_lt, slice_get}
 use Rattle.std.specs.List.{AllByRecursion}
 use Rattle.sn_cost_seats.specs.Seats.{rows_at}
 use Rattle.sn_cost_tally.specs.Weighed.{repeated}
@@ -12,7 +12,6 @@ use Rattle.sn_types.specs.Typed.{branch_of}
 use Rattle.sn_types.specs.declared.typed_query.TypedBranch.{TypedBranch}
 use Rattle.sn_types.specs.declared.typed_query.TypedQuery.{TypedQuery}
 use Rattle.sn_cost_counts.specs.Alike.{Alike}
-use Rattle.sn_cost_counts.specs.declared.packed.Packed.{Packed}
 
 -- these tuples, each as often as those for which it stands
 abbrev pub stood_for : List (List ℕ) → Firsts → List (List ℕ)
@@ -30,15 +29,15 @@ pub record StandFor (query : TypedQuery) (b : ℕ) (tuples : List (List ℕ)) (f
 abbrev pub has_registers : TypedBranch → Bool
 has_registers branch = nat_lt 0 (stateful (take branch.max_cut branch.ops))
 
--- Where it pays to take tuples that are alike for a branch together, the first of them stand for all, and the branch has registers.
+-- It pays to take tuples that are alike for a branch together: the first of them stand for all, and the branch has registers.
 pub record PaysFor (query : TypedQuery) (b : ℕ) (tuples : List (List ℕ)) (f : Firsts) : Type 0 where
   pub stand : StandFor query b tuples f
   pub registers : has_registers (branch_of query b) ≡ true
 
-abbrev pub IsPacked : TypedQuery → ℕ → List (List ℕ) → Packed → Type 0
-IsPacked query b tuples packed = packed.pays ≡ true → PaysFor query b tuples packed.firsts
+abbrev pub IsPacked : TypedQuery → ℕ → List (List ℕ) → Option Firsts → Type 0
+IsPacked query b tuples packed = IfSome packed (PaysFor query b tuples)
 
 -- those for the branches of a query, in their order
-pub record ArePacked (query : TypedQuery) (tuples : List (List ℕ)) (packed : List Packed) : Type 0 where
+pub record ArePacked (query : TypedQuery) (tuples : List (List ℕ)) (packed : List (Option Firsts)) : Type 0 where
   pub long : length packed ≡ length query.branches
-  pub each : (b : ℕ) (p : Packed) → slice_get packed b ≡ Some p → IsPacked query b tuples p
+  pub each : (b : ℕ) (p : Option Firsts) → slice_get packed b ≡ Some p → IsPacked query b tuples p

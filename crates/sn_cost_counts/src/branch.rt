@@ -1,5 +1,5 @@
 //! The counts of a branch, and its rows.
-ghost use Rattle.std.specs.Prelude.{◌≡◌, ◌≤◌, ◌<◌, ◌*◌, All, Some, None, length, map, take, nat_eq, true, IfOk, OnOk, if◌then◌else◌};
+ghost use Rattle.std.specs.Prelude.{◌≡◌, ◌≤◌, ◌<◌, ◌*◌, All, Some, None, length, map, take, nat_eq, option_copied, true, IfOk, OnOk, if◌then◌else◌};
 ghost use Rattle.std.specs.List.{AllByRecursion, list_any};
 ghost use Rattle.sn_base.specs.Columns.{IsOf};
 ghost use Rattle.sn_base.specs.Operators.{through};
@@ -15,7 +15,6 @@ ghost use Rattle.sn_windows.specs.Blocks.{most_records};
 
 use crate::coming::{ahead, come_through};
 use crate::counts::{Along, counts_along, counts_weighed};
-use crate::packed::Packed;
 use crate::weighed::come_weighed;
 use sn_base::any_row::AnyRow;
 use sn_base::memory::Memory;
@@ -140,7 +139,7 @@ fn along_prefix<R: AnyRow>(
     slots: &[u32],
     kept: Option<Kept>,
     tuples: &[Tuple],
-    packed: &Packed,
+    packed: Option<&Firsts>,
     asked: bool,
 ) -> Result<Along<R>, Memory>
     requires query { q < length t.now.queries }
@@ -152,7 +151,7 @@ fn along_prefix<R: AnyRow>(
     requires most_depth { chain ≤ 4 }
     requires sizes { All (λ size. (1 ≤ size) × (size ≤ largest_register)) slots.now }
     requires few { length tuples.now ≤ most_records }
-    requires packed { IsPacked (query_at t.now.queries q) b tuples.now packed.now }
+    requires packed { IsPacked (query_at t.now.queries q) b tuples.now (option_copied packed) }
     ensures counts { IfOk result (λ along. along.counts ≡ counts_of (branch_at t.now.queries q b) level chain slots.now
         (packet_rows (query_at t.now.queries q) b level kept.entry tuples.now)) }
     ensures small { IfOk result (λ along. AllByRecursion (λ n. n ≤ 13 * most_records) along.counts) }
@@ -160,13 +159,11 @@ fn along_prefix<R: AnyRow>(
         along.unsplit ≡ (if asked then Some (through (map (op_at level) (take branch.max_cut branch.ops)) (packet_rows (query_at t.now.queries q) b level kept.entry tuples.now)) else None)) }
     ensures columns { OnOk result (AllByRecursion (IsOf (first_columns (branch_at t.now.queries q b))) (packet_rows (query_at t.now.queries q) b level kept.entry tuples.now)) }
 {
-    if packed.pays {
-        let firsts = &packed.firsts;
-        along_packed(
+    match packed {
+        Some(firsts) => along_packed(
             room, t, q, b, level, chain, slots, kept, tuples, firsts, asked,
-        )
-    } else {
-        along_all(room, t, q, b, level, chain, slots, kept, tuples, asked)
+        ),
+        None => along_all(room, t, q, b, level, chain, slots, kept, tuples, asked),
     }
 }
 
@@ -186,7 +183,7 @@ pub fn counts_of<R: AnyRow>(
     slots: &[u32],
     kept: Option<Kept>,
     tuples: &[Tuple],
-    packed: &Packed,
+    packed: Option<&Firsts>,
 ) -> Result<Seq<u64>, Memory>
     requires query { q < length t.now.queries }
     requires branch { b < length (query_at t.now.queries q).branches }
@@ -197,7 +194,7 @@ pub fn counts_of<R: AnyRow>(
     requires most_depth { chain ≤ 4 }
     requires sizes { All (λ size. (1 ≤ size) × (size ≤ largest_register)) slots.now }
     requires few { length tuples.now ≤ most_records }
-    requires packed { IsPacked (query_at t.now.queries q) b tuples.now packed.now }
+    requires packed { IsPacked (query_at t.now.queries q) b tuples.now (option_copied packed) }
     ensures counts { IfOk result (λ counts. counts ≡ counts_of (branch_at t.now.queries q b) level chain slots.now
         (packet_rows (query_at t.now.queries q) b level kept.entry tuples.now)) }
     ensures small { IfOk result (λ counts. AllByRecursion (λ n. n ≤ 13 * most_records) counts) }
@@ -223,7 +220,7 @@ pub fn counts_and_rows<R: AnyRow>(
     slots: &[u32],
     kept: Option<Kept>,
     tuples: &[Tuple],
-    packed: &Packed,
+    packed: Option<&Firsts>,
 ) -> Result<Counted<R>, Memory>
     requires query { q < length t.now.queries }
     requires branch { b < length (query_at t.now.queries q).branches }
@@ -234,7 +231,7 @@ pub fn counts_and_rows<R: AnyRow>(
     requires most_depth { chain ≤ 4 }
     requires sizes { All (λ size. (1 ≤ size) × (size ≤ largest_register)) slots.now }
     requires few { length tuples.now ≤ most_records }
-    requires packed { IsPacked (query_at t.now.queries q) b tuples.now packed.now }
+    requires packed { IsPacked (query_at t.now.queries q) b tuples.now (option_copied packed) }
     ensures counts { IfOk result (λ c. c.counts ≡ counts_of (branch_at t.now.queries q b) level chain slots.now
         (packet_rows (query_at t.now.queries q) b level kept.entry tuples.now)) }
     ensures small { IfOk result (λ c. AllByRecursion (λ n. n ≤ 13 * most_records) c.counts) }

@@ -16,7 +16,8 @@ use sn_cost_tally::room::Room;
 use sn_cost_tally::tally::tally_rows;
 use sn_types::typed_op::TOp;
 
-/// Rows after a distinct: each row once, and for each size which of them have a home. Where there are weights, each row stands for as many as its weight says.
+/// Rows after a distinct: each row once, and for each size which of them have a home. Where there are weights, each row stands for as many
+/// as its weight says.
 pub(crate) fn distinct<R: AnyRow>(
     room: &mut Room,
     depth: u32,

@@ -1,5 +1,5 @@
 //! The tuples of a window, of which a branch sees many alike.
-ghost use Rattle.std.specs.Prelude.{◌≡◌, List, ◌≤◌, ◌<◌, None, length, map, true, ◌==◌, IfOk, IfSome};
+ghost use Rattle.std.specs.Prelude.{◌≡◌, List, ◌≤◌, ◌<◌, None, length, map, nat_le, true, ◌==◌, ◌&&◌, IfOk, IfSome};
 ghost use Rattle.std.specs.List.{list_any};
 ghost use Rattle.sn_base.specs.Groups.{Row as Columns};
 ghost use Rattle.sn_cost_counts.specs.Alike.{reads_refined};
@@ -24,15 +24,6 @@ use sn_types::cuts::stateful;
 use sn_types::packet::Packets;
 use sn_types::typed::Typed;
 use std::alloc::Global;
-
-/// Which tuples of a window are alike for a branch, where so many are that it pays to take them together.
-#[derive(Drop)]
-pub struct Packed {
-    /// Whether it pays. Otherwise each tuple is taken by itself.
-    pub pays: bool,
-    /// Where it pays: the first of those that are alike, and how many there are.
-    pub firsts: Firsts,
-}
 
 /// In a window with fewer tuples it doesn't pay.
 const FEWEST: usize = 32;
@@ -68,6 +59,19 @@ fn has_registers(t: &Typed, q: u32, b: u32) -> bool
 {
     let (ops, _) = t.operators(q, b).split_at(t.max_cut(q, b) as usize);
     stateful(ops) > 0
+}
+
+/// Whether it may pay to take tuples that are alike for a branch together: where there are many, and where the branch has registers and
+/// reads the refinement field.
+fn may_pay(t: &Typed, q: u32, b: u32, tuples: &[Tuple]) -> bool
+    requires query { q < length t.now.queries }
+    requires branch { b < length (query_at t.now.queries q).branches }
+    ensures { let branch = branch_at t.now.queries q b in
+        result ≡ (nat_le 32 (length tuples.now) && (reads_refined (query_at t.now.queries q).field branch.fields && has_registers branch)) }
+{
+    tuples.len() >= FEWEST
+        && reads_refined(t.refine_field(q), t.packet_fields(q, b))
+        && has_registers(t, q, b)
 }
 
 /// The first of the tuples that are the same in these fields, and how many there are. None where most of the tuples that come first are
@@ -124,29 +128,30 @@ fn firsts_of(
     }
 }
 
-/// Which tuples of a window are alike for a branch: the same in all fields that it reads. For its counts these are taken together where
-/// that pays: where there are many of them, and where the branch has registers and reads the refinement field. No answer depends on
-/// whether it pays.
+/// The first of the tuples of a window that are alike for a branch, which are the same in all fields that it reads, and how many there are.
+/// For its counts these are taken together. None where that doesn't pay: where few are alike, or where the branch has no registers or
+/// doesn't read the refinement field. No answer depends on whether it pays.
 ///
 /// # Errors
 /// Out of memory.
-pub fn pack(room: &Room, t: &Typed, q: u32, b: u32, tuples: &[Tuple]) -> Result<Packed, Memory>
+pub fn pack(
+    room: &Room,
+    t: &Typed,
+    q: u32,
+    b: u32,
+    tuples: &[Tuple],
+) -> Result<Option<Firsts>, Memory>
     requires query { q < length t.now.queries }
     requires branch { b < length (query_at t.now.queries q).branches }
     requires few { length tuples.now ≤ most_records }
     ensures { IfOk result (λ packed. IsPacked (query_at t.now.queries q) b tuples.now packed) }
 {
-    let may_pay = tuples.len() >= FEWEST
-        && reads_refined(t.refine_field(q), t.packet_fields(q, b))
-        && has_registers(t, q, b);
-    if may_pay {
+    if may_pay(t, q, b, tuples) {
         if let Some(firsts) = firsts_of(room, t, q, b, tuples)? {
-            let pays = firsts.places.len() <= tuples.len() / 4 * 3;
-            return Ok(Packed { pays, firsts });
+            if firsts.places.len() <= tuples.len() / 4 * 3 {
+                return Ok(Some(firsts));
+            }
         }
     }
-    Ok(Packed {
-        pays: false,
-        firsts: Firsts::new(room.alloc),
-    })
+    Ok(None)
 }

@@ -46,7 +46,7 @@ module _ (key : Row) where
       ]) is
 
   -- and otherwise it is there
-  at_most : (ks : List Row) → at ks ≤ length ks
+  pub at_most : (ks : List Row) → at ks ≤ length ks
   at_most [] = omega arith
   at_most (k ∷ ks) =
       let rest = at_most ks in

@@ -9,11 +9,10 @@ use sn_base::memory::Memory;
 use sn_table::numbers::Numbers;
 use std::alloc::Global;
 
-/// For each of some distinct rows, in the order of first places, a place where it comes, which is the first, and how often it comes. That
-/// it is the first serves speed alone, and no contract says it.
+/// For each of some distinct rows, in the order of first places, the first place where it comes, and how often it comes.
 #[derive(Drop)]
 pub struct Firsts {
-    /// The place of one.
+    /// The first place of one.
     pub places: Vec<u32>,
     /// How many there are.
     pub times: Vec<u64>,

@@ -21,6 +21,7 @@ use sn_base::number::Number;
 use sn_base::row_seq::RowSeq;
 use sn_base::seed::Seed;
 use sn_table::numbers::Numbers;
+use sn_types::evaluate::columns_into;
 use std::alloc::Global;
 
 /// Distinct keys in the order of first places, how often each comes, and beside them their rows: each key, and the fold of its
@@ -36,19 +37,6 @@ pub struct Groups<R: AnyRow> {
 pub(crate) struct Folded<R: AnyRow> {
     pub(crate) tally: Tally<R>,
     pub(crate) totals: Vec<u64>,
-}
-
-/// Makes `key` the key that stands at these places of a row, whatever it was before. It is made in its place: a copy of columns that have
-/// just been written would wait until the memory has them.
-pub(crate) fn key_into<R: AnyRow>(row: &R, places: &[u32], key: &mut R)
-    requires places { All (λ place. place < length (R.columns row.now)) places.now }
-    requires few { length places.now ≤ 8 }
-    ensures { R.columns key.new ≡ columns_at places.now (R.columns row.now) }
-{
-    key.resize(places.len());
-    for (at, place) in places.iter().enumerate() {
-        key.set(at, row.column(*place));
-    }
 }
 
 /// The distinct keys of rows, where each row stands for as many as its weight says. Each row's key is looked up once.
@@ -81,7 +69,7 @@ fn fold_keys<R: AnyRow>(
     let mut key = R::empty();
     for place in 0..rows.len() {
         let row = rows.at(place);
-        key_into(row, places, &mut key);
+        columns_into(row, places, &mut key);
         let number = numbers.number(&key)?;
         if number == keys.len() {
             keys.push(&key)?;

@@ -1,5 +1,5 @@
 //! A mark for each place of a chain of registers, as one bit.
-ghost use Rattle.std.specs.Prelude.{◌≡◌, ◌<◌, ◌≤◌, ◌++◌, length, drop, replicate, false, true, ◌&&◌, slice_index_or, slice_set, IfOk, OnOk, if◌then◌else◌};
+ghost use Rattle.std.specs.Prelude.{◌≡◌, ◌<◌, ◌≤◌, ◌++◌, length, drop, replicate, false, true, ◌&&◌, slice_index_or, slice_set, OnOk, if◌then◌else◌};
 
 use sn_base::memory::Memory;
 use std::alloc::Global;
@@ -21,13 +21,6 @@ impl Model for Marks {
     ghost view = { λ m. marks_of m.count m.words.items };
 
     ghost invariant = { λ m. m.count ≤ 64 * length m.words.items };
-}
-
-/// This many words of 0.
-fn zeros(alloc: Global, count: usize) -> Result<Vec<u64>, Memory>
-    ensures { IfOk result (λ words. words.items ≡ replicate count 0) }
-{
-    Ok(vec![in alloc; 0; count]?)
 }
 
 /// Sets the first words to 0.
@@ -60,7 +53,7 @@ impl Marks {
         if words <= self.words.len() {
             erase(self.words.as_mut_slice(), words);
         } else {
-            self.words = zeros(alloc, words)?;
+            self.words = vec![in alloc; 0; words]?;
         }
         self.count = count;
         Ok(())

@@ -4,13 +4,13 @@ ghost use Rattle.sn_base.specs.Groups.{Apart, Row, columns_at, same_row};
 ghost use Rattle.sn_cost_tally.specs.Largest.{largest_slots};
 ghost use Rattle.sn_cost_tally.specs.Renumbered.{AreNumbered};
 
-use crate::groups::key_into;
 use crate::largest::of_keys;
 use sn_base::any_row::AnyRow;
 use sn_base::memory::Memory;
 use sn_base::row_seq::RowSeq;
 use sn_base::seed::Seed;
 use sn_table::numbers::Numbers;
+use sn_types::evaluate::columns_into;
 use std::alloc::Global;
 
 /// Distinct keys by number, and of each of some rows the number of its key.
@@ -114,7 +114,7 @@ pub fn number_keys<R: AnyRow>(
     let mut of_rows = Vec::with_capacity(alloc, rows.len())?;
     let mut key = R::empty();
     for place in 0..rows.len() {
-        key_into(rows.at(place), places, &mut key);
+        columns_into(rows.at(place), places, &mut key);
         add_number(&mut numbers, &key, &mut of_rows)?;
     }
     with_slots(alloc, &numbers, of_rows)

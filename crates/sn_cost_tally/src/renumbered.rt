@@ -1,5 +1,5 @@
 //! Numbered keys that come one after another, by numbers in the order in which they come.
-ghost use Rattle.std.specs.Prelude.{◌≡◌, ◌<◌, [], length, map, replicate, IfOk, OnOk};
+ghost use Rattle.std.specs.Prelude.{◌≡◌, ◌<◌, [], length, map, IfOk, OnOk};
 ghost use Rattle.std.specs.List.{position_or_len};
 ghost use Rattle.indexmap.specs.IndexSet.{insert_key};
 ghost use Rattle.sn_base.specs.Groups.{Apart, same_row};
@@ -22,20 +22,13 @@ pub(crate) struct Renumbered<R: AnyRow> {
     pub(crate) slots: Vec<[u32; 2]>,
 }
 
-/// This many times 0.
-fn zeros(alloc: Global, count: usize) -> Result<Vec<usize>, Memory>
-    ensures { IfOk result (λ zeros. zeros.items ≡ replicate count 0) }
-{
-    Ok(vec![in alloc; 0; count]?)
-}
-
 impl<R: AnyRow> Renumbered<R> {
     /// No key of these came.
     pub(crate) fn new(alloc: Global, all: &Numbered<R>) -> Result<Renumbered<R>, Memory>
         ensures keys { IfOk result (λ own. own.keys ≡ []) }
         ensures so_far { IfOk result (λ own. AreRenumbered all.now.keys own.keys own.places.items own.slots.items) }
     {
-        let places = zeros(alloc, all.keys.len())?;
+        let places = vec![in alloc; 0; all.keys.len()]?;
         Ok(Renumbered {
             places,
             keys: RowSeq::new(alloc),

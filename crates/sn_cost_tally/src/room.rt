@@ -1,5 +1,5 @@
 //! Keys with their times, in registers of a size.
-ghost use Rattle.std.specs.Prelude.{◌≡◌, ◌≤◌, ◌&&◌, ◌||◌, filter, length, replicate, true, nat_eq, nat_lt, IfOk};
+ghost use Rattle.std.specs.Prelude.{◌≡◌, ◌≤◌, ◌&&◌, ◌||◌, filter, length, nat_eq, nat_lt, IfOk};
 ghost use Rattle.sn_base.specs.Groups.{Apart, same_row};
 ghost use Rattle.sn_chain.specs.Limits.{largest_register};
 ghost use Rattle.sn_cost_seats.specs.Tallies.{marked, sum_unmarked};
@@ -83,13 +83,6 @@ fn are_alone<R: AnyRow>(depth: u32, keys: &RowSeq<R>) -> bool
     keys.len() == 0 || keys.len() == 1 && depth > 0
 }
 
-/// Marks that are all set.
-fn all_set(alloc: Global, count: usize) -> Result<Vec<bool>, Memory>
-    ensures { IfOk result (λ marks. marks.items ≡ replicate count true) }
-{
-    Ok(vec![in alloc; true; count]?)
-}
-
 impl Room {
     /// Takes no memory yet.
     pub fn new(alloc: Global, seed: Seed) -> Room {
@@ -122,18 +115,16 @@ impl Room {
     {
         let keys = &tally.keys;
         if are_alone(depth, keys) {
-            let marks = all_set(self.alloc, keys.len())?;
+            let marks = vec![in self.alloc; true; keys.len()]?;
             return Ok(Homes::new(0, marks));
         }
-        let mut marks = Vec::with_capacity(self.alloc, keys.len())?;
-        seat(
+        let marks = seat(
             self.alloc,
             &mut self.marks,
             depth,
             slots,
             keys.as_slice(),
             tally.slots.as_slice(),
-            &mut marks,
         )?;
         let over = over(marks.as_slice(), tally.times.as_slice());
         Ok(Homes::new(over, marks))

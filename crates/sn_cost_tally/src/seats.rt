@@ -1,5 +1,5 @@
 //! Which keys find room in registers of a size.
-ghost use Rattle.std.specs.Prelude.{◌≡◌, ◌≤◌, ◌<◌, ◌*◌, ◌%◌, map, length, nat_eq, is_some, OnOk};
+ghost use Rattle.std.specs.Prelude.{◌≡◌, ◌≤◌, ◌<◌, ◌*◌, ◌%◌, map, length, nat_eq, is_some, IfOk};
 ghost use Rattle.sn_base.specs.Groups.{Apart, same_row};
 ghost use Rattle.sn_chain.specs.Chain.{has_home, place_for};
 ghost use Rattle.sn_chain.specs.Limits.{largest_register};
@@ -66,21 +66,20 @@ pub fn seat<R: AnyRow>(
     slots: u32,
     keys: &[R],
     known: &[[u32; 2]],
-    homes: &mut Vec<bool>,
-) -> Result<(), Memory>
+) -> Result<Vec<bool>, Memory>
     requires known { known.now ≡ map largest_slots (map R.columns keys.now) }
     requires most_depth { depth ≤ 4 }
     requires some_slots { 1 ≤ slots }
     requires most_slots { slots ≤ largest_register }
     requires apart { Apart same_row (map R.columns keys.now) }
-    ensures { let rows = map R.columns keys.now in OnOk result (homes.new.items ≡ map (has_home depth slots rows) rows) }
+    ensures { let rows = map R.columns keys.now in IfOk result (λ homes. homes.items ≡ map (has_home depth slots rows) rows) }
 {
     marks.clear(alloc, depth as usize * slots as usize)?;
-    homes.clear();
+    let mut homes = Vec::with_capacity(alloc, keys.len())?;
     let even = divides(slots);
     for place in 0..keys.len() {
         let home = take_seat(marks, depth, slots, even, &keys[place], &known[place]);
         homes.push(home)?;
     }
-    Ok(())
+    Ok(homes)
 }

@@ -77,15 +77,13 @@ fn homes_of(rt: &HostRuntime, depth: u32, slots: u32) -> Result<Vec<bool>, Fail>
     let keys = [key(1), key(2), key(3)];
     let known = of_keys(rt.alloc(), &keys)?;
     let mut marks = Marks::new(rt.alloc());
-    let mut homes = Vec::new(rt.alloc());
-    seat(
+    let homes = seat(
         rt.alloc(),
         &mut marks,
         depth,
         slots,
         &keys,
         known.as_slice(),
-        &mut homes,
     )?;
     Ok(homes)
 }

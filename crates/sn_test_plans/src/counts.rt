@@ -40,7 +40,16 @@ fn counts_over<R: AnyRow>(
     let mut room = Room::new(alloc, t.seed);
     let packed = pack(&room, t, 0, 0, tuples)?;
     counts_of::<R>(
-        &mut room, t, 0, 0, level, chain, slots, None, tuples, &packed,
+        &mut room,
+        t,
+        0,
+        0,
+        level,
+        chain,
+        slots,
+        None,
+        tuples,
+        packed.as_ref(),
     )
 }
 
@@ -86,7 +95,7 @@ fn pays(alloc: Global, text: &[u8], tuples: &[Tuple]) -> Result<bool, Memory> {
         return Err(Memory);
     }
     let packed = pack(&Room::new(alloc, t.seed), &t, 0, 0, tuples)?;
-    Ok(packed.pays)
+    Ok(packed.is_some())
 }
 
 /// Destinations by packets.

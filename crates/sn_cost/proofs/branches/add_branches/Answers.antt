@@ -5,6 +5,7 @@ use Rattle.sn_cost_counts.specs.Settings.{settings}
 use Rattle.sn_ops.specs.Packets.{packet_rows}
 use Rattle.sn_types.specs.declared.typed_query.TypedBranch.{TypedBranch}
 use Rattle.sn_types.specs.declared.typed_query.TypedQuery.{TypedQuery}
+use Rattle.sn_cost_counts.specs.Standing.{IsPacked}
 use Rattle.sn_types.specs.Typed.{branch_at, query_at}
 use Rattle.sn_types.proofs.Facts.{few_branches}
 use Rattle.sn_cost.specs.Adding.{AreSmall, kept_counts, with_fee}
@@ -54,4 +55,5 @@ pub kept_counts-requires-clause-packed : goal.kept_counts-requires-clause-packed
 kept_counts-requires-clause-packed c =
     let packed = c.requires.packed in
     let long = packed.long in
-    packed.each c.loop-b.b c.index-packed-b.result (read_at c.args.packed.now c.loop-b.b c.index-packed-b.result (omega (arith, c.loop-b-test.true, c.branches-b-end.ensures, long)) c.index-packed-b.is)
+    subst (IsPacked (query_at c.args.t.now.queries c.args.q) c.loop-b.b c.args.tuples.now) (sym c.as_ref-own.ensures.value)
+    (packed.each c.loop-b.b c.index-packed-b.result (read_at c.args.packed.now c.loop-b.b c.index-packed-b.result (omega (arith, c.loop-b-test.true, c.branches-b-end.ensures, long)) c.index-packed-b.is))

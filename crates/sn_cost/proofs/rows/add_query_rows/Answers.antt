@@ -1,6 +1,7 @@
-use Rattle.std.proofs.Common.{◌≡◌, ℕ, ◌+◌, List, length, refl, subst, arith}
+use Rattle.std.proofs.Common.{◌≡◌, ℕ, ◌+◌, List, length, refl, sym, subst, arith}
 use Rattle.sn_ops.proofs.PacketSteps.{some_branch}
 use Rattle.sn_types.specs.declared.typed_query.TypedQuery.{TypedQuery}
+use Rattle.sn_cost_counts.specs.Standing.{IsPacked}
 use Rattle.sn_types.specs.Typed.{query_at}
 use Rattle.sn_types.proofs.Facts.{few_branches}
 use Rattle.sn_cost.specs.Adding.{Adds, AreSmall, kept_counts, of_branches, with_fee}
@@ -74,9 +75,11 @@ add_branch-requires-clause-packed c =
     let t = c.args.t.now in
     let some = some_branch t.window_us t.queries c.args.q t.typed c.requires.query in
     let long = c.requires.packed.long in
-    c.requires.packed.each 0 c.index-packed-0.result (read_at c.args.packed.now 0 c.index-packed-0.result (omega (arith, some, long)) c.index-packed-0.is)
+    subst (IsPacked (query_at c.args.t.now.queries c.args.q) 0 c.args.tuples.now) (sym c.as_ref.ensures.value)
+    (c.requires.packed.each 0 c.index-packed-0.result (read_at c.args.packed.now 0 c.index-packed-0.result (omega (arith, some, long)) c.index-packed-0.is))
 
 pub add_branch-requires-2-clause-packed : goal.add_branch-requires-2-clause-packed
 add_branch-requires-2-clause-packed c =
     let long = c.requires.packed.long in
-    c.requires.packed.each 1 c.index-packed-1.result (read_at c.args.packed.now 1 c.index-packed-1.result (omega (arith, c.if-branches-ne2.false, c.branches.ensures, long)) c.index-packed-1.is)
+    subst (IsPacked (query_at c.args.t.now.queries c.args.q) 1 c.args.tuples.now) (sym c.as_ref-2.ensures.value)
+    (c.requires.packed.each 1 c.index-packed-1.result (read_at c.args.packed.now 1 c.index-packed-1.result (omega (arith, c.if-branches-ne2.false, c.branches.ensures, long)) c.index-packed-1.is))

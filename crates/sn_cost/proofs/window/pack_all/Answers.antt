@@ -1,4 +1,4 @@
-use Rattle.std.proofs.Common.{◌≡◌, length, ◌∙◌, arith}
+use Rattle.std.proofs.Common.{arith}
 use Rattle.sn_types.specs.Typed.{query_at}
 use Rattle.sn_cost.proofs.Packing.{all_packed, none_packed, one_packed}
 use Rattle.sn_cost.proofs.window.pack_all.Goals as goal

@@ -1,5 +1,6 @@
-use Rattle.std.proofs.Common.{◌≡◌, ℕ, ◌<◌, List, Bool, take, length, cond, Option, Some, None, Result, Ok, Err, IfOk, OnOk, ap, ◌∙◌, arith}
+use Rattle.std.proofs.Common.{◌≡◌, ℕ, ◌<◌, List, Bool, take, length, cond, Option, Some, None, Result, Ok, Err, IfOk, OnOk, ap, subst, ◌∙◌, arith}
 use Rattle.std.specs.List.{AllByRecursion}
+use Rattle.std.specs.Option.{option_copied}
 use Rattle.std.proofs.lemmas.List.{length-take}
 use Rattle.sn_base.specs.Columns.{IsOf}
 use Rattle.sn_base.specs.Groups.{Row}
@@ -14,7 +15,7 @@ use Rattle.sn_types.specs.declared.typed_query.TypedBranch.{TypedBranch}
 use Rattle.sn_types.specs.declared.typed_query.TypedQuery.{TypedQuery}
 use Rattle.sn_types.specs.Typed.{IsTyped, branch_at, first_columns, query_at}
 use Rattle.sn_cost_counts.specs.Counts.{counts_of}
-use Rattle.sn_cost_counts.specs.Standing.{PaysFor, stood_for}
+use Rattle.sn_cost_counts.specs.Standing.{IsPacked, PaysFor, stood_for}
 use Rattle.sn_cost_counts.proofs.Alike.{counts_alike, through_alike}
 use Rattle.sn_cost_counts.proofs.Branching.{branch_takes}
 use Rattle.sn_cost_counts.proofs.Arrivals.{on_ok}
@@ -23,7 +24,9 @@ use Rattle.sn_cost_counts.proofs.Weighing.{any_stateful}
 use Rattle.sn_cost_counts.proofs.branch.along_prefix.Goals as goal
 
 pub along_packed-requires-clause-firsts : goal.along_packed-requires-clause-firsts
-along_packed-requires-clause-firsts g c = c.requires.packed c.if-packed.true
+along_packed-requires-clause-firsts g c =
+    let a = c.args in
+    subst (λ o. IsPacked (query_at a.t.now.queries a.q) a.b a.tuples.now (option_copied o)) c.in-Some.is c.requires.packed
 
 if_both : {A E : Type 0} {P : A → Type 0} {Q : Type 0} {S : A → Type 0} (r : Result A E) → IfOk r P → OnOk r Q → ((x : A) → P x → Q → S x) → IfOk r S
 if_both (Ok x) p q f = f x p q
@@ -55,25 +58,30 @@ same_unsplit window queries q b level kept asked tuples f t lt within pays of =
     ap (λ rows. cond asked (Some rows) None)
     (through_alike level front stood all (any_stateful front pays.registers) (branch_takes window queries q b level branch.max_cut stood t lt within of) (pays.stand.alike level kept))
 
-pub returns-then-packed-clause-counts : goal.returns-then-packed-clause-counts
-returns-then-packed-clause-counts g c =
+pub returns-in-Some-clause-counts : goal.returns-in-Some-clause-counts
+returns-in-Some-clause-counts g c =
     let a = c.args in
     let t = a.t.now in
+    let f : Firsts = c.in-Some.firsts.now in
+    let pays : PaysFor (query_at t.queries a.q) a.b a.tuples.now f = subst (λ o. IsPacked (query_at t.queries a.q) a.b a.tuples.now (option_copied o)) c.in-Some.is c.requires.packed in
     if_both c.along_packed.result c.along_packed.ensures.counts c.along_packed.ensures.columns
-    (λ along is of. is ∙ same_counts t.window_us t.queries a.q a.b a.level a.chain a.slots.now a.kept a.tuples.now a.packed.now.firsts t.typed c.requires.query c.requires.branch (c.requires.packed c.if-packed.true) of)
+    (λ along is of. is ∙ same_counts t.window_us t.queries a.q a.b a.level a.chain a.slots.now a.kept a.tuples.now f t.typed c.requires.query c.requires.branch pays of)
 
-pub returns-then-packed-clause-unsplit : goal.returns-then-packed-clause-unsplit
-returns-then-packed-clause-unsplit g c =
+pub returns-in-Some-clause-unsplit : goal.returns-in-Some-clause-unsplit
+returns-in-Some-clause-unsplit g c =
     let a = c.args in
     let t = a.t.now in
+    let f : Firsts = c.in-Some.firsts.now in
+    let pays : PaysFor (query_at t.queries a.q) a.b a.tuples.now f = subst (λ o. IsPacked (query_at t.queries a.q) a.b a.tuples.now (option_copied o)) c.in-Some.is c.requires.packed in
     if_both c.along_packed.result c.along_packed.ensures.unsplit c.along_packed.ensures.columns
-    (λ along is of. is ∙ same_unsplit t.window_us t.queries a.q a.b a.level a.kept a.asked a.tuples.now a.packed.now.firsts t.typed c.requires.query c.requires.branch (c.requires.packed c.if-packed.true) of)
+    (λ along is of. is ∙ same_unsplit t.window_us t.queries a.q a.b a.level a.kept a.asked a.tuples.now f t.typed c.requires.query c.requires.branch pays of)
 
-pub returns-then-packed-clause-columns : goal.returns-then-packed-clause-columns
-returns-then-packed-clause-columns g c =
+pub returns-in-Some-clause-columns : goal.returns-in-Some-clause-columns
+returns-in-Some-clause-columns g c =
     let a = c.args in
     let query = query_at a.t.now.queries a.q in
-    let pays : PaysFor query a.b a.tuples.now a.packed.now.firsts = c.requires.packed c.if-packed.true in
+    let f : Firsts = c.in-Some.firsts.now in
+    let pays : PaysFor query a.b a.tuples.now f = subst (λ o. IsPacked query a.b a.tuples.now (option_copied o)) c.in-Some.is c.requires.packed in
     on_ok _ _ c.along_packed.result
-    (all_bag (IsOf (first_columns (branch_at a.t.now.queries a.q a.b))) (packet_rows query a.b a.level a.kept (stood_for a.tuples.now a.packed.now.firsts)) (packet_rows query a.b a.level a.kept a.tuples.now) (pays.stand.alike a.level a.kept).bag)
+    (all_bag (IsOf (first_columns (branch_at a.t.now.queries a.q a.b))) (packet_rows query a.b a.level a.kept (stood_for a.tuples.now f)) (packet_rows query a.b a.level a.kept a.tuples.now) (pays.stand.alike a.level a.kept).bag)
     c.along_packed.ensures.columns

@@ -25,7 +25,7 @@ at_number P key unit ks held ns number long same is h = subst P (so_far_at key u
 pub fold_in-requires-clause-so_far : goal.fold_in-requires-clause-so_far
 fold_in-requires-clause-so_far g c =
     let f : Row → Row = columns_at c.args.places.now in
-    let key : Row = g.R.Columns.columns c.key_into.new.key in
+    let key : Row = g.R.Columns.columns c.columns_into.new.key in
     let before = c.loop-place.invariant in
     at_number (HasBits 64) key 0 c.loop-place.keys c.loop-place.numbers.keys c.loop-place.times.items c.in_ok-number.number before.times_long before.same c.in_ok-number.ensures.number
     (counted_had (map f (weighed (take c.loop-place.place c.args.rows.now) (option_copied c.args.weights))) (zipped c.loop-place.keys c.loop-place.times.items) key before.times)
@@ -36,7 +36,7 @@ column-requires g c = all_at (λ (row : Row). c.args.value < length row) c.args.
 pub fold_in-requires-in-loop-place-clause-so_far : goal.fold_in-requires-in-loop-place-clause-so_far
 fold_in-requires-in-loop-place-clause-so_far g c =
     let a = c.args in
-    let key : Row = g.R.Columns.columns c.key_into.new.key in
+    let key : Row = g.R.Columns.columns c.columns_into.new.key in
     let before = c.loop-place.invariant in
     at_number (any_has a.fold) key (any_unit a.fold) c.loop-place.keys c.loop-place.numbers.keys c.loop-place.totals.items c.in_ok-number.number before.totals_long before.same c.in_ok-number.ensures.number
     (folded_had a.fold a.places.now a.value (weighed (take c.loop-place.place a.rows.now) (option_copied a.weights)) (zipped c.loop-place.keys c.loop-place.totals.items) key
@@ -55,7 +55,7 @@ loop-place-preserved g c =
     let i = c.loop-place.place in
     let f : Row → Row = columns_at a.places.now in
     let row : Row = g.R.Columns.columns c.at-row.result.now in
-    let key : Row = g.R.Columns.columns c.key_into.new.key in
+    let key : Row = g.R.Columns.columns c.columns_into.new.key in
     let ks : List Row = c.loop-place.keys in
     let now : List Row = c.if-number-len.keys in
     let number : ℕ = c.in_ok-number.number in
@@ -80,7 +80,7 @@ loop-place-preserved g c =
     let weight : ℕ = c.weight_at-weight.result in
     let is_weight : weight ≡ weight_in weights i = c.weight_at-weight.ensures in
     let some : 1 ≤ weight = subst (λ (n : ℕ). 1 ≤ n) (sym is_weight) (weight_some rows weights i c.requires.weights (omega (arith, c.loop-place-test.true, c.len-place-end.ensures))) in
-    let at_key : key ≡ f row = c.key_into.ensures in
+    let at_key : key ≡ f row = c.columns_into.ensures in
     let at_pair : (key, v) ≡ keyed a.places.now a.value row = ap (λ (k : Row). (k, v)) at_key in
     let total : ℕ = unwrap_or (lookup (same_row key) (zipped ks totals)) (any_unit a.fold) in
     let total_had : any_has a.fold total =

@@ -11,5 +11,5 @@ loop-place-preserved g c =
     let i = c.loop-place.place in
     let row : Row = g.R.Columns.columns c.at.result.now in
     subst (λ (rs : List Row). AreNumbered c.add_number.new.numbers.keys rs c.add_number.new.of_rows.items)
-    (ap (λ (key : Row). map f (take i rows) ++ key ∷ []) c.key_into.ensures ∙ sym (map_one f rows i row c.at.ensures))
+    (ap (λ (key : Row). map f (take i rows) ++ key ∷ []) c.columns_into.ensures ∙ sym (map_one f rows i row c.at.ensures))
     (c.in_ok-add_number.ensures (map f (take i rows)) c.loop-place.invariant)

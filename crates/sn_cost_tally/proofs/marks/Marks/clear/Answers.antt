@@ -13,5 +13,5 @@ returns c =
           let old = c.self.inside.words in
           ap (λ (m : Inside). get_or m.words.items i 0) w.self-inside-is
           ∙ front_erased words old.len i old.items w.erase.new.words (omega (arith, w.if-words-len.true, c.len.ensures, old.ok.0)) old.ok.0 (w.erase.ensures ∙ ap (λ ws. replicate words 0 ++ drop words ws) w.as_mut_slice.ensures.value) lt)
-      | else-words-len+in_ok-self-inside w ↦ (λ i lt. ap (λ (m : Inside). get_or m.words.items i 0) w.self-inside-is ∙ ap (λ ws. get_or ws i 0) w.in_ok-self-inside.ensures ∙ zero_there words i)
+      | else-words-len+in_ok-self-inside w ↦ (λ i lt. ap (λ (m : Inside). get_or m.words.items i 0) w.self-inside-is ∙ ap (λ ws. get_or ws i 0) (w.in_ok-self-inside.ensures.items_if_clones_equal (λ y e. e)) ∙ zero_there words i)
     ])

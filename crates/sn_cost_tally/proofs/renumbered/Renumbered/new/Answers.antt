@@ -8,6 +8,6 @@ pub returns-clause-so_far : goal.returns-clause-so_far
 returns-clause-so_far g c =
     let all = c.args.all.now.keys in
     record {
-      told = c.in_ok-places.ensures ∙ ap (λ n. replicate n 0) c.len.ensures ∙ none_renumbered all ∙ ap (λ ks. map (placed ks) all) (sym c.new.ensures);
+      each = c.in_ok-places.ensures.items_if_clones_equal (λ y e. e) ∙ ap (λ n. replicate n 0) c.len.ensures ∙ none_renumbered all ∙ ap (λ ks. map (placed ks) all) (sym c.new.ensures);
       known = c.new-2.ensures.items ∙ ap (map largest_slots) (sym c.new.ensures);
     }

@@ -7,4 +7,4 @@ returns-then-are_alone-clause-over g c = c.new.ensures.over ∙ none_over c.args
 
 pub returns-then-are_alone-clause-marks : goal.returns-then-are_alone-clause-marks
 returns-then-are_alone-clause-marks g c =
-    c.new.ensures.marks ∙ c.in_ok-marks.ensures ∙ ap (λ n. replicate n true) c.len.ensures ∙ all_stay c.args.depth c.args.slots c.args.tally.now.keys (sym c.are_alone.ensures ∙ c.if-are_alone.true)
+    c.new.ensures.marks ∙ c.in_ok-marks.ensures.items_if_clones_equal (λ y e. e) ∙ ap (λ n. replicate n true) c.len.ensures ∙ all_stay c.args.depth c.args.slots c.args.tally.now.keys (sym c.are_alone.ensures ∙ c.if-are_alone.true)
