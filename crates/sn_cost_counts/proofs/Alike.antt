@@ -11,7 +11,7 @@ use Rattle.sn_base.specs.Groups.{Row, once, same_row, values_at}
 use Rattle.sn_base.specs.Mask.{masked}
 use Rattle.sn_base.specs.Operators.{Grouping, apply, key_of, pair_of, row_for, through}
 use Rattle.sn_base.specs.Operators.Op.{Reduce}
-use Rattle.sn_base.proofs.BagLemmas.{bag_filter, bag_map, bag_same, fold_bag}
+use Rattle.sn_base.proofs.BagLemmas.{bag_filter, bag_map, fold_bag}
 use Rattle.sn_base.proofs.FoldedLemmas.{same_row_exact}
 use Rattle.sn_base.proofs.GroupLemmas.{AllHad}
 use Rattle.sn_base.proofs.Lists.{all_filter, all_map, all_weaker, by_test, filter_map, filter_same, filter_within, map_agree, map_both, nat_same}
@@ -44,10 +44,6 @@ use Rattle.sn_cost_counts.proofs.Orders.{counts_are}
 use Rattle.sn_cost_counts.proofs.Settling.{distinct_flow, grouped_is, reduce_flow}
 
 -- ---- lists that are alike
-
--- equal lists are alike
-pub alike_same : {xs ys : List Row} → xs ≡ ys → Alike xs ys
-alike_same e = record { bag = bag_same e; firsts = ap (once same_row) e }
 
 -- what passes a test is alike
 pub alike_filter : (t : Row → Bool) (xs ys : List Row) → Alike xs ys → Alike (filter t xs) (filter t ys)

@@ -44,9 +44,6 @@ held_few depth slots g rows =
 row_fits : (r : TReduce) (row : Row) → Fits (ops.Reduce r) (row ∷ []) → any_has r.fold (slice_index row r.value)
 row_fits r row h = (recursion_from_All (λ x. any_has r.fold (slice_index x r.value)) (row ∷ []) h.had).0
 
-filter_takes : (level : ℕ) (os : List TOp) (t : Row → Bool) (rows : List Row) → AllByRecursion (Takes level os) rows → AllByRecursion (Takes level os) (filter t rows)
-filter_takes level os t rows h = all_filter (Takes level os) t rows h
-
 -- at the first operator
 fits_first : (level : ℕ) (op : TOp) (os : List TOp) (row : Row) → Fits op [] → Takes level (op ∷ os) row → Fits op (row ∷ [])
 fits_first level (ops.Filter conds) os row e h = h.0

@@ -12,5 +12,6 @@ pub mod Arrivals
 pub mod Ahead
 pub mod Alike
 pub mod Standing
+pub mod Shapes
 mod Weighing
 mod Remaking

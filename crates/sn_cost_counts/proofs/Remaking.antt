@@ -25,14 +25,13 @@ keys_few places rows few =
     let P : Row → Type 0 = λ key. length key < 8 in
     all_map P (columns_at places) rows (all_of (λ (row : Row). P (columns_at places row)) (λ row. subst (λ (n : ℕ). n < 8) (sym (length-map places (λ place. slice_index row place))) few) rows)
 
--- of what was sent before the rows don't matter
-pub following_same : (distinct : Bool) (f g : Flow) (flows : List Flow) → f.sent ≡ g.sent → f.spilled ≡ g.spilled → f.whole ≡ g.whole → map (following distinct f) flows ≡ map (following distinct g) flows
-following_same distinct f g flows sent spilled whole =
-    map_agree (following distinct f) (following distinct g)
-    (λ next. ap (λ n. record (following distinct f next) { sent = n + next.sent }) sent
-    ∙ ap (λ b. record { sent = g.sent + next.sent; rows = next.rows; spilled = b || next.spilled; whole = cond distinct f.whole f.spilled }) spilled
-    ∙ ap (λ b. record { sent = g.sent + next.sent; rows = next.rows; spilled = g.spilled || next.spilled; whole = cond distinct b f.spilled }) whole
-    ∙ ap (λ b. record { sent = g.sent + next.sent; rows = next.rows; spilled = g.spilled || next.spilled; whole = cond distinct g.whole b }) spilled) flows
+-- of what was sent before the rows don't matter, nor whether filters drop them
+pub following_same : (f g : Flow) (flows : List Flow) → f.sent ≡ g.sent → f.spilled ≡ g.spilled → map (following f) flows ≡ map (following g) flows
+following_same f g flows sent spilled =
+    map_agree (following f) (following g)
+    (λ next. ap (λ n. record (following f next) { sent = n + next.sent }) sent
+    ∙ ap (λ b. record { sent = g.sent + next.sent; rows = next.rows; spilled = b || next.spilled; whole = f.spilled }) spilled
+    ∙ ap (λ b. record { sent = g.sent + next.sent; rows = next.rows; spilled = g.spilled || next.spilled; whole = b }) spilled) flows
 
 pub read_mapped : {X Y : Type 0} (f : X → Y) (xs : List X) (i : ℕ) (x : X) → i < length xs → x ≡ get_or xs i x → f x ≡ get_or (map f xs) i (f x)
 read_mapped f [] i x lt is = absurd (omega (arith, lt))

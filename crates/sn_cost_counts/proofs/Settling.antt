@@ -63,9 +63,6 @@ module _ (depth slots : ℕ) (g : Grouping) (rows : List Row) where
   pub grouped_is : apply (Reduce g) rows ≡ map (row_for g (map (pair_of g) rows)) (once same_row all)
   grouped_is = ap (λ ks. map (row_for g (map (pair_of g) rows)) (once same_row ks)) (map_both (pair_of g) (λ (p : Row × ℕ). p.0) rows)
 
-  pub groups_long : (keys groups : List Row) → keys ≡ once same_row all → groups ≡ apply (Reduce g) rows → length groups ≡ length keys
-  groups_long keys groups are made = ap length (made ∙ grouped_is) ∙ length-map (once same_row all) (row_for g (map (pair_of g) rows)) ∙ ap length (sym are)
-
   pub reduce_rows : (keys groups out : List Row) → keys ≡ once same_row all → groups ≡ apply (Reduce g) rows → out ≡ marked (homes_among depth slots keys) groups → out ≡ held_rows depth slots g rows
   reduce_rows keys groups out are made is =
       let f : Row → Row = row_for g (map (pair_of g) rows) in

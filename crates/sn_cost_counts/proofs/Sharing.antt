@@ -13,12 +13,13 @@ use Rattle.sn_cost_tally.specs.Places.{homes_among}
 use Rattle.sn_ops.specs.Flow.{grouping_of}
 use Rattle.sn_types.specs.declared.typed_op.TOp.{TOp}
 use Rattle.sn_types.specs.declared.typed_op.TOp.TheVariants as ops
+use Rattle.sn_types.specs.declared.typed_op.TReduce.{TReduce}
 use Rattle.sn_types.specs.Cuts.{is_stateful}
 use Rattle.sn_types.specs.Values.{op_at}
 use Rattle.sn_windows.specs.Blocks.{most_records}
 use Rattle.sn_cost_counts.specs.AnyFlow.{Flow}
 use Rattle.sn_cost_counts.specs.Flows.{counted, over_distinct, over_reduce, starting, stepped}
-use Rattle.sn_cost_counts.specs.Shared.{following, homes_at, is_distinct, over_and_marks, staying}
+use Rattle.sn_cost_counts.specs.Shared.{following, homes_at, over_and_marks, staying}
 use Rattle.sn_cost_counts.proofs.Settling.{distinct_flow, distinct_over, distinct_rows, few_over, marked_map, reduce_flow, reduce_over, reduce_rows}
 
 -- ---- registers of each size
@@ -85,21 +86,18 @@ each_few depth slots op rows all distinct homes is few are =
     (all_of (λ size. fits (stepped depth size (op_at 0 op) (starting rows))) (λ size. let fewer = over_few depth size op rows is in omega (arith, fewer, few)) slots) in
     All-from_recursion (λ (h : Homes). h.over ≤ most_records) homes (all_unmap fits (λ (h : Homes). staying distinct all (over_and_marks h)) homes (subst (AllByRecursion fits) (sym are) each))
 
-step_following : (depth size : ℕ) (op : TOp) (f : Flow) → is_stateful op ≡ true → following (is_distinct op) f (stepped depth size (op_at 0 op) (starting f.rows)) ≡ stepped depth size (op_at 0 op) f
-step_following depth size (ops.Filter conds) f is = absurd cc
-step_following depth size (ops.Map exprs) f is = absurd cc
-step_following depth size ops.Distinct f is = let n : ℕ = length (over_distinct depth size f.rows) in ap (λ k. record (stepped depth size Distinct f) { sent = f.sent + k }) (zero-add n)
-step_following depth size (ops.Reduce r) f is =
+step_following : (depth size : ℕ) (r : TReduce) (f : Flow) → following f (stepped depth size (op_at 0 (ops.Reduce r)) (starting f.rows)) ≡ stepped depth size (op_at 0 (ops.Reduce r)) f
+step_following depth size r f =
     let n : ℕ = length (over_reduce depth size (grouping_of r) f.rows) in
-    ap (λ k. record (following false f (stepped depth size (Reduce (grouping_of r)) (starting f.rows))) { sent = f.sent + k }) (zero-add n)
+    ap (λ k. record (following f (stepped depth size (Reduce (grouping_of r)) (starting f.rows))) { sent = f.sent + k }) (zero-add n)
     ∙ ap (λ b. record (stepped depth size (Reduce (grouping_of r)) f) { spilled = b }) (elim f.spilled as (λ b. (b || false) ≡ b) [ true ↦ refl | false ↦ refl ])
 
-pub steps_following : (depth : ℕ) (slots : List ℕ) (op : TOp) (f : Flow) (distinct : Bool) (flows : List Flow) → is_stateful op ≡ true → distinct ≡ is_distinct op
-    → flows ≡ map (λ size. stepped depth size (op_at 0 op) (starting f.rows)) slots → map (following distinct f) flows ≡ map (λ size. stepped depth size (op_at 0 op) f) slots
-steps_following depth slots op f distinct flows is which are =
-    ap (λ b. map (following b f) flows) which ∙ ap (map (following (is_distinct op) f)) are
-    ∙ map_both (λ size. stepped depth size (op_at 0 op) (starting f.rows)) (following (is_distinct op) f) slots
-    ∙ map_agree (λ size. following (is_distinct op) f (stepped depth size (op_at 0 op) (starting f.rows))) (λ size. stepped depth size (op_at 0 op) f) (λ size. step_following depth size op f is) slots
+pub steps_following : (depth : ℕ) (slots : List ℕ) (r : TReduce) (f : Flow) (flows : List Flow) → flows ≡ map (λ size. stepped depth size (op_at 0 (ops.Reduce r)) (starting f.rows)) slots
+    → map (following f) flows ≡ map (λ size. stepped depth size (op_at 0 (ops.Reduce r)) f) slots
+steps_following depth slots r f flows are =
+    ap (map (following f)) are
+    ∙ map_both (λ size. stepped depth size (op_at 0 (ops.Reduce r)) (starting f.rows)) (following f) slots
+    ∙ map_agree (λ size. following f (stepped depth size (op_at 0 (ops.Reduce r)) (starting f.rows))) (λ size. stepped depth size (op_at 0 (ops.Reduce r)) f) (λ size. step_following depth size r f) slots
 
 -- ---- filters and maps
 

@@ -8,4 +8,3 @@ pub mod Shared
 pub mod Passing
 pub mod Settings
 pub mod Counts
-pub mod Again

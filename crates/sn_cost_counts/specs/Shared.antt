@@ -1,6 +1,6 @@
 -- serves proofs
 -- Rows that are held once for all lists of sizes, as contracts see them.
-use Rattle.std.specs.Prelude.{ℕ, ◌+◌, List, map, Bool, true, false, ◌&&◌, ◌||◌, nat_lt, if◌then◌else◌}
+use Rattle.std.specs.Prelude.{ℕ, ◌+◌, List, map, Bool, true, false, ◌&&◌, ◌||◌, nat_lt}
 use Rattle.sn_base.specs.Groups.{Row}
 use Rattle.sn_cost_seats.specs.Tallies.{marked, sum_unmarked}
 use Rattle.sn_cost_tally.specs.declared.room.Homes.{Homes}
@@ -35,11 +35,11 @@ staying distinct rows homes = record { sent = homes.0; rows = marked homes.1 row
 abbrev pub flows_in : Shared → List Flow
 flows_in shared = map (λ homes. staying shared.distinct shared.rows (over_and_marks homes)) shared.homes.items
 
--- what goes on after a distinct or a reduce, following what was sent before
-abbrev pub following : Bool → Flow → Flow → Flow
-following distinct before next = record {
+-- what goes on after a reduce, following what was sent before
+abbrev pub following : Flow → Flow → Flow
+following before next = record {
   sent = before.sent + next.sent;
   rows = next.rows;
   spilled = before.spilled || next.spilled;
-  whole = if distinct then before.whole else before.spilled;
+  whole = before.spilled;
 }

@@ -1,72 +1,29 @@
-//! A distinct or a reduce of rows that are held once for all lists of sizes: each row's key is looked up once for all of them.
-ghost use Rattle.std.specs.Prelude.{◌≡◌, ◌*◌, ◌≤◌, ◌<◌, ◌++◌, ◌&&◌, All, nat_lt, false, length, map, true, IfOk, OnOk};
-ghost use Rattle.std.specs.List.{AllByRecursion, flat_map};
+//! A reduce of rows that are held once for all lists of sizes: each row's key is looked up once for all of them.
+ghost use Rattle.std.specs.Prelude.{◌≡◌, ◌*◌, ◌≤◌, ◌<◌, ◌++◌, All, nat_lt, length, map, true, IfOk, OnOk};
+ghost use Rattle.std.specs.List.{flat_map};
 ghost use Rattle.sn_base.specs.Groups.{Apart, columns_at, once, same_row};
 ghost use Rattle.sn_base.specs.Operators.{apply};
 ghost use Rattle.sn_chain.specs.Limits.{largest_register};
-ghost use Rattle.sn_cost_counts.specs.Again.{keys_at};
 ghost use Rattle.sn_cost_counts.specs.Flows.{starting, stepped};
-ghost use Rattle.sn_cost_counts.specs.Shared.{flows_in, is_distinct, over_and_marks, staying};
+ghost use Rattle.sn_cost_counts.specs.Shared.{flows_in, following, over_and_marks, staying};
 ghost use Rattle.sn_cost_seats.specs.Tallies.{marked, tallied};
 ghost use Rattle.sn_cost_tally.specs.Renumbered.{AreNumbered};
-ghost use Rattle.sn_ops.specs.Flow.{Fits, ReduceFits};
-ghost use Rattle.sn_types.specs.Cuts.{is_stateful};
+ghost use Rattle.sn_ops.specs.Flow.{ReduceFits};
 ghost use Rattle.sn_types.specs.Values.{op_at};
 ghost use Rattle.sn_types.specs.declared.typed_op.TOp.{TOp};
 ghost use Rattle.sn_windows.specs.Blocks.{most_records};
 
 use crate::flow::{Flow, FlowOf};
-use crate::shared::{Shared, SharedOf, homes_of};
-use crate::sizes::add_after;
+use crate::shared::{Shared, SharedOf, homes_of, staying};
 use sn_base::any_row::AnyRow;
 use sn_base::memory::Memory;
 use sn_base::row_seq::RowSeq;
 use sn_cost_tally::groups::Groups;
-use sn_cost_tally::numbered::{Numbered, number_keys, number_rows};
-use sn_cost_tally::regroup::{group_marked, tally_marked};
+use sn_cost_tally::numbered::{Numbered, number_keys};
+use sn_cost_tally::regroup::group_marked;
 use sn_cost_tally::room::{Homes, Room};
-use sn_types::typed_op::{TOp, TReduce};
+use sn_types::typed_op::TReduce;
 use std::alloc::Global;
-
-/// The numbers of the keys of rows at a distinct or a reduce.
-fn numbered<R: AnyRow>(room: &Room, op: &TOp, rows: &RowSeq<R>) -> Result<Numbered<R>, Memory>
-    requires stateful { is_stateful op.now ≡ true }
-    requires fits { Fits op.now rows.now }
-    ensures numbered { IfOk result (λ all. AreNumbered all.keys (keys_at op.now rows.now) all.of_rows.items) }
-    ensures apart { IfOk result (λ all. Apart same_row all.keys) }
-{
-    match op {
-        TOp::Distinct => number_rows(room.alloc, room.seed, rows),
-        TOp::Reduce(r) => number_keys(room.alloc, room.seed, rows, r.keys.as_slice()),
-        TOp::Filter(_) | TOp::Map(_) => unreachable!(),
-    }
-}
-
-/// The marked rows after a distinct: each once, and for each size which of them have a home.
-fn distinct_marked<R: AnyRow>(
-    room: &mut Room,
-    depth: u32,
-    slots: &[u32],
-    all: &Numbered<R>,
-    rows: &RowSeq<R>,
-    marks: &[bool],
-) -> Result<SharedOf<R>, Memory>
-    requires most_depth { depth ≤ 4 }
-    requires sizes { All (λ size. (1 ≤ size) × (size ≤ largest_register)) slots.now }
-    requires numbered { AreNumbered all.now.keys rows.now all.now.of_rows.items }
-    requires apart { Apart same_row all.now.keys }
-    requires few { length (marked marks.now rows.now) ≤ most_records }
-    ensures distinct { IfOk result (λ shared. shared.distinct ≡ true) }
-    ensures flows { IfOk result (λ shared. flows_in shared ≡ map (λ size. stepped depth size (op_at 0 TOp.Distinct) (starting (marked marks.now rows.now))) slots.now) }
-{
-    let tally = tally_marked(room.alloc, all, marks)?;
-    let homes = homes_of(room, depth, slots, &tally)?;
-    Ok(Shared {
-        rows: tally.keys,
-        homes,
-        distinct: true,
-    })
-}
 
 /// The groups of the marked rows.
 fn groups_marked<R: AnyRow>(
@@ -103,8 +60,7 @@ fn reduce_marked<R: AnyRow>(
     requires numbered { AreNumbered all.now.keys (map (columns_at r.now.keys) rows.now) all.now.of_rows.items }
     requires apart { Apart same_row all.now.keys }
     requires few { length (marked marks.now rows.now) ≤ most_records }
-    ensures distinct { IfOk result (λ shared. shared.distinct ≡ false) }
-    ensures flows { IfOk result (λ shared. flows_in shared ≡ map (λ size. stepped depth size (op_at 0 (TOp.Reduce r.now)) (starting (marked marks.now rows.now))) slots.now) }
+    ensures { IfOk result (λ shared. flows_in shared ≡ map (λ size. stepped depth size (op_at 0 (TOp.Reduce r.now)) (starting (marked marks.now rows.now))) slots.now) }
 {
     let groups = groups_marked(room, r, all, rows, marks)?;
     let homes = homes_of(room, depth, slots, &groups.tally)?;
@@ -115,102 +71,100 @@ fn reduce_marked<R: AnyRow>(
     })
 }
 
-/// The marked rows after a distinct or a reduce, with no register, and for each size which of them have a home.
-fn marked_after<R: AnyRow>(
-    room: &mut Room,
-    op: &TOp,
-    depth: u32,
-    slots: &[u32],
-    all: &Numbered<R>,
-    rows: &RowSeq<R>,
-    marks: &[bool],
-) -> Result<SharedOf<R>, Memory>
-    requires stateful { is_stateful op.now ≡ true }
-    requires most_depth { depth ≤ 4 }
-    requires sizes { All (λ size. (1 ≤ size) × (size ≤ largest_register)) slots.now }
-    requires fits { Fits op.now rows.now }
-    requires numbered { AreNumbered all.now.keys (keys_at op.now rows.now) all.now.of_rows.items }
-    requires apart { Apart same_row all.now.keys }
-    requires few { length (marked marks.now rows.now) ≤ most_records }
-    ensures distinct { IfOk result (λ shared. shared.distinct ≡ is_distinct op.now) }
-    ensures flows { IfOk result (λ shared. flows_in shared ≡ map (λ size. stepped depth size (op_at 0 op.now) (starting (marked marks.now rows.now))) slots.now) }
-{
-    match op {
-        TOp::Distinct => distinct_marked(room, depth, slots, all, rows, marks),
-        TOp::Reduce(r) => reduce_marked(room, r, depth, slots, all, rows, marks),
-        TOp::Filter(_) | TOp::Map(_) => unreachable!(),
-    }
-}
-
-/// What was sent before the rows with a home at one list of sizes. Their own keys have numbers, so that no row is copied.
-fn sent_before<R: AnyRow>(alloc: Global, distinct: bool, homes: &Homes) -> FlowOf<R>
+/// What a distinct sent before the rows with a home at one list of sizes. Their own keys have numbers, so that no row is copied.
+fn sent_before<R: AnyRow>(alloc: Global, homes: &Homes) -> FlowOf<R>
     ensures sent { result.sent ≡ homes.now.over }
-    ensures spilled { result.spilled ≡ (distinct && nat_lt 0 homes.now.over) }
-    ensures whole { result.whole ≡ false }
+    ensures spilled { result.spilled ≡ nat_lt 0 homes.now.over }
 {
     Flow {
         sent: homes.over,
         rows: RowSeq::new(alloc),
-        spilled: distinct && homes.over > 0,
+        spilled: homes.over > 0,
         whole: false,
     }
 }
 
-/// Adds the rows after a distinct or a reduce for each size, in order, of the shared rows with a home at one list of sizes.
+/// Rows after a reduce, where others were sent before it: no filter drops any where a distinct overflowed.
+fn following<R: AnyRow>(before: &FlowOf<R>, next: FlowOf<R>) -> FlowOf<R>
+    requires sent { before.now.sent ≤ 12 * most_records }
+    requires over { next.sent ≤ most_records }
+    ensures { result ≡ following before.now next }
+{
+    Flow {
+        sent: before.sent + next.sent,
+        rows: next.rows,
+        spilled: before.spilled || next.spilled,
+        whole: before.spilled,
+    }
+}
+
+/// Adds the rows after a reduce for each size, in order, where others were sent before.
+fn add_after<R: AnyRow>(
+    alloc: Global,
+    before: &FlowOf<R>,
+    shared: &SharedOf<R>,
+    out: &mut Vec<FlowOf<R>>,
+) -> Result<(), Memory>
+    requires sent { before.now.sent ≤ 12 * most_records }
+    requires over { All (λ homes. homes.over ≤ most_records) shared.now.homes.items }
+    ensures { OnOk result (out.new.items ≡ out.old.items ++ map (following before.now) (flows_in shared.now)) }
+{
+    for homes in shared.homes.as_slice() {
+        let next = staying(alloc, shared.distinct, &shared.rows, homes)?;
+        if let Err(_) = out.push(following(before, next)) {
+            return Err(Memory);
+        }
+    }
+    Ok(())
+}
+
+/// Adds the rows after a reduce for each size, in order, of the rows after a distinct with a home at one list of sizes.
 fn add_marked_sizes<R: AnyRow>(
     room: &mut Room,
-    op: &TOp,
+    r: &TReduce,
     depth: u32,
     slots: &[u32],
     all: &Numbered<R>,
-    shared: &SharedOf<R>,
+    rows: &RowSeq<R>,
     homes: &Homes,
     out: &mut Vec<FlowOf<R>>,
 ) -> Result<(), Memory>
-    requires stateful { is_stateful op.now ≡ true }
     requires most_depth { depth ≤ 4 }
     requires sizes { All (λ size. (1 ≤ size) × (size ≤ largest_register)) slots.now }
-    requires fits { Fits op.now shared.now.rows }
-    requires numbered { AreNumbered all.now.keys (keys_at op.now shared.now.rows) all.now.of_rows.items }
+    requires fits { ReduceFits r.now rows.now }
+    requires numbered { AreNumbered all.now.keys (map (columns_at r.now.keys) rows.now) all.now.of_rows.items }
     requires apart { Apart same_row all.now.keys }
     requires sent { homes.now.over ≤ 12 * most_records }
-    requires few { length (marked homes.now.marks.items shared.now.rows) ≤ most_records }
-    ensures { OnOk result (out.new.items ≡ out.old.items ++ map (λ size. stepped depth size (op_at 0 op.now) (staying shared.now.distinct shared.now.rows (over_and_marks homes.now))) slots.now) }
+    requires few { length (marked homes.now.marks.items rows.now) ≤ most_records }
+    ensures { OnOk result (out.new.items ≡ out.old.items ++ map (λ size. stepped depth size (op_at 0 (TOp.Reduce r.now)) (staying true rows.now (over_and_marks homes.now))) slots.now) }
 {
-    let next = marked_after(
-        room,
-        op,
-        depth,
-        slots,
-        all,
-        &shared.rows,
-        homes.marks.as_slice(),
-    )?;
-    let before = sent_before(room.alloc, shared.distinct, homes);
+    let next = reduce_marked(room, r, depth, slots, all, rows, homes.marks.as_slice())?;
+    let before = sent_before(room.alloc, homes);
     add_after(room.alloc, &before, &next, out)
 }
 
-/// The rows after a distinct or a reduce: of shared rows with a home at each list of sizes for each size, in order. Each row's key is
-/// looked up once for all of them.
+/// The rows after a reduce: of the rows after a distinct with a home at each list of sizes for each size, in order. Each row's key is looked
+/// up once for all of them.
 pub(crate) fn by_marks<R: AnyRow>(
     room: &mut Room,
-    op: &TOp,
+    r: &TReduce,
     depth: u32,
     slots: &[u32],
     shared: &SharedOf<R>,
 ) -> Result<Vec<FlowOf<R>>, Memory>
-    requires stateful { is_stateful op.now ≡ true }
+    requires distinct { shared.now.distinct ≡ true }
     requires most_depth { depth ≤ 4 }
     requires sizes { All (λ size. (1 ≤ size) × (size ≤ largest_register)) slots.now }
-    requires fits { Fits op.now shared.now.rows }
+    requires fits { ReduceFits r.now shared.now.rows }
     requires sent { All (λ h. h.over ≤ 12 * most_records) shared.now.homes.items }
     requires few { All (λ h. length (marked h.marks.items shared.now.rows) ≤ most_records) shared.now.homes.items }
-    ensures { IfOk result (λ out. out.items ≡ flat_map (λ f. map (λ size. stepped depth size (op_at 0 op.now) f) slots.now) (flows_in shared.now)) }
+    ensures { IfOk result (λ out. out.items ≡ flat_map (λ f. map (λ size. stepped depth size (op_at 0 (TOp.Reduce r.now)) f) slots.now) (flows_in shared.now)) }
 {
-    let all = numbered(room, op, &shared.rows)?;
+    let rows = &shared.rows;
+    let all = number_keys(room.alloc, room.seed, rows, r.keys.as_slice())?;
     let mut out = Vec::new(room.alloc);
     for homes in shared.homes.as_slice() {
-        add_marked_sizes(room, op, depth, slots, &all, shared, homes, &mut out)?;
+        add_marked_sizes(room, r, depth, slots, &all, rows, homes, &mut out)?;
     }
     Ok(out)
 }

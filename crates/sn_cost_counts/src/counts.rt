@@ -6,8 +6,9 @@ ghost use Rattle.sn_cost_counts.specs.Coming.{ahead};
 ghost use Rattle.sn_cost_counts.specs.Flows.{counts_from, starting};
 ghost use Rattle.sn_cost_tally.specs.Weighed.{AreWeights, repeated};
 ghost use Rattle.sn_cost_counts.specs.Fitting.{AllGo, Takes};
-ghost use Rattle.sn_cost_counts.specs.Passing.{flows_of, held_by, unsplit_of};
+ghost use Rattle.sn_cost_counts.specs.Passing.{CanFollow, flows_of, held_by, unsplit_of};
 ghost use Rattle.sn_ops.specs.Flow.{AllFit};
+ghost use Rattle.sn_types.specs.Cuts.{greatest_cut};
 ghost use Rattle.sn_types.specs.Values.{op_at};
 ghost use Rattle.sn_chain.specs.Limits.{largest_register};
 ghost use Rattle.sn_windows.specs.Blocks.{most_records};
@@ -43,6 +44,7 @@ fn counts_on<R: AnyRow>(
     requires most_depth { depth ≤ 4 }
     requires sizes { All (λ size. (1 ≤ size) × (size ≤ largest_register)) slots.now }
     requires go { (passed : ℕ) × (passed + length ops.now ≤ 12) × AllGo level passed ops.now (flows_of passing) }
+    requires shape { CanFollow passing ops.now }
     requires fits { IfSome (held_by passing) (AllFit level ops.now) }
     ensures counts { IfOk result (λ along. along.counts ≡ before ++ counts_from depth level slots.now ops.now (flows_of passing)) }
     ensures unsplit { IfOk result (λ along. along.unsplit ≡ option_map (through (map (op_at level) ops.now)) (unsplit_of passing)) }
@@ -75,6 +77,7 @@ pub(crate) fn counts_along<R: AnyRow>(
     requires most_depth { depth ≤ 4 }
     requires sizes { All (λ size. (1 ≤ size) × (size ≤ largest_register)) slots.now }
     requires operators { length ops.now ≤ 12 }
+    requires shape { length ops.now ≤ greatest_cut ops.now }
     requires few { length rows ≤ most_records }
     requires takes { AllByRecursion (Takes level ops.now) rows }
     requires fits { AllFit level ops.now [] }
@@ -103,6 +106,7 @@ pub(crate) fn counts_weighed<R: AnyRow>(
     requires most_depth { depth ≤ 4 }
     requires sizes { All (λ size. (1 ≤ size) × (size ≤ largest_register)) slots.now }
     requires operators { length ops.now ≤ 12 }
+    requires shape { length ops.now ≤ greatest_cut ops.now }
     requires first { (0 < length ops.now) × (ahead ops.now ≡ 0) }
     requires weights { AreWeights rows (Some weights.items) }
     requires together { together ≡ length (repeated rows weights.items) }

@@ -2,22 +2,22 @@
 ghost use Rattle.std.specs.Prelude.{◌≡◌, ◌*◌, ℕ, suc, List, ◌≤◌, ◌<◌, ◌∷◌, ◌++◌, All, length, map, replicate, option_copied, option_map, Some, None, true, IfOk, IfSome, OnOk, if◌then◌else◌};
 ghost use Rattle.sn_base.specs.Operators.{apply};
 ghost use Rattle.sn_cost_counts.specs.Fitting.{AllGo};
-ghost use Rattle.sn_cost_counts.specs.Flows.{counted, starting, wider};
+ghost use Rattle.sn_cost_counts.specs.Flows.{counted, starting, stepped, wider};
 ghost use Rattle.sn_cost_counts.specs.Shared.{flows_in};
-ghost use Rattle.sn_cost_counts.specs.Passing.{flows_of, held_by, unsplit_of};
+ghost use Rattle.sn_cost_counts.specs.Passing.{CanFollow, flows_of, held_by, unsplit_of};
 ghost use Rattle.sn_cost_tally.specs.Weighed.{AreWeights, weighed};
 ghost use Rattle.sn_ops.specs.Flow.{Fits};
 ghost use Rattle.sn_types.specs.declared.typed_op.TOp.{TOp};
-ghost use Rattle.sn_types.specs.Cuts.{is_stateful};
+ghost use Rattle.sn_types.specs.Cuts.{cut_behind_distinct, filters_ahead, greatest_cut, is_stateful};
 ghost use Rattle.sn_types.specs.Values.{op_at};
 ghost use Rattle.sn_chain.specs.Limits.{largest_register};
 ghost use Rattle.sn_windows.specs.Blocks.{most_records};
 
 use crate::again::by_marks;
+use crate::filters::filter_each;
 use crate::flow::{Flow, FlowOf};
 use crate::shared::{Shared, SharedOf, add_marked, none_over, passed, repeated};
-use crate::sizes::{by_size, first};
-use crate::stateless::pass_all;
+use crate::sizes::first;
 use sn_base::any_row::AnyRow;
 use sn_base::memory::Memory;
 use sn_base::row_seq::RowSeq;
@@ -36,7 +36,8 @@ pub(crate) enum Passing<L> {
     /// After the first operator at which one overflowed, and filters and maps after it: those with no register, held once, and
     /// for each list of sizes which of them have a home. Whether they're to be kept with no register, too.
     Marked(Shared<L>, bool),
-    /// Then: those for each list of sizes, and, where they're kept, what the operators give of all rows, with no register.
+    /// After a reduce that follows, and filters after it: those for each list of sizes, and, where they're kept, what the operators
+    /// give of all rows, with no register.
     Apart(Vec<Flow<L>>, Option<L>),
 }
 
@@ -63,28 +64,6 @@ fn add_repeated_count(count: u64, times: usize, counts: &mut Seq<u64>) -> Result
         counts.push(count)?;
     }
     Ok(())
-}
-
-/// The rows for each list of sizes after an operator.
-fn after_each<R: AnyRow>(
-    room: &mut Room,
-    op: &TOp,
-    level: u32,
-    depth: u32,
-    slots: &[u32],
-    flows: Vec<FlowOf<R>>,
-) -> Result<Vec<FlowOf<R>>, Memory>
-    requires most_depth { depth ≤ 4 }
-    requires sizes { All (λ size. (1 ≤ size) × (size ≤ largest_register)) slots.now }
-    requires go { (passed : ℕ) × (ahead : List TOp) × (passed < 12) × AllGo level passed (op.now ∷ ahead) flows.items }
-    ensures { IfOk result (λ out. out.items ≡ wider depth level slots.now op.now flows.items) }
-{
-    if is_stateful(op) {
-        return by_size(room, op, depth, slots, flows.as_slice());
-    }
-    let mut flows = flows;
-    pass_all(room.alloc, op, level, flows.as_mut_slice())?;
-    Ok(flows)
 }
 
 /// What an operator gives of all rows, where they're kept.
@@ -147,6 +126,7 @@ pub(crate) fn after_registers<R: AnyRow>(
     ensures flows { IfOk result (λ next. flows_of next ≡ wider depth 0 slots.now op.now (starting (weighed rows (option_copied weights.entry)) ∷ replicate more (starting (weighed rows (option_copied weights.entry))))) }
     ensures unsplit { IfOk result (λ next. unsplit_of next ≡ (if kept then Some (apply (op_at 0 op.now) (weighed rows (option_copied weights.entry))) else None)) }
     ensures held { IfOk result (λ next. held_by next ≡ Some (apply (op_at 0 op.now) (weighed rows (option_copied weights.entry)))) }
+    ensures shape { IfOk result (λ next. (ahead : List TOp) → length (op.now ∷ ahead) ≤ greatest_cut (op.now ∷ ahead) → CanFollow next ahead) }
 {
     let Shared {
         rows,
@@ -187,6 +167,7 @@ fn after_one<R: AnyRow>(
     ensures flows { IfOk result (λ next. flows_of next ≡ wider depth 0 slots.now op.now (starting rows ∷ replicate more (starting rows))) }
     ensures unsplit { IfOk result (λ next. unsplit_of next ≡ (if kept then Some (apply (op_at 0 op.now) rows) else None)) }
     ensures held { IfOk result (λ next. held_by next ≡ Some (apply (op_at 0 op.now) rows)) }
+    ensures shape { IfOk result (λ next. (ahead : List TOp) → length (op.now ∷ ahead) ≤ greatest_cut (op.now ∷ ahead) → CanFollow next ahead) }
 {
     match longer(more, slots.len()) {
         Some(after) => Ok(Passing::Together(of_one(room, op, rows)?, after, kept)),
@@ -212,6 +193,7 @@ fn after_same<R: AnyRow>(
     ensures flows { IfOk result (λ next. flows_of next ≡ wider depth level slots.now op.now (starting rows ∷ replicate more (starting rows))) }
     ensures unsplit { IfOk result (λ next. unsplit_of next ≡ (if kept then Some (apply (op_at level op.now) rows) else None)) }
     ensures held { IfOk result (λ next. held_by next ≡ Some (apply (op_at level op.now) rows)) }
+    ensures shape { IfOk result (λ next. (ahead : List TOp) → length (op.now ∷ ahead) ≤ greatest_cut (op.now ∷ ahead) → CanFollow next ahead) }
 {
     if !is_stateful(op) {
         let next = operate(room.alloc, room.seed, op, level, &rows)?;
@@ -223,31 +205,35 @@ fn after_same<R: AnyRow>(
     }
 }
 
-/// Rows for each list of sizes, and all rows, after an operator.
+/// Rows for each list of sizes, and all rows, after a filter.
 fn after_apart<R: AnyRow>(
-    room: &mut Room,
+    room: &Room,
     op: &TOp,
     level: u32,
-    depth: u32,
-    slots: &[u32],
     flows: Vec<FlowOf<R>>,
     unsplit: Option<RowSeq<R>>,
 ) -> Result<PassingOf<R>, Memory>
-    requires most_depth { depth ≤ 4 }
-    requires sizes { All (λ size. (1 ≤ size) × (size ≤ largest_register)) slots.now }
-    requires go { (passed : ℕ) × (ahead : List TOp) × (passed < 12) × AllGo level passed (op.now ∷ ahead) flows.items }
+    requires shape { (ahead : List TOp) × (length (op.now ∷ ahead) ≤ filters_ahead (op.now ∷ ahead)) }
+    requires fits_each { All (λ f. Fits op.now f.rows) flows.items }
     requires fits { IfSome unsplit (Fits op.now) }
-    ensures flows { IfOk result (λ next. flows_of next ≡ wider depth level slots.now op.now flows.items) }
+    ensures flows { IfOk result (λ next. flows_of next ≡ map (stepped 0 0 (op_at level op.now)) flows.items) }
     ensures unsplit { IfOk result (λ next. unsplit_of next ≡ option_map (apply (op_at level op.now)) unsplit) }
     ensures held { IfOk result (λ next. held_by next ≡ option_map (apply (op_at level op.now)) unsplit) }
+    ensures shape { IfOk result (λ next. (ahead : List TOp) → length (op.now ∷ ahead) ≤ filters_ahead (op.now ∷ ahead) → CanFollow next ahead) }
 {
-    let flows = after_each(room, op, level, depth, slots, flows)?;
-    let unsplit = after_all(room, op, level, unsplit)?;
-    Ok(Passing::Apart(flows, unsplit))
+    match op {
+        TOp::Filter(conds) => {
+            let mut flows = flows;
+            filter_each(room.alloc, conds.as_slice(), level, flows.as_mut_slice())?;
+            let unsplit = after_all(room, op, level, unsplit)?;
+            Ok(Passing::Apart(flows, unsplit))
+        }
+        TOp::Map(_) | TOp::Distinct | TOp::Reduce(_) => unreachable!(),
+    }
 }
 
 /// Shared rows after an operator. They stay shared after a filter or a map, so that each row goes through it once for all lists of sizes,
-/// whether or not it has a home there. At the next distinct or reduce each list of sizes has other rows in its registers: they go
+/// whether or not it has a home there. At a reduce after a distinct each list of sizes has other rows in its registers: they go
 /// apart, and each row's key is looked up once for all of them.
 fn after_marked<R: AnyRow>(
     room: &mut Room,
@@ -261,19 +247,26 @@ fn after_marked<R: AnyRow>(
     requires most_depth { depth ≤ 4 }
     requires sizes { All (λ size. (1 ≤ size) × (size ≤ largest_register)) slots.now }
     requires go { (passed : ℕ) × (ahead : List TOp) × (passed < 12) × AllGo level passed (op.now ∷ ahead) (flows_in shared) }
+    requires shape { (ahead : List TOp) × (length (op.now ∷ ahead) ≤ (if shared.distinct then cut_behind_distinct (op.now ∷ ahead) else filters_ahead (op.now ∷ ahead))) }
     requires fits { Fits op.now shared.rows }
     ensures flows { IfOk result (λ next. flows_of next ≡ wider depth level slots.now op.now (flows_in shared)) }
     ensures unsplit { IfOk result (λ next. unsplit_of next ≡ option_map (apply (op_at level op.now)) (if kept then Some shared.rows else None)) }
     ensures held { IfOk result (λ next. IfSome (held_by next) (λ rows. Some (apply (op_at level op.now) shared.rows) ≡ Some rows)) }
+    ensures shape { IfOk result (λ next. (ahead : List TOp) → length (op.now ∷ ahead) ≤ (if shared.distinct then cut_behind_distinct (op.now ∷ ahead) else filters_ahead (op.now ∷ ahead)) → CanFollow next ahead) }
 {
-    if !is_stateful(op) {
-        let next = passed(room.alloc, op, level, shared)?;
-        return Ok(Passing::Marked(next, kept));
+    match op {
+        TOp::Filter(_) | TOp::Map(_) => {
+            let next = passed(room.alloc, op, level, shared)?;
+            Ok(Passing::Marked(next, kept))
+        }
+        TOp::Reduce(r) => {
+            let flows = by_marks(room, r, depth, slots, &shared)?;
+            let unsplit = if kept { Some(shared.rows) } else { None };
+            let unsplit = after_all(room, op, level, unsplit)?;
+            Ok(Passing::Apart(flows, unsplit))
+        }
+        TOp::Distinct => unreachable!(),
     }
-    let flows = by_marks(room, op, depth, slots, &shared)?;
-    let unsplit = if kept { Some(shared.rows) } else { None };
-    let unsplit = after_all(room, op, level, unsplit)?;
-    Ok(Passing::Apart(flows, unsplit))
 }
 
 impl<R: AnyRow> Passing<RowSeq<R>> {
@@ -308,10 +301,12 @@ impl<R: AnyRow> Passing<RowSeq<R>> {
         requires most_depth { depth ≤ 4 }
         requires sizes { All (λ size. (1 ≤ size) × (size ≤ largest_register)) slots.now }
         requires go { (passed : ℕ) × (ahead : List TOp) × (passed < 12) × AllGo level passed (op.now ∷ ahead) (flows_of self) }
+        requires shape { (ahead : List TOp) × CanFollow self (op.now ∷ ahead) }
         requires fits { IfSome (held_by self) (Fits op.now) }
         ensures flows { IfOk result (λ next. flows_of next ≡ wider depth level slots.now op.now (flows_of self)) }
         ensures unsplit { IfOk result (λ next. unsplit_of next ≡ option_map (apply (op_at level op.now)) (unsplit_of self)) }
         ensures held { IfOk result (λ next. IfSome (held_by next) (λ rows. option_map (apply (op_at level op.now)) (held_by self) ≡ Some rows)) }
+        ensures shape { IfOk result (λ next. (ahead : List TOp) → CanFollow self (op.now ∷ ahead) → CanFollow next ahead) }
     {
         match self {
             Passing::Together(rows, more, kept) => {
@@ -320,9 +315,7 @@ impl<R: AnyRow> Passing<RowSeq<R>> {
             Passing::Marked(shared, kept) => {
                 after_marked(room, op, level, depth, slots, shared, kept)
             }
-            Passing::Apart(flows, unsplit) => {
-                after_apart(room, op, level, depth, slots, flows, unsplit)
-            }
+            Passing::Apart(flows, unsplit) => { after_apart(room, op, level, flows, unsplit) }
         }
     }
 

@@ -171,6 +171,7 @@ fn filtered<R: AnyRow>(
 ) -> Result<SharedOf<R>, Memory>
     requires { CondsFit conds.now shared.now.rows }
     ensures rows { IfOk result (λ next. next.rows ≡ apply (op_at level (TOp.Filter conds.now)) shared.now.rows) }
+    ensures distinct { IfOk result (λ next. next.distinct ≡ shared.now.distinct) }
     ensures flows { IfOk result (λ next. flows_in next ≡ map (stepped 0 0 (op_at level (TOp.Filter conds.now))) (flows_in shared.now)) }
 {
     let stay = passing(alloc, conds, level, &shared.rows)?;
@@ -193,6 +194,7 @@ pub(crate) fn passed<R: AnyRow>(
     requires stateless { is_stateful op.now ≡ false }
     requires fits { Fits op.now shared.rows }
     ensures rows { IfOk result (λ next. next.rows ≡ apply (op_at level op.now) shared.rows) }
+    ensures distinct { IfOk result (λ next. next.distinct ≡ shared.distinct) }
     ensures flows { IfOk result (λ next. flows_in next ≡ map (stepped 0 0 (op_at level op.now)) (flows_in shared)) }
 {
     match op {

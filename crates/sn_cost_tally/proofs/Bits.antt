@@ -9,7 +9,7 @@ use Rattle.std.proofs.lemmas.Nat.Bits.{bit_at-zero, bit_at_set_same, bit_at_set_
 use Rattle.std.proofs.lemmas.List.{append-nil, drop_all, set-get_or, get_or_default, get_or-set_same, get_or-set_other, length-append, length-drop, length-replicate, take_all}
 use Rattle.std.proofs.lemmas.List.FromFn.{get_or-map-range_with_len, length-map-range_with_len}
 use Rattle.std.proofs.lemmas.Bool.{false≢true}
-use Rattle.sn_base.proofs.Lists.{by_test, nat_same, nat_self, not_true}
+use Rattle.sn_base.proofs.Lists.{by_test, nat_same, nat_self}
 use Rattle.sn_cost_tally.specs.Marks.{mark_at, marks_of}
 
 -- ---- no mark is set
@@ -111,13 +111,6 @@ mark_looked count words marks p w looking n byte le seen lt is = ap (λ m. marks
     by_looking : (looking : Bool) → marks_of count (set words (p / 64) (bit_or w (bool_byte looking * 2 ^ (p % 64) % 2 ^ 64))) ≡ (if looking then set marks p true else marks)
     by_looking true = mark_set count words marks p w le seen lt is
     by_looking false = ap (marks_of count) (none_looked_for words p w is) ∙ seen
-
--- a test of a bit
-pub bit_set : (b : ℕ) → b ≡ 1 → nat_eq b 1 ≡ true
-bit_set b is = ap (λ x. nat_eq x 1) is
-
-pub bit_unset : (b : ℕ) → (b ≡ 1 → ⊥) → nat_eq b 1 ≡ false
-bit_unset b isnt = not_true (nat_eq b 1) (λ is. isnt (nat_same b 1 is))
 
 pub zeros_front : (n i : ℕ) (rest : List ℕ) → i < n → get_or (replicate n 0 ++ rest) i 0 ≡ 0
 zeros_front zero i rest lt = absurd (omega (arith, lt))

@@ -74,26 +74,6 @@ fn with_slots<R: AnyRow>(
     })
 }
 
-/// The numbers of rows, where each is its own key. Rows are numbered by hashes from this seed, and each is looked up once.
-///
-/// # Errors
-/// Out of memory.
-pub fn number_rows<R: AnyRow>(
-    alloc: Global,
-    seed: Seed,
-    rows: &RowSeq<R>,
-) -> Result<Numbered<R>, Memory>
-    ensures numbered { IfOk result (λ found. AreNumbered found.keys rows.now found.of_rows.items) }
-    ensures apart { IfOk result (λ found. Apart same_row found.keys) }
-{
-    let mut numbers = Numbers::new(alloc, seed);
-    let mut of_rows = Vec::with_capacity(alloc, rows.len())?;
-    for place in 0..rows.len() {
-        add_number(&mut numbers, rows.at(place), &mut of_rows)?;
-    }
-    with_slots(alloc, &numbers, of_rows)
-}
-
 /// The numbers of rows' keys of at most 8 columns, which stand at these places of a row. Keys are numbered by hashes from this seed, and
 /// each row's is looked up once.
 ///

@@ -21,37 +21,6 @@ use sn_base::number::Number;
 use sn_base::row_seq::RowSeq;
 use std::alloc::Global;
 
-/// The distinct keys of the rows whose mark is set, at most 4,194,304, in the order of first places, and how often each comes. No key is
-/// hashed.
-///
-/// # Errors
-/// Out of memory.
-pub fn tally_marked<R: AnyRow>(
-    alloc: Global,
-    all: &Numbered<R>,
-    marks: &[bool],
-) -> Result<Tally<R>, Memory>
-    requires apart { Apart same_row all.now.keys }
-    requires within { AllByRecursion (λ number. number < length all.now.keys) all.now.of_rows.items }
-    requires few { length (marked marks.now (rows_at all.now.keys all.now.of_rows.items)) ≤ 4194304 }
-    ensures keys { IfOk result (λ tally. tally.keys ≡ once same_row (marked marks.now (rows_at all.now.keys all.now.of_rows.items))) }
-    ensures times { IfOk result (λ tally. tally.times.items ≡ tallied (marked marks.now (rows_at all.now.keys all.now.of_rows.items))) }
-{
-    let mut own = Renumbered::new(alloc, all)?;
-    let mut times = Vec::new(alloc);
-    for place in 0..marks.len().min(all.of_rows.len()) {
-        if marks[place] {
-            let number = own.number(all, all.of_rows[place])?;
-            fold_in(COUNT, &mut times, number, 1)?;
-        }
-    }
-    Ok(Tally {
-        keys: own.keys,
-        times,
-        slots: own.slots,
-    })
-}
-
 /// The distinct keys of the rows whose mark is set, how often each comes, and the fold of its values.
 fn fold_marked<R: AnyRow>(
     alloc: Global,

@@ -3,8 +3,6 @@ ghost use Rattle.std.specs.Prelude.{◌≡◌, ◌≤◌, [], ◌∷◌};
 ghost use Rattle.sn_chain.specs.Limits.{largest_register};
 
 use sn_base::fold::SatSum;
-use sn_base::row_seq::RowSeq;
-use sn_base::seed::Seed;
 use sn_base::short_row::ShortRow;
 use sn_chain::chain::Chain;
 use sn_chain::offer::Offer;
@@ -12,8 +10,6 @@ use sn_cost_seats::slots::slots_of;
 use sn_cost_seats::tally::over;
 use sn_cost_tally::largest::of_keys;
 use sn_cost_tally::marks::Marks;
-use sn_cost_tally::numbered::number_rows;
-use sn_cost_tally::regroup::tally_marked;
 use sn_cost_tally::seats::seat;
 use std::test::Fail;
 
@@ -108,18 +104,6 @@ fn seats_the_first_keys(rt: HostRuntime) -> Result<(), Fail> {
         homes_of(&rt, 2, 3)?.as_slice(),
         [true, true, true].as_slice()
     );
-    Ok(())
-}
-
-/// Of the rows 7, 5, 7, 9 and 7 the first isn't marked.
-#[test]
-fn tallies_the_marked_rows(rt: HostRuntime) -> Result<(), Fail> {
-    let rows = [key(7), key(5), key(7), key(9), key(7)];
-    let rows = RowSeq::from_slice(rt.alloc(), &rows)?;
-    let all = number_rows(rt.alloc(), Seed::new(0), &rows)?;
-    let tally = tally_marked(rt.alloc(), &all, &[false, true, true, true, true])?;
-    assert_eq!(rt; tally.keys.as_slice(), [key(5), key(7), key(9)].as_slice());
-    assert_eq!(rt; tally.times.as_slice(), [1, 2, 1].as_slice());
     Ok(())
 }
 

@@ -19,8 +19,8 @@ homes_of-requires-clause-few g c =
     let few : length all ≤ most_records = omega (arith, c.requires.few, length-map rows (columns_at c.args.r.now.keys)) in
     few_each c.args.depth c.args.slots.now all tally.keys tally.times.items few c.in_ok-groups.ensures.keys c.in_ok-groups.ensures.times
 
-pub returns-clause-flows : goal.returns-clause-flows
-returns-clause-flows g c =
+pub returns : goal.returns
+returns g c =
     let groups = c.in_ok-groups.groups in
     reduce_shared c.args.depth (grouping_of c.args.r.now) (marked c.args.marks.now c.args.rows.now) groups.tally.keys groups.tally.times.items groups.rows c.in_ok-groups.ensures.keys c.in_ok-groups.ensures.times c.in_ok-groups.ensures.rows
     c.args.slots.now c.in_ok-homes.homes.items c.in_ok-homes.ensures

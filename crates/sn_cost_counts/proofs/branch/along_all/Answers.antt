@@ -8,6 +8,7 @@ use Rattle.sn_ops.specs.Packets.{packet_rows}
 use Rattle.sn_ops.proofs.Branches.{branch_fit}
 use Rattle.sn_pipe.proofs.Fronts.{cut_within}
 use Rattle.sn_pipe.proofs.Takes.{fit_front}
+use Rattle.sn_types.specs.Cuts.{greatest_cut}
 use Rattle.sn_types.specs.declared.typed_op.TOp.{TOp}
 use Rattle.sn_types.specs.declared.typed_query.TypedBranch.{TypedBranch}
 use Rattle.sn_types.specs.Typed.{branch_at, query_at}
@@ -20,6 +21,7 @@ use Rattle.sn_cost_counts.proofs.Arrivals.{few_packets, on_any}
 use Rattle.sn_cost_counts.proofs.Branching.{all_counts, branch_takes, counts_small, started, takes_front}
 use Rattle.sn_cost_counts.proofs.Going.{if_ok}
 use Rattle.sn_cost_counts.proofs.Unsplit.{given}
+use Rattle.sn_cost_counts.proofs.Shapes.{cut_taken, left_of_cut}
 use Rattle.sn_cost_counts.proofs.branch.along_all.Goals as goal
 use Rattle.sn_windows.specs.Blocks.{most_records}
 
@@ -237,3 +239,15 @@ returns-clause-unsplit g c =
 
 pub returns-clause-columns : goal.returns-clause-columns
 returns-clause-columns g c = on_any _ c.counts_along.result c.in_ok-found.ensures.columns
+
+pub counts_along-requires-clause-shape : goal.counts_along-requires-clause-shape
+counts_along-requires-clause-shape g c =
+    let a = c.args in
+    let t = a.t.now in
+    let branch : TypedBranch = branch_at t.queries a.q a.b in
+    let os : List TOp = c.split_at.result.0.now in
+    let is_rest : c.split_at-2.result.1.now ≡ drop (ahead os) os = c.split_at-2.ensures.back ∙ ap (λ n. drop n os) c.ahead.ensures.value in
+    let prefix : os ≡ take branch.max_cut branch.ops = c.split_at.ensures.front ∙ ap (take c.max_cut.result) c.operators.ensures ∙ ap (λ n. take n branch.ops) c.max_cut.ensures in
+    let most = cut_of t.window_us t.queries a.q a.b branch.max_cut t.typed c.requires.query c.requires.branch (omega arith) in
+    let whole : length os ≤ greatest_cut os = subst (λ (xs : List TOp). length xs ≤ greatest_cut xs) (sym prefix) (cut_taken branch.max_cut branch.ops most) in
+    subst (λ (xs : List TOp). length xs ≤ greatest_cut xs) (sym is_rest) (left_of_cut os whole)

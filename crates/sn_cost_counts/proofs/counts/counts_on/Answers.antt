@@ -1,11 +1,11 @@
-use Rattle.std.proofs.Common.{List, ℕ, ◌+◌, ◌++◌, Option, drop, map, refl, ◌∙◌, arith}
+use Rattle.std.proofs.Common.{List, ℕ, ◌+◌, ◌++◌, Option, drop, map, refl, subst, ◌∙◌, arith}
 use Rattle.std.specs.Option.{option_map}
 use Rattle.sn_base.specs.Groups.{Row}
 use Rattle.sn_base.specs.Operators.{through}
 use Rattle.sn_types.specs.Values.{op_at}
 use Rattle.sn_cost_counts.specs.Flows.{counts_from}
-use Rattle.sn_cost_counts.specs.Passing.{flows_of, held_by, unsplit_of}
-use Rattle.sn_cost_counts.proofs.Going.{all_along, all_few, all_sent, at_first, one_ahead, one_along}
+use Rattle.sn_cost_counts.specs.Passing.{CanFollow, flows_of, held_by, unsplit_of}
+use Rattle.sn_cost_counts.proofs.Going.{all_along, all_few, all_sent, at_first, one_ahead, one_along, operators_ahead}
 use Rattle.sn_cost_counts.proofs.Unsplit.{fits_after, fits_one, follows_all, follows_next}
 use Rattle.sn_cost_counts.proofs.counts.counts_on.Goals as goal
 
@@ -14,6 +14,7 @@ loop-op-init g c =
     let a = c.args in
     record {
       along = λ passed few first. at_first a.depth a.level a.slots.now a.ops.now passed (flows_of a.passing) a.before first;
+      shape = c.requires.shape;
       held = c.requires.fits;
       follows = refl;
     }
@@ -44,6 +45,12 @@ after-requires-clause-go g c =
       one_ahead a.level (go.0 + i) i a.ops.now c.op-item.result (flows_of c.loop-op.passing) c.loop-op-test.true c.op-item.is along.go,
     )
 
+pub after-requires-clause-shape : goal.after-requires-clause-shape
+after-requires-clause-shape g c =
+    let os = c.args.ops.now in
+    let i = c.loop-op.op-index in
+    (drop (i + 1) os, subst (CanFollow c.loop-op.passing) (operators_ahead os i c.op-item.result c.loop-op-test.true c.op-item.is) c.loop-op.invariant.shape)
+
 pub after-requires-clause-fits : goal.after-requires-clause-fits
 after-requires-clause-fits g c = fits_one c.args.level c.args.ops.now c.loop-op.op-index c.op-item.result (held_by c.loop-op.passing) c.loop-op-test.true c.op-item.is c.loop-op.invariant.held
 
@@ -58,6 +65,7 @@ loop-op-preserved g c =
       along = λ passed few first.
           one_along a.depth a.level a.slots.now a.ops.now counts passed i op (flows_of c.loop-op.passing) (flows_of c.in_ok-passing.passing) c.loop-op.counts c.add_counts.new.counts
           c.loop-op-test.true c.op-item.is (c.loop-op.invariant.along passed few first) c.in_ok-add_counts.ensures c.in_ok-passing.ensures.flows;
+      shape = c.in_ok-passing.ensures.shape (drop (i + 1) a.ops.now) (subst (CanFollow c.loop-op.passing) (operators_ahead a.ops.now i op c.loop-op-test.true c.op-item.is) c.loop-op.invariant.shape);
       held = fits_after a.level a.ops.now i op (held_by c.loop-op.passing) (held_by c.in_ok-passing.passing) c.loop-op-test.true c.op-item.is c.loop-op.invariant.held c.in_ok-passing.ensures.held;
       follows = follows_next a.level a.ops.now all i op (unsplit_of c.loop-op.passing) (unsplit_of c.in_ok-passing.passing) c.loop-op-test.true c.op-item.is c.loop-op.invariant.follows c.in_ok-passing.ensures.unsplit;
     }

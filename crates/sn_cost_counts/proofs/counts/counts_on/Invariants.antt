@@ -5,7 +5,7 @@ use Rattle.sn_ops.specs.Flow.{AllFit}
 use Rattle.sn_types.specs.Values.{op_at}
 use Rattle.sn_cost_counts.specs.Fitting.{AllGo}
 use Rattle.sn_cost_counts.specs.Flows.{counts_from}
-use Rattle.sn_cost_counts.specs.Passing.{flows_of, held_by, unsplit_of}
+use Rattle.sn_cost_counts.specs.Passing.{CanFollow, flows_of, held_by, unsplit_of}
 use Rattle.sn_cost_counts.proofs.Going.{Along}
 use Rattle.sn_cost_counts.proofs.Unsplit.{Follows}
 use Rattle.sn_cost_counts.proofs.counts.counts_on.Given as goal
@@ -14,6 +14,7 @@ abbrev pub invariant-loop-op : goal.invariant-loop-op
 invariant-loop-op g l = record {
   along : (passed : ℕ) → passed + length l.ops ≤ 12 → AllGo l.level passed l.ops (flows_of l.fn.passing)
       → Along l.depth l.level l.slots l.ops (l.fn.before ++ counts_from l.depth l.level l.slots l.ops (flows_of l.fn.passing)) passed l.op-index (flows_of l.passing) l.counts;
+  shape : CanFollow l.passing (drop l.op-index l.ops);
   held : IfSome (held_by l.passing) (AllFit l.level (drop l.op-index l.ops));
   follows : Follows l.level l.ops (option_map (through (map (op_at l.level) l.ops)) (unsplit_of l.fn.passing)) l.op-index (unsplit_of l.passing);
 }

@@ -5,7 +5,7 @@ use Rattle.sn_base.specs.Groups.{Row}
 use Rattle.sn_cost_tally.specs.Weighed.{repeated}
 use Rattle.sn_ops.specs.Flow.{AllFit}
 use Rattle.sn_types.specs.declared.typed_op.TOp.{TOp}
-use Rattle.sn_types.specs.Cuts.{is_stateful}
+use Rattle.sn_types.specs.Cuts.{greatest_cut, is_stateful}
 use Rattle.sn_cost_counts.specs.Coming.{ahead}
 use Rattle.sn_cost_counts.specs.Fitting.{AllGo, Takes}
 use Rattle.sn_cost_counts.specs.Flows.{counts_from, starting, wider}
@@ -42,6 +42,11 @@ counts_on-requires-clause-go g c =
     let is : flows_of c.in_ok-passing.passing ≡ wider a.depth a.level a.slots.now op (starting rows ∷ []) =
     c.in_ok-passing.ensures.flows ∙ ap (λ ns. wider a.depth 0 a.slots.now op (starting (repeated a.rows ns) ∷ [])) c.as_slice.ensures.value ∙ wide_first a.depth a.level a.slots.now op (starting rows ∷ []) first in
     (1, omega (arith, long, c.requires.operators), subst (AllGo a.level 1 after) (sym is) go)
+
+pub counts_on-requires-clause-shape : goal.counts_on-requires-clause-shape
+counts_on-requires-clause-shape g c =
+    let are : c.args.ops.now ≡ c.in-Some.op.now ∷ c.in-Some.after.now = c.in-Some.ensures.cases.0 in
+    c.in_ok-passing.ensures.shape c.in-Some.after.now (subst (λ (os : List TOp). length os ≤ greatest_cut os) are c.requires.shape)
 
 pub returns-clause-counts : goal.returns-clause-counts
 returns-clause-counts g c =

@@ -1,8 +1,7 @@
-use Rattle.std.proofs.Common.{◌≡◌, ◌*◌, ◌∷◌, true, arith, rules, ◌∙◌}
-use Rattle.sn_types.specs.Cuts.{is_stateful}
+use Rattle.std.proofs.Common.{◌*◌, ◌∷◌, arith}
 use Rattle.sn_windows.specs.Blocks.{most_records}
 use Rattle.sn_cost_counts.specs.Shared.{flows_in}
-use Rattle.sn_cost_counts.proofs.Going.{all_few, all_sent, wide_sizes}
+use Rattle.sn_cost_counts.proofs.Going.{all_few, all_sent}
 use Rattle.sn_cost_counts.proofs.Sharing.{each_kept, each_sent}
 use Rattle.sn_cost_counts.proofs.passing.after_marked.Goals as goal
 
@@ -17,9 +16,3 @@ by_marks-requires-clause-few g c =
     let a = c.args in
     let go = c.requires.go in
     each_kept a.shared.distinct a.shared.rows a.shared.homes.items most_records (all_few a.level go.0 (a.op.now ∷ go.1) (flows_in a.shared) go.3)
-
-pub returns-clause-flows : goal.returns-clause-flows
-returns-clause-flows g c =
-    let a = c.args in
-    let is : is_stateful a.op.now ≡ true = search rules in
-    c.in_ok-flows.ensures ∙ wide_sizes a.depth a.level a.slots.now a.op.now (flows_in a.shared) is

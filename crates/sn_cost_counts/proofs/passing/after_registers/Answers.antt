@@ -7,6 +7,7 @@ use Rattle.sn_cost_tally.specs.declared.room.Homes.{Homes}
 use Rattle.sn_cost_counts.specs.Flows.{starting}
 use Rattle.sn_cost_counts.specs.Shared.{flows_in, over_and_marks, staying}
 use Rattle.sn_cost_counts.proofs.Going.{wide_sizes}
+use Rattle.sn_cost_counts.proofs.Shapes.{overflowed_next, together_next}
 use Rattle.sn_cost_counts.proofs.Sharing.{none_of_all, repeated_shared}
 use Rattle.sn_cost_counts.proofs.Together.{by_size, same_held}
 use Rattle.sn_cost_counts.proofs.passing.after_registers.Goals as goal
@@ -26,3 +27,9 @@ returns-clause-flows g c =
     let shared = c.in_ok-rows.field-0 in
     repeated_shared shared.distinct shared.rows shared.homes.items c.in_ok-homes.homes.items a.more (by_size a.depth a.slots.now a.op.now) (starting (weighed a.rows (option_copied a.weights))) c.in_ok-homes.ensures c.in_ok-rows.ensures.flows
     ∙ wide_sizes a.depth 0 a.slots.now a.op.now (replicate (suc a.more) (starting (weighed a.rows (option_copied a.weights)))) c.requires.stateful
+
+pub returns-in-Some-clause-shape : goal.returns-in-Some-clause-shape
+returns-in-Some-clause-shape g c = λ ahead h. together_next c.args.op.now ahead h
+
+pub returns-clause-shape : goal.returns-clause-shape
+returns-clause-shape g c = λ ahead h. overflowed_next c.args.op.now ahead c.in_ok-rows.field-0.distinct c.requires.stateful c.in_ok-rows.ensures.distinct h

@@ -6,6 +6,7 @@ use Rattle.sn_cost_counts.specs.AnyFlow.{Flow}
 use Rattle.sn_cost_counts.specs.Flows.{starting, wider}
 use Rattle.sn_cost_counts.specs.Passing.{flows_of, held_by, unsplit_of}
 use Rattle.sn_cost_counts.proofs.Going.{if_ok}
+use Rattle.sn_cost_counts.proofs.Shapes.{together_next}
 use Rattle.sn_cost_counts.proofs.Together.{same_passed, wide_levels}
 use Rattle.sn_cost_counts.proofs.Unsplit.{at_all_levels}
 use Rattle.sn_cost_counts.proofs.passing.after_same.Goals as goal
@@ -55,3 +56,6 @@ returns-else-len-le1-clause-held g c =
     let a = c.args in
     let is : is_stateful a.op.now ≡ true = search rules in
     if_ok c.after_registers.result (λ next. held_by next ≡ Some (apply (op_at 0 a.op.now) a.rows)) _ (λ next same. same ∙ ap (λ o. Some (apply o a.rows)) (at_all_levels a.level a.op.now is)) c.after_registers.ensures.held
+
+pub returns-in_ok-next-clause-shape : goal.returns-in_ok-next-clause-shape
+returns-in_ok-next-clause-shape g c = λ ahead h. together_next c.args.op.now ahead h
