@@ -23,6 +23,9 @@ job       `job 7` against `plain` with its queries on the capture of 8.
 search    a million expanded nodes of a space in which the search doesn't end.
 reading   `plan` and `run` against planned.py, the slow reading in Python, on 20000 packets.
 
+A ratio is that of the least processor times, and where the commands ran in the same turns there stands, too, the median of the turns' ratios: the least may come
+from different whiles, between which a shared machine changes its speed, so the median of some fifty turns (`--runs 51`) tells more on such a one.
+
 What the program hasn't is left out. Nothing is left behind but with --keep. Needs a C compiler, and libpcap-dev for switch.c and planned.c, which are left out without it."""
 
 import argparse
@@ -80,11 +83,12 @@ class Part:
 
     def over(self, label, other):
         one, another = self.found[label], self.found[other]
-        self.ratio(label, one.seconds / max(1e-6, another.seconds), one.peak_bytes / another.peak_bytes, other)
+        self.ratio(label, one.seconds / max(1e-6, another.seconds), one.peak_bytes / another.peak_bytes, other, run.by_turns(one, another))
 
-    def ratio(self, label, time, peak, over):
+    def ratio(self, label, time, peak, over, median=None):
         goal = GOALS.get((label, over))
-        print('  %s over %s: processor time %.2f%s; peak memory %.2f' % (label, over, time, ' (goal %g)' % goal if goal else '', peak))
+        print('  %s over %s: processor time %.2f%s%s; peak memory %.2f'
+              % (label, over, time, ', by turns %.2f' % median if median else '', ' (goal %g)' % goal if goal else '', peak))
 
 
 def rows_of(name):

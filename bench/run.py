@@ -9,6 +9,7 @@ a C compiler and libpcap-dev."""
 import argparse
 import os
 import shutil
+import statistics
 import subprocess
 import sys
 import tempfile
@@ -27,6 +28,7 @@ class Measure:
         self.status, user, system, peak = (int(number) for number in numbers)
         self.user, self.system, self.peak_bytes = user / 1e6, system / 1e6, peak * 1024
         self.seconds = self.user + self.system
+        self.turns, self.together = [self.seconds], None
 
 
 def run_once(measurer, words, out_name):
@@ -44,12 +46,24 @@ def best_of(runs):
 
 
 def measure(measurer, words, outs, runs):
-    """Each program's best run. The programs run in turn, so that a busy while of the machine meets all of them."""
+    """Each program's best run. The programs run in turn, so that a busy while of the machine meets all of them. The best run has the seconds of all turns, and what
+    was measured in the same turns."""
     found = {label: [] for label in words}
     for _ in range(runs):
         for label in words:
             found[label].append(run_once(measurer, words[label], outs[label]))
-    return {label: best_of(found[label]) for label in words}
+    best = {label: best_of(found[label]) for label in words}
+    for label in words:
+        best[label].turns, best[label].together = [m.seconds for m in found[label]], best
+    return best
+
+
+def by_turns(one, another):
+    """The median of the ratios of two programs' processor times turn by turn, or None where they weren't measured in the same turns: the best runs of programs may
+    come from different whiles, between which a shared machine changes its speed."""
+    if one.together is None or one.together is not another.together:
+        return None
+    return statistics.median(mine / max(1e-6, other) for mine, other in zip(one.turns, another.turns))
 
 
 def build(name, folder, *libraries, sources=HERE):
