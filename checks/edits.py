@@ -5,9 +5,10 @@
 
 The gate tries the few edits of must-fail/ that tell most. The others stand in checks/edits/CRATE, and are tried here, of the crates that
 are named or of all. The crates are copied as they stand in the work tree (what git lists there, committed or not) to a temporary
-folder. There the edits of checks/edits/CRATE take the place of the crate's own, and `rt lib` and `rt must-fail` run crate by crate, the
-lowest first. rt shows a crate's edits once all of them were tried. At the end stand the edits that aren't refused, those that can't be
-applied or read, and those that weren't tried. The status is 0 only where all are refused.
+folder. There the edits of checks/edits/CRATE take the place of the crate's own, and one `rt ci CRATE ..` tries them, as many at a time as
+the machine has processors. What an earlier run on this machine proved or refused over the same texts is kept, so a run that was ended
+goes on where it was. At the end stand the edits that aren't refused, those that can't be applied or read, and those that weren't tried.
+The status is 0 only where all are refused.
 
 Needs git and the Rattle toolchain's rt, and some GB of disk. Python 3 alone.
 """
@@ -19,7 +20,6 @@ import shutil
 import subprocess
 import sys
 import tempfile
-import time
 
 ROOT = os.path.dirname(os.path.dirname(os.path.abspath(__file__)))
 EDITS = os.path.join(ROOT, "checks", "edits")
@@ -64,33 +64,20 @@ def copy_crates(folder):
             shutil.copy(os.path.join(ROOT, path), os.path.join(folder, path))
 
 
-def run(words, folder, shown):
-    """Runs a command and shows the lines that are to be shown as they come. Returns all of them, and the status."""
-    ran = subprocess.Popen(words, cwd=folder, stdin=subprocess.DEVNULL, stdout=subprocess.PIPE, stderr=subprocess.STDOUT, text=True, errors="replace")
-    lines = []
+def try_edits(tree, edits, crates):
+    """Tries the edits of these crates, and returns what each came to, by crate."""
+    for crate in crates:
+        shutil.copytree(os.path.join(EDITS, crate), os.path.join(tree, "crates", crate, "must-fail"))
+    found = {crate: dict.fromkeys(edits[crate], "NOT TRIED") for crate in crates}
+    ran = subprocess.Popen(["rt", "ci", *crates], cwd=tree, stdin=subprocess.DEVNULL, stdout=subprocess.PIPE, stderr=subprocess.STDOUT, text=True, errors="replace")
     for line in ran.stdout:
-        lines.append(line)
-        if shown(line):
+        said = VERDICT.match(line)
+        if said and said[2] in found.get(said[1], {}):
+            found[said[1]][said[2]] = said[3]
+        if line.startswith("rt: "):
             print(line, end="", flush=True)
-    return lines, ran.wait()
-
-
-def try_crate(tree, crate, names):
-    """Tries the edits of a crate, and returns what each came to."""
-    began = time.time()
-    folder = os.path.join(tree, "crates", crate)
-    # rt lib takes what other checkouts on this machine have built of the same texts, and rt must-fail doesn't.
-    print(f"{crate}: builds the crate and what it stands on", flush=True)
-    lines, status = run(["rt", "lib"], folder, lambda line: line.startswith("rt: "))
-    if status != 0:
-        print("".join(lines[-20:]) + f"{crate}: isn't proved as it stands, so its edits aren't tried", flush=True)
-        return {name: "NOT TRIED" for name in names}
-    shutil.copytree(os.path.join(EDITS, crate), os.path.join(folder, "must-fail"))
-    lines, _ = run(["rt", "must-fail", crate], tree, lambda line: True)
-    said = [VERDICT.match(line) for line in lines]
-    found = {match[2]: match[3] for match in said if match and match[1] == crate}
-    print(f"{crate}: {len(names)} edits in {(time.time() - began) / 60:.1f} minutes", flush=True)
-    return {name: found.get(name, "NOT TRIED") for name in names}
+    ran.wait()
+    return found
 
 
 def tell(results):
@@ -113,7 +100,7 @@ def main():
     tree = tempfile.mkdtemp(prefix="sonata-edits-")
     try:
         copy_crates(tree)
-        results = {crate: try_crate(tree, crate, edits[crate]) for crate in crates}
+        results = try_edits(tree, edits, crates)
     finally:
         if given.keep:
             print(f"kept: {tree}", flush=True)
