@@ -1,6 +1,6 @@
 #!/usr/bin/env python3
 """Compares `sonata plan` and `check` with all plans of small spaces. Every list of paths, cuts, sizes and stages is written down as a plan; those that fit
-are run over the training capture, and their tuples counted, with the prefixes in their tables where the switch gives them a weight. So the least cost and
+are run over the training capture, and their items counted, with the prefixes in their tables where the switch gives them a weight. So the least cost and
 the first plan of that cost are known without a search, a cost table or a bound. Then the tree must be accepted and be the one of that plan, and the budget
 must be exact: with as many nodes as the tree has expanded ones the plan is found, and with fewer the bound is told that so many of them lie below.
 
@@ -78,7 +78,7 @@ def installed(levels, queries, switch, number):
 
 
 def spent(window, queries, switch, entries, train):
-    """The tuples that a plan sends over a capture, and the switch's weight for each prefix that is installed."""
+    """The items that a plan sends over a capture, and the switch's weight for each prefix that is installed."""
     levels, total = split.Levels(queries, entries, switch.entries), 0
     for number, tuples in split.windows_of(window, train)[0]:
         total += switch.weight * installed(levels, queries, switch, number)

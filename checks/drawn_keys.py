@@ -26,7 +26,7 @@ def keys_of(answers, queries):
     places = printed.places_of(queries)
     with open(answers, newline='') as file:
         for record in list(csv.reader(file))[1:]:
-            key, _ = printed.keyed([column for column in record[3:] if column], places[record[1]])
+            key, _ = printed.keyed([printed.short(column) for column in record[3:] if column], places[record[1]])
             rows[record[1]][int(record[2])].add(key)
     return {key for levels in rows.values() for key in levels[max(levels)]}
 
@@ -58,7 +58,7 @@ def missing_stays(commands, folder, pictures):
     for words in (shlex.split(line) for line in STAYS.findall(commands)):
         drawn = words[words.index('-o') + 1]
         with open(os.path.join(folder, words[0])) as file:
-            lines = [line.rstrip('\n') for line in file if stays.STAY.match(line)]
+            lines = [printed.short(line.rstrip('\n')) for line in file if stays.STAY.match(line)]
         for picture in [os.path.join(folder, drawn)] + [name for name in pictures if name.endswith(drawn)]:
             named, titled = words_of(picture), words_of(picture, 'title')
             found += ['%s in %s' % (line, picture) for line in lines if line not in titled or line.split()[0] not in named]

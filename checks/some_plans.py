@@ -1,6 +1,6 @@
 #!/usr/bin/env python3
 """Compares view/some_plan.py with `sonata plan` on small random query files, switches and captures: the plan that the integer program finds must fit, and
-send just as many tuples as the plan that the search finds. Needs scipy, and the distribution's own /usr/bin/python3. The status is 0 where all do."""
+send just as many items as the plan that the search finds. Needs scipy, and the distribution's own /usr/bin/python3. The status is 0 where all do."""
 
 import os
 import random

@@ -13,6 +13,7 @@ there are more than 800 windows a square stands for several, by the greatest of 
 are the keys of the query's join or last reduce where the query file is given, else the columns before the number. Each query is drawn at its finest level
 that was answered; the rows of its other levels are counted after its name."""
 
+import ipaddress
 import sys
 
 import pictures
@@ -34,7 +35,15 @@ def read(name, places):
 
 def address_order(key):
     """Addresses by their numbers, and other keys as they read."""
-    return [part.rjust(40, '0') for word in key.split(' ') for part in word.split('.')]
+    return [part.rjust(40, '0') for word in key.split(' ') for part in parts_of(word)]
+
+
+def parts_of(word):
+    """The parts of a word that are compared one after another: the eight groups of an address of IPv6, or what points part."""
+    try:
+        return ipaddress.IPv6Address(word).exploded.split(':') if ':' in word else word.split('.')
+    except ValueError:
+        return [word]
 
 
 def chosen(rows, most):

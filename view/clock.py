@@ -5,7 +5,7 @@
     clock.py today.txt --capture today.pcap --queries tour.query --local --greatest
     clock.py today.csv --capture today.pcap --window-us 1000000
 
-The line of a window tells when it begins, in UTC or by --local in the time of this place: `window 3 emitted 1125 at 2026-11-02 10:15:03.000000+00:00`.
+The line of a window tells when it begins, in UTC or by --local in the time of this place: `window 3 emitted 1125 at 2026-11-02T10:15:03.000000Z`.
 CSV gets the time as a column after the window. --greatest puts the rows of each query with the greatest last column first. All other lines stay as they
 are. Windows begin at the first record, so the time is that of the first record and the windows before. Needs nothing but Python."""
 

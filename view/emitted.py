@@ -1,5 +1,5 @@
 #!/usr/bin/env python3
-"""Draws how many tuples a plan sends to the engine in each window, by query and level, for one or several plans side by side, and beside them what plans send
+"""Draws how many items a plan sends to the engine in each window, by query and level, for one or several plans side by side, and beside them what plans send
 that follow the traffic.
 
     emitted.py --of one.plan one.reports --of other.plan other.reports -o emitted.svg
@@ -140,7 +140,7 @@ def drawn(columns, titles):
             pictures.whole_ticks(part.yaxis)
             pictures.whole_ticks(part.xaxis)
         parts[-1][place].set_xlabel('window')
-    for row, name in enumerate(['tuples'] + names):
+    for row, name in enumerate(['items'] + names):
         if row and all(isinstance(column, Epochs) for column in columns):
             parts[row][0].set_yticks([])
         parts[row][0].set_ylabel(name, rotation=0, ha='right', va='center', color=pictures.colour(row - 1) if row else '#333333')

@@ -146,7 +146,7 @@ def fee_of(paid, queries, entries):
 
 
 def table(program, switch, queries, names, options, told=lambda done: None, known=None, paid=collections.Counter()):
-    """The entries of all options, for the files of queries and of the capture: by lane and option, the tuples sent, and what is paid for prefixes. Those that
+    """The entries of all options, for the files of queries and of the capture: by lane and option, the items sent, and what is paid for prefixes. Those that
     are known already, of the same sizes, chains and tables, aren't counted again."""
     found = {} if known is None else known
     pending = {lane: [option for option in reversed(some) if (lane, option) not in found] for lane, some in options.items()}

@@ -4,7 +4,7 @@
     sonata plain QUERIES CAPTURE | keys.py --queries QUERIES --capture CAPTURE
     keys.py today.txt --queries tour.query --capture today.pcap --local
 
-    port_scan 198.51.100.7 10.1.5.5: windows 5..10, 2026-11-28 00:00:05.000308+00:00 to 2026-11-28 00:00:11.000308+00:00, 6 of them, ports at most 150
+    port_scan 198.51.100.7 10.1.5.5: windows 5..10, 2026-11-28T00:00:05.000308Z to 2026-11-28T00:00:11.000308Z, 6 of them, ports at most 150
 
 Keys are those of the finest level of each query, its own in the query file's order and the first to be answered first. The times are those at which the
 first window begins and the last one ends, so what was found may begin and end up to a window inside of them, and outside where it was below the query's
@@ -48,4 +48,4 @@ def main():
 
 
 if __name__ == '__main__':
-    sys.exit(main())
+    printed.ended(main)

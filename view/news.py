@@ -13,6 +13,7 @@ import os
 import sys
 
 import keys
+import printed
 import texts
 import times
 
@@ -24,7 +25,7 @@ def read_known(name):
             known = json.load(file)
         if not isinstance(known, dict) or not all(isinstance(time, (int, float)) for time in known.values()):
             raise ValueError
-        return known
+        return {printed.short(key): time for key, time in known.items()}
     except FileNotFoundError:
         return {}
     except OSError as fault:

@@ -6,7 +6,7 @@
     packets.py today.pcap --queries tour.query --window 4 'host 10.20.0.80'
     packets.py today.pcap 'src host 198.51.100.7' -o attacker.pcap
 
-    900 of 24,300 packets, 2026-11-29 00:00:08.372054+00:00 to 2026-11-29 00:00:14.365387+00:00
+    900 of 24,300 packets, 2026-11-29T00:00:08.372054Z to 2026-11-29T00:00:14.365387Z
 
 Without -o tcpdump prints them; with it a line tells how many they are of those in the windows, and the times of the first and the last of them in UTC.
 Without --window the whole capture is looked at: windows that were answered lack an attack's edges. A record is in the window that `sonata` counts it in:

@@ -1,11 +1,31 @@
-"""Reads what `sonata` answered: printed answers of `plain`, `run`, `finish`, `many`, `live` and `replan`, or the CSV of `run --csv`."""
+"""Reads what `sonata` answered: printed answers of `plain`, `run`, `finish`, `many`, `live` and `replan`, or the CSV of `run --csv`. Addresses of IPv6 are
+given as RFC 5952 writes them."""
 
 import csv
+import ipaddress
 import itertools
 import os
+import re
 import sys
 
 HEADING = 'window,query,level,'
+ADDRESS = re.compile(r'(?:[0-9a-f]{4}:){7}[0-9a-f]{4}')
+
+
+def short(text):
+    """The same text with each address of IPv6 as RFC 5952 writes it."""
+    return ADDRESS.sub(lambda found: str(ipaddress.IPv6Address(found.group())), text) if ':' in text else text
+
+
+def ended(main):
+    """Runs the main part of a command and ends with its status, and quietly where nobody reads on."""
+    try:
+        status = main()
+        sys.stdout.flush()
+    except BrokenPipeError:
+        os.dup2(os.open(os.devnull, os.O_WRONLY), sys.stdout.fileno())
+        status = 0
+    sys.exit(status)
 
 
 def opened(name):
@@ -56,7 +76,7 @@ def csv_blocks(records):
         if window != last:
             yield int(window), None, None, []
             last = window
-        yield int(window), query, int(level), [[column for column in record[3:] if column] for record in some]
+        yield int(window), query, int(level), [[short(column) for column in record[3:] if column] for record in some]
 
 
 def text_blocks(lines):
@@ -69,7 +89,7 @@ def text_blocks(lines):
             yield window, None, None, []
         elif words[0] == 'query':
             _, query, _, level, _, count = words
-            rows = [row for row in itertools.islice(lines, int(count))]
+            rows = [list(map(short, row)) for row in itertools.islice(lines, int(count))]
             if window is None or len(rows) < int(count):
                 raise ValueError
             yield window, query, int(level), rows

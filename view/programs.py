@@ -44,7 +44,7 @@ def answered(words, good=(0,)):
 
 
 def sent(program, switch, queries, plan, capture):
-    """The number of tuples that a plan sends on a capture, as `run` tells it. Of a damaged capture the whole records count, as they do for `plan`."""
+    """The number of items that a plan sends on a capture, as `run` tells it. Of a damaged capture the whole records count, as they do for `plan`."""
     _, text, line = answered([program, 'run', switch, queries, plan, capture], (0, 5))
     if not text:
         sys.exit('run: ' + line)

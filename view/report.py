@@ -3,7 +3,7 @@
 
     report.py SWITCH QUERIES TRAIN PLANTREE CAPTURE -o report.html
 
-The page has the plan in the switch, the tree of bounds to open node by node, the tuples sent by query and level, the answers over time with a table to sort
+The page has the plan in the switch, the tree of bounds to open node by node, the items sent by query and level, the answers over time with a table to sort
 and filter, how late refined queries were answered, the commands and the checksums of all files, and what is proved and what isn't. It runs `sonata check`,
 `run`, `emit` and `detect` for that. --answers, --reports and --stays give what the last three wrote, in their place, and --unchecked leaves `check` out,
 which the page then says.
@@ -101,7 +101,7 @@ def columns_of(windows):
 
 
 def sent_svg(plan, windows, counts, query, count):
-    """The tuples that a query sends, by level, as bars over the windows."""
+    """The items that a query sends, by level, as bars over the windows."""
     path, width = plan[query].path, columns_of(count)
     sums = [[0] * (-(-count // width)) for _ in path]
     for (window, q, place), number in counts.items():
@@ -120,7 +120,7 @@ def sent_svg(plan, windows, counts, query, count):
     legend = ' '.join('<span class="level"><i style="background:%s"></i>%s%s</span>' % (
         hexed(pictures.shade(query, place, len(path))), '/%d ' % level if level else '', format(sum(sums[place]), ',')) for place, level in enumerate(path))
     return '<figure><figcaption><b style="color:%s">%s</b> %s, at most %s a column</figcaption><svg viewBox="0 0 %d 63" preserveAspectRatio="none" role="img" ' \
-        'aria-label="tuples of %s over windows"><path d="M0 62.5h%d" stroke="#999" stroke-width=".5"/>%s</svg></figure>' % (
+        'aria-label="items of %s over windows"><path d="M0 62.5h%d" stroke="#999" stroke-width=".5"/>%s</svg></figure>' % (
             pictures.colour(query), html.escape(plan[query].name), legend, format(max(tops + [0]), ','), len(tops), html.escape(plan[query].name), len(tops), ''.join(parts))
 
 

@@ -27,6 +27,16 @@ EVERY = 5
 PACKAGE = 'Needs scipy: on Debian `apt-get install python3-scipy`, and the distribution\'s own /usr/bin/python3.'
 
 
+def needed():
+    """The packages that solve an integer program. Ends the command where they aren't there."""
+    try:
+        import numpy
+        from scipy import optimize, sparse
+    except ImportError:
+        sys.exit(PACKAGE)
+    return numpy, optimize, sparse
+
+
 class Rows:
     """An integer program: columns that are 0 or 1 with what they cost, and rows of sums with their limits."""
 
@@ -48,11 +58,7 @@ class Rows:
 
     def solved(self, seconds):
         """The columns that are 1, and whether they are known to be of least cost. None where none was found in time."""
-        try:
-            import numpy
-            from scipy import optimize, sparse
-        except ImportError:
-            sys.exit(PACKAGE)
+        numpy, optimize, sparse = needed()
         matrix = sparse.csr_array((self.numbers, (self.rows, self.places)), shape=(len(self.least), len(self.costs)))
         found = optimize.milp(numpy.array(self.costs, float), integrality=numpy.ones(len(self.costs)), bounds=optimize.Bounds(0, 1),
                               constraints=optimize.LinearConstraint(matrix, self.least, self.most), options={'time_limit': seconds, 'mip_rel_gap': 0})
@@ -180,6 +186,7 @@ def some_plan(switch, queries, options, found, seconds):
 def planned(program, names, seconds, told=lambda done: None, known=None):
     """A plan's text, what `sonata run` says that it sends of the training capture, with what its prefixes cost where they have a weight, and whether the
     integer program holds it for the best. Entries that are known aren't counted again."""
+    needed()
     switch, queries = entries.read(*names[:2])
     options, paid = entries.possible(switch, queries), entries.fees(program, switch, queries, *names[1:])
     found = entries.table(program, switch, queries, names[1:], options, told, known, paid)
@@ -227,6 +234,7 @@ def main():
     if given.seconds <= 0 or given.nodes < 1:
         words.error('--seconds and --nodes are above 0')
     names = given.switch, given.queries, given.train
+    needed()
     programs.readable(*names)
     text, sends, _ = planned(given.sonata, names, given.seconds, Teller(given.seconds))
     sys.stdout.write(text)

@@ -31,7 +31,7 @@ Stay = collections.namedtuple('Stay', 'address first last printed')
 
 def stay_of(found):
     address, first, last, window = found.groups()
-    return Stay(address, int(first), int(last), None if window == 'never' else int(window))
+    return Stay(printed.short(address), int(first), int(last), None if window == 'never' else int(window))
 
 
 def read(file):

@@ -58,7 +58,7 @@ def read_certificate(name):
 
 
 def epoch_of(text):
-    """The epoch of a text that begins with its number: the entries of its plan, what that costs, and its windows, each with the number of tuples sent."""
+    """The epoch of a text that begins with its number: the entries of its plan, what that costs, and its windows, each with the number of items sent."""
     head, _, answers = text.partition(b'\ndone\n')
     number, _, plan = head.partition(b'\n')
     cost = re.search(rb'^cost (\d+);$', plan, re.M)

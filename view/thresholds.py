@@ -144,4 +144,4 @@ def main():
 
 
 if __name__ == '__main__':
-    sys.exit(main())
+    printed.ended(main)

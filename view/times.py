@@ -28,9 +28,9 @@ def window_of(name):
 
 
 def text(microseconds, local=False):
-    """A time since 1970 as text with its zone."""
+    """A time since 1970 as RFC 3339 writes it, with its zone."""
     time = EPOCH + datetime.timedelta(microseconds=microseconds)
-    return (time.astimezone() if local else time).isoformat(sep=' ', timespec='microseconds')
+    return (time.astimezone() if local else time).isoformat(timespec='microseconds').replace('+00:00', 'Z')
 
 
 def add_options(words):

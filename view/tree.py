@@ -5,7 +5,7 @@
 
 The green way goes from the empty plan down to the plan, one box for the choices of a query's path or of a piece (its cut, sizes and stages). Beside
 it hang the choices that weren't taken, folded by their kind: B can cost no less than the plan, by its bound, X breaks the switch's limits, and E was
-looked into further. Small trees are opened; in large ones what is below an E is counted in its box. The boxes are laid out downwards or to the right, boxes side by side in
+looked into further, since its bound is below the cost, or equals it and it stands before the plan. Small trees are opened; in large ones what is below an E is counted in its box. The boxes are laid out downwards or to the right, boxes side by side in
 several rows where they are many, whichever comes nearest to a page."""
 
 import collections
@@ -22,7 +22,7 @@ from texts import costs
 PACKAGE = 'Needs graphviz: on Debian `apt-get install graphviz`.'
 FILLS = {'E': '#e8eef7', 'B': '#eeeeee', 'X': '#f6dcdc', 'P': '#cfe8d5'}
 WORDS = {'E': 'expanded', 'B': 'bounded', 'X': 'broken', 'P': 'the plan'}
-LEGEND = {'E': 'E: looked into, its bound is below the cost', 'B': 'B: costs at least as much as the plan, by its bound', 'X': 'X: breaks a limit of the switch', 'P': 'P: the plan'}
+LEGEND = {'E': 'E: looked into, its bound is below the cost, or equals it and it stands before the plan', 'B': 'B: costs at least as much as the plan, by its bound', 'X': 'X: breaks a limit of the switch', 'P': 'P: the plan'}
 PAGE = 1.4
 
 

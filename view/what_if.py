@@ -7,9 +7,9 @@
     what_if.py SWITCH QUERIES TRAIN slots 128 128,512 128,512,2048 -o slots.svg
 
 The word is one of the switch text: stages, actions, bits, meta, chain, slots, entries or weight. All else stays as the text says. Each switch gets the plan of `sonata
-plan`, with a budget of --nodes. Where the search doesn't end, some_plan.py looks for a plan that fits, and the picture has a bar from what that plan sends
+plan`, with a budget of --nodes. Where the search doesn't end, some_plan.py looks for a plan that fits, and the picture has a part of another colour from what that plan sends
 down to the least that any plan sends, as far as `sonata` knows it. A table of the same stands on standard output; in the picture
-the values stand side by side, whatever lies between them."""
+the values stand side by side, each with a bar of its own, since what lies between two of them wasn't asked."""
 
 import os
 import re
@@ -60,7 +60,7 @@ def parsed(text, word, value):
 
 
 class Point:
-    """What a switch sends: a value, the tuples of a plan, and the least that any plan sends, as far as it is known."""
+    """What a switch sends: a value, the items of a plan, and the least that any plan sends, as far as it is known."""
 
     def __init__(self, value, sends, least):
         self.value, self.sends, self.least = value, sends, least
@@ -97,25 +97,25 @@ def drawn(points, word):
     pyplot = pictures.drawing()
     figure, part = pyplot.subplots(figsize=(max(4, 1.2 + 0.75 * len(points)), 3.2))
     across = list(range(len(points)))
-    part.plot(across, [point.sends for point in points], color=pictures.colour(0), marker='o', markersize=4, linewidth=1.2, zorder=3)
+    part.bar(across, [point.sends for point in points], 0.4, color=pictures.colour(0), alpha=0.55)
     greatest = max(point.sends for point in points)
     for place, point in zip(across, points):
         if point.least < point.sends:
-            part.plot([place, place], [point.least, point.sends], color=pictures.colour(1), linewidth=4, alpha=0.6, solid_capstyle='butt', zorder=2)
-        part.annotate(format(point.sends, ','), (place, point.sends), (0, 6), textcoords='offset points', ha='center', fontsize=7)
+            part.bar(place, point.sends - point.least, 0.4, bottom=point.least, color=pictures.colour(1), alpha=0.6)
+        part.annotate(format(point.sends, ','), (place, point.sends), (0, 2), textcoords='offset points', ha='center', fontsize=7)
     for (left, before), (right, after) in zip(zip(across, points), zip(across[1:], points[1:])):
         if before.sends != after.sends:
             words = '%s%s' % ('\u2212' if after.sends < before.sends else '+', format(abs(before.sends - after.sends), ','))
-            part.annotate(words, ((left + right) / 2, (before.sends + after.sends) / 2), (0, -9), textcoords='offset points', ha='center', fontsize=6.5,
+            part.annotate(words, ((left + right) / 2, min(before.sends, after.sends) / 2), ha='center', fontsize=6.5,
                           zorder=4, bbox={'facecolor': 'white', 'edgecolor': 'none', 'pad': 0.6},
                           color='#3d9157' if after.sends < before.sends else '#b5403f')
     part.set_xticks(across, [point.value if word == 'slots' else format(int(point.value), ',') for point in points],
                     rotation=30 if len(points) > 8 or word == 'slots' else 0, fontsize=7)
     part.set_ylim(0, 1.18 * max(greatest, 1))
     part.set_xlabel(word)
-    part.set_ylabel('cost on TRAIN' if word == 'weight' else 'tuples sent on TRAIN')
+    part.set_ylabel('cost on TRAIN' if word == 'weight' else 'items sent on TRAIN')
     if any(point.least < point.sends for point in points):
-        part.plot([], [], color=pictures.colour(1), linewidth=4, alpha=0.6, label='a plan that fits, and the least that any could send')
+        part.bar([], [], color=pictures.colour(1), alpha=0.6, label='a plan that fits, and the least that any could send')
         part.legend(frameon=False, fontsize=7, loc='upper right')
     return figure
 

@@ -40,16 +40,18 @@ def picture(captures):
     seen['both'] = [east | west for east, west in zip(seen['east'], seen['west'])]
     base, right = 30 + 85 * HEIGHT, 60 + SECONDS * 4 * WIDTH
     lines = ['<svg xmlns="http://www.w3.org/2000/svg" width="%d" height="%d" font-family="sans-serif" font-size="12">' % (right + 120, base + 40),
-             '<text x="10" y="15">addresses that 10.77.0.1 tries in each second</text>']
-    for place, (name, counts) in enumerate(seen.items()):
-        lines.append('<text x="%d" y="%d" fill="%s">%s</text>' % (right + 10, 60 + 20 * place, COLORS[name], {'both': 'both together'}.get(name, 'seen in the ' + name)))
-        for second, found in enumerate(counts):
-            left, top = 50 + (second * 4 + place) * WIDTH, base - len(found) * HEIGHT
-            lines.append('<rect x="%d" y="%d" width="%d" height="%d" fill="%s"/>' % (left, top, WIDTH - 4, len(found) * HEIGHT, COLORS[name]))
-            lines.append('<text x="%d" y="%d">%d</text>' % (left, top - 3, len(found)))
+             '<rect width="100%" height="100%" fill="white"/>', '<text x="10" y="15">addresses that 10.77.0.1 tries in each second</text>']
+    lines += ['<text x="%d" y="%d" fill="%s">%s</text>' % (right + 10, 60 + 20 * place, COLORS[name], {'both': 'both together'}.get(name, 'seen in the ' + name))
+              for place, name in enumerate(seen)]
+    bars = [(50 + (second * 4 + place) * WIDTH, len(found), COLORS[name]) for place, (name, counts) in enumerate(seen.items()) for second, found in enumerate(counts)]
+    lines += ['<rect x="%d" y="%d" width="%d" height="%d" fill="%s"/>' % (left, base - count * HEIGHT, WIDTH - 4, count * HEIGHT, color) for left, count, color in bars]
     lines += ['<text x="%d" y="%d">%d</text>' % (50 + (second * 4 + 1) * WIDTH, base + 18, second) for second in range(SECONDS)]
     lines.append('<path d="M40 %d H%d" stroke="black" stroke-dasharray="6 3"/>' % (base - THRESHOLD * HEIGHT, right))
     lines.append('<text x="%d" y="%d">threshold %d</text>' % (right + 10, base - THRESHOLD * HEIGHT + 4, THRESHOLD))
+    # The numbers stand over the threshold's line, each on a white ground of its own.
+    for left, count, _ in bars:
+        lines.append('<rect x="%d" y="%d" width="15" height="12" fill="white"/>' % (left, base - count * HEIGHT - 13))
+        lines.append('<text x="%d" y="%d">%d</text>' % (left, base - count * HEIGHT - 3, count))
     return '\n'.join(lines + ['<path d="M40 %d H%d" stroke="black"/>' % (base, right), '</svg>']) + '\n'
 
 
