@@ -23,7 +23,7 @@ GENERATE = os.path.join(TOP, 'bench', 'generate.py')
 PAIR = re.compile(r'```(query|refused)\n(.*?)```\n+```(answer|line)\n(.*?)```', re.S)
 BLOCK = re.compile(r'```sh\n(.*?)```(?:\n+```shows\n(.*?)```)?', re.S)
 # (the README, the queries and those around plans: blocks of other kinds than sh, as bash, aren't run)
-SESSIONS = ['README.md', 'QUERIES.md', 'FORMATS.md', 'PLANS.md', 'TOUR.md', 'SCALE.md']
+SESSIONS = ['README.md', 'QUERIES.md', 'FORMATS.md', 'FAQ.md', 'PLANS.md', 'TOUR.md', 'SCALE.md', 'examples/README.md']
 COMMAND = re.compile(r'\bsonata (plain|plan|run|emit|finish|detect|many|check|live|replan|gen|job) [^-|;&>\n]+( --csv)?')
 TOOLS = re.compile(r'^(?:.*\| *)?(editcap|mergecap|reordercap|psql|xxd|jq|tcpdump) ', re.M)
 DASK = re.compile(r'examples/scale/(?:parts|rest)\.py')
@@ -31,7 +31,7 @@ PICTURE = re.compile(r'^/usr/bin/python3 \S*view/(?:layout|tree|emitted|answers|
 
 
 def document(name):
-    with open(os.path.join(TOP, '' if name == 'README.md' else 'docs', name)) as file:
+    with open(os.path.join(TOP, '' if name.endswith('README.md') else 'docs', name)) as file:
         return file.read()
 
 
@@ -128,7 +128,7 @@ def main():
     given = words.parse_args()
     found = []
     for path in given.documents:
-        name = os.path.basename(path)
+        name = path if path in SESSIONS else os.path.basename(path)
         if name not in SESSIONS:
             words.error('%s is none of %s' % (path, ', '.join(SESSIONS)))
         missing = unbuilt(given.sonata, name)

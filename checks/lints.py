@@ -36,6 +36,12 @@ CASES = [
     ('refine ip.dst: 32; packets | filter ip.valid == 1 | ' + COUNT + ' | filter n < 9;', [], ''),
     (JOINED + ' | map d as d, n * 1000 / b as r | filter r > 9;', ['NEVER'], 'a join'),
     (JOINED + ' | map d as d, n * 1000 / b as r | filter r > 9 at (8: 90);', ['NEVER'], 'level 8 asks for r > 90'),
+    (JOINED + ' | filter n > 9, b > 99;', ['unproved'], 'by at most 1 window'),
+    (JOINED + ' | filter n > 9, b > 99 at (8: 100);', ['NEVER'], 'at most 99 for level 8'),
+    (JOINED + ' | filter n > 9, b < 99;', ['NEVER'], 'a join'),
+    (JOINED.replace('width 48', 'width 48 | filter b > 99') + ';', ['unproved'], 'by at most 1 window'),
+    (JOINED.replace('width 48', 'width 48 | filter b > 99 at (8: 200)') + ';', ['NEVER'], 'at most 99 for level 8'),
+    (JOINED.replace('width 48', 'width 48 | filter b < 99') + ';', ['NEVER'], 'a join'),
     ('packets | filter tcp.flags == 2 | ' + COUNT + ' | filter n > 9;', ['header'], 'ip.valid == 1'),
     ('packets | filter ip.valid == 1, tcp.dport < 1024 | ' + COUNT + ' | filter n > 9;', ['header'], 'tcp.valid == 1'),
     ('packets | filter ip.valid == 1, udp.dport != 53 | ' + COUNT + ' | filter n > 9;', ['header'], 'udp.valid == 1'),
@@ -59,7 +65,7 @@ def asked(executable, text):
         file.flush()
         done = subprocess.run([sys.executable, LINT, file.name, '--sonata', executable], stdout=subprocess.PIPE, stderr=subprocess.STDOUT, text=True)
     words = re.findall(r'^q: (\w+)', done.stdout, re.M)
-    status = 1 if any(word != 'late' for word in words) else 0
+    status = 1 if any(word not in ('late', 'unproved') for word in words) else 0
     return words if done.returncode == status else ['status %d' % done.returncode], done.stdout
 
 

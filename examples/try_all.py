@@ -6,7 +6,9 @@ where a row of the query begins with the addresses of the attack and ends with a
 
 Then the refined queries of refined/, on captures that recipes/written.py writes: the program must find the plans that stand there, check them, and find
 each attack by them, no later than a window for each further level. Where the program has no plans, these are skipped. Then the days of turning/, on which
-`run` and `live` must send what yesterday's plan sends, and `replan` what plans send that follow the traffic. --only-refined needs no root."""
+`run` and `live` must send what yesterday's plan sends, and `replan` what plans send that follow the traffic. Then the attacks that recipes/covered.py hides in
+ordinary traffic: each query must find the one that it looks for, in each of the captures nothing else, and by a plan for each switch of eight/, which must be
+checked. --only-refined needs no root."""
 
 import argparse
 import os
@@ -38,6 +40,10 @@ ATTACKS = [
     ('ttl_anomalies', 'mixed_ttl', ['10.77.0.50', '64', '113'], 3, 176, 176),
     ('ttl_anomalies', 'low_ttl', ['10.77.0.1'], 1, 3, 15),
 ]
+
+# Query file, the columns with which the rows of its hidden attack begin, and its first and last window.
+COVERED = [('dns_tunnel', ['10.30.1.17', '10.30.0.53'], 17, 36), ('reflection', ['10.30.2.15', '11211'], 31, 41),
+           ('ip6_fan', ['2001:0db8:0077:0000:0000:0000:0000:0005'], 23, 36), ('exfiltration', ['10.30.3.19', '198.51.100.77'], 1, 4)]
 
 TURNING = os.path.join(HERE, 'turning')
 # Switch, day, how many items may be too early, what yesterday's plan sends of today, what plans send that follow the traffic, and how many these are. The first
@@ -183,11 +189,47 @@ def try_turning(program, folder):
     return [try_day(program, folder, *day) for day in DAYS]
 
 
+def try_covered(program, attack, captures):
+    """Whether a query finds its hidden attack, and nothing in all captures else."""
+    name, key, first, last = attack
+    good = True
+    for capture, path in captures.items():
+        (found,) = rows(answer(program, name, path)).values()
+        windows = [window for window, row in found if row[:len(key)] == key]
+        good &= len(windows) == len(found) and (windows[:1] + windows[-1:] == [first, last] if capture == name else not found)
+    print('%-17s %-17s %s' % ('covered', name, 'found in windows %d to %d, and nothing else' % (first, last) if good else 'NOT AS IT STANDS'))
+    return good
+
+
+def try_covered_plan(program, attack, switch, captures):
+    """Whether a plan for a switch of eight/, made of ordinary traffic, is checked, and finds the hidden attack and nothing else."""
+    name, key, _, last = attack
+    texts = os.path.join(HERE, 'eight', switch + '.switch'), os.path.join(HERE, 'queries', name + '.query')
+    with tempfile.NamedTemporaryFile('w', suffix='.plan') as plan:
+        plan.write(output(program, 'plan', *texts, captures['ordinary']))
+        plan.flush()
+        said = output(program, 'check', *texts, captures['ordinary'], plan.name).strip()
+        (found,) = rows(output(program, 'run', *texts, plan.name, captures[name])).values()
+    good = said.startswith('yes') and bool(found) and all(row[:len(key)] == key for _, row in found) and found[-1][0] == last
+    print('%-17s %-17s %s' % (switch + '.switch', name, '%s, found from window %d on' % (said, found[0][0]) if good else 'NOT AS IT STANDS'))
+    return good
+
+
+def try_all_covered(program, folder):
+    """Try the hidden attacks, on captures that are written into a folder."""
+    subprocess.run([sys.executable, os.path.join(HERE, 'recipes', 'covered.py'), folder], check=True)
+    captures = {name: os.path.join(folder, name + '.pcap') for name in ['ordinary'] + [attack[0] for attack in COVERED]}
+    good = [try_covered(program, attack, captures) for attack in COVERED]
+    if has_plans(program):
+        good += [try_covered_plan(program, attack, switch, captures) for attack in COVERED for switch in ('ordinary', 'large')]
+    return good
+
+
 def main():
     words = argparse.ArgumentParser(description=__doc__, formatter_class=argparse.RawDescriptionHelpFormatter)
     words.add_argument('--sonata', default=USUAL, help='the program (default: the one that this clone built)')
     words.add_argument('--captures', metavar='FOLDER', help='use the captures there, and leave those that are made')
-    words.add_argument('--only-refined', action='store_true', help='try the refined queries and the days that turn alone')
+    words.add_argument('--only-refined', action='store_true', help='try the refined queries, the days that turn and the hidden attacks alone')
     given = words.parse_args()
     with tempfile.TemporaryDirectory(prefix='sonata-examples-') as passing:
         folder, good = given.captures or passing, []
@@ -197,6 +239,7 @@ def main():
             good += [try_peace(given.sonata, name, folder) for name in dict.fromkeys(attack[0] for attack in ATTACKS)]
         good += try_refined(given.sonata, os.path.join(passing, 'written'))
         good += try_turning(given.sonata, os.path.join(passing, 'turning'))
+        good += try_all_covered(given.sonata, os.path.join(passing, 'covered'))
     print('%d of %d as they should be' % (sum(good), len(good)))
     return 0 if all(good) else 1
 

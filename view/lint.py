@@ -10,8 +10,8 @@ that stay at their greatest number, and rows that nobody counts.
       write `refine ip.dst: 32;` where that matters
 
 NEVER stands where an address may stay in the answers of the query without refinement, and its plan may print it never: where `sonata detect` over an empty
-capture says `bound no` of the longest path, with the constant or the operator that is the reason. `late` isn't counted as a finding. The status is 1 where there
-are findings, else 0. A plan may take fewer levels than the refine line has, and a path of one level is never late. That a query has a bound is proved of
+capture says `bound no` of the longest path, with the constant or the operator that is the reason. Of a join that asks sums alone, it is `unproved`. `late` and
+`unproved` aren't counted as findings. The status is 1 where there are findings, else 0. A packet's length counts as at most 262,144 bytes, a window as 4,194,304 records. A plan may take fewer levels than the refine line has, and a path of one level is never late. That a query has a bound is proved of
 `detect`; the rest is a reading of the text. Needs nothing but Python and the program."""
 
 import argparse
@@ -108,12 +108,37 @@ def before_reduce(query, operator, distincts):
         yield Finding('NEVER', operator.line, '`min`: the least of a prefix is at most that of an address in it, so a prefix may fail where the address passes', alone(query))
 
 
+def grows(operators):
+    """Whether a branch answers, for a prefix, each number at least as great as for an address in it."""
+    places = [place for place, operator in enumerate(operators) if operator.kind == 'reduce']
+    if len(places) != 1 or operators[places[0]].fold not in ('sum', 'max') or sum(one.kind == 'distinct' for one in operators) > 1:
+        return False
+    before, end = operators[:places[0]], operators[places[0] + 1:]
+    return not any(condition.relaxed for one in before for condition in one.conditions) and asks_more(end, {operators[places[0]].value})
+
+
+def asks_more(operators, names):
+    """Whether these are filters alone that ask for more than a number, of columns of these names."""
+    return all(one.kind == 'filter' for one in operators) and all(
+        condition.comparison in ('>', '>=') and condition.mask == ALL_BITS and condition.name in names for one in operators for condition in one.conditions)
+
+
+def joined(query):
+    """What is to be said of a join none of whose constants is the reason."""
+    numbers = {operator.value for branch in query.branches for operator in branch if operator.kind == 'reduce'}
+    if all(map(grows, query.branches)) and asks_more(query.after, numbers):
+        return Finding('unproved', query.join_line, 'a join, to which `detect` gives no bound; but each of its numbers is for a prefix at least that for an address in it, '
+                       'so by this reading it is late by at most %s' % counted(len(query.levels) - 1, 'window'), alone(query).replace('write', 'where that must be sure write'))
+    return Finding('NEVER', query.join_line, 'a join: a ratio or a sum of an address may pass where that of its prefix fails, and no bound is proved',
+                   'relax the constants of the coarse levels well below the finest one\'s, and ' + alone(query).replace('write', 'where none may be lost write'))
+
+
 def never(query):
     """Why a refined query has no bound, by its text."""
     if query.join_keys:
-        found = [one for operator in query.after if operator.kind == 'filter' for one in greater(query, operator)]
-        return found or [Finding('NEVER', query.join_line, 'a join: a ratio or a sum of an address may pass where that of its prefix fails, and no bound is proved',
-                                 'relax the constants of the coarse levels well below the finest one\'s, and ' + alone(query).replace('write', 'where none may be lost write'))]
+        filters = [operator for some in [*query.branches, query.after] for operator in some if operator.kind == 'filter']
+        found = [one for operator in filters for one in greater(query, operator)]
+        return found or [joined(query)]
     found, value, distincts = [], None, 0
     for operator in query.branches[0]:
         distincts += operator.kind == 'distinct'
@@ -235,7 +260,7 @@ def main():
     known = bounds(given.sonata, given.queries, queries)
     for query in queries:
         for one in findings(query, known.get(query.name)):
-            count += one.word != 'late'
+            count += one.word not in ('late', 'unproved')
             print('%s: %s%s %s\n  %s' % (query.name, one.word, ', line %d:' % one.line if one.line else ',', one.reason, one.advice))
     print('%s in %s' % (counted(count, 'finding'), '1 query' if len(queries) == 1 else '%d queries' % len(queries)))
     return 1 if count else 0

@@ -6,7 +6,7 @@ windows, as numbers to write after `>`.
     thresholds.py QUERIES CAPTURE --quantiles 0.9 0.99 0.999 1
     thresholds.py QUERIES CAPTURE --level 24
 
-`sonata plain` answers each query without the filters after its last reduce, map, distinct or join, so that every row is there. `filter n > 36` after
+`sonata plain` answers each query without the filters after its last reduce, map, distinct or join, and at the ends of a join's branches, so that every row is there. `filter n > 36` after
 the quantile 1 says that no row of this capture has more than 36. --level asks refined queries at a coarser level, for the constants after `at`; without
 it they are asked at the finest. Needs nothing but Python and the program."""
 
@@ -56,14 +56,17 @@ def without_end(operators):
 
 
 def opened_query(query, level):
-    """The text of a query without the filters at its end, and these. None where there are none, or no map before them."""
+    """The text of a query without the filters at its end, of a join also without those at the ends of its branches, and these. None where there are none, or no
+    map before them."""
     last = query.after if query.join_keys else query.branches[0]
     kept, end = without_end(last)
+    branches = [without_end(branch)[0] for branch in query.branches] if query.join_keys else [kept]
+    end = end + [operator for branch in query.branches for operator in without_end(branch)[1] if query.join_keys]
     if not end or not query.join_keys and not any(operator.kind == 'map' for operator in kept):
         return None, []
     levels = [one for one in query.levels if level is None or one <= level]
     lines = ['query %s {' % query.name] + (['  refine %s: %s;' % (query.refine_field, ', '.join(map(str, levels)))] if levels else [])
-    for branch in query.branches if query.join_keys else [kept]:
+    for branch in branches:
         lines.append('  packets ' + ' '.join('| ' + operator_text(relaxed_to(operator, levels)) for operator in branch) + ';')
     if query.join_keys:
         lines.append('  join %s %s;' % (', '.join(query.join_keys), ' '.join('| ' + operator_text(relaxed_to(operator, levels)) for operator in kept)))
@@ -80,7 +83,8 @@ def relaxed_to(operator, levels):
 def asked(query, end):
     """The columns that the filters at the end ask with > or >=, each with the condition."""
     names = [name for name, _, _ in query.columns]
-    return [(names.index(condition.name), condition) for operator in end for condition in operator.conditions if condition.comparison in ('>', '>=')]
+    return [(names.index(condition.name), condition) for operator in end for condition in operator.conditions
+            if condition.comparison in ('>', '>=') and condition.name in names]
 
 
 def quantile(values, share):
@@ -132,8 +136,8 @@ def main():
     if given.level is not None and not any(given.level in query.levels for query in queries):
         sys.exit('--level %d: no query has it' % given.level)
     for query in queries:
-        conditions = asked(query, without_end(query.after if query.join_keys else query.branches[0])[1])
-        text, _ = opened_query(query, given.level if given.level in query.levels else None)
+        text, end = opened_query(query, given.level if given.level in query.levels else None)
+        conditions = asked(query, end)
         if text is None or not conditions:
             print('query %s: no filter at its end asks for more than a number' % query.name)
             continue
