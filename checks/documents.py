@@ -1,12 +1,11 @@
 #!/usr/bin/env python3
-"""Runs what stands in the documents. Of docs/QUERIES.md the examples: each query with the answer that stands after it, and each refused text with its
-error line. Of it, README.md and the documents around plans each `sh` block, one after another in a folder of its own as one shell would, with the `shows`
+"""Runs what stands in the documents. Of docs/QUERIES.md and docs/FORMATS.md the examples: each query with the answer that stands after it, and each refused text
+with its error line. Of them, README.md and the documents around plans each `sh` block, one after another in a folder of its own as one shell would, with the `shows`
 block that stands after it, where one does; a line `...` there stands for any lines. Blocks of other kinds, as `bash`, aren't run. Of answers that are
 drawn each key must stand in the picture, and of stays each line, in the new one and in the one that the document shows. A document is left out
 where the program hasn't all its commands; checks/planned.py has them (`documents.py --sonata checks/planned.py`). Without matplotlib and graphviz pictures
 are left out, and without editcap, mergecap, psql, xxd, tcpdump, jq or Dask the blocks that use them."""
 
-import functools
 import os
 import re
 import shutil
@@ -42,9 +41,9 @@ def differs(text, wanted, found):
     return found != wanted
 
 
-def try_queries(executable):
-    """How many examples of queries there are, and how many differ."""
-    pairs, bad = PAIR.findall(document('QUERIES.md')), 0
+def try_queries(executable, name):
+    """How many examples of queries a document has, and how many differ."""
+    pairs, bad = PAIR.findall(document(name)), 0
     with tempfile.NamedTemporaryFile(suffix='.pcap') as capture:
         subprocess.run([sys.executable, GENERATE, 'few', capture.name, '--packets', '5000'], check=True)
         for kind, text, _, expected in pairs:
@@ -135,8 +134,8 @@ def main():
         if missing:
             print('%s: left out, the program has no %s' % (name, ', '.join(missing)))
             continue
-        for tried in [try_queries] * (name == 'QUERIES.md') + [functools.partial(try_session, name=name)]:
-            found.append(tried(given.sonata))
+        for tried in [try_queries] * bool(PAIR.search(document(name))) + [try_session]:
+            found.append(tried(given.sonata, name))
             print('%s: %d of %d examples as they stand' % (name, found[-1][0] - found[-1][1], found[-1][0]), flush=True)
     return 1 if any(bad for _, bad in found) else 0
 
