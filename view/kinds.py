@@ -38,7 +38,7 @@ def text_kind(text):
     """The kind of a text: the one whose reader accepts it, else the one that begins like it."""
     for kind, reader in (('queries', grammar.parse), ('switch', switches.parse), ('plan with its tree', tree_of), ('plan', plans.parse)):
         if is_accepted(reader, text):
-            return kind
+            return 'plan with its tree' if kind == 'plan' and b'\ntree' in text else kind
     try:
         first = grammar.Reader(text).now.value
     except (UnicodeDecodeError, tokens.Fault):

@@ -28,7 +28,7 @@ FILES = {'plain': 'QUERIES CAPTURE', 'plan': 'SWITCH QUERIES TRAIN', 'run': 'SWI
 OPTIONS = {'plan': '--nodes', 'run': '--csv', 'live': '--nodes --schedule --trace', 'replan': '--nodes'}
 ROLE = {'queries': ('QUERIES',), 'switch': ('SWITCH',), 'plan': ('PLAN', 'PLANTREE'), 'tree': ('PLANTREE',), 'capture': ('TRAIN', 'CAPTURE'), 'reports': ('REPORTS',)}
 KINDS = {
-    'Lex': 'no word or sign of the language begins there: write `==` for `=`, numbers without letters or signs (a window is in microseconds: 1000000 for 1s), and no quotes',
+    'Lex': 'no word or sign of the language begins there: write `==` for `=`, numbers without letters or signs (a window is in microseconds: 1000000 for 1s), no quotes, and no byte order mark',
     'Expected': 'it can\'t stand there, or it is a number out of its range: look at it and at what stands before it, where a `;`, a `|` or a width may be missing',
     'TooMany': 'it is one more than may be: a ninth query, condition, column or key, a thirteenth operator, a fifth level, or a name of more than 32 bytes',
     'Twice': 'the same name stands twice in one list, or a word of the switch text a second time: rename one, or take one out',
@@ -75,8 +75,9 @@ class Given:
         return next((name for role, name, _ in self.files if role in roles), None)
 
     def strangers(self):
-        """The files that aren't what their roles ask for. Of a pipe nothing is known."""
-        return [(role, name, kind) for role, name, kind in self.files if kind != 'stream' and kind not in kinds.ROLES[role]]
+        """The files that aren't what their roles ask for. Of a pipe nothing is known, and a text of no kind is refused by its own line."""
+        return [(role, name, kind) for role, name, kind in self.files
+                if kind not in kinds.ROLES[role] + ('stream',) and not (kind == 'text' and role in ('QUERIES', 'SWITCH', 'PLAN', 'PLANTREE'))]
 
 
 def ordered(given):
@@ -207,7 +208,8 @@ def usage_words(given):
         return ['`%s` %s, so `%s` can\'t stand there. %s' % (command, has, strange[0], hint)]
     number = ' NUMBER' if command in ('gen', 'job') else ' MOST' if command == 'replan' else ''
     more = ''.join(' [%s%s]' % (option, '' if option in ('--csv', '--trace') else ' N') for option in options)
-    return ['`sonata %s %s%s%s`: these words in this order, options last; a number is one to ten decimal digits and in its range.' % (command, FILES[command], number, more)]
+    return ['`sonata %s%s%s%s`: these words in this order, options last; a number is one to ten decimal digits and in its range.' % (
+        command, ' ' * bool(FILES[command]) + FILES[command], number, more)]
 
 
 def other_words(given, line):
