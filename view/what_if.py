@@ -97,7 +97,7 @@ def drawn(points, word):
     pyplot = pictures.drawing()
     figure, part = pyplot.subplots(figsize=(max(4, 1.2 + 0.75 * len(points)), 3.2))
     across = list(range(len(points)))
-    part.bar(across, [point.sends for point in points], 0.4, color=pictures.colour(0), alpha=0.55)
+    part.bar(across, [min(point.least, point.sends) for point in points], 0.4, color=pictures.colour(0), alpha=0.55)
     greatest = max(point.sends for point in points)
     for place, point in zip(across, points):
         if point.least < point.sends:
@@ -115,8 +115,8 @@ def drawn(points, word):
     part.set_xlabel(word)
     part.set_ylabel('cost on TRAIN' if word == 'weight' else 'items sent on TRAIN')
     if any(point.least < point.sends for point in points):
-        part.bar([], [], color=pictures.colour(1), alpha=0.6, label='a plan that fits, and the least that any could send')
-        part.legend(frameon=False, fontsize=7, loc='upper right')
+        words = 'up to a plan that fits, from the least that any could send'
+        part.legend([pyplot.Rectangle((0, 0), 1, 1, color=pictures.colour(1), alpha=0.6)], [words], frameon=False, fontsize=7, loc='lower right', bbox_to_anchor=(1, 1))
     return figure
 
 
