@@ -1,16 +1,23 @@
 #!/usr/bin/env python3
 """Asks view/lint.py of queries that are wrong, one for each of its findings, and of right ones beside them. Each must have just the findings that stand here,
-which were worked out by hand. Prints a line for each query that has others. The status is 0 where none has. Needs the program."""
+which were worked out by hand. Then of the random query files of random_plans.py: of a refined query to which `detect` gives no bound the reading of its text must
+have a reason, and of one with a bound none. Prints each query that is read otherwise. The status is 0 where none is. Needs the program."""
 
 import os
+import random
 import re
 import subprocess
 import sys
 import tempfile
 
 import program
+import random_plans
 
 HERE = os.path.dirname(os.path.abspath(__file__))
+sys.path.insert(0, os.path.join(HERE, '..', 'view'))
+import lint  # noqa: E402
+import texts  # noqa: E402
+
 LINT = os.path.join(HERE, '..', 'view', 'lint.py')
 COUNT = 'map ip.dst as d, 1 as n | reduce d: sum(n) width 32'
 REFINED = 'refine ip.dst: 8, 16, 32; packets | filter ip.valid == 1 | '
@@ -69,8 +76,34 @@ def asked(executable, text):
     return words if done.returncode == status else ['status %d' % done.returncode], done.stdout
 
 
+def read_otherwise(executable, seed, folder):
+    """The refined queries of a random file, and those of them of which the reading of the text and `detect` say different things. None where the file is refused."""
+    name = random_plans.write(folder, random_plans.files(random.Random(seed)))['queries']
+    try:
+        queries = texts.read_queries(name)
+    except SystemExit:
+        return None
+    known = lint.bounds(executable, name, queries)
+    refined = [query for query in queries if len(query.levels) > 1]
+    return refined, [query.name for query in refined if bool(lint.never(query)) == known[query.name]]
+
+
+def try_random(executable, cases):
+    """How many random refined queries are read otherwise than `detect` says, each of which is printed."""
+    count, bad = 0, 0
+    with tempfile.TemporaryDirectory(prefix='sonata-lints-') as folder:
+        for seed in range(cases):
+            refined, names = read_otherwise(executable, seed, folder) or ([], [])
+            count, bad = count + len(refined), bad + len(names)
+            print(''.join('seed %d: %s\n' % (seed, name) for name in names), end='')
+    print('%d of %d random refined queries are read as `detect` says' % (count - bad, count))
+    return bad
+
+
 def main():
-    given = program.command_line(__doc__).parse_args()
+    words = program.command_line(__doc__)
+    words.add_argument('--cases', type=int, default=400, help='random query files (default 400)')
+    given = words.parse_args()
     bad = 0
     for text, wanted, said in CASES:
         words, out = asked(given.sonata, text)
@@ -78,7 +111,7 @@ def main():
             bad += 1
             print('%s\n  wanted %s with %r, found %s' % (text, wanted, said, out))
     print('%d of %d queries have the findings that they should' % (len(CASES) - bad, len(CASES)))
-    return 1 if bad else 0
+    return 1 if try_random(given.sonata, given.cases) + bad else 0
 
 
 if __name__ == '__main__':

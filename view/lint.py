@@ -6,16 +6,18 @@ that stay at their greatest number, and rows that nobody counts.
 
     tunnel: NEVER, line 9: level 8 asks for b > 50000 and level 32 for b > 1000, so level 8 leaves out prefixes of addresses that level 32 would answer
       write a constant of at most 1000 for level 8
-    opened: late, by at most 1 window: each further level of `refine ip.dst: 24, 32` looks a window later, and what is over within 1 window isn't printed
+    opened: late, by at most 1 window: each further level of `refine ip.dst: 24, 32` looks a window later, and what is over within 1 window may not be printed
       write `refine ip.dst: 32;` where that matters
 
 NEVER stands where an address may stay in the answers of the query without refinement, and its plan may print it never: where `sonata detect` over an empty
 capture says `bound no` of the longest path, with the constant or the operator that is the reason. Of a join that asks sums alone, it is `unproved`. `late` and
-`unproved` aren't counted as findings. The status is 1 where there are findings, else 0. A packet's length counts as at most 262,144 bytes, a window as 4,194,304 records. A plan may take fewer levels than the refine line has, and a path of one level is never late. That a query has a bound is proved of
-`detect`; the rest is a reading of the text. Needs nothing but Python and the program."""
+`unproved` aren't counted as findings. The status is 1 where there are findings, else 0. A packet's length counts as at most 262,144 bytes, a window as 4,194,304
+records. A plan may take fewer levels than the refine line has, and a path of one level is never late. That a query has a bound is proved of `detect`; the rest is
+a reading of the text. Needs nothing but Python and the program."""
 
 import argparse
 import collections
+import itertools
 import os
 import struct
 import sys
@@ -67,9 +69,10 @@ def greater(query, operator):
         levels = [level for level in query.levels if constant_at(condition, level) > constant_at(condition, finest)]
         if levels and condition.comparison in ('>', '>='):
             asks = '%s %s' % (condition.name, condition.comparison)
-            yield Finding('NEVER', operator.line, 'level %d asks for %s %d and level %d for %s %d, so level %d leaves out prefixes of addresses that level %d would answer' % (
-                levels[0], asks, constant_at(condition, levels[0]), finest, asks, constant_at(condition, finest), levels[0], finest),
-                'write a constant of at most %d for level%s %s' % (constant_at(condition, finest), 's' * (len(levels) > 1), ', '.join(map(str, levels))))
+            reason = 'level %d asks for %s %d and level %d for %s %d, so level %d leaves out prefixes of addresses that level %d would answer' % (
+                levels[0], asks, constant_at(condition, levels[0]), finest, asks, constant_at(condition, finest), levels[0], finest)
+            advice = 'write a constant of at most %d for level%s %s' % (constant_at(condition, finest), 's' * (len(levels) > 1), ', '.join(map(str, levels)))
+            yield Finding('NEVER', operator.line, reason, advice)
 
 
 def other_comparison(query, operator):
@@ -164,13 +167,9 @@ def header_of(name):
 
 def headers_asked(operators):
     """The headers without which a packet fails the filters before the first map."""
-    asked = set()
-    for operator in operators:
-        if operator.kind == 'map':
-            break
-        for condition in operator.conditions:
-            if header_of(condition.name) and not passes({condition.name: 0}, [condition], None):
-                asked.add(header_of(condition.name))
+    front = itertools.takewhile(lambda operator: operator.kind != 'map', operators)
+    conditions = [condition for operator in front for condition in operator.conditions if not passes({condition.name: 0}, [condition], None)]
+    asked = {header_of(condition.name) for condition in conditions} - {None}
     return asked | {BELOW[head] for head in asked if head in BELOW}
 
 
@@ -185,11 +184,11 @@ def read_first(operators):
 
 def headers(operators):
     """The headers that a branch reads and doesn't ask for."""
-    asked, told = headers_asked(operators), set()
+    asked, reported = headers_asked(operators), set()
     for name, line in read_first(operators):
         head = header_of(name)
-        if head and head not in asked | told:
-            told.add(head)
+        if head and head not in asked | reported:
+            reported.add(head)
             yield Finding('header', line, '`%s` is 0 in packets without this header, and they count too' % name, 'add `%s` to the first filter' % VALID[head])
 
 
@@ -244,10 +243,8 @@ def findings(query, bound):
     found = [] if bound is None or len(query.levels) < 2 else [late(query)] if bound else never(query)
     if bound is False and len(query.levels) > 1 and not found:
         found = [Finding('NEVER', query.refine_line, '`detect` gives it no bound', alone(query))]
-    for operators in query.branches:
-        for reading in (headers, widths, distincts):
-            found += [one for one in reading(operators) if one not in found]
-    return found
+    read = [one for operators in query.branches for reading in (headers, widths, distincts) for one in reading(operators)]
+    return list(dict.fromkeys(found + read))
 
 
 def main():
@@ -258,10 +255,9 @@ def main():
     programs.readable(given.queries)
     queries, count = texts.read_queries(given.queries), 0
     known = bounds(given.sonata, given.queries, queries)
-    for query in queries:
-        for one in findings(query, known.get(query.name)):
-            count += one.word not in ('late', 'unproved')
-            print('%s: %s%s %s\n  %s' % (query.name, one.word, ', line %d:' % one.line if one.line else ',', one.reason, one.advice))
+    for query, one in ((query, one) for query in queries for one in findings(query, known.get(query.name))):
+        count += one.word not in ('late', 'unproved')
+        print('%s: %s%s %s\n  %s' % (query.name, one.word, ', line %d:' % one.line if one.line else ',', one.reason, one.advice))
     print('%s in %s' % (counted(count, 'finding'), '1 query' if len(queries) == 1 else '%d queries' % len(queries)))
     return 1 if count else 0
 

@@ -113,7 +113,7 @@ def reader_of(role):
 
 
 def token_at(role, text):
-    """The word at which the reading of a text stops, as it is told, where the fault is one of the text."""
+    """The word at which the reading of a text stops, as it is shown, where the fault is one of the text."""
     reader = reader_of(role)(text)
     try:
         {'queries': lambda: reader.file(), 'switch': lambda: reader.switch(), 'plan': lambda: reader.plan(), 'tree': lambda: (reader.plan(), reader.tree())}[role]()
@@ -177,7 +177,7 @@ def plan_words(given, kind, want, got):
 
 
 def capture_words(given, kind, byte, number):
-    """What is wrong with a capture. Of several the first is named that has this header or, by its number, the one that was told."""
+    """What is wrong with a capture. Of several the first is named that has this header or, by its number, the one that was reported."""
     files = [(name, found) for role, name, found in given.files if role in ('TRAIN', 'CAPTURE')]
     name = files[int(number) - 1][0] if number else files[-1][0]
     if kind == 'Link':
