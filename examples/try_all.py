@@ -47,7 +47,7 @@ COVERED = [('dns_tunnel', ['10.30.1.17', '10.30.0.53'], 17, 36), ('reflection', 
 
 TURNING = os.path.join(HERE, 'turning')
 # Switch, day, how many items may be too early, what yesterday's plan sends of today, what plans send that follow the traffic, and how many these are. The first
-# day is counted by hand in docs/PLANS.md, the second by the reading in checks/reference.
+# day is counted by hand in examples/README.md, the second by the reading in checks/reference.
 DAYS = [('few', 'few-', 3, 96, 78, 2), ('turning', '', 290, 4844, 3572, 2)]
 
 

@@ -1,5 +1,5 @@
 #!/usr/bin/env python3
-"""Writes the captures with which docs/PLANS.md shows what a table without room for its prefixes sends, and what a weight is good for.
+"""Writes the captures with which examples/README.md and docs/PLANS.md show what a table without room for its prefixes sends, and what a weight is good for.
 
     room.py FOLDER        # FOLDER/room.pcap and FOLDER/weight.pcap
 

@@ -3,7 +3,7 @@
 
     turning.py FOLDER
 
-few-yesterday.pcap and few-today.pcap have 10 packets a second, so that docs/PLANS.md can count them by hand; yesterday.pcap and today.pcap have 1000, of 12
+few-yesterday.pcap and few-today.pcap have 10 packets a second, so that examples/README.md can count them by hand; yesterday.pcap and today.pcap have 1000, of 12
 clients to 200 servers, and then of 200 clients to 12. Both days before are mornings alone. levels-yesterday.pcap and levels-today.pcap have eight packets in
 all, for a query of two levels. The same words write the same bytes each time. Needs nothing but Python."""
 
