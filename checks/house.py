@@ -5,8 +5,7 @@
 
 Each crate of crates.txt must stand once in docs/ARCHITECTURE.md, under the heading that it has in crates.txt, and in docs/PROVED.md where it isn't one of tests
 or the program; and each path of a crate that a document names must be there, and the code of each CALLING.md must be that of a file of sn_test_callers, which the gate
-proves; and crates.txt may name below a crate only those that its text names. Prints how many crates there are, the longest chain, and how many files the gate reads to sum up its libraries
-(docs/ARCHITECTURE.md, "The ways down"). The status is 0 only where all is so. Python 3 alone."""
+proves; and crates.txt may name below a crate only those that its text names. Prints how many crates there are, and the longest chain. The status is 0 only where all is so. Python 3 alone."""
 
 import functools
 import glob
@@ -58,14 +57,6 @@ def unnamed(below):
         yield from (f'{crate}: crates.txt has {it} below it, and its text doesn\'t name it' for it in found if it not in named)
 
 
-def summed(below):
-    """How many files the gate reads to sum up its libraries: those of each one and of all crates below it, once for each way down to them, and twice."""
-    @functools.lru_cache(None)
-    def read(name):
-        return len(files_of(name)) + sum(read(it) for it in below[name])
-    return 2 * sum(read(name) for name in below if not os.path.exists(os.path.join(TOP, 'crates', name, 'src', 'main.rt')))
-
-
 def off_the_map(rooms):
     """What is wrong with the map of docs/ARCHITECTURE.md, and which crates docs/PROVED.md leaves out."""
     drawn = [(name, room) for room, lines in ROOM.findall(text('docs', 'ARCHITECTURE.md')) for name in CRATE.findall(lines)]
@@ -78,9 +69,9 @@ def off_the_map(rooms):
 
 
 def is_there(crate, path, ending):
-    """Whether a crate has a file or folder, or a definition file or test file of this name."""
+    """Whether a crate has a file or folder, or a definition file, test file or table of cases of this name."""
     folder = os.path.join(TOP, 'crates', crate)
-    return any(os.path.exists(os.path.join(folder, *it)) for it in [(path + ending,), ('specs', path + '.antt'), ('src', path + '.rt'), (path + '.antt',)])
+    return any(os.path.exists(os.path.join(folder, *it)) for it in [(path + ending,), ('specs', path + '.antt'), ('src', path + '.rt'), ('data', path + '.cases'), (path + '.antt',)])
 
 
 def lost_paths():
@@ -104,7 +95,6 @@ def main():
     rooms, below = listed()
     chain = longest(below)
     print(f'{len(rooms)} crates, the longest chain has {len(chain)}: {" ".join(chain)}')
-    print(f'the gate reads {summed(below) / 1e6:.0f} million files to sum up its libraries')
     wrong = [*off_the_map(rooms), *unnamed(below), *lost_paths(), *unproved_callers()]
     print('\n'.join(wrong) or 'the documents name the house as it is')
     return 1 if wrong else 0

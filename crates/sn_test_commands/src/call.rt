@@ -1,28 +1,11 @@
 //! Calls of commands, over files that a test gives.
 use sn_core_net::net::Net;
 use sn_io::inputs::Inputs;
-use sn_io::mem_inputs::MemInputs;
 use sn_io::mem_sink::MemSink;
 use sn_io::sink::Sink;
-use sn_test_cases::commands::{Commands, words_in};
 use sn_top::top::top;
 use std::alloc::Global;
 use std::test::Fail;
-
-/// The top call, over nets.
-pub struct Top;
-
-impl Commands for Top {
-    fn call(
-        alloc: Global,
-        words: &[String],
-        files: &mut MemInputs,
-        out: &mut MemSink,
-        err: &mut MemSink,
-    ) -> u8 {
-        top::<Net, MemInputs, MemSink, MemSink>(alloc, words, files, out, err)
-    }
-}
 
 /// How a command ended: its status, and what it wrote as its output and as its line.
 #[derive(Drop)]
@@ -30,6 +13,15 @@ pub struct Ran {
     pub status: u8,
     pub out: MemSink,
     pub err: MemSink,
+}
+
+/// The words of a line, which blanks stand between. The error is out of memory.
+fn words_in(alloc: Global, line: &str) -> Result<Vec<String>, Fail> {
+    let mut words = Vec::new(alloc);
+    for word in line.split_whitespace() {
+        words.push(String::from_str(alloc, word)?)?;
+    }
+    Ok(words)
 }
 
 /// Runs the words of this line, which blanks stand between, over these files, with these outputs. The status.
