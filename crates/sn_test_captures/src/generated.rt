@@ -4,10 +4,9 @@ use sn_gen::frame::push_record;
 use sn_gen::job::{job_queries, job_switch};
 use sn_gen::packet::Packet;
 use sn_gen::segment::Segment;
-use std::test::Fail;
 
 #[test]
-fn writes_the_bytes_of_a_frame(rt: HostRuntime) -> Result<(), Fail> {
+fn writes_the_bytes_of_a_frame(rt: HostRuntime) {
     let segment = Segment {
         source: 0x0a000001,
         destination: 0x0a000009,
@@ -29,7 +28,6 @@ fn writes_the_bytes_of_a_frame(rt: HostRuntime) -> Result<(), Fail> {
     let mut file = Vec::new(rt.alloc());
     assert_eq!(rt; push_record(&mut file, &packet), Ok(()));
     assert_eq!(rt; file.as_slice(), record.as_slice());
-    Ok(())
 }
 
 /// The record of packet `i`.
@@ -110,7 +108,7 @@ const RECORDS: [(usize, [u8; 70]); 8] = [
 ];
 
 #[test]
-fn has_the_records_of_a_script(rt: HostRuntime) -> Result<(), Fail> {
+fn has_the_records_of_a_script(rt: HostRuntime) {
     let file = capture(rt.alloc(), 7).expect(&rt, "ample memory");
     assert_eq!(rt; file.as_slice().len(), 1400024);
     assert_eq!(rt;
@@ -120,11 +118,10 @@ fn has_the_records_of_a_script(rt: HostRuntime) -> Result<(), Fail> {
     for (i, record) in &RECORDS {
         assert_eq!(rt; record_of(file.as_slice(), *i), record.as_slice());
     }
-    Ok(())
 }
 
 #[test]
-fn takes_numbers_of_more_than_32_bits(rt: HostRuntime) -> Result<(), Fail> {
+fn takes_numbers_of_more_than_32_bits(rt: HostRuntime) {
     let file = capture(rt.alloc(), 4294967296).expect(&rt, "ample memory");
     let record: [u8; 70] = [
         1, 0, 0, 0, 144, 1, 0, 0, 54, 0, 0, 0, 30, 4, 0, 0, 2, 0, 0, 0, 0, 2, 2, 0, 0, 0, 0, 1, 8,
@@ -132,7 +129,6 @@ fn takes_numbers_of_more_than_32_bits(rt: HostRuntime) -> Result<(), Fail> {
         0, 0, 0, 0, 0, 0, 80, 16, 0, 0, 0, 0, 0, 0,
     ];
     assert_eq!(rt; record_of(file.as_slice(), 2), record.as_slice());
-    Ok(())
 }
 
 /// The switch of all jobs, as the format's definition has it.
@@ -178,8 +174,7 @@ query slow {
 ";
 
 #[test]
-fn states_the_texts_of_a_job(rt: HostRuntime) -> Result<(), Fail> {
+fn states_the_texts_of_a_job(rt: HostRuntime) {
     assert_eq!(rt; job_switch(), JOB_SWITCH);
     assert_eq!(rt; job_queries(), JOB_QUERIES);
-    Ok(())
 }

@@ -3,7 +3,6 @@ use sn_base::link::Link;
 use sn_fields::field::{FIELDS, Field, FieldRow};
 use sn_fields::tuple::{Tuple, tuple_of};
 use std::process::Abort;
-use std::test::Fail;
 
 /// TCP with an option.
 const TCP: [u8; 58] = [
@@ -315,9 +314,8 @@ const PACKETS: [(Link, &[u8], Wanted); 13] = [
 ];
 
 #[test]
-fn reads_packets_of_many_kinds(rt: HostRuntime) -> Result<(), Fail> {
+fn reads_packets_of_many_kinds(rt: HostRuntime) {
     for (link, bytes, wanted) in PACKETS {
         expect_numbers(&rt, &tuple_of(link, wanted.wire, bytes), &wanted);
     }
-    Ok(())
 }

@@ -13,7 +13,6 @@ use sn_pcap::seen::{Next, Seen};
 use sn_test_inputs::slow::Slow;
 use std::alloc::Global;
 use std::process::Abort;
-use std::test::Fail;
 
 /// What a reader gave: how many packets, whether each was the one wanted, and what came after them.
 #[derive(Clone, Copy)]
@@ -98,61 +97,67 @@ fn many(alloc: Global, count: usize) -> Result<Vec<u8>, Memory> {
 }
 
 #[test]
-fn reads_pieces_of_each_size(rt: HostRuntime) -> Result<(), Fail> {
+fn reads_pieces_of_each_size(rt: HostRuntime) {
     let whole = three();
     for most in 1..101 {
-        expect(&rt, rt.alloc(), &whole, most, 3, Ending::Clean)?;
+        assert!(rt; expect(&rt, rt.alloc(), &whole, most, 3, Ending::Clean).is_ok());
     }
     for most in [65535, 65536, 65537] {
-        expect(&rt, rt.alloc(), &whole, most, 3, Ending::Clean)?;
+        assert!(rt; expect(&rt, rt.alloc(), &whole, most, 3, Ending::Clean).is_ok());
     }
-    Ok(())
 }
 
 /// 1000 records have 70000 bytes, so one stands across the edge of the buffer.
 #[test]
-fn reads_across_the_edge_of_the_buffer(rt: HostRuntime) -> Result<(), Fail> {
-    let bytes = many(rt.alloc(), 1000)?;
+fn reads_across_the_edge_of_the_buffer(rt: HostRuntime) {
+    let bytes = many(rt.alloc(), 1000).expect(&rt, "ample memory");
     for most in [7, 4096, 65535, 65536, 65537] {
-        expect(&rt, rt.alloc(), &bytes, most, 1000, Ending::Clean)?;
+        assert!(rt; expect(&rt, rt.alloc(), &bytes, most, 1000, Ending::Clean).is_ok());
     }
-    Ok(())
 }
 
 #[test]
-fn tells_where_a_capture_is_damaged(rt: HostRuntime) -> Result<(), Fail> {
+fn tells_where_a_capture_is_damaged(rt: HostRuntime) {
     let whole = three();
     let bad = third_too_large();
     for most in [1, 16, 65536] {
-        expect(&rt, rt.alloc(), front(&whole, 24), most, 0, Ending::Clean)?;
-        expect(&rt, rt.alloc(), front(&whole, 25), most, 0, Ending::Cut(24))?;
-        expect(
-            &rt,
-            rt.alloc(),
-            front(&whole, 179),
-            most,
-            2,
-            Ending::Cut(164),
-        )?;
-        expect(
-            &rt,
-            rt.alloc(),
-            front(&whole, 180),
-            most,
-            2,
-            Ending::Cut(164),
-        )?;
-        expect(
-            &rt,
-            rt.alloc(),
-            front(&whole, 233),
-            most,
-            2,
-            Ending::Cut(164),
-        )?;
-        expect(&rt, rt.alloc(), &bad, most, 2, Ending::Bad(164))?;
+        assert!(rt; expect(&rt, rt.alloc(), front(&whole, 24), most, 0, Ending::Clean).is_ok());
+        assert!(rt; expect(&rt, rt.alloc(), front(&whole, 25), most, 0, Ending::Cut(24)).is_ok());
+        assert!(rt;
+            expect(
+                &rt,
+                rt.alloc(),
+                front(&whole, 179),
+                most,
+                2,
+                Ending::Cut(164),
+            )
+            .is_ok()
+        );
+        assert!(rt;
+            expect(
+                &rt,
+                rt.alloc(),
+                front(&whole, 180),
+                most,
+                2,
+                Ending::Cut(164),
+            )
+            .is_ok()
+        );
+        assert!(rt;
+            expect(
+                &rt,
+                rt.alloc(),
+                front(&whole, 233),
+                most,
+                2,
+                Ending::Cut(164),
+            )
+            .is_ok()
+        );
+        assert!(rt; expect(&rt, rt.alloc(), &bad, most, 2, Ending::Bad(164)).is_ok());
     }
-    Ok(())
 }
 
 /// A capture of one record with so many captured bytes, of which so many stand.
@@ -189,7 +194,7 @@ fn first_shape(alloc: Global, bytes: &[u8]) -> Result<Result<(u32, u32), Ending>
 }
 
 #[test]
-fn reads_packets_of_each_length(rt: HostRuntime) -> Result<(), Fail> {
+fn reads_packets_of_each_length(rt: HostRuntime) {
     let alloc = rt.alloc();
     for (length, stand, shaped) in [
         (0, 0, Ok((0, 0))),
@@ -206,22 +211,28 @@ fn reads_packets_of_each_length(rt: HostRuntime) -> Result<(), Fail> {
         (262145, 262145, Err(Ending::Bad(24))),
         (4294967295, 0, Err(Ending::Bad(24))),
     ] {
-        let bytes = one_long(alloc, length, stand)?;
-        assert_eq!(rt; first_shape(alloc, &bytes)?, shaped);
+        let bytes = one_long(alloc, length, stand).expect(&rt, "ample memory");
+        assert_eq!(rt;
+            first_shape(alloc, &bytes).expect(&rt, "ample memory"),
+            shaped
+        );
     }
-    Ok(())
 }
 
 /// A read that fails tells nothing and takes nothing: the next call goes on where this one stood.
 #[test]
-fn goes_on_after_a_failed_read(rt: HostRuntime) -> Result<(), Fail> {
+fn goes_on_after_a_failed_read(rt: HostRuntime) {
     let alloc = rt.alloc();
     for failing in 0..8 {
         let mut files = MemInputs::new(alloc);
-        files.put("c", file_of(alloc, &three())?)?;
-        files.fail_at(failing)?;
+        assert!(rt;
+            files
+                .put("c", file_of(alloc, &three()).expect(&rt, "ample memory"))
+                .is_ok()
+        );
+        assert!(rt; files.fail_at(failing).is_ok());
         let mut files = Slow { files, most: 40 };
-        let given = read_all(alloc, &mut files, "c")?;
+        let given = read_all(alloc, &mut files, "c").expect(&rt, "ample memory");
         assert!(rt; given.same);
         let last = if failing < 7 {
             Err(ReadError::ReadFault)
@@ -231,10 +242,14 @@ fn goes_on_after_a_failed_read(rt: HostRuntime) -> Result<(), Fail> {
         assert_eq!(rt; given.last, last);
     }
     let mut files = MemInputs::new(alloc);
-    files.put("c", file_of(alloc, &three())?)?;
-    files.fail_at(1)?;
+    assert!(rt;
+        files
+            .put("c", file_of(alloc, &three()).expect(&rt, "ample memory"))
+            .is_ok()
+    );
+    assert!(rt; files.fail_at(1).is_ok());
     let mut files = Slow { files, most: 40 };
-    let mut reader = Reader::make(alloc, LITTLE)?;
+    let mut reader = Reader::make(alloc, LITTLE).expect(&rt, "ample memory");
     let mut seen = Seen::empty();
     assert_eq!(rt;
         reader.next(&mut files, "d", &mut seen),
@@ -247,5 +262,4 @@ fn goes_on_after_a_failed_read(rt: HostRuntime) -> Result<(), Fail> {
     assert_eq!(rt; seen, Seen::empty());
     let next = reader.next(&mut files, "c", &mut seen);
     assert_eq!(rt; shape(next, &seen), Ok((54, 54)));
-    Ok(())
 }

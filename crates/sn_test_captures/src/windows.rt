@@ -1,9 +1,8 @@
 //! The numbers of windows.
 use sn_windows::windows::{TooMany, Windows};
-use std::test::Fail;
 
 #[test]
-fn begins_windows_at_the_first_time(rt: HostRuntime) -> Result<(), Fail> {
+fn begins_windows_at_the_first_time(rt: HostRuntime) {
     let mut windows = Windows::new(1_000_000_000);
     assert_eq!(rt; windows.next_number(5_000_000_000), Ok(0));
     assert_eq!(rt; windows.next_number(5_999_999_999), Ok(0));
@@ -13,11 +12,10 @@ fn begins_windows_at_the_first_time(rt: HostRuntime) -> Result<(), Fail> {
     assert_eq!(rt; windows.next_number(4_000_000_000), Ok(1));
     assert_eq!(rt; windows.next_number(9_500_000_000), Ok(4));
     assert_eq!(rt; windows.number(), 4);
-    Ok(())
 }
 
 #[test]
-fn counts_the_records_of_one_window(rt: HostRuntime) -> Result<(), Fail> {
+fn counts_the_records_of_one_window(rt: HostRuntime) {
     let mut windows = Windows::new(1);
     for _ in 0..4_194_304 {
         assert_eq!(rt; windows.next_number(7), Ok(0));
@@ -26,5 +24,4 @@ fn counts_the_records_of_one_window(rt: HostRuntime) -> Result<(), Fail> {
     assert_eq!(rt; windows.next_number(7), Err(TooMany));
     // the next window begins anew
     assert_eq!(rt; windows.next_number(8), Ok(1));
-    Ok(())
 }

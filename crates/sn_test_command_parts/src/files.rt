@@ -7,14 +7,20 @@ use sn_command::refusal::Refusal;
 use sn_command::texts::write_text;
 use sn_io::mem_inputs::MemInputs;
 use sn_io::mem_sink::MemSink;
-use std::test::Fail;
 
 #[test]
-fn reads_files_within_a_limit(rt: HostRuntime) -> Result<(), Fail> {
+fn reads_files_within_a_limit(rt: HostRuntime) {
     let alloc = rt.alloc();
     let mut files = MemInputs::new(alloc);
-    files.put("f", Seq::from_vec(Vec::from_slice(alloc, b"abcd")?))?;
-    let mut out = MemSink::new(alloc, 100)?;
+    assert!(rt;
+        files
+            .put(
+                "f",
+                Seq::from_vec(Vec::from_slice(alloc, b"abcd").expect(&rt, "ample memory"))
+            )
+            .is_ok()
+    );
+    let mut out = MemSink::new(alloc, 100).expect(&rt, "ample memory");
     let mut desk = Desk {
         files: &mut files,
         out: &mut out,
@@ -32,5 +38,4 @@ fn reads_files_within_a_limit(rt: HostRuntime) -> Result<(), Fail> {
     assert!(rt; matches!(read_file(alloc, &mut desk, "g", 3), Err(Refusal::Missing)));
     assert!(rt; write_text(b"text", &mut desk).is_ok());
     assert_eq!(rt; out.bytes(), b"text".as_slice());
-    Ok(())
 }

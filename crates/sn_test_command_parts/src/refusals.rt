@@ -7,10 +7,10 @@ use sn_command::refusal::Refusal;
 use sn_io::mem_sink::MemSink;
 use sn_pcap::header::HeadFault;
 use sn_plan_fit::misfit::{Misfit, MisfitKind};
+use sn_test_inputs::trouble::Trouble;
 use sn_types_read::fault::{Kind, QueryFault};
 use std::alloc::Global;
 use std::process::Abort;
-use std::test::Fail;
 
 /// What no file says.
 const PLAIN: [(Refusal, u8, &str); 5] = [
@@ -120,7 +120,7 @@ fn expect_told(
     refusal: Refusal,
     status: u8,
     line: &str,
-) -> Result<(), Fail> {
+) -> Result<(), Trouble> {
     let wanted = format!(in alloc; "sonata: {line}\n")?;
     let mut err = MemSink::new(alloc, 100)?;
     tell(Err(refusal), &mut err);
@@ -130,27 +130,25 @@ fn expect_told(
 }
 
 #[test]
-fn tells_what_no_file_says(rt: HostRuntime) -> Result<(), Fail> {
+fn tells_what_no_file_says(rt: HostRuntime) {
     let alloc = rt.alloc();
-    let mut err = MemSink::new(alloc, 100)?;
+    let mut err = MemSink::new(alloc, 100).expect(&rt, "ample memory");
     tell(Ok(()), &mut err);
     assert_eq!(rt; err.bytes(), b"".as_slice());
     for (refusal, status, line) in PLAIN {
-        expect_told(&rt, alloc, refusal, status, line)?;
+        assert!(rt; expect_told(&rt, alloc, refusal, status, line).is_ok());
     }
-    Ok(())
 }
 
 #[test]
-fn tells_faults(rt: HostRuntime) -> Result<(), Fail> {
+fn tells_faults(rt: HostRuntime) {
     for (fault, status, line) in FAULTS {
-        expect_told(&rt, rt.alloc(), Refusal::Refused(fault), status, line)?;
+        assert!(rt; expect_told(&rt, rt.alloc(), Refusal::Refused(fault), status, line).is_ok());
     }
-    Ok(())
 }
 
 #[test]
-fn tells_flaws_of_trees(rt: HostRuntime) -> Result<(), Fail> {
+fn tells_flaws_of_trees(rt: HostRuntime) {
     for (kind, line) in FLAWS {
         let flaw = TreeFlaw {
             kind,
@@ -159,17 +157,15 @@ fn tells_flaws_of_trees(rt: HostRuntime) -> Result<(), Fail> {
             got: 9,
         };
         let refusal = Refusal::Refused(Fault::Unshown(flaw));
-        expect_told(&rt, rt.alloc(), refusal, 7, line)?;
+        assert!(rt; expect_told(&rt, rt.alloc(), refusal, 7, line).is_ok());
     }
-    Ok(())
 }
 
 #[test]
-fn tells_faults_of_reports(rt: HostRuntime) -> Result<(), Fail> {
+fn tells_faults_of_reports(rt: HostRuntime) {
     for (kind, line) in REPORTS {
         let fault = ReportFault { kind, at: 48 };
         let refusal = Refusal::Refused(Fault::Reports(fault));
-        expect_told(&rt, rt.alloc(), refusal, 11, line)?;
+        assert!(rt; expect_told(&rt, rt.alloc(), refusal, 11, line).is_ok());
     }
-    Ok(())
 }

@@ -10,8 +10,8 @@ use sn_io::mem_inputs::MemInputs;
 use sn_io::mem_sink::MemSink;
 use sn_pcap::header::HeadFault;
 use sn_test_inputs::packets::HEADER;
+use sn_test_inputs::trouble::Trouble;
 use std::alloc::Global;
-use std::test::Fail;
 
 /// The header of a record at one second and so many microseconds, with no bytes captured of 60.
 fn record(micros: u32) -> [u8; 16] {
@@ -24,7 +24,7 @@ fn trained_but(
     alloc: Global,
     file: Vec<u8>,
     fails: Option<u32>,
-) -> Result<Result<Training, Refusal>, Fail> {
+) -> Result<Result<Training, Refusal>, Trouble> {
     let mut files = MemInputs::new(alloc);
     files.put("t", Seq::from_vec(file))?;
     if let Some(call) = fails {
@@ -39,12 +39,12 @@ fn trained_but(
 }
 
 /// What this capture, in windows of a second, is trained on.
-fn trained(alloc: Global, file: Vec<u8>) -> Result<Result<Training, Refusal>, Fail> {
+fn trained(alloc: Global, file: Vec<u8>) -> Result<Result<Training, Refusal>, Trouble> {
     trained_but(alloc, file, None)
 }
 
 /// For each tuple the number of its window.
-fn numbers(alloc: Global, training: &Training) -> Result<Vec<u64>, Fail> {
+fn numbers(alloc: Global, training: &Training) -> Result<Vec<u64>, Trouble> {
     let mut numbers = Vec::new(alloc);
     for window in training.windows() {
         for _ in window.tuples.as_slice() {
@@ -55,7 +55,7 @@ fn numbers(alloc: Global, training: &Training) -> Result<Vec<u64>, Fail> {
 }
 
 /// A capture of records at 0, 1500000 and 200000 microseconds.
-fn three_records(alloc: Global) -> Result<Vec<u8>, Fail> {
+fn three_records(alloc: Global) -> Result<Vec<u8>, Trouble> {
     let mut file = Vec::from_slice(alloc, &HEADER)?;
     for micros in [0, 1_500_000, 200_000] {
         file.extend_from_slice(&record(micros))?;
@@ -64,11 +64,19 @@ fn three_records(alloc: Global) -> Result<Vec<u8>, Fail> {
 }
 
 #[test]
-fn numbers_the_windows_of_a_training_capture(rt: HostRuntime) -> Result<(), Fail> {
+fn numbers_the_windows_of_a_training_capture(rt: HostRuntime) {
     let alloc = rt.alloc();
-    match trained(alloc, three_records(alloc)?)? {
+    match trained(alloc, three_records(alloc).expect(&rt, "ample memory")).expect(
+        &rt,
+        "ample memory",
+    ) {
         Ok(training) => {
-            assert_eq!(rt; numbers(alloc, &training)?.as_slice(), [0, 1, 1].as_slice());
+            assert_eq!(rt;
+                numbers(alloc, &training)
+                    .expect(&rt, "ample memory")
+                    .as_slice(),
+                [0, 1, 1].as_slice()
+            );
             for window in training.windows() {
                 for tuple in window.tuples.as_slice() {
                     assert_eq!(rt; tuple.get(Field::PacketLength), 60);
@@ -77,56 +85,75 @@ fn numbers_the_windows_of_a_training_capture(rt: HostRuntime) -> Result<(), Fail
         }
         Err(_) => assert!(rt; false),
     }
-    Ok(())
 }
 
 #[test]
-fn takes_the_whole_records_of_a_damaged_training_capture(rt: HostRuntime) -> Result<(), Fail> {
+fn takes_the_whole_records_of_a_damaged_training_capture(rt: HostRuntime) {
     let alloc = rt.alloc();
-    let mut cut = three_records(alloc)?;
+    let mut cut = three_records(alloc).expect(&rt, "ample memory");
     cut.truncate(71);
-    match trained(alloc, cut)? {
-        Ok(training) => assert_eq!(rt; numbers(alloc, &training)?.as_slice(), [0, 1].as_slice()),
+    match trained(alloc, cut).expect(&rt, "ample memory") {
+        Ok(training) => assert_eq!(rt;
+            numbers(alloc, &training)
+                .expect(&rt, "ample memory")
+                .as_slice(),
+            [0, 1].as_slice()
+        ),
         Err(_) => assert!(rt; false),
     }
-    match trained(alloc, Vec::from_slice(alloc, &HEADER)?)? {
+    match trained(
+        alloc,
+        Vec::from_slice(alloc, &HEADER).expect(&rt, "ample memory"),
+    )
+    .expect(&rt, "ample memory")
+    {
         Ok(training) => assert_eq!(rt; training.windows().len(), 0),
         Err(_) => assert!(rt; false),
     }
-    Ok(())
 }
 
 #[test]
-fn refuses_a_header_and_too_many_records(rt: HostRuntime) -> Result<(), Fail> {
+fn refuses_a_header_and_too_many_records(rt: HostRuntime) {
     let alloc = rt.alloc();
     let mut other_link = HEADER;
     other_link[20] = 105;
     assert!(rt;
         matches!(
-            trained(alloc, Vec::from_slice(alloc, &other_link)?)?,
+            trained(
+                alloc,
+                Vec::from_slice(alloc, &other_link).expect(&rt, "ample memory")
+            )
+            .expect(&rt, "ample memory"),
             Err(Refusal::Refused(Fault::Head(HeadFault::Link)))
         )
     );
-    let mut file = Vec::from_slice(alloc, &HEADER)?;
+    let mut file = Vec::from_slice(alloc, &HEADER).expect(&rt, "ample memory");
     for _ in 0..4_194_304u32 {
-        file.extend_from_slice(&record(0))?;
+        assert!(rt; file.extend_from_slice(&record(0)).is_ok());
     }
-    match trained(alloc, Vec::from_slice(alloc, file.as_slice())?)? {
-        Ok(training) => assert_eq!(rt; numbers(alloc, &training)?.len(), 4_194_304),
+    match trained(
+        alloc,
+        Vec::from_slice(alloc, file.as_slice()).expect(&rt, "ample memory"),
+    )
+    .expect(&rt, "ample memory")
+    {
+        Ok(training) => assert_eq!(rt;
+            numbers(alloc, &training).expect(&rt, "ample memory").len(),
+            4_194_304
+        ),
         Err(_) => assert!(rt; false),
     }
-    file.extend_from_slice(&record(0))?;
+    assert!(rt; file.extend_from_slice(&record(0)).is_ok());
     assert!(rt;
         matches!(
-            trained(alloc, file)?,
+            trained(alloc, file).expect(&rt, "ample memory"),
             Err(Refusal::Refused(Fault::TooLarge))
         )
     );
-    Ok(())
 }
 
 /// A capture of records of 60 bytes, each captured whole, the first of them at 0 and each a millisecond after the one before.
-fn many_records(alloc: Global, count: u32) -> Result<Vec<u8>, Fail> {
+fn many_records(alloc: Global, count: u32) -> Result<Vec<u8>, Trouble> {
     let mut file = Vec::from_slice(alloc, &HEADER)?;
     for number in 0..count {
         let [a, b, c, d] = number.wrapping_mul(1000).to_le_bytes();
@@ -137,9 +164,12 @@ fn many_records(alloc: Global, count: u32) -> Result<Vec<u8>, Fail> {
 }
 
 #[test]
-fn records_go_on_from_one_read_to_the_next(rt: HostRuntime) -> Result<(), Fail> {
+fn records_go_on_from_one_read_to_the_next(rt: HostRuntime) {
     let alloc = rt.alloc();
-    match trained(alloc, many_records(alloc, 3000)?)? {
+    match trained(alloc, many_records(alloc, 3000).expect(&rt, "ample memory")).expect(
+        &rt,
+        "ample memory",
+    ) {
         Ok(training) => {
             assert_eq!(rt; training.windows().len(), 3);
             for window in training.windows() {
@@ -148,7 +178,6 @@ fn records_go_on_from_one_read_to_the_next(rt: HostRuntime) -> Result<(), Fail> 
         }
         Err(_) => assert!(rt; false),
     }
-    Ok(())
 }
 
 /// Writes a byte of a file.
@@ -159,16 +188,24 @@ fn put_byte(file: &mut Vec<u8>, place: usize, byte: u8) {
 }
 
 #[test]
-fn a_training_capture_is_read_to_its_end(rt: HostRuntime) -> Result<(), Fail> {
+fn a_training_capture_is_read_to_its_end(rt: HostRuntime) {
     let alloc = rt.alloc();
-    let mut other_link = many_records(alloc, 3000)?;
+    let mut other_link = many_records(alloc, 3000).expect(&rt, "ample memory");
     put_byte(&mut other_link, 20, 105);
-    let mut damaged = many_records(alloc, 3000)?;
+    let mut damaged = many_records(alloc, 3000).expect(&rt, "ample memory");
     put_byte(&mut damaged, 24 + 8 + 3, 1);
     for file in [other_link, damaged] {
-        let whole = trained(alloc, Vec::from_slice(alloc, file.as_slice())?)?;
+        let whole = trained(
+            alloc,
+            Vec::from_slice(alloc, file.as_slice()).expect(&rt, "ample memory"),
+        )
+        .expect(&rt, "ample memory");
         assert!(rt; !matches!(whole, Err(Refusal::ReadFault)));
-        assert!(rt; matches!(trained_but(alloc, file, Some(3))?, Err(Refusal::ReadFault)));
+        assert!(rt;
+            matches!(
+                trained_but(alloc, file, Some(3)).expect(&rt, "ample memory"),
+                Err(Refusal::ReadFault)
+            )
+        );
     }
-    Ok(())
 }

@@ -1,8 +1,8 @@
 //! Words: the command that they spell, and words that spell none.
 use sn_cli::command::{Command, WordFault};
 use sn_cli::words::words;
+use sn_test_inputs::trouble::Trouble;
 use std::alloc::Global;
-use std::test::Fail;
 
 /// Each command, its options in any order, and the ends of the ranges of numbers.
 const SPELT: [(&str, Command); 24] = [
@@ -144,7 +144,7 @@ job,9999999999
 job,-1";
 
 /// What the words of a line spell, which commas stand between. An empty line has no word.
-fn spelt(alloc: Global, line: &str) -> Result<Result<Command, WordFault>, Fail> {
+fn spelt(alloc: Global, line: &str) -> Result<Result<Command, WordFault>, Trouble> {
     let mut given = Vec::new(alloc);
     if line.is_empty() {
         return Ok(words(&given));
@@ -156,21 +156,23 @@ fn spelt(alloc: Global, line: &str) -> Result<Result<Command, WordFault>, Fail> 
 }
 
 #[test]
-fn reads_commands(rt: HostRuntime) -> Result<(), Fail> {
+fn reads_commands(rt: HostRuntime) {
     for (line, command) in SPELT {
-        assert_eq!(rt; spelt(rt.alloc(), line)?, Ok(command), "of {line}");
+        assert_eq!(rt;
+            spelt(rt.alloc(), line).expect(&rt, "ample memory"),
+            Ok(command),
+            "of {line}"
+        );
     }
-    Ok(())
 }
 
 #[test]
-fn refuses_other_words(rt: HostRuntime) -> Result<(), Fail> {
+fn refuses_other_words(rt: HostRuntime) {
     for line in REFUSED.lines() {
         assert_eq!(rt;
-            spelt(rt.alloc(), line)?,
+            spelt(rt.alloc(), line).expect(&rt, "ample memory"),
             Err(WordFault::Usage),
             "of {line}"
         );
     }
-    Ok(())
 }

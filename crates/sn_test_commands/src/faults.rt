@@ -1,6 +1,6 @@
 //! Faults at every place: reads and writes that fail one after another, captures cut to each length, and trees and reports of which
 //! each byte in turn is another one.
-use crate::call::{Ran, call, call_to};
+use crate::call::{Ran, call, call_to, file_of, put};
 use sn_base::seq::Seq;
 use sn_gen::capture::capture;
 use sn_gen::job::{job_queries, job_switch};
@@ -9,8 +9,8 @@ use sn_io::mem_sink::MemSink;
 use sn_test_inputs::forward::Forward;
 use sn_test_inputs::packets::{HEADER, push_syns};
 use sn_test_inputs::stalling::Stalling;
+use sn_test_inputs::trouble::Trouble;
 use std::alloc::Global;
-use std::test::Fail;
 
 const SYN: &str = "window 1000000\nquery q { packets | filter tcp.flags == 2; }\n";
 
@@ -56,19 +56,15 @@ const REPORTS: [u8; 64] = [
 /// How many reads or writes of a call are tried.
 const MOST: u64 = 10_000;
 
-fn file_of(alloc: Global, bytes: &[u8]) -> Result<Seq<u8>, Fail> {
-    Ok(Seq::from_vec(Vec::from_slice(alloc, bytes)?))
-}
-
 /// A capture of these packets.
-fn capture_of(alloc: Global, packets: &str) -> Result<Vec<u8>, Fail> {
+fn capture_of(alloc: Global, packets: &str) -> Result<Vec<u8>, Trouble> {
     let mut bytes = Vec::from_slice(alloc, &HEADER)?;
     push_syns(&mut bytes, packets)?;
     Ok(bytes)
 }
 
 /// The files `s`, `q`, `t` and `c` of `live`, and `p` of `check`.
-fn live_files(alloc: Global) -> Result<MemInputs, Fail> {
+fn live_files(alloc: Global) -> Result<MemInputs, Trouble> {
     let mut files = MemInputs::new(alloc);
     files.put("s", file_of(alloc, SWITCH.as_bytes())?)?;
     files.put("q", file_of(alloc, QUERIES.as_bytes())?)?;
@@ -79,14 +75,14 @@ fn live_files(alloc: Global) -> Result<MemInputs, Fail> {
 }
 
 /// What `live` writes.
-fn live_text(alloc: Global) -> Result<String, Fail> {
+fn live_text(alloc: Global) -> Result<String, Trouble> {
     let mut text = String::from_str(alloc, TREE)?;
     text.push_str(ANSWERS)?;
     Ok(text)
 }
 
 /// `live`, of which the read of this number fails.
-fn live_with_a_failed_read(alloc: Global, number: u64) -> Result<Ran, Fail> {
+fn live_with_a_failed_read(alloc: Global, number: u64) -> Result<Ran, Trouble> {
     let mut files = live_files(alloc)?;
     if number < MOST {
         files.fail_at(number)?;
@@ -96,27 +92,26 @@ fn live_with_a_failed_read(alloc: Global, number: u64) -> Result<Ran, Fail> {
 }
 
 #[test]
-fn tells_each_read_that_fails(rt: HostRuntime) -> Result<(), Fail> {
+fn tells_each_read_that_fails(rt: HostRuntime) {
     let alloc = rt.alloc();
-    let text = live_text(alloc)?;
+    let text = live_text(alloc).expect(&rt, "ample memory");
     for number in 0..MOST {
-        let ran = live_with_a_failed_read(alloc, number)?;
+        let ran = live_with_a_failed_read(alloc, number).expect(&rt, "ample memory");
         assert!(rt; text.as_bytes().starts_with(ran.out.bytes()));
         if ran.status == 0 {
             // Four files, each of them read at least twice: its bytes, and its end.
             assert!(rt; number >= 8);
             assert_eq!(rt; ran.out.bytes(), text.as_bytes());
-            return Ok(());
+            return;
         }
         assert_eq!(rt; ran.status, 9);
         assert_eq!(rt; ran.err.bytes(), b"sonata: read fault\n".as_slice());
     }
     assert!(rt; false);
-    Ok(())
 }
 
 /// What `run` writes of a generated capture, of which the read of this number fails, and the place in the capture where that read began.
-fn run_with_a_failed_read(alloc: Global, number: u64) -> Result<(Ran, u64), Fail> {
+fn run_with_a_failed_read(alloc: Global, number: u64) -> Result<(Ran, u64), Trouble> {
     let mut files = MemInputs::new(alloc);
     files.put("s", file_of(alloc, job_switch())?)?;
     files.put("q", file_of(alloc, job_queries())?)?;
@@ -138,89 +133,94 @@ fn third_window(text: &[u8]) -> Option<usize> {
 }
 
 #[test]
-fn keeps_the_windows_before_a_failed_read(rt: HostRuntime) -> Result<(), Fail> {
+fn keeps_the_windows_before_a_failed_read(rt: HostRuntime) {
     let alloc = rt.alloc();
-    let (whole, length) = run_with_a_failed_read(alloc, MOST)?;
+    let (whole, length) = run_with_a_failed_read(alloc, MOST).expect(&rt, "ample memory");
     assert_eq!(rt; whole.status, 0);
     // The header, and 20,000 records of 70 bytes.
     assert_eq!(rt; length, 1_400_024);
     let place = third_window(whole.out.bytes()).expect(&rt, "a third window");
     for number in 16..MOST {
-        let (ran, start) = run_with_a_failed_read(alloc, number)?;
+        let (ran, start) = run_with_a_failed_read(alloc, number).expect(&rt, "ample memory");
         assert_eq!(rt; ran.status, 9);
         assert!(rt; whole.out.bytes().starts_with(ran.out.bytes()));
         if start >= 1_000_000 {
             // The windows of 5,000 packets each that stand before that byte.
             assert!(rt; ran.out.bytes().len() > place);
-            return Ok(());
+            return;
         }
     }
     assert!(rt; false);
-    Ok(())
 }
 
 #[test]
-fn tells_each_write_that_fails(rt: HostRuntime) -> Result<(), Fail> {
+fn tells_each_write_that_fails(rt: HostRuntime) {
     let alloc = rt.alloc();
-    let text = live_text(alloc)?;
+    let text = live_text(alloc).expect(&rt, "ample memory");
     for number in 0..MOST {
-        let mut files = live_files(alloc)?;
-        let mut out = MemSink::new(alloc, 1000)?;
-        out.fail_at(number)?;
-        let ran = call(alloc, "live s q t c", &mut files, out)?;
+        let mut files = live_files(alloc).expect(&rt, "ample memory");
+        let mut out = MemSink::new(alloc, 1000).expect(&rt, "ample memory");
+        assert!(rt; out.fail_at(number).is_ok());
+        let ran = call(alloc, "live s q t c", &mut files, out).expect(&rt, "ample memory");
         assert!(rt; text.as_bytes().starts_with(ran.out.bytes()));
         if ran.status == 0 {
             assert!(rt; number >= 1);
             assert_eq!(rt; ran.out.bytes(), text.as_bytes());
-            return Ok(());
+            return;
         }
         assert_eq!(rt; ran.status, 10);
         assert_eq!(rt; ran.err.bytes(), b"sonata: write fault\n".as_slice());
     }
     assert!(rt; false);
-    Ok(())
 }
 
 #[test]
-fn tells_each_write_that_takes_nothing(rt: HostRuntime) -> Result<(), Fail> {
+fn tells_each_write_that_takes_nothing(rt: HostRuntime) {
     let alloc = rt.alloc();
-    let text = live_text(alloc)?;
+    let text = live_text(alloc).expect(&rt, "ample memory");
     for number in 0..MOST {
-        let mut files = live_files(alloc)?;
-        let mut out = Stalling::new(MemSink::new(alloc, 1000)?, number);
-        let mut err = MemSink::new(alloc, 1000)?;
-        let status = call_to(alloc, "live s q t c", &mut files, &mut out, &mut err)?;
+        let mut files = live_files(alloc).expect(&rt, "ample memory");
+        let mut out = Stalling::new(
+            MemSink::new(alloc, 1000).expect(&rt, "ample memory"),
+            number,
+        );
+        let mut err = MemSink::new(alloc, 1000).expect(&rt, "ample memory");
+        let status = call_to(alloc, "live s q t c", &mut files, &mut out, &mut err).expect(
+            &rt,
+            "ample memory",
+        );
         assert!(rt; text.as_bytes().starts_with(out.bytes()));
         if status == 0 {
             assert!(rt; number >= 1);
             assert_eq!(rt; out.bytes(), text.as_bytes());
-            return Ok(());
+            return;
         }
         assert_eq!(rt; status, 10);
         assert_eq!(rt; err.bytes(), b"sonata: write fault\n".as_slice());
     }
     assert!(rt; false);
-    Ok(())
 }
 
 #[test]
-fn keeps_the_status_where_the_line_fails(rt: HostRuntime) -> Result<(), Fail> {
+fn keeps_the_status_where_the_line_fails(rt: HostRuntime) {
     let alloc = rt.alloc();
     let mut files = MemInputs::new(alloc);
-    files.put("q", file_of(alloc, SYN.as_bytes())?)?;
-    files.put("c", file_of(alloc, b"")?)?;
-    let mut out = MemSink::new(alloc, 1000)?;
-    let mut err = MemSink::new(alloc, 1000)?;
-    err.fail_at(0)?;
-    let status = call_to(alloc, "plain q c", &mut files, &mut out, &mut err)?;
+    put(&rt, &mut files, "q", SYN.as_bytes());
+    put(&rt, &mut files, "c", b"");
+    let mut out = MemSink::new(alloc, 1000).expect(&rt, "ample memory");
+    let mut err = MemSink::new(alloc, 1000).expect(&rt, "ample memory");
+    assert!(rt; err.fail_at(0).is_ok());
+    let status = call_to(alloc, "plain q c", &mut files, &mut out, &mut err).expect(
+        &rt,
+        "ample memory",
+    );
     assert_eq!(rt; status, 5);
     assert_eq!(rt; out.bytes(), b"".as_slice());
     assert_eq!(rt; err.bytes(), b"".as_slice());
-    Ok(())
 }
 
 /// `plain` over a capture of these bytes.
-fn plain_of(alloc: Global, bytes: Vec<u8>) -> Result<Ran, Fail> {
+fn plain_of(alloc: Global, bytes: Vec<u8>) -> Result<Ran, Trouble> {
     let mut files = MemInputs::new(alloc);
     files.put("q", file_of(alloc, SYN.as_bytes())?)?;
     files.put("c", Seq::from_vec(bytes))?;
@@ -229,7 +229,7 @@ fn plain_of(alloc: Global, bytes: Vec<u8>) -> Result<Ran, Fail> {
 }
 
 /// What `plain` writes of so many packets of one window, and where the capture is damaged, if it is.
-fn plain_text(alloc: Global, packets: usize, damage: Option<usize>) -> Result<String, Fail> {
+fn plain_text(alloc: Global, packets: usize, damage: Option<usize>) -> Result<String, Trouble> {
     let mut text = String::new(alloc);
     if packets > 0 {
         text.push_str(format!(in alloc; "window 0\nquery q level 0 rows {packets}\n")?.as_str())?;
@@ -246,15 +246,15 @@ fn plain_text(alloc: Global, packets: usize, damage: Option<usize>) -> Result<St
 }
 
 #[test]
-fn reads_a_capture_of_each_length(rt: HostRuntime) -> Result<(), Fail> {
+fn reads_a_capture_of_each_length(rt: HostRuntime) {
     let alloc = rt.alloc();
     // A header of 24 bytes, and three records of 70.
-    let whole = capture_of(alloc, "0 1 9, 1 1 9, 2 1 9")?;
+    let whole = capture_of(alloc, "0 1 9, 1 1 9, 2 1 9").expect(&rt, "ample memory");
     assert_eq!(rt; whole.len(), 234);
     for length in 0..235usize {
-        let mut bytes = Vec::from_slice(alloc, whole.as_slice())?;
+        let mut bytes = Vec::from_slice(alloc, whole.as_slice()).expect(&rt, "ample memory");
         bytes.truncate(length);
-        let ran = plain_of(alloc, bytes)?;
+        let ran = plain_of(alloc, bytes).expect(&rt, "ample memory");
         if length < 24 {
             assert_eq!(rt; ran.status, 5);
             assert_eq!(rt; ran.out.bytes(), b"".as_slice());
@@ -274,14 +274,15 @@ fn reads_a_capture_of_each_length(rt: HostRuntime) -> Result<(), Fail> {
         assert_eq!(rt; ran.status, status);
         assert_eq!(rt;
             ran.out.bytes(),
-            plain_text(alloc, packets, damage)?.as_bytes()
+            plain_text(alloc, packets, damage)
+                .expect(&rt, "ample memory")
+                .as_bytes()
         );
     }
-    Ok(())
 }
 
 /// A capture of one record, which says that so many bytes were captured, and has so many zeros.
-fn first_record(alloc: Global, length: u32, bytes: usize) -> Result<Vec<u8>, Fail> {
+fn first_record(alloc: Global, length: u32, bytes: usize) -> Result<Vec<u8>, Trouble> {
     let mut capture = Vec::from_slice(alloc, &HEADER)?;
     for number in [1, 0, length, 54] {
         capture.extend_from_slice(&number.to_le_bytes())?;
@@ -293,57 +294,66 @@ fn first_record(alloc: Global, length: u32, bytes: usize) -> Result<Vec<u8>, Fai
 }
 
 #[test]
-fn looks_at_the_length_of_a_record(rt: HostRuntime) -> Result<(), Fail> {
+fn looks_at_the_length_of_a_record(rt: HostRuntime) {
     let alloc = rt.alloc();
-    let empty = plain_of(alloc, first_record(alloc, 0, 0)?)?;
+    let empty = plain_of(alloc, first_record(alloc, 0, 0).expect(&rt, "ample memory")).expect(
+        &rt,
+        "ample memory",
+    );
     assert_eq!(rt; empty.status, 0);
     assert_eq!(rt;
         empty.out.bytes(),
         b"window 0\nquery q level 0 rows 0\ntotal windows 1\n".as_slice()
     );
-    let cut = plain_of(alloc, first_record(alloc, 262_144, 54)?)?;
+    let cut = plain_of(
+        alloc,
+        first_record(alloc, 262_144, 54).expect(&rt, "ample memory"),
+    )
+    .expect(&rt, "ample memory");
     assert_eq!(rt; cut.status, 5);
     assert_eq!(rt;
         cut.err.bytes(),
         b"sonata: capture Cut byte 24\n".as_slice()
     );
     for length in [262_145, u32::MAX] {
-        let bad = plain_of(alloc, first_record(alloc, length, 54)?)?;
+        let bad = plain_of(
+            alloc,
+            first_record(alloc, length, 54).expect(&rt, "ample memory"),
+        )
+        .expect(&rt, "ample memory");
         assert_eq!(rt; bad.status, 5);
         assert_eq!(rt;
             bad.err.bytes(),
             b"sonata: capture Bad byte 24\n".as_slice()
         );
     }
-    Ok(())
 }
 
 #[test]
-fn refuses_a_tree_of_which_any_byte_is_another(rt: HostRuntime) -> Result<(), Fail> {
+fn refuses_a_tree_of_which_any_byte_is_another(rt: HostRuntime) {
     let alloc = rt.alloc();
-    let mut files = live_files(alloc)?;
-    let out = MemSink::new(alloc, 1000)?;
-    let right = call(alloc, "check s q t p", &mut files, out)?;
+    let mut files = live_files(alloc).expect(&rt, "ample memory");
+    let out = MemSink::new(alloc, 1000).expect(&rt, "ample memory");
+    let right = call(alloc, "check s q t p", &mut files, out).expect(&rt, "ample memory");
     assert_eq!(rt; right.status, 0);
     assert_eq!(rt; right.out.bytes(), b"yes cost 6 nodes 11\n".as_slice());
     for (place, byte) in TREE.bytes().enumerate() {
         if byte == b'9' {
             continue;
         }
-        let mut tree = Vec::from_slice(alloc, TREE.as_bytes())?;
+        let mut tree = Vec::from_slice(alloc, TREE.as_bytes()).expect(&rt, "ample memory");
         if let Some(other) = tree.get_mut(place) {
             *other = b'9';
         }
-        files.put("p", Seq::from_vec(tree))?;
-        let out = MemSink::new(alloc, 1000)?;
-        let ran = call(alloc, "check s q t p", &mut files, out)?;
+        assert!(rt; files.put("p", Seq::from_vec(tree)).is_ok());
+        let out = MemSink::new(alloc, 1000).expect(&rt, "ample memory");
+        let ran = call(alloc, "check s q t p", &mut files, out).expect(&rt, "ample memory");
         assert!(rt; ran.status == 6 || ran.status == 7);
     }
-    Ok(())
 }
 
 /// `finish` over the reports, of which the lowest bit of this byte is another.
-fn finish_with_another_bit(alloc: Global, place: usize) -> Result<Ran, Fail> {
+fn finish_with_another_bit(alloc: Global, place: usize) -> Result<Ran, Trouble> {
     let mut reports = REPORTS;
     if let Some(byte) = reports.get_mut(place) {
         *byte ^= 1;
@@ -357,10 +367,10 @@ fn finish_with_another_bit(alloc: Global, place: usize) -> Result<Ran, Fail> {
 }
 
 #[test]
-fn answers_reports_of_which_any_bit_is_another(rt: HostRuntime) -> Result<(), Fail> {
+fn answers_reports_of_which_any_bit_is_another(rt: HostRuntime) {
     let alloc = rt.alloc();
     for place in 0..REPORTS.len() {
-        let ran = finish_with_another_bit(alloc, place)?;
+        let ran = finish_with_another_bit(alloc, place).expect(&rt, "ample memory");
         // The bytes of the columns' values, and of the End's window.
         let status = match place {
             12..=15 | 20..=23 | 25 | 36..=39 | 46 | 47 | 56..=63 => 0,
@@ -376,17 +386,16 @@ fn answers_reports_of_which_any_bit_is_another(rt: HostRuntime) -> Result<(), Fa
         (48, "sonata: reports Bad byte 48\n"),
         (53, "sonata: reports Bad byte 53\n"),
     ] {
-        let ran = finish_with_another_bit(alloc, place)?;
+        let ran = finish_with_another_bit(alloc, place).expect(&rt, "ample memory");
         assert_eq!(rt; ran.err.bytes(), line.as_bytes());
     }
-    Ok(())
 }
 
 /// The block of the one window of the reports, by hand.
 const BLOCK: &str = "window 0 emitted 2\nquery q level 0 rows 1\n10.0.0.9 2\n";
 
 /// `finish` over the reports, of which the read of this number fails.
-fn finish_with_a_failed_read(alloc: Global, number: u32) -> Result<Ran, Fail> {
+fn finish_with_a_failed_read(alloc: Global, number: u32) -> Result<Ran, Trouble> {
     let mut files = MemInputs::new(alloc);
     files.put("q", file_of(alloc, SPREAD.as_bytes())?)?;
     files.put("p", file_of(alloc, SPREAD_PLAN.as_bytes())?)?;
@@ -397,14 +406,13 @@ fn finish_with_a_failed_read(alloc: Global, number: u32) -> Result<Ran, Fail> {
 }
 
 #[test]
-fn writes_the_blocks_before_a_failed_read_of_reports(rt: HostRuntime) -> Result<(), Fail> {
+fn writes_the_blocks_before_a_failed_read_of_reports(rt: HostRuntime) {
     let alloc = rt.alloc();
     // Each text is read twice: its bytes, and its end. The fifth read is that of the reports' bytes, the sixth that of their end.
     for (number, text) in [(4, ""), (5, BLOCK)] {
-        let ran = finish_with_a_failed_read(alloc, number)?;
+        let ran = finish_with_a_failed_read(alloc, number).expect(&rt, "ample memory");
         assert_eq!(rt; ran.status, 9);
         assert_eq!(rt; ran.out.bytes(), text.as_bytes());
         assert_eq!(rt; ran.err.bytes(), b"sonata: read fault\n".as_slice());
     }
-    Ok(())
 }

@@ -1,11 +1,10 @@
 //! The files of a job.
 use sn_command_job::files::job_files;
 use sn_io::inputs::Inputs;
-use std::test::Fail;
 
 #[test]
-fn makes_the_files_of_a_job(rt: HostRuntime) -> Result<(), Fail> {
-    let mut files = job_files(rt.alloc(), 7)?;
+fn makes_the_files_of_a_job(rt: HostRuntime) {
+    let mut files = job_files(rt.alloc(), 7).expect(&rt, "ample memory");
     let mut front = [0u8; 8];
     for name in ["training", "capture"] {
         let read = files.read_at(name, 0, &mut front).ok();
@@ -14,5 +13,4 @@ fn makes_the_files_of_a_job(rt: HostRuntime) -> Result<(), Fail> {
         // The magic number in microseconds, little-endian, and version 2.4.
         assert_eq!(rt; front, [0xd4, 0xc3, 0xb2, 0xa1, 2, 0, 4, 0]);
     }
-    Ok(())
 }

@@ -3,13 +3,11 @@
 //! The rows are worked by hand. In window 0 two packets each come to 10.0.0.9 and 10.0.0.20, in window 1 to 10.0.0.9 and
 //! 10.0.0.40: three prefixes of 28 bits. Of window 0 level 28 answers 10.0.0.0 and 10.0.0.16, so of window 1 level 32
 //! answers 10.0.0.9 alone, whether the packets to 10.0.0.40 pass or not.
-use crate::call::call;
+use crate::call::{call, put};
 use sn_base::seq::Seq;
 use sn_io::mem_inputs::MemInputs;
 use sn_io::mem_sink::MemSink;
 use sn_test_inputs::packets::{HEADER, push_syns};
-use std::alloc::Global;
-use std::test::Fail;
 
 /// Destinations with more than one source.
 const SPREAD: &str =
@@ -38,32 +36,34 @@ query q level 32 rows 1
 total windows 2 emitted 12
 ";
 
-fn file_of(alloc: Global, bytes: &[u8]) -> Result<Seq<u8>, Fail> {
-    Ok(Seq::from_vec(Vec::from_slice(alloc, bytes)?))
-}
-
 #[test]
-fn finishes_what_an_open_table_sends(rt: HostRuntime) -> Result<(), Fail> {
+fn finishes_what_an_open_table_sends(rt: HostRuntime) {
     let alloc = rt.alloc();
-    let mut capture = Vec::from_slice(alloc, &HEADER)?;
-    push_syns(&mut capture, PACKETS)?;
+    let mut capture = Vec::from_slice(alloc, &HEADER).expect(&rt, "ample memory");
+    assert!(rt; push_syns(&mut capture, PACKETS).is_ok());
     let mut files = MemInputs::new(alloc);
-    files.put("s", file_of(alloc, SWITCH.as_bytes())?)?;
-    files.put("q", file_of(alloc, SPREAD.as_bytes())?)?;
-    files.put("p", file_of(alloc, PLAN.as_bytes())?)?;
-    files.put("c", Seq::from_vec(capture))?;
+    put(&rt, &mut files, "s", SWITCH.as_bytes());
+    put(&rt, &mut files, "q", SPREAD.as_bytes());
+    put(&rt, &mut files, "p", PLAN.as_bytes());
+    assert!(rt; files.put("c", Seq::from_vec(capture)).is_ok());
     let emitted = call(
         alloc,
         "emit s q p c",
         &mut files,
-        MemSink::new(alloc, 1000)?,
-    )?;
+        MemSink::new(alloc, 1000).expect(&rt, "ample memory"),
+    )
+    .expect(&rt, "ample memory");
     assert_eq!(rt; emitted.status, 0);
-    files.put("r", file_of(alloc, emitted.out.bytes())?)?;
+    put(&rt, &mut files, "r", emitted.out.bytes());
     for line in ["run s q p c", "finish q p r"] {
-        let ran = call(alloc, line, &mut files, MemSink::new(alloc, 1000)?)?;
+        let ran = call(
+            alloc,
+            line,
+            &mut files,
+            MemSink::new(alloc, 1000).expect(&rt, "ample memory"),
+        )
+        .expect(&rt, "ample memory");
         assert_eq!(rt; ran.status, 0);
         assert_eq!(rt; ran.out.bytes(), ANSWERS);
     }
-    Ok(())
 }

@@ -10,7 +10,6 @@ use sn_engine::fault::TakeFault;
 use sn_fields::tuple::Tuple;
 use sn_plan_fit::shape;
 use sn_types::answers::Answers;
-use std::test::Fail;
 
 /// Sums that are capped at four bits, over destinations with their sources.
 const CAPPED: &[u8] =
@@ -63,7 +62,7 @@ fn answers(rt: &HostRuntime, plan_text: &[u8]) -> Option<Answers> {
 }
 
 #[test]
-fn every_cut_has_the_same_answer(rt: HostRuntime) -> Result<(), Fail> {
+fn every_cut_has_the_same_answer(rt: HostRuntime) {
     for plan in [
         b"plan query q path 0; piece 0 0 cut 0;".as_slice(),
         b"plan query q path 0; piece 0 0 cut 1;",
@@ -71,12 +70,11 @@ fn every_cut_has_the_same_answer(rt: HostRuntime) -> Result<(), Fail> {
         b"plan query q path 0; piece 0 0 cut 3 slots 1 stages 1;",
         b"plan query q path 0; piece 0 0 cut 4 slots 1, 1 stages 1, 3;",
     ] {
-        let answers = answers(&rt, plan).ok_or("no answers")?;
+        let answers = answers(&rt, plan).expect(&rt, "answers");
         assert_eq!(rt; answers.emitted, 2);
         assert_eq!(rt; answers.parts.as_slice().len(), 1);
         for part in answers.parts.as_slice() {
             assert_eq!(rt; short_rows(part), [row(&[NET + 9, 15])].as_slice());
         }
     }
-    Ok(())
 }

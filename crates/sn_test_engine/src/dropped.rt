@@ -5,23 +5,25 @@ use sn_engine::engine::Engine;
 use sn_engine::fault::TakeFault;
 use sn_plan_fit::shape;
 use sn_report::frame::{Frame, Item, Tag};
-use std::test::Fail;
 
 /// An engine of two levels, with nothing cut. In window 0 level 8 has two packets to 10.0.0.0, and is closed.
-fn engine_after_a_window(rt: &HostRuntime) -> Result<Engine, Fail> {
-    let t = queries(rt.alloc(), REFINED).ok_or("no queries")?;
-    let plan = plan(rt.alloc(), TWO_LEVELS).ok_or("no plan")?;
-    let Ok(()) = shape(&t, &plan) else {
-        return Err("no shape".into());
-    };
-    let mut engine = Engine::make(rt.alloc(), &t, &plan)?;
-    take(&mut engine, 0, &[NET, NET])?;
-    end(&mut engine, 0)?;
-    let first = engine.close_window()?;
-    if first.emitted == 2 && rows(&first, 0) == &[row(&[NET, 2])][..] {
-        Ok(engine)
-    } else {
-        Err("another answer to the first window".into())
+fn engine_after_a_window(rt: &HostRuntime) -> Engine {
+    let mut engine = engine(rt).expect(rt, "an engine");
+    assert!(rt; take(&mut engine, 0, &[NET, NET]).is_ok());
+    assert!(rt; end(&mut engine, 0).is_ok());
+    let first = engine.close_window().expect(rt, "answers");
+    assert_eq!(rt; first.emitted, 2);
+    assert_eq!(rt; rows(&first, 0), [row(&[NET, 2])].as_slice());
+    engine
+}
+
+/// An engine of two levels, with nothing cut.
+fn engine(rt: &HostRuntime) -> Option<Engine> {
+    let t = queries(rt.alloc(), REFINED)?;
+    let plan = plan(rt.alloc(), TWO_LEVELS)?;
+    match shape(&t, &plan) {
+        Ok(()) => Engine::make(rt.alloc(), &t, &plan).ok(),
+        Err(_) => None,
     }
 }
 
@@ -47,45 +49,45 @@ fn end(engine: &mut Engine, window: u64) -> Result<(), TakeFault> {
 }
 
 #[test]
-fn drops_items_of_other_prefixes(rt: HostRuntime) -> Result<(), Fail> {
-    let mut engine = engine_after_a_window(&rt)?;
-    take(
-        &mut engine,
-        1,
-        &[NET + 9, 2 * NET + 9, NET + 9, 2 * NET + 9],
-    )?;
-    end(&mut engine, 1)?;
-    let value = engine.value()?;
+fn drops_items_of_other_prefixes(rt: HostRuntime) {
+    let mut engine = engine_after_a_window(&rt);
+    assert!(rt;
+        take(
+            &mut engine,
+            1,
+            &[NET + 9, 2 * NET + 9, NET + 9, 2 * NET + 9],
+        )
+        .is_ok()
+    );
+    assert!(rt; end(&mut engine, 1).is_ok());
+    let value = engine.value().expect(&rt, "ample memory");
     assert_eq!(rt; value.emitted, 4);
     assert_eq!(rt; rows(&value, 1), [row(&[NET + 9, 2])].as_slice());
-    let second = engine.close_window()?;
+    let second = engine.close_window().expect(&rt, "ample memory");
     assert_eq!(rt; second.emitted, 4);
     assert_eq!(rt; rows(&second, 1), [row(&[NET + 9, 2])].as_slice());
-    Ok(())
 }
 
 #[test]
-fn drops_all_items_after_a_gap(rt: HostRuntime) -> Result<(), Fail> {
-    let mut engine = engine_after_a_window(&rt)?;
-    take(&mut engine, 1, &[NET + 9, NET + 9])?;
-    end(&mut engine, 2)?;
-    let second = engine.close_window()?;
+fn drops_all_items_after_a_gap(rt: HostRuntime) {
+    let mut engine = engine_after_a_window(&rt);
+    assert!(rt; take(&mut engine, 1, &[NET + 9, NET + 9]).is_ok());
+    assert!(rt; end(&mut engine, 2).is_ok());
+    let second = engine.close_window().expect(&rt, "ample memory");
     assert_eq!(rt; second.emitted, 2);
     assert!(rt; rows(&second, 1).is_empty());
-    Ok(())
 }
 
 #[test]
-fn keeps_its_prefixes_where_items_are_dropped_at_once(rt: HostRuntime) -> Result<(), Fail> {
-    let mut engine = engine_after_a_window(&rt)?;
-    take(&mut engine, 0, &[2 * NET, 2 * NET])?;
+fn keeps_its_prefixes_where_items_are_dropped_at_once(rt: HostRuntime) {
+    let mut engine = engine_after_a_window(&rt);
+    assert!(rt; take(&mut engine, 0, &[2 * NET, 2 * NET]).is_ok());
     engine.clear();
     assert!(rt; !engine.started());
-    take(&mut engine, 1, &[NET + 9, NET + 9])?;
-    end(&mut engine, 1)?;
-    let second = engine.close_window()?;
+    assert!(rt; take(&mut engine, 1, &[NET + 9, NET + 9]).is_ok());
+    assert!(rt; end(&mut engine, 1).is_ok());
+    let second = engine.close_window().expect(&rt, "ample memory");
     assert_eq!(rt; second.emitted, 2);
     assert!(rt; rows(&second, 0).is_empty());
     assert_eq!(rt; rows(&second, 1), [row(&[NET + 9, 2])].as_slice());
-    Ok(())
 }

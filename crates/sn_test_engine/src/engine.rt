@@ -7,7 +7,6 @@ use sn_engine::engine::Engine;
 use sn_engine::fault::{CloseFault, TakeFault};
 use sn_plan_fit::shape;
 use sn_report::frame::{Frame, Item, Tag};
-use std::test::Fail;
 
 fn engine(rt: &HostRuntime) -> Option<Engine> {
     let t = queries(rt.alloc(), SPREAD)?;
@@ -23,8 +22,8 @@ fn end(window: u64) -> Frame<ShortRow> {
 }
 
 #[test]
-fn strangers_are_refused_first(rt: HostRuntime) -> Result<(), Fail> {
-    let mut engine = engine(&rt).ok_or("no engine")?;
+fn strangers_are_refused_first(rt: HostRuntime) {
+    let mut engine = engine(&rt).expect(&rt, "an engine");
     let item = Item {
         tag: Tag::At(1),
         row: row(&[NET + 9, NET + 2]),
@@ -45,12 +44,11 @@ fn strangers_are_refused_first(rt: HostRuntime) -> Result<(), Fail> {
         assert_eq!(rt; engine.take(&sent(tag, short)), Err(TakeFault::Stranger));
     }
     assert!(rt; !engine.started());
-    Ok(())
 }
 
 #[test]
-fn rows_have_the_columns_of_their_place(rt: HostRuntime) -> Result<(), Fail> {
-    let mut engine = engine(&rt).ok_or("no engine")?;
+fn rows_have_the_columns_of_their_place(rt: HostRuntime) {
+    let mut engine = engine(&rt).expect(&rt, "an engine");
     let wide = sent(Tag::At(1), row(&[NET + 9, 4294967296]));
     let three = sent(Tag::At(1), row(&[NET + 9, NET + 2, 0]));
     let part = sent(Tag::Partial(3), row(&[NET + 9, 65536]));
@@ -62,12 +60,11 @@ fn rows_have_the_columns_of_their_place(rt: HostRuntime) -> Result<(), Fail> {
     let good = sent(Tag::At(1), row(&[NET + 9, NET + 2]));
     assert_eq!(rt; engine.take(&good), Err(TakeFault::AfterEnd));
     assert_eq!(rt; engine.take(&end(8)), Err(TakeFault::AfterEnd));
-    Ok(())
 }
 
 #[test]
-fn answers_what_a_pipe_sends(rt: HostRuntime) -> Result<(), Fail> {
-    let mut engine = engine(&rt).ok_or("no engine")?;
+fn answers_what_a_pipe_sends(rt: HostRuntime) {
+    let mut engine = engine(&rt).expect(&rt, "an engine");
     assert_eq!(rt; engine.value().err(), Some(CloseFault::Unfinished(0)));
     assert_eq!(rt;
         engine.close_window().err(),
@@ -85,9 +82,9 @@ fn answers_what_a_pipe_sends(rt: HostRuntime) -> Result<(), Fail> {
     );
     assert_eq!(rt; engine.take(&end(4)), Ok(()));
     assert!(rt; engine.lane_ended(0));
-    let value = engine.value()?;
+    let value = engine.value().expect(&rt, "ample memory");
     assert_eq!(rt; rows(&value, 0), [row(&[NET + 9, 2])].as_slice());
-    let answers = engine.close_window()?;
+    let answers = engine.close_window().expect(&rt, "ample memory");
     assert_eq!(rt; answers.window, 4);
     assert_eq!(rt; answers.emitted, 2);
     assert_eq!(rt; rows(&answers, 0), [row(&[NET + 9, 2])].as_slice());
@@ -95,10 +92,9 @@ fn answers_what_a_pipe_sends(rt: HostRuntime) -> Result<(), Fail> {
     assert_eq!(rt; engine.take(&end(4)), Err(TakeFault::Window));
     assert_eq!(rt; engine.take(&end(3)), Err(TakeFault::Window));
     assert_eq!(rt; engine.take(&end(5)), Ok(()));
-    let next = engine.close_window()?;
+    let next = engine.close_window().expect(&rt, "ample memory");
     assert_eq!(rt; next.emitted, 0);
     assert_eq!(rt; rows(&next, 0).len(), 0);
-    Ok(())
 }
 
 /// One of many frames that a pipe of this plan may send.
@@ -116,32 +112,35 @@ fn frame(number: u64) -> Frame<ShortRow> {
 }
 
 #[test]
-fn the_order_of_items_is_free(rt: HostRuntime) -> Result<(), Fail> {
-    let mut straight = engine(&rt).ok_or("no engine")?;
-    let mut shuffled = engine(&rt).ok_or("no engine")?;
+fn the_order_of_items_is_free(rt: HostRuntime) {
+    let mut straight = engine(&rt).expect(&rt, "an engine");
+    let mut shuffled = engine(&rt).expect(&rt, "an engine");
     for k in 0..41 {
         assert_eq!(rt; straight.take(&frame(k)), Ok(()));
         assert_eq!(rt; shuffled.take(&frame(k * 7 % 41)), Ok(()));
     }
     assert_eq!(rt; straight.take(&end(0)), Ok(()));
     assert_eq!(rt; shuffled.take(&end(0)), Ok(()));
-    let one = straight.close_window()?;
-    let other = shuffled.close_window()?;
+    let one = straight.close_window().expect(&rt, "ample memory");
+    let other = shuffled.close_window().expect(&rt, "ample memory");
     assert_eq!(rt; one.emitted, 41);
     assert_eq!(rt; other.emitted, 41);
     assert_eq!(rt; rows(&one, 0).len(), 5);
     assert_eq!(rt; rows(&one, 0), rows(&other, 0));
-    Ok(())
+}
+
+fn engine_of_many(rt: &HostRuntime) -> Option<Engine> {
+    let t = queries(rt.alloc(), COUNTS)?;
+    let plan = plan(rt.alloc(), ONE_SLOT)?;
+    match shape(&t, &plan) {
+        Ok(()) => Engine::make_many(rt.alloc(), &t, &plan).ok(),
+        Err(_) => None,
+    }
 }
 
 #[test]
-fn an_engine_of_many_takes_parts_of_a_first_reduce(rt: HostRuntime) -> Result<(), Fail> {
-    let t = queries(rt.alloc(), COUNTS).expect(&rt, "queries");
-    let plan = plan(rt.alloc(), ONE_SLOT).expect(&rt, "a plan");
-    let Ok(()) = shape(&t, &plan) else {
-        return Err("no shape".into());
-    };
-    let mut engine = Engine::make_many(rt.alloc(), &t, &plan)?;
+fn an_engine_of_many_takes_parts_of_a_first_reduce(rt: HostRuntime) {
+    let mut engine = engine_of_many(&rt).expect(&rt, "an engine");
     let part = row(&[NET + 1, 2]);
     let pair = row(&[NET + 1, 1]);
     assert_eq!(rt; engine.take(&sent(Tag::Partial(1), part)), Ok(()));
@@ -158,5 +157,4 @@ fn an_engine_of_many_takes_parts_of_a_first_reduce(rt: HostRuntime) -> Result<()
         engine.take(&sent(Tag::Partial(0), pair)),
         Err(TakeFault::Stranger)
     );
-    Ok(())
 }

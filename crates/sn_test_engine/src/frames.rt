@@ -5,7 +5,6 @@ use sn_base::row::Row;
 use sn_report::decode::{Decoded, decode};
 use sn_report::encode::{MOST_BYTES, encode};
 use sn_report::frame::{Frame, Item, Tag};
-use std::test::Fail;
 
 /// The first lane.
 const LANE: Lane = Lane {
@@ -42,7 +41,7 @@ fn wide(tag: Tag, numbers: &[u128]) -> Frame<Row> {
 }
 
 #[test]
-fn reads_version_one(rt: HostRuntime) -> Result<(), Fail> {
+fn reads_version_one(rt: HostRuntime) {
     let first = wide(Tag::At(1), &[0x0a000009, 0x0a000002]);
     let second = wide(Tag::Partial(3), &[0x0a000009, 1]);
     let end = Frame::End(LANE, 0);
@@ -57,11 +56,10 @@ fn reads_version_one(rt: HostRuntime) -> Result<(), Fail> {
     ] {
         assert_eq!(rt; decode(bytes), want);
     }
-    Ok(())
 }
 
 #[test]
-fn reads_version_two(rt: HostRuntime) -> Result<(), Fail> {
+fn reads_version_two(rt: HostRuntime) {
     let first = wide(Tag::At(1), &[0x0a000009, 0x0a000002]);
     let second = wide(Tag::Partial(3), &[0x0a000009, 1]);
     let end = Frame::End(LANE, 0);
@@ -74,11 +72,10 @@ fn reads_version_two(rt: HostRuntime) -> Result<(), Fail> {
     ] {
         assert_eq!(rt; decode(bytes), want);
     }
-    Ok(())
 }
 
 #[test]
-fn writes_version_two(rt: HostRuntime) -> Result<(), Fail> {
+fn writes_version_two(rt: HostRuntime) {
     let mut bytes = [7; MOST_BYTES];
     let tag = Tag::Partial(3);
     let row = row(&[0x0a000009, 1]);
@@ -88,11 +85,10 @@ fn writes_version_two(rt: HostRuntime) -> Result<(), Fail> {
     let end: Frame<Row> = Frame::End(LANE, 0);
     let len = encode(&end, &mut bytes);
     assert_eq!(rt; &bytes[..len], &WIDE[80..]);
-    Ok(())
 }
 
 #[test]
-fn writes_columns_of_128_bits(rt: HostRuntime) -> Result<(), Fail> {
+fn writes_columns_of_128_bits(rt: HostRuntime) {
     let mut bytes = [7; MOST_BYTES];
     let top = u128::MAX;
     let tag = Tag::At(1);
@@ -101,5 +97,4 @@ fn writes_columns_of_128_bits(rt: HostRuntime) -> Result<(), Fail> {
     assert_eq!(rt; len, 136);
     let want = wide(tag, &[top, 1 << 64, 5, top, top, top, top, top - 1]);
     assert_eq!(rt; decode(&bytes[..len]), Decoded::Whole(want, 136));
-    Ok(())
 }

@@ -19,7 +19,6 @@ use sn_fields::tuple::Tuple;
 use sn_report::encode::{MOST_BYTES, encode};
 use sn_report::frame::{Frame, Item, Tag};
 use std::alloc::Global;
-use std::test::Fail;
 
 /// Destinations, each once.
 const KINDS: &[u8] = b"window 1000000 query q { packets | map ip.dst as d | distinct; }";
@@ -135,25 +134,24 @@ fn counted(number: u64) -> [Frame<ShortRow>; 5] {
 }
 
 #[test]
-fn counts_in_one_register(rt: HostRuntime) -> Result<(), Fail> {
+fn counts_in_one_register(rt: HostRuntime) {
     let mut emitter = emitter(&rt, COUNTS, FIVE, ONE_SLOT).expect(&rt, "a plan that fits");
     let lanes = emitter.lanes();
     assert!(rt; lanes == 1);
     let tuples = [syn(1, 1), syn(1, 2), syn(1, 1), syn(1, 2), syn(1, 3)];
-    let first = window(rt.alloc(), &mut emitter, 0, &tuples, 0)?;
+    let first = window(rt.alloc(), &mut emitter, 0, &tuples, 0).expect(&rt, "ample memory");
     assert_eq!(rt; first.frames.as_slice(), &counted(0)[..]);
     assert_eq!(rt; emitter.emitted(), 4);
     begin(&mut emitter, 0, Members::new(rt.alloc()));
     assert_eq!(rt; emitter.emitted(), 0);
-    let second = window(rt.alloc(), &mut emitter, 0, &tuples, 1)?;
+    let second = window(rt.alloc(), &mut emitter, 0, &tuples, 1).expect(&rt, "ample memory");
     assert_eq!(rt; second.frames.as_slice(), &counted(1)[..]);
     assert_eq!(rt; emitter.emitted(), 4);
-    Ok(())
 }
 
 /// Of the destinations 1 2 1 2 3, their counts in a chain of two registers, and each destination once in one register.
 #[test]
-fn takes_the_free_registers(rt: HostRuntime) -> Result<(), Fail> {
+fn takes_the_free_registers(rt: HostRuntime) {
     let chained = [
         sent(Tag::At(1), row(&[NET + 3, 1])),
         sent(Tag::At(2), row(&[NET + 1, 2])),
@@ -175,35 +173,36 @@ fn takes_the_free_registers(rt: HostRuntime) -> Result<(), Fail> {
         let lanes = emitter.lanes();
         assert!(rt; lanes == 1);
         let tuples = [syn(1, 1), syn(1, 2), syn(1, 1), syn(1, 2), syn(1, 3)];
-        let told = window(rt.alloc(), &mut emitter, 0, &tuples, 0)?;
+        let told = window(rt.alloc(), &mut emitter, 0, &tuples, 0).expect(&rt, "ample memory");
         assert_eq!(rt; told.frames.as_slice(), frames);
     }
-    Ok(())
 }
 
 #[test]
-fn writes_a_partial_row(rt: HostRuntime) -> Result<(), Fail> {
+fn writes_a_partial_row(rt: HostRuntime) {
     let mut emitter = emitter(&rt, SPREAD, FIVE, TWO_SLOTS).expect(&rt, "a plan that fits");
     let lanes = emitter.lanes();
     assert!(rt; lanes == 1);
-    let told = window(rt.alloc(), &mut emitter, 0, &[syn(1, 9), syn(2, 9)], 0)?;
+    let told = window(rt.alloc(), &mut emitter, 0, &[syn(1, 9), syn(2, 9)], 0).expect(
+        &rt,
+        "ample memory",
+    );
     assert_eq!(rt; told.bytes.as_slice(), &WIDE[..]);
     assert_eq!(rt; emitter.emitted(), 2);
-    Ok(())
 }
 
 #[test]
-fn admits_the_prefixes_of_the_level_before(rt: HostRuntime) -> Result<(), Fail> {
+fn admits_the_prefixes_of_the_level_before(rt: HostRuntime) {
     let mut emitter = emitter(&rt, REFINED, FIVE, TWO_LEVELS).expect(&rt, "a plan that fits");
     let lanes = emitter.lanes();
     assert!(rt; lanes == 2);
-    let coarse = window(rt.alloc(), &mut emitter, 0, &[syn(1, 9)], 0)?;
+    let coarse = window(rt.alloc(), &mut emitter, 0, &[syn(1, 9)], 0).expect(&rt, "ample memory");
     let frames = [sent(Tag::At(0), row(&[NET])), Frame::End(lane(0, 0), 0)];
     assert_eq!(rt; coarse.frames.as_slice(), &frames[..]);
     let mut kept = Members::new(rt.alloc());
-    kept.add(u128::from(NET))?;
+    assert!(rt; kept.add(u128::from(NET)).is_ok());
     begin(&mut emitter, 1, kept);
-    let fine = window(rt.alloc(), &mut emitter, 1, &[syn(1, 9)], 1)?;
+    let fine = window(rt.alloc(), &mut emitter, 1, &[syn(1, 9)], 1).expect(&rt, "ample memory");
     let tag = Tag::At(0);
     let row = row(&[NET + 9]);
     let frames = [
@@ -211,18 +210,16 @@ fn admits_the_prefixes_of_the_level_before(rt: HostRuntime) -> Result<(), Fail> 
         Frame::End(lane(0, 1), 1),
     ];
     assert_eq!(rt; fine.frames.as_slice(), &frames[..]);
-    Ok(())
 }
 
 #[test]
-fn admits_nothing_at_first(rt: HostRuntime) -> Result<(), Fail> {
+fn admits_nothing_at_first(rt: HostRuntime) {
     let mut emitter = emitter(&rt, REFINED, FIVE, TWO_LEVELS).expect(&rt, "a plan that fits");
     let lanes = emitter.lanes();
     assert!(rt; lanes == 2);
-    let told = window(rt.alloc(), &mut emitter, 1, &[syn(1, 9)], 0)?;
+    let told = window(rt.alloc(), &mut emitter, 1, &[syn(1, 9)], 0).expect(&rt, "ample memory");
     assert_eq!(rt; told.frames.as_slice(), &[Frame::End(lane(0, 1), 0)][..]);
     assert_eq!(rt; emitter.emitted(), 0);
-    Ok(())
 }
 
 /// Whether level 32 sends the packet to 10.0.0.9, where level 8 answered these prefixes and a table holds one.
@@ -243,11 +240,10 @@ fn sends_with(rt: &HostRuntime, prefixes: &[u64]) -> Result<bool, Memory> {
 }
 
 #[test]
-fn an_open_table_admits_every_packet(rt: HostRuntime) -> Result<(), Fail> {
-    assert!(rt; !sends_with(&rt, &[])?);
-    assert!(rt; sends_with(&rt, &[NET])?);
-    assert!(rt; !sends_with(&rt, &[2 * NET])?);
-    assert!(rt; !sends_with(&rt, &[2 * NET, 2 * NET])?);
-    assert!(rt; sends_with(&rt, &[2 * NET, 3 * NET])?);
-    Ok(())
+fn an_open_table_admits_every_packet(rt: HostRuntime) {
+    assert!(rt; !sends_with(&rt, &[]).expect(&rt, "ample memory"));
+    assert!(rt; sends_with(&rt, &[NET]).expect(&rt, "ample memory"));
+    assert!(rt; !sends_with(&rt, &[2 * NET]).expect(&rt, "ample memory"));
+    assert!(rt; !sends_with(&rt, &[2 * NET, 2 * NET]).expect(&rt, "ample memory"));
+    assert!(rt; sends_with(&rt, &[2 * NET, 3 * NET]).expect(&rt, "ample memory"));
 }

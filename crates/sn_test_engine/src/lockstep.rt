@@ -12,7 +12,6 @@ use sn_engine_lockstep::wire::Wire;
 use sn_fields::tuple::Tuple;
 use sn_report::frame::Frame;
 use sn_types::answers::Answers;
-use std::test::Fail;
 
 /// How many rows and Ends were sent.
 #[derive(Drop)]
@@ -79,29 +78,30 @@ fn answer(
 }
 
 #[test]
-fn counts_in_one_register(rt: HostRuntime) -> Result<(), Fail> {
+fn counts_in_one_register(rt: HostRuntime) {
     let mut driver = driver(&rt, COUNTS, ONE_SLOT).expect(&rt, "a plan that fits");
     let tuples = [syn(1, 1), syn(1, 2), syn(1, 1), syn(1, 2), syn(1, 3)];
     let mut sent = none_sent();
-    let answers = answer(&mut driver, &mut sent, &None, 0, &tuples)?;
+    let answers = answer(&mut driver, &mut sent, &None, 0, &tuples).expect(&rt, "ample memory");
     assert_eq!(rt; answers.window, 0);
     assert_eq!(rt; answers.emitted, 4);
     assert_eq!(rt; sent.rows, 4);
     assert_eq!(rt; sent.ends, 1);
     let expected = [row(&[NET + 1, 2]), row(&[NET + 2, 2]), row(&[NET + 3, 1])];
     assert_eq!(rt; rows(&answers, 0), &expected[..]);
-    Ok(())
 }
 
 #[test]
-fn counts_after_an_overflow(rt: HostRuntime) -> Result<(), Fail> {
+fn counts_after_an_overflow(rt: HostRuntime) {
     let mut driver = driver(&rt, SPREAD, TWO_SLOTS).expect(&rt, "a plan that fits");
     let mut sent = none_sent();
-    let answers = answer(&mut driver, &mut sent, &None, 0, &[syn(1, 9), syn(2, 9)])?;
+    let answers = answer(&mut driver, &mut sent, &None, 0, &[syn(1, 9), syn(2, 9)]).expect(
+        &rt,
+        "ample memory",
+    );
     assert_eq!(rt; answers.emitted, 2);
     assert_eq!(rt; sent.rows, 2);
     assert_eq!(rt; rows(&answers, 0), &[row(&[NET + 9, 2])][..]);
-    Ok(())
 }
 
 /// Two packets to 10.0.0.9 in window 0, and two in this one.
@@ -122,20 +122,22 @@ fn second_window(rt: &HostRuntime, window: u64) -> Result<Option<Answers>, Memor
 }
 
 #[test]
-fn refines_over_windows(rt: HostRuntime) -> Result<(), Fail> {
-    let answers = second_window(&rt, 1)?.expect(&rt, "a plan that fits");
+fn refines_over_windows(rt: HostRuntime) {
+    let answers = second_window(&rt, 1)
+        .expect(&rt, "ample memory")
+        .expect(&rt, "a plan that fits");
     assert_eq!(rt; answers.emitted, 4);
     assert_eq!(rt; rows(&answers, 0), &[row(&[NET, 2])][..]);
     assert_eq!(rt; rows(&answers, 1), &[row(&[NET + 9, 2])][..]);
-    Ok(())
 }
 
 #[test]
-fn forgets_over_a_gap(rt: HostRuntime) -> Result<(), Fail> {
-    let answers = second_window(&rt, 2)?.expect(&rt, "a plan that fits");
+fn forgets_over_a_gap(rt: HostRuntime) {
+    let answers = second_window(&rt, 2)
+        .expect(&rt, "ample memory")
+        .expect(&rt, "a plan that fits");
     assert_eq!(rt; answers.window, 2);
     assert_eq!(rt; answers.emitted, 2);
     assert_eq!(rt; rows(&answers, 0), &[row(&[NET, 2])][..]);
     assert!(rt; rows(&answers, 1).is_empty());
-    Ok(())
 }

@@ -38,19 +38,18 @@ fn switches_sum_as_one(rt: HostRuntime) -> Result<(), Fail> {
 }
 
 #[test]
-fn switches_find_rows_once(rt: HostRuntime) -> Result<(), Fail> {
+fn switches_find_rows_once(rt: HostRuntime) {
     let mut many = two_switches(&rt, DISTINCT, ONE_SLOT).expect(&rt, "a plan that fits");
-    many.begin(0)?;
-    many.packet(0, &syn(9, 1))?;
-    many.packet(0, &syn(9, 2))?;
-    many.packet(1, &syn(9, 1))?;
-    many.packet(1, &syn(9, 2))?;
-    many.packet(1, &syn(9, 3))?;
-    let answers = many.close_window()?;
+    assert!(rt; many.begin(0).is_ok());
+    assert!(rt; many.packet(0, &syn(9, 1)).is_ok());
+    assert!(rt; many.packet(0, &syn(9, 2)).is_ok());
+    assert!(rt; many.packet(1, &syn(9, 1)).is_ok());
+    assert!(rt; many.packet(1, &syn(9, 2)).is_ok());
+    assert!(rt; many.packet(1, &syn(9, 3)).is_ok());
+    let answers = many.close_window().expect(&rt, "ample memory");
     assert_eq!(rt; answers.emitted, 5);
     let expected = [row(&[NET + 1]), row(&[NET + 2]), row(&[NET + 3])];
     assert_eq!(rt; rows(&answers, 0), &expected[..]);
-    Ok(())
 }
 
 /// No switch alone has two packets to 10.0.0.9 in a window.

@@ -9,7 +9,6 @@ use sn_core::supply::{Supply, Window};
 use sn_core_net::fault::StepFault;
 use sn_core_net::net::Net;
 use sn_fields::tuple::Tuple;
-use std::test::Fail;
 
 /// The net of these texts, with room for so many frames in each lane. `None` where one of them isn't read, or the plan
 /// doesn't fit.
@@ -110,18 +109,17 @@ fn move_on(net: &mut Net) {
 }
 
 #[test]
-fn a_new_net_wants_a_supply(rt: HostRuntime) -> Result<(), Fail> {
+fn a_new_net_wants_a_supply(rt: HostRuntime) {
     let mut net = net(&rt, COUNTS, ONE_SLOT, 1).expect(&rt, "a plan that fits");
     assert!(rt; net.wants());
     assert!(rt; !net.done());
     assert!(rt; net.take_answers().is_none());
     assert!(rt; matches!(step(&mut net, Event::Packet), Did::Not(Why::NoInput)));
     assert!(rt; matches!(step(&mut net, Event::Install), Did::Not(Why::NoAnswer)));
-    Ok(())
 }
 
 #[test]
-fn the_first_tuple_begins_a_window(rt: HostRuntime) -> Result<(), Fail> {
+fn the_first_tuple_begins_a_window(rt: HostRuntime) {
     let mut net = net(&rt, COUNTS, ONE_SLOT, 1).expect(&rt, "a plan that fits");
     assert!(rt; give(&mut net, 0, syn(1, 1)));
     assert!(rt; matches!(step(&mut net, Event::ReadOut(0)), Did::Not(Why::NotReading)));
@@ -132,11 +130,10 @@ fn the_first_tuple_begins_a_window(rt: HostRuntime) -> Result<(), Fail> {
         )
     );
     assert!(rt; net.enabled(Event::Packet));
-    Ok(())
 }
 
 #[test]
-fn a_full_lane_takes_no_tuple(rt: HostRuntime) -> Result<(), Fail> {
+fn a_full_lane_takes_no_tuple(rt: HostRuntime) {
     let mut net = net(&rt, COUNTS, ONE_SLOT, 1).expect(&rt, "a plan that fits");
     assert!(rt; matches!(step(&mut net, Event::Deliver(0)), Did::Not(Why::Empty(0))));
     assert!(rt; give(&mut net, 0, syn(1, 1)));
@@ -147,11 +144,10 @@ fn a_full_lane_takes_no_tuple(rt: HostRuntime) -> Result<(), Fail> {
     assert!(rt; matches!(step(&mut net, Event::Packet), Did::Not(Why::Full(0))));
     assert!(rt; matches!(step(&mut net, Event::Deliver(0)), Did::Happened));
     assert!(rt; matches!(step(&mut net, Event::Packet), Did::Happened));
-    Ok(())
 }
 
 #[test]
-fn says_the_first_need_that_fails(rt: HostRuntime) -> Result<(), Fail> {
+fn says_the_first_need_that_fails(rt: HostRuntime) {
     let mut net = net(&rt, COUNTS, ONE_SLOT, 1).expect(&rt, "a plan that fits");
     assert!(rt; give(&mut net, 0, syn(1, 1)));
     assert!(rt; matches!(step(&mut net, Event::Packet), Did::Happened));
@@ -173,11 +169,10 @@ fn says_the_first_need_that_fails(rt: HostRuntime) -> Result<(), Fail> {
             Did::Not(Why::Unfinished(0))
         )
     );
-    Ok(())
 }
 
 #[test]
-fn counts_in_one_register(rt: HostRuntime) -> Result<(), Fail> {
+fn counts_in_one_register(rt: HostRuntime) {
     let mut net = net(&rt, COUNTS, ONE_SLOT, 1).expect(&rt, "a plan that fits");
     for destination in [1, 2, 1, 2, 3] {
         assert!(rt; give(&mut net, 0, syn(1, destination)));
@@ -192,11 +187,10 @@ fn counts_in_one_register(rt: HostRuntime) -> Result<(), Fail> {
     assert_eq!(rt; rows(&answers, 0), &expected[..]);
     move_on(&mut net);
     assert!(rt; net.done());
-    Ok(())
 }
 
 #[test]
-fn answers_wait_to_be_taken(rt: HostRuntime) -> Result<(), Fail> {
+fn answers_wait_to_be_taken(rt: HostRuntime) {
     let mut net = net(&rt, REFINED, TWO_LEVELS, 1).expect(&rt, "a plan that fits");
     for number in [0, 0, 1, 1] {
         assert!(rt; give(&mut net, number, syn(1, 9)));
@@ -220,5 +214,4 @@ fn answers_wait_to_be_taken(rt: HostRuntime) -> Result<(), Fail> {
     assert_eq!(rt; rows(&second, 1), &[row(&[NET + 9, 2])][..]);
     move_on(&mut net);
     assert!(rt; net.done());
-    Ok(())
 }

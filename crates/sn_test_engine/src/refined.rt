@@ -15,7 +15,6 @@ use sn_refine::refined::Refined;
 use sn_types::answers::{AnswerRows, EitherRows, Part};
 use sn_types::typed::Typed;
 use std::alloc::Global;
-use std::test::Fail;
 
 fn has_level(t: &Typed, level: u32) -> bool
     requires { 0 < length t.now.queries }
@@ -74,43 +73,43 @@ fn rows(parts: &Seq<Part>, place: usize) -> &[ShortRow] {
 }
 
 #[test]
-fn finer_levels_see_what_was_answered_before(rt: HostRuntime) -> Result<(), Fail> {
-    let t = queries(rt.alloc(), REFINED).ok_or("no queries")?;
-    let mut refined = refined(rt.alloc(), &t)?;
+fn finer_levels_see_what_was_answered_before(rt: HostRuntime) {
+    let t = queries(rt.alloc(), REFINED).expect(&rt, "queries");
+    let mut refined = refined(rt.alloc(), &t).expect(&rt, "ample memory");
     let tuples = [syn(1, 9), syn(1, 9)];
-    let first = answers(&t, &mut refined, 0, &tuples)?;
+    let first = answers(&t, &mut refined, 0, &tuples).expect(&rt, "ample memory");
     assert_eq!(rt; first.as_slice().len(), 2);
     assert_eq!(rt; rows(&first, 0), [row(&[NET, 2])].as_slice());
     assert_eq!(rt; rows(&first, 1).len(), 0);
-    let second = answers(&t, &mut refined, 1, &tuples)?;
+    let second = answers(&t, &mut refined, 1, &tuples).expect(&rt, "ample memory");
     assert_eq!(rt; rows(&second, 0), [row(&[NET, 2])].as_slice());
     assert_eq!(rt; rows(&second, 1), [row(&[NET + 9, 2])].as_slice());
-    Ok(())
 }
 
 #[test]
-fn a_gap_empties_the_finer_levels(rt: HostRuntime) -> Result<(), Fail> {
-    let t = queries(rt.alloc(), REFINED).ok_or("no queries")?;
-    let mut refined = refined(rt.alloc(), &t)?;
+fn a_gap_empties_the_finer_levels(rt: HostRuntime) {
+    let t = queries(rt.alloc(), REFINED).expect(&rt, "queries");
+    let mut refined = refined(rt.alloc(), &t).expect(&rt, "ample memory");
     let tuples = [syn(1, 9), syn(1, 9)];
-    let first = answers(&t, &mut refined, 0, &tuples)?;
+    let first = answers(&t, &mut refined, 0, &tuples).expect(&rt, "ample memory");
     assert_eq!(rt; rows(&first, 1).len(), 0);
-    let second = answers(&t, &mut refined, 2, &tuples)?;
+    let second = answers(&t, &mut refined, 2, &tuples).expect(&rt, "ample memory");
     assert_eq!(rt; rows(&second, 0), [row(&[NET, 2])].as_slice());
     assert_eq!(rt; rows(&second, 1).len(), 0);
-    Ok(())
 }
 
 #[test]
-fn members_are_the_refinement_column(rt: HostRuntime) -> Result<(), Fail> {
-    let t = queries(rt.alloc(), REFINED).ok_or("no queries")?;
+fn members_are_the_refinement_column(rt: HostRuntime) {
+    let t = queries(rt.alloc(), REFINED).expect(&rt, "queries");
     assert_eq!(rt; t.queries(), 1);
-    let rows = Seq::from_slice(rt.alloc(), &[row(&[NET, 2]), row(&[2 * NET, 2])])?;
+    let rows = Seq::from_slice(rt.alloc(), &[row(&[NET, 2]), row(&[2 * NET, 2])]).expect(
+        &rt,
+        "ample memory",
+    );
     let answers = AnswerRows::of(EitherRows::Short(rows));
-    let found = members(rt.alloc(), &t, 0, &answers)?;
+    let found = members(rt.alloc(), &t, 0, &answers).expect(&rt, "ample memory");
     assert!(rt; found.has(u128::from(NET)));
     assert!(rt; found.has(u128::from(2 * NET)));
     assert!(rt; !found.has(u128::from(NET + 9)));
     assert!(rt; !found.has(2));
-    Ok(())
 }

@@ -12,8 +12,8 @@ use std::alloc::Global;
 use std::test::Fail;
 
 #[test]
-fn holds_one_key_in_one_cell(rt: HostRuntime) -> Result<(), Fail> {
-    let mut chain = Chain::make(rt.alloc(), SatSum { v: 16 }, 1, 1)?;
+fn holds_one_key_in_one_cell(rt: HostRuntime) {
+    let mut chain = Chain::make(rt.alloc(), SatSum { v: 16 }, 1, 1).expect(&rt, "ample memory");
     assert_eq!(rt; chain.offer(&row(&[1]), 1), Offer::New);
     assert_eq!(rt; chain.offer(&row(&[2]), 1), Offer::Over);
     assert_eq!(rt; chain.offer(&row(&[1]), 1), Offer::Held);
@@ -21,18 +21,16 @@ fn holds_one_key_in_one_cell(rt: HostRuntime) -> Result<(), Fail> {
     chain.clear();
     assert_eq!(rt; chain.get(0), None);
     assert_eq!(rt; chain.offer(&row(&[2]), 1), Offer::New);
-    Ok(())
 }
 
 #[test]
-fn takes_the_second_register(rt: HostRuntime) -> Result<(), Fail> {
-    let mut chain = Chain::make(rt.alloc(), SatSum { v: 16 }, 2, 1)?;
+fn takes_the_second_register(rt: HostRuntime) {
+    let mut chain = Chain::make(rt.alloc(), SatSum { v: 16 }, 2, 1).expect(&rt, "ample memory");
     assert_eq!(rt; chain.offer(&row(&[1]), 1), Offer::New);
     assert_eq!(rt; chain.offer(&row(&[2]), 1), Offer::New);
     assert_eq!(rt; chain.offer(&row(&[3]), 1), Offer::Over);
     assert_eq!(rt; chain.get(1), Some((row(&[2]), 1)));
     assert_eq!(rt; chain.get(2), None);
-    Ok(())
 }
 
 #[test]
@@ -66,7 +64,7 @@ fn are_apart(alloc: Global, one: &ShortRow, other: &ShortRow) -> Result<bool, Me
 }
 
 #[test]
-fn tells_keys_apart_by_their_last_column(rt: HostRuntime) -> Result<(), Fail> {
+fn tells_keys_apart_by_their_last_column(rt: HostRuntime) {
     for (one, other) in [
         (row(&[7, 7, 1]), row(&[7, 7, 2])),
         (row(&[7, 7, 7, 1]), row(&[7, 7, 7, 2])),
@@ -75,15 +73,14 @@ fn tells_keys_apart_by_their_last_column(rt: HostRuntime) -> Result<(), Fail> {
             row(&[7, 7, 7, 7, 7, 7, 7, 2]),
         ),
     ] {
-        assert!(rt; are_apart(rt.alloc(), &one, &other)?);
-        assert!(rt; are_apart(rt.alloc(), &other, &one)?);
+        assert!(rt; are_apart(rt.alloc(), &one, &other).expect(&rt, "ample memory"));
+        assert!(rt; are_apart(rt.alloc(), &other, &one).expect(&rt, "ample memory"));
     }
-    Ok(())
 }
 
 #[test]
-fn shows_nothing_of_what_was_cleared(rt: HostRuntime) -> Result<(), Fail> {
-    let mut chain = Chain::make(rt.alloc(), SatSum { v: 16 }, 2, 1)?;
+fn shows_nothing_of_what_was_cleared(rt: HostRuntime) {
+    let mut chain = Chain::make(rt.alloc(), SatSum { v: 16 }, 2, 1).expect(&rt, "ample memory");
     assert_eq!(rt; chain.offer(&row(&[1, 2, 3, 4, 5, 6, 7, 8]), 1), Offer::New);
     assert_eq!(rt; chain.offer(&row(&[1, 2, 3, 4, 5]), 1), Offer::New);
     chain.clear();
@@ -92,7 +89,6 @@ fn shows_nothing_of_what_was_cleared(rt: HostRuntime) -> Result<(), Fail> {
     assert_eq!(rt; chain.offer(&row(&[1, 2, 3, 4]), 3), Offer::New);
     assert_eq!(rt; chain.get(0), Some((row(&[1, 2, 3, 4]), 3)));
     assert_eq!(rt; chain.get(1), None);
-    Ok(())
 }
 
 /// Whether a chain of one cell keeps the first of two keys, and has no place for the second.
@@ -105,7 +101,7 @@ fn keeps_the_first(alloc: Global, one: &Row, other: &Row) -> Result<bool, Memory
 
 /// Keys that differ in one bit of a column or in how many they have, at the numbers up to which they fit two words.
 #[test]
-fn tells_keys_apart(rt: HostRuntime) -> Result<(), Fail> {
+fn tells_keys_apart(rt: HostRuntime) {
     const WORD: u128 = 1 << 64;
     const HALF: u128 = 1 << 32;
     let pairs: [(&[u128], &[u128]); 14] = [
@@ -126,16 +122,15 @@ fn tells_keys_apart(rt: HostRuntime) -> Result<(), Fail> {
     ];
     for (one, other) in pairs {
         let (one, other) = (wide_row(one), wide_row(other));
-        assert!(rt; keeps_the_first(rt.alloc(), &one, &other)?);
-        assert!(rt; keeps_the_first(rt.alloc(), &other, &one)?);
+        assert!(rt; keeps_the_first(rt.alloc(), &one, &other).expect(&rt, "ample memory"));
+        assert!(rt; keeps_the_first(rt.alloc(), &other, &one).expect(&rt, "ample memory"));
     }
-    Ok(())
 }
 
 /// Of the 300 slots key 3 has slot 14, and key 6 slot 287.
 #[test]
-fn goes_from_held_place_to_held_place(rt: HostRuntime) -> Result<(), Fail> {
-    let mut chain = Chain::make(rt.alloc(), SatSum { v: 16 }, 1, 300)?;
+fn goes_from_held_place_to_held_place(rt: HostRuntime) {
+    let mut chain = Chain::make(rt.alloc(), SatSum { v: 16 }, 1, 300).expect(&rt, "ample memory");
     assert_eq!(rt; chain.next_held(0), 300);
     assert_eq!(rt; chain.offer(&row(&[6]), 1), Offer::New);
     assert_eq!(rt; chain.offer(&row(&[3]), 1), Offer::New);
@@ -153,5 +148,4 @@ fn goes_from_held_place_to_held_place(rt: HostRuntime) -> Result<(), Fail> {
     assert_eq!(rt; chain.next_held(0), 300);
     assert_eq!(rt; chain.offer(&row(&[6]), 1), Offer::New);
     assert_eq!(rt; chain.next_held(0), 287);
-    Ok(())
 }

@@ -15,7 +15,6 @@ use sn_fields::tuple::Tuple;
 use sn_gen::draws::Draws;
 use sn_types::answers::Answers;
 use std::alloc::Global;
-use std::test::Fail;
 
 /// Gives a supply to a net that wants one, and lets it go on. `None` where it wants none.
 fn go_on(
@@ -102,9 +101,9 @@ fn two_windows(
 }
 
 #[test]
-fn every_schedule_gives_the_answers(rt: HostRuntime) -> Result<(), Fail> {
+fn every_schedule_gives_the_answers(rt: HostRuntime) {
     for schedule in [0, 1, 7] {
-        let (first, second) = two_windows(&rt, schedule)?;
+        let (first, second) = two_windows(&rt, schedule).expect(&rt, "ample memory");
         let first = first.expect(&rt, "the first window");
         assert_eq!(rt; first.window, 0);
         assert_eq!(rt; first.emitted, 2);
@@ -116,5 +115,4 @@ fn every_schedule_gives_the_answers(rt: HostRuntime) -> Result<(), Fail> {
         assert_eq!(rt; rows(&second, 0), &[row(&[NET, 2])][..]);
         assert_eq!(rt; rows(&second, 1), &[row(&[NET + 9, 2])][..]);
     }
-    Ok(())
 }

@@ -12,8 +12,8 @@
 //! - `train: `: records of SYNs of the training capture, which else is the other one;
 //! - `reports: `: bytes of report frames.
 use crate::packets::{HEADER, push_frame, push_hex, push_sixes, push_syns};
+use crate::trouble::Trouble;
 use std::alloc::Global;
-use std::test::Fail;
 
 /// The files that a command is given, its words, and the text and line that are wanted of it.
 #[derive(Drop)]
@@ -39,14 +39,14 @@ pub struct Case {
 }
 
 /// Adds a line.
-fn push_line(into: &mut String, line: &str) -> Result<(), Fail> {
+fn push_line(into: &mut String, line: &str) -> Result<(), Trouble> {
     into.push_str(line)?;
     into.push_str("\n")?;
     Ok(())
 }
 
 impl Case {
-    fn new(alloc: Global) -> Result<Case, Fail> {
+    fn new(alloc: Global) -> Result<Case, Trouble> {
         Ok(Case {
             words: String::new(alloc),
             text: String::new(alloc),
@@ -61,14 +61,14 @@ impl Case {
     }
 
     /// Takes the bytes of a capture's header in place of those that stand.
-    fn take_header(&mut self, front: &str, text: &str) -> Result<(), Fail> {
+    fn take_header(&mut self, front: &str, text: &str) -> Result<(), Trouble> {
         self.header.clear();
         push_hex(&mut self.header, front)?;
         push_hex(&mut self.header, text)
     }
 
     /// Takes a line of a case.
-    fn take(&mut self, alloc: Global, line: &str) -> Result<(), Fail> {
+    fn take(&mut self, alloc: Global, line: &str) -> Result<(), Trouble> {
         if let Some(wanted) = line.strip_prefix("= ") {
             return push_line(&mut self.wanted, wanted);
         }
@@ -91,7 +91,7 @@ impl Case {
     }
 
     /// The case that these lines tell.
-    pub fn read(alloc: Global, lines: &str) -> Result<Case, Fail> {
+    pub fn read(alloc: Global, lines: &str) -> Result<Case, Trouble> {
         let mut case = Case::new(alloc)?;
         for line in lines.lines() {
             case.take(alloc, line)?;

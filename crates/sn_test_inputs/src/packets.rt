@@ -1,6 +1,6 @@
 //! Packets of captures, from what a line of a table says.
+use crate::trouble::Trouble;
 use std::alloc::Global;
-use std::test::Fail;
 
 /// The header of a capture of Ethernet packets, its lowest bytes first, with microseconds.
 pub const HEADER: [u8; 24] = [
@@ -32,7 +32,7 @@ fn digit(byte: u8) -> Option<u8> {
 }
 
 /// Adds the bytes whose hexadecimal digits are these. What is no such digit counts for nothing.
-pub fn push_hex(into: &mut Vec<u8>, text: &str) -> Result<(), Fail> {
+pub fn push_hex(into: &mut Vec<u8>, text: &str) -> Result<(), Trouble> {
     let mut high = None;
     for byte in text.bytes() {
         let Some(low) = digit(byte) else {
@@ -50,7 +50,7 @@ pub fn push_hex(into: &mut Vec<u8>, text: &str) -> Result<(), Fail> {
 }
 
 /// Adds a record of these bytes, so many microseconds after one second, of a packet that had so many on the wire.
-pub fn push_record(into: &mut Vec<u8>, after: u32, wire: u32, bytes: &[u8]) -> Result<(), Fail> {
+pub fn push_record(into: &mut Vec<u8>, after: u32, wire: u32, bytes: &[u8]) -> Result<(), Trouble> {
     let seconds = 1 + after / 1_000_000;
     into.extend_from_slice(&seconds.to_le_bytes())?;
     into.extend_from_slice(&(after % 1_000_000).to_le_bytes())?;
@@ -61,7 +61,7 @@ pub fn push_record(into: &mut Vec<u8>, after: u32, wire: u32, bytes: &[u8]) -> R
 }
 
 /// The first four numbers of a text, where those that it lacks are 0, 0, 0 and the last one given.
-fn numbers(text: &str, last: u32) -> Result<[u32; 4], Fail> {
+fn numbers(text: &str, last: u32) -> Result<[u32; 4], Trouble> {
     let mut numbers = [0, 0, 0, last];
     for (number, word) in numbers.iter_mut().zip(text.split_whitespace()) {
         *number = word.parse::<u32>()?;
@@ -71,7 +71,7 @@ fn numbers(text: &str, last: u32) -> Result<[u32; 4], Fail> {
 
 /// Adds the record of a SYN, as four numbers say: microseconds after one second, from 10.0.0.s, to 10.0.0.d, and the
 /// length of its IPv4 packet.
-pub fn push_syn(into: &mut Vec<u8>, text: &str) -> Result<(), Fail> {
+pub fn push_syn(into: &mut Vec<u8>, text: &str) -> Result<(), Trouble> {
     let [after, source, destination, length] = numbers(text, 40)?;
     let mut frame = SYN;
     let [_, _, high, low] = length.to_be_bytes();
@@ -85,7 +85,7 @@ pub fn push_syn(into: &mut Vec<u8>, text: &str) -> Result<(), Fail> {
 }
 
 /// Adds the records of SYNs, with commas between them.
-pub fn push_syns(into: &mut Vec<u8>, text: &str) -> Result<(), Fail> {
+pub fn push_syns(into: &mut Vec<u8>, text: &str) -> Result<(), Trouble> {
     for packet in text.split(',') {
         push_syn(into, packet)?;
     }
@@ -94,7 +94,7 @@ pub fn push_syns(into: &mut Vec<u8>, text: &str) -> Result<(), Fail> {
 
 /// Adds the record of a SYN over IPv6, as four numbers say: microseconds after one second, from 2001:db8::s, to
 /// 2001:db8:0:n::d, in the order s, d, n, each below 256.
-pub fn push_six(into: &mut Vec<u8>, text: &str) -> Result<(), Fail> {
+pub fn push_six(into: &mut Vec<u8>, text: &str) -> Result<(), Trouble> {
     let [after, source, destination, network] = numbers(text, 0)?;
     let mut frame = SYN_6;
     let [_, _, _, low] = source.to_be_bytes();
@@ -107,7 +107,7 @@ pub fn push_six(into: &mut Vec<u8>, text: &str) -> Result<(), Fail> {
 }
 
 /// Adds the records of SYNs over IPv6, with commas between them.
-pub fn push_sixes(into: &mut Vec<u8>, text: &str) -> Result<(), Fail> {
+pub fn push_sixes(into: &mut Vec<u8>, text: &str) -> Result<(), Trouble> {
     for packet in text.split(',') {
         push_six(into, packet)?;
     }
@@ -115,7 +115,7 @@ pub fn push_sixes(into: &mut Vec<u8>, text: &str) -> Result<(), Fail> {
 }
 
 /// Adds the record of a packet of these bytes, at one second.
-pub fn push_frame(alloc: Global, into: &mut Vec<u8>, text: &str) -> Result<(), Fail> {
+pub fn push_frame(alloc: Global, into: &mut Vec<u8>, text: &str) -> Result<(), Trouble> {
     let mut bytes = Vec::new(alloc);
     push_hex(&mut bytes, text)?;
     push_record(into, 0, u32::try_from(bytes.len())?, bytes.as_slice())

@@ -1,12 +1,12 @@
 //! What the top call prints by such a machine.
 
 use crate::twist::Twist;
+use sn_base::memory::Memory;
 use sn_base::seq::Seq;
 use sn_io::mem_inputs::MemInputs;
 use sn_io::mem_sink::MemSink;
 use sn_top::top::top;
 use std::alloc::Global;
-use std::test::Fail;
 
 /// Little-endian microseconds, Ethernet.
 const HEADER: [u8; 24] = [
@@ -31,12 +31,18 @@ const QUERIES: &[u8] =
 
 const PLAN: &[u8] = b"plan query q path 0; piece 0 0 cut 2 slots 1 stages 1;";
 
-fn file_of(alloc: Global, bytes: &[u8]) -> Result<Seq<u8>, Fail> {
+fn file_of(alloc: Global, bytes: &[u8]) -> Result<Seq<u8>, Memory> {
     Ok(Seq::from_vec(Vec::from_slice(alloc, bytes)?))
 }
 
+/// Puts bytes as a file, with ample memory.
+fn put(rt: &HostRuntime, files: &mut MemInputs, name: &str, bytes: &[u8]) {
+    let file = file_of(rt.alloc(), bytes).expect(rt, "ample memory");
+    assert!(rt; files.put(name, file).is_ok());
+}
+
 /// Packets to these hosts of 10.0.0.0, in the microseconds of one second.
-fn capture_of(alloc: Global, destinations: &[u8]) -> Result<Seq<u8>, Fail> {
+fn capture_of(alloc: Global, destinations: &[u8]) -> Result<Seq<u8>, Memory> {
     let mut file = Vec::from_slice(alloc, &HEADER)?;
     for destination in destinations {
         let mut frame = FRAME;
@@ -50,19 +56,30 @@ fn capture_of(alloc: Global, destinations: &[u8]) -> Result<Seq<u8>, Fail> {
 /// The answers are three rows: two packets each to the hosts 1 and 2, and one to the host 3. By hand: the register holds
 /// the host 1, whose row is read out, and the other three packets overflow; so four items are sent, whoever tells the rows.
 #[test]
-fn what_the_machine_tells_is_printed(rt: HostRuntime) -> Result<(), Fail> {
+fn what_the_machine_tells_is_printed(rt: HostRuntime) {
     let alloc = rt.alloc();
     let mut words = Vec::new(alloc);
     for word in ["run", "s", "q", "p", "c"] {
-        words.push(String::from_str(alloc, word)?)?;
+        assert!(rt;
+            words
+                .push(String::from_str(alloc, word).expect(&rt, "ample memory"))
+                .is_ok()
+        );
     }
     let mut files = MemInputs::new(alloc);
-    files.put("s", file_of(alloc, SWITCH)?)?;
-    files.put("q", file_of(alloc, QUERIES)?)?;
-    files.put("p", file_of(alloc, PLAN)?)?;
-    files.put("c", capture_of(alloc, &[1, 2, 1, 2, 3])?)?;
-    let mut out = MemSink::new(alloc, 1000)?;
-    let mut err = MemSink::new(alloc, 1000)?;
+    put(&rt, &mut files, "s", SWITCH);
+    put(&rt, &mut files, "q", QUERIES);
+    put(&rt, &mut files, "p", PLAN);
+    assert!(rt;
+        files
+            .put(
+                "c",
+                capture_of(alloc, &[1, 2, 1, 2, 3]).expect(&rt, "ample memory")
+            )
+            .is_ok()
+    );
+    let mut out = MemSink::new(alloc, 1000).expect(&rt, "ample memory");
+    let mut err = MemSink::new(alloc, 1000).expect(&rt, "ample memory");
     let status = top::<Twist, MemInputs, MemSink, MemSink>(
         alloc, &words, &mut files, &mut out, &mut err,
     );
@@ -72,5 +89,4 @@ fn what_the_machine_tells_is_printed(rt: HostRuntime) -> Result<(), Fail> {
         b"window 0 emitted 4\nquery q level 0 rows 2\n10.0.0.1 2\n10.0.0.2 2\ntotal windows 1 emitted 4\n".as_slice()
     );
     assert_eq!(rt; err.bytes(), b"".as_slice());
-    Ok(())
 }

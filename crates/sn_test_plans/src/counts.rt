@@ -16,7 +16,6 @@ use sn_cost_tally::room::Room;
 use sn_fields::tuple::Tuple;
 use sn_types::typed::Typed;
 use std::alloc::Global;
-use std::test::Fail;
 
 /// The counts of the first branch of the first query, with rows of a kind, in chains of registers of each of these sizes.
 fn counts_over<R: AnyRow>(
@@ -118,82 +117,74 @@ const WIDE_SOURCES: &[u8] =
 const KINDS: &[u8] = b"window 1000000 query q { packets | map ip.dst as d | distinct; }";
 
 #[test]
-fn counts_each_cut(rt: HostRuntime) -> Result<(), Fail> {
+fn counts_each_cut(rt: HostRuntime) {
     let tuples = [syn(1, 9), syn(1, 9), syn(1, 9), syn(2, 9), syn(2, 9)];
-    let one = counts(rt.alloc(), DESTINATIONS, 1, &tuples)?;
+    let one = counts(rt.alloc(), DESTINATIONS, 1, &tuples).expect(&rt, "ample memory");
     assert_eq!(rt; one.as_slice(), [5, 5, 1].as_slice());
-    let two = counts(rt.alloc(), SOURCES, 1, &tuples)?;
+    let two = counts(rt.alloc(), SOURCES, 1, &tuples).expect(&rt, "ample memory");
     assert_eq!(rt; two.as_slice(), [5, 5, 3].as_slice());
-    Ok(())
 }
 
 #[test]
-fn counts_each_cut_of_a_wide_branch(rt: HostRuntime) -> Result<(), Fail> {
+fn counts_each_cut_of_a_wide_branch(rt: HostRuntime) {
     let tuples = [syn6(1), syn6(1), syn6(1), syn6(2), syn6(2)];
-    let one = counts(rt.alloc(), WIDE_SOURCES, 1, &tuples)?;
+    let one = counts(rt.alloc(), WIDE_SOURCES, 1, &tuples).expect(&rt, "ample memory");
     assert_eq!(rt; one.as_slice(), [5, 5, 3].as_slice());
     let same = [syn6(7), syn6(7), syn6(7)];
-    let held = counts(rt.alloc(), WIDE_SOURCES, 1, &same)?;
+    let held = counts(rt.alloc(), WIDE_SOURCES, 1, &same).expect(&rt, "ample memory");
     assert_eq!(rt; held.as_slice(), [3, 3, 1].as_slice());
-    Ok(())
 }
 
 #[test]
-fn takes_many_that_are_alike_together(rt: HostRuntime) -> Result<(), Fail> {
-    assert!(rt; pays(rt.alloc(), SOURCES, &[syn(1, 9); 32])?);
-    assert!(rt; !pays(rt.alloc(), SOURCES, &[syn(1, 9); 31])?);
-    Ok(())
+fn takes_many_that_are_alike_together(rt: HostRuntime) {
+    assert!(rt; pays(rt.alloc(), SOURCES, &[syn(1, 9); 32]).expect(&rt, "ample memory"));
+    assert!(rt; !pays(rt.alloc(), SOURCES, &[syn(1, 9); 31]).expect(&rt, "ample memory"));
 }
 
 /// These tuples are taken together, since most of them are alike: of the last three each overflows.
 #[test]
-fn counts_tuples_that_are_alike(rt: HostRuntime) -> Result<(), Fail> {
+fn counts_tuples_that_are_alike(rt: HostRuntime) {
     let mut tuples = [syn(1, 9); 64];
     tuples[61] = syn(2, 9);
     tuples[62] = syn(3, 9);
     tuples[63] = syn(2, 9);
-    let one = counts(rt.alloc(), SOURCES, 1, &tuples)?;
+    let one = counts(rt.alloc(), SOURCES, 1, &tuples).expect(&rt, "ample memory");
     assert_eq!(rt; one.as_slice(), [64, 64, 4].as_slice());
-    let same = counts(rt.alloc(), DESTINATIONS, 1, &tuples)?;
+    let same = counts(rt.alloc(), DESTINATIONS, 1, &tuples).expect(&rt, "ample memory");
     assert_eq!(rt; same.as_slice(), [64, 64, 1].as_slice());
-    Ok(())
 }
 
 #[test]
-fn counts_each_row_that_overflows(rt: HostRuntime) -> Result<(), Fail> {
+fn counts_each_row_that_overflows(rt: HostRuntime) {
     let tuples = [syn(7, 1), syn(7, 2), syn(7, 1), syn(7, 2), syn(7, 3)];
-    let one = counts(rt.alloc(), DESTINATIONS, 1, &tuples)?;
+    let one = counts(rt.alloc(), DESTINATIONS, 1, &tuples).expect(&rt, "ample memory");
     assert_eq!(rt; one.as_slice(), [5, 5, 4].as_slice());
-    let chained = counts(rt.alloc(), DESTINATIONS, 2, &tuples)?;
+    let chained = counts(rt.alloc(), DESTINATIONS, 2, &tuples).expect(&rt, "ample memory");
     assert_eq!(rt; chained.as_slice(), [5, 5, 3].as_slice());
-    let kinds = counts(rt.alloc(), KINDS, 1, &tuples)?;
+    let kinds = counts(rt.alloc(), KINDS, 1, &tuples).expect(&rt, "ample memory");
     assert_eq!(rt; kinds.as_slice(), [5, 5, 4].as_slice());
-    Ok(())
 }
 
 /// The key that comes once is held and stopped by the filter.
 #[test]
-fn filters_what_is_held_beside_an_overflow(rt: HostRuntime) -> Result<(), Fail> {
+fn filters_what_is_held_beside_an_overflow(rt: HostRuntime) {
     let tuples = [syn(1, 8), syn(1, 9), syn(1, 9)];
-    let found = counts(rt.alloc(), REPEATED, 1, &tuples)?;
+    let found = counts(rt.alloc(), REPEATED, 1, &tuples).expect(&rt, "ample memory");
     assert_eq!(rt; found.as_slice(), [3, 3, 3, 2].as_slice());
-    Ok(())
 }
 
 /// Of two slots a row's is told by the last bits of its bytes: the two rows want two at the distinct, and one at the reduce.
 #[test]
-fn counts_each_size_of_two(rt: HostRuntime) -> Result<(), Fail> {
+fn counts_each_size_of_two(rt: HostRuntime) {
     let tuples = [syn(1, 9), syn(2, 11)];
-    let found = counts_in(rt.alloc(), DEEP, 1, &[2, 2], &tuples)?;
+    let found = counts_in(rt.alloc(), DEEP, 1, &[2, 2], &tuples).expect(&rt, "ample memory");
     let each = [2, 2, 2, 2, 2, 2, 2, 2, 2, 2, 1, 1, 1, 1];
     assert_eq!(rt; found.as_slice(), each.as_slice());
-    Ok(())
 }
 
 #[test]
-fn sends_held_rows_whole_where_the_distinct_overflowed(rt: HostRuntime) -> Result<(), Fail> {
+fn sends_held_rows_whole_where_the_distinct_overflowed(rt: HostRuntime) {
     let tuples = [syn(1, 9), syn(2, 9)];
-    let found = counts(rt.alloc(), DEEP, 1, &tuples)?;
+    let found = counts(rt.alloc(), DEEP, 1, &tuples).expect(&rt, "ample memory");
     assert_eq!(rt; found.as_slice(), [2, 2, 2, 2, 2, 2].as_slice());
-    Ok(())
 }

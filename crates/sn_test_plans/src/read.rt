@@ -2,10 +2,9 @@
 use sn_plan::fault::PlanFault;
 use sn_plan_grammar::short::Short;
 use sn_switch::fault::SwitchFault;
-use std::test::Fail;
 
 #[test]
-fn reads_a_switch(rt: HostRuntime) -> Result<(), Fail> {
+fn reads_a_switch(rt: HostRuntime) {
     let text =
         b"slots 256, 1024, 4096; chain 2;\nbits 8388608; # per stage\nmeta 4096; actions 8; stages 16;";
     match sn_switch::parse(rt.alloc(), text) {
@@ -20,7 +19,6 @@ fn reads_a_switch(rt: HostRuntime) -> Result<(), Fail> {
             assert_eq!(rt; (switch.entries, switch.weight), (None, 0));
         }
     }
-    Ok(())
 }
 
 fn switch_fault(rt: &HostRuntime, text: &[u8]) -> Option<SwitchFault> {
@@ -69,7 +67,7 @@ fn names_the_first_fault_of_a_switch(rt: HostRuntime) {
 }
 
 #[test]
-fn reads_a_plan(rt: HostRuntime) -> Result<(), Fail> {
+fn reads_a_plan(rt: HostRuntime) {
     let text = b"plan query q path 0; piece 0 0 cut 2 slots 1 stages 1; cost @";
     match sn_plan::parse(rt.alloc(), text) {
         Err(_) => assert!(rt; false),
@@ -86,7 +84,6 @@ fn reads_a_plan(rt: HostRuntime) -> Result<(), Fail> {
             }
         }
     }
-    Ok(())
 }
 
 fn plan_fault(rt: &HostRuntime, text: &[u8]) -> Option<PlanFault> {

@@ -10,7 +10,6 @@ use sn_tree_text::fault::TextFault;
 use sn_tree_text::found::Found;
 use sn_tree_text::tree::Tree;
 use sn_tree_text::{parse, print};
-use std::test::Fail;
 
 /// A plan, its cost and its tree.
 const WHOLE: &[u8] =
@@ -42,12 +41,12 @@ fn nodes_of(rt: &HostRuntime, found: &Found<'_>) -> Result<(Tree, u64), Memory> 
 }
 
 #[test]
-fn reads_and_prints_a_tree(rt: HostRuntime) -> Result<(), Fail> {
+fn reads_and_prints_a_tree(rt: HostRuntime) {
     match parse(WHOLE, COST) {
         Err(_) => assert!(rt; false),
         Ok(found) => {
             assert_eq!(rt; found.cost(), 6);
-            let (tree, count) = nodes_of(&rt, &found)?;
+            let (tree, count) = nodes_of(&rt, &found).expect(&rt, "ample memory");
             assert_eq!(rt; count, 11);
             assert_eq!(rt;
                 tree.as_slice(),
@@ -72,7 +71,6 @@ fn reads_and_prints_a_tree(rt: HostRuntime) -> Result<(), Fail> {
             }
         }
     }
-    Ok(())
 }
 
 /// The fault of the cost and the tree of a text for the plan of the worked example, where it is read.
@@ -113,7 +111,7 @@ fn checks_a_tree_in_its_text(rt: HostRuntime) {
 }
 
 #[test]
-fn reads_other_layouts(rt: HostRuntime) -> Result<(), Fail> {
+fn reads_other_layouts(rt: HostRuntime) {
     for text in [
         b"cost 6;tree P 6 done".as_slice(),
         b"# front\n cost 0x6 ; tree # a comment\r\n\tP 006 done # behind it",
@@ -123,27 +121,25 @@ fn reads_other_layouts(rt: HostRuntime) -> Result<(), Fail> {
             Err(_) => assert!(rt; false),
             Ok(found) => {
                 assert_eq!(rt; found.cost(), 6);
-                let (tree, count) = nodes_of(&rt, &found)?;
+                let (tree, count) = nodes_of(&rt, &found).expect(&rt, "ample memory");
                 assert_eq!(rt; count, 1);
                 assert_eq!(rt; tree.as_slice(), [Node::Chosen(6)].as_slice());
             }
         }
     }
-    Ok(())
 }
 
 #[test]
-fn reads_a_tree_without_nodes_and_the_greatest_number(rt: HostRuntime) -> Result<(), Fail> {
+fn reads_a_tree_without_nodes_and_the_greatest_number(rt: HostRuntime) {
     match parse(b"cost 18446744073709551615; tree done", 0) {
         Err(_) => assert!(rt; false),
         Ok(found) => {
             assert_eq!(rt; found.cost(), u64::MAX);
-            let (tree, count) = nodes_of(&rt, &found)?;
+            let (tree, count) = nodes_of(&rt, &found).expect(&rt, "ample memory");
             assert_eq!(rt; count, 0);
             assert_eq!(rt; tree.as_slice().len(), 0);
         }
     }
-    Ok(())
 }
 
 #[test]
@@ -173,7 +169,7 @@ fn names_the_first_fault_of_a_tree(rt: HostRuntime) {
 }
 
 #[test]
-fn counts_the_lines_of_the_whole_text(rt: HostRuntime) -> Result<(), Fail> {
+fn counts_the_lines_of_the_whole_text(rt: HostRuntime) {
     // A plan without a cost: its end is the fault.
     let plan = b"plan\nquery b path 0;\npiece 0 0 cut 0;\n";
     assert_eq!(rt; fault(plan, 38), Some(TextFault::Expected { line: 4 }));
@@ -182,5 +178,4 @@ fn counts_the_lines_of_the_whole_text(rt: HostRuntime) -> Result<(), Fail> {
     assert_eq!(rt; fault(cost, 38), Some(TextFault::Expected { line: 5 }));
     // What stands before the byte isn't looked at.
     assert_eq!(rt; fault(b"; ;\n;cost 6;\ntree done", 5), None);
-    Ok(())
 }

@@ -14,7 +14,6 @@ use sn_fields::tuple::{Tuple, tuple_of};
 use sn_ops::lists::{branch_list, plain_list};
 use sn_ops::packets::{Kept, packet_rows};
 use sn_types::typed::Typed;
-use std::test::Fail;
 
 /// A TCP SYN from 10.0.0.0 to 10.0.0.0.
 const SYN: [u8; 54] = [
@@ -67,60 +66,76 @@ fn short(list: RowList) -> Option<RowSeq<ShortRow>> {
 }
 
 #[test]
-fn counts_by_destination(rt: HostRuntime) -> Result<(), Fail> {
+fn counts_by_destination(rt: HostRuntime) {
     let alloc = rt.alloc();
-    let t = typed(alloc, COUNTED).ok_or("not typed")?;
+    let t = typed(alloc, COUNTED).expect(&rt, "typed queries");
     assert_eq!(rt; t.queries(), 1);
     assert_eq!(rt; t.branches(0), 1);
     assert!(rt; has_level(&t, 0, 0));
     assert!(rt; !t.is_wide(0, 0));
-    let packets: RowSeq<ShortRow> = packet_rows(alloc, &t, 0, 0, 0, None, &five())?;
+    let packets: RowSeq<ShortRow> = packet_rows(alloc, &t, 0, 0, 0, None, &five()).expect(
+        &rt,
+        "ample memory",
+    );
     assert_eq!(rt; packets.as_slice().len(), 5);
     assert_eq!(rt; packets.as_slice()[4], row(&[NET + 3]));
-    let counts = short(branch_list(alloc, &t, 0, 0, 0, None, &five())?).ok_or("wide")?;
+    let counts = short(branch_list(alloc, &t, 0, 0, 0, None, &five()).expect(
+        &rt,
+        "ample memory",
+    )).expect(&rt, "short rows");
     assert_eq!(rt;
         counts.as_slice(),
         [row(&[NET + 1, 2]), row(&[NET + 2, 2]), row(&[NET + 3, 1])].as_slice()
     );
-    Ok(())
 }
 
 #[test]
-fn answers_a_refined_query(rt: HostRuntime) -> Result<(), Fail> {
+fn answers_a_refined_query(rt: HostRuntime) {
     let alloc = rt.alloc();
-    let t = typed(alloc, REFINED).ok_or("not typed")?;
+    let t = typed(alloc, REFINED).expect(&rt, "typed queries");
     assert_eq!(rt; t.queries(), 1);
     assert!(rt; t.refine_field(0).is_some());
     assert!(rt; has_level(&t, 0, 8));
     assert!(rt; has_level(&t, 0, 32));
-    let first = short(plain_list(alloc, &t, 0, 8, None, &five())?).ok_or("wide")?;
+    let first = short(plain_list(alloc, &t, 0, 8, None, &five()).expect(
+        &rt,
+        "ample memory",
+    )).expect(&rt, "short rows");
     assert_eq!(rt; first.as_slice(), [row(&[NET, 5])].as_slice());
     let mut members = Members::new(alloc);
-    members.add(u128::from(NET))?;
+    assert!(rt; members.add(u128::from(NET)).is_ok());
     let kept = Kept {
         members: &members,
         bits: 8,
     };
-    let second = short(plain_list(alloc, &t, 0, 32, Some(kept), &five())?).ok_or("wide")?;
+    let second = short(plain_list(alloc, &t, 0, 32, Some(kept), &five()).expect(
+        &rt,
+        "ample memory",
+    )).expect(&rt, "short rows");
     assert_eq!(rt; second.as_slice().len(), 3);
     let none = Members::new(alloc);
     let kept = Kept {
         members: &none,
         bits: 8,
     };
-    let third = short(plain_list(alloc, &t, 0, 32, Some(kept), &five())?).ok_or("wide")?;
+    let third = short(plain_list(alloc, &t, 0, 32, Some(kept), &five()).expect(
+        &rt,
+        "ample memory",
+    )).expect(&rt, "short rows");
     assert_eq!(rt; third.as_slice().len(), 0);
-    Ok(())
 }
 
 #[test]
-fn joins_two_branches(rt: HostRuntime) -> Result<(), Fail> {
+fn joins_two_branches(rt: HostRuntime) {
     let alloc = rt.alloc();
-    let t = typed(alloc, JOINED).ok_or("not typed")?;
+    let t = typed(alloc, JOINED).expect(&rt, "typed queries");
     assert_eq!(rt; t.queries(), 1);
     assert!(rt; has_level(&t, 0, 0));
     let tuples = [syn(1, 1), syn(2, 1), syn(2, 1), syn(1, 2)];
-    let rows = short(plain_list(alloc, &t, 0, 0, None, &tuples)?).ok_or("wide")?;
+    let rows = short(plain_list(alloc, &t, 0, 0, None, &tuples).expect(&rt, "ample memory")).expect(
+        &rt,
+        "short rows",
+    );
     assert_eq!(rt;
         rows.as_slice(),
         [
@@ -130,5 +145,4 @@ fn joins_two_branches(rt: HostRuntime) -> Result<(), Fail> {
         ]
         .as_slice()
     );
-    Ok(())
 }

@@ -16,7 +16,6 @@ use sn_pcap::packet::Ending;
 use sn_types::answers::{AnswerRows, Answers, EitherRows, Part};
 use sn_types::typed::Typed;
 use std::alloc::Global;
-use std::test::Fail;
 
 #[tactic(auto, using(sn_out::proofs::RowLemmas::below_power))]
 fn is_below(number: u64, width: u32) -> bool
@@ -199,50 +198,45 @@ const RECORDS: [(Window, &[u8]); 3] = [
 ];
 
 #[test]
-fn prints_blocks(rt: HostRuntime) -> Result<(), Fail> {
+fn prints_blocks(rt: HostRuntime) {
     for (window, counts, wanted) in BLOCKS {
-        let text = shown(rt.alloc(), &window, counts).ok_or("no block")?;
+        let text = shown(rt.alloc(), &window, counts).expect(&rt, "a block");
         assert_eq!(rt; text.as_slice(), wanted);
     }
-    Ok(())
 }
 
 #[test]
-fn writes_records(rt: HostRuntime) -> Result<(), Fail> {
+fn writes_records(rt: HostRuntime) {
     for (window, wanted) in RECORDS {
-        let text = records(rt.alloc(), &window).ok_or("no records")?;
+        let text = records(rt.alloc(), &window).expect(&rt, "records");
         assert_eq!(rt; text.as_slice(), wanted);
     }
-    Ok(())
 }
 
 #[test]
-fn names_the_fields(rt: HostRuntime) -> Result<(), Fail> {
+fn names_the_fields(rt: HostRuntime) {
     assert_eq!(rt;
         heading(),
         b"window,query,level,c1,c2,c3,c4,c5,c6,c7,c8\n".as_slice()
     );
-    Ok(())
 }
 
 #[test]
-fn prints_the_last_lines(rt: HostRuntime) -> Result<(), Fail> {
+fn prints_the_last_lines(rt: HostRuntime) {
     let plain = total(rt.alloc(), 0, None);
     assert!(rt; plain.is_ok_and(|text| text.as_slice() == b"total windows 0\n".as_slice()));
     let counted = total(rt.alloc(), 2, Some(6));
     assert!(rt;
         counted.is_ok_and(|text| text.as_slice() == b"total windows 2 emitted 6\n".as_slice())
     );
-    Ok(())
 }
 
 #[test]
-fn prints_damage(rt: HostRuntime) -> Result<(), Fail> {
+fn prints_damage(rt: HostRuntime) {
     let cut = damage(rt.alloc(), Ending::Cut(164));
     assert!(rt; cut.is_ok_and(|text| text.as_slice() == b"capture cut at byte 164\n".as_slice()));
     let bad = damage(rt.alloc(), Ending::Bad(164));
     assert!(rt; bad.is_ok_and(|text| text.as_slice() == b"capture bad at byte 164\n".as_slice()));
     let clean = damage(rt.alloc(), Ending::Clean);
     assert!(rt; clean.is_ok_and(|text| text.as_slice().is_empty()));
-    Ok(())
 }

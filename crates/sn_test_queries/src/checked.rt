@@ -5,7 +5,6 @@ use sn_types::typed::Typed;
 use sn_types_faults::fault::TypeFault;
 use sn_types_faults::widths::constant_width;
 use std::alloc::Global;
-use std::test::Fail;
 
 /// What is found of a text that is parsed. `None` where it isn't.
 fn checked(alloc: Global, text: &[u8]) -> Option<Result<Typed, TypeFault>> {
@@ -24,7 +23,7 @@ pub(crate) fn typed(alloc: Global, text: &[u8]) -> Option<Typed> {
 }
 
 #[test]
-fn finds_faults(rt: HostRuntime) -> Result<(), Fail> {
+fn finds_faults(rt: HostRuntime) {
     for (text, fault) in [
         (
             b"window 1000000\nquery q { packets | filter tcp.flag == 2; }".as_slice(),
@@ -59,28 +58,28 @@ fn finds_faults(rt: HostRuntime) -> Result<(), Fail> {
             TypeFault::JoinKeys { line: 2 },
         ),
     ] {
-        let found = checked(rt.alloc(), text).ok_or("not parsed")?;
+        let found = checked(rt.alloc(), text).expect(&rt, "a query text");
         assert_eq!(rt; found.err(), Some(fault));
     }
-    Ok(())
 }
 
 #[test]
-fn copies_a_checked_file(rt: HostRuntime) -> Result<(), Fail> {
+fn copies_a_checked_file(rt: HostRuntime) {
     let text =
         b"window 1000000\nquery q { refine ip.dst: 8, 32; packets | map ip.dst as d, 1 as n | reduce d: sum(n) width 16 | filter n > 1; }";
-    let typed = typed(rt.alloc(), text).ok_or("not typed")?.copy()?;
+    let typed = typed(rt.alloc(), text)
+        .expect(&rt, "typed queries")
+        .copy()
+        .expect(&rt, "ample memory");
     assert_eq!(rt; typed.queries(), 1);
     assert_eq!(rt; typed.levels(0), [8, 32].as_slice());
     assert_eq!(rt; typed.window_ns(), 1000000000);
-    Ok(())
 }
 
 /// The width of a constant is that of its binary digits, of which 0 has one.
 #[test]
-fn counts_binary_digits(rt: HostRuntime) -> Result<(), Fail> {
+fn counts_binary_digits(rt: HostRuntime) {
     for (number, width) in [(0, 1), (1, 1), (2, 2), (255, 8), (256, 9), (u64::MAX, 64)] {
         assert_eq!(rt; constant_width(number), width);
     }
-    Ok(())
 }

@@ -16,7 +16,6 @@ use sn_query_grammar::ast::Cmp;
 use sn_types::evaluate::expr;
 use sn_types::typed_op::{JoinKey, TCond, TExpr, TOp, TReduce};
 use std::alloc::Global;
-use std::test::Fail;
 
 /// A row of these columns.
 pub(crate) fn row(columns: &[u64]) -> ShortRow
@@ -37,34 +36,38 @@ fn list(alloc: Global, rows: &[ShortRow]) -> Result<RowSeq<ShortRow>, Memory>
 }
 
 #[test]
-fn groups_of_no_rows_are_none(rt: HostRuntime) -> Result<(), Fail> {
+fn groups_of_no_rows_are_none(rt: HostRuntime) {
     let none = RowSeq::<ShortRow>::new(rt.alloc());
-    let once = distinct(rt.alloc(), &none)?;
+    let once = distinct(rt.alloc(), &none).expect(&rt, "ample memory");
     assert_eq!(rt; once.as_slice().len(), 0);
     let r = TReduce {
         keys: Seq::new(rt.alloc()),
         value: 0,
         fold: AnyFold::Min(Min { v: 3 }),
     };
-    let reduced = reduce(rt.alloc(), &none, &r)?;
+    let reduced = reduce(rt.alloc(), &none, &r).expect(&rt, "ample memory");
     assert_eq!(rt; reduced.as_slice().len(), 0);
-    let folded = reduce_with(rt.alloc(), Seed::new(7), &none, &none, &r)?;
+    let folded = reduce_with(rt.alloc(), Seed::new(7), &none, &none, &r).expect(
+        &rt,
+        "ample memory",
+    );
     assert_eq!(rt; folded.as_slice().len(), 0);
-    Ok(())
 }
 
 #[test]
-fn joins_on_the_first_column(rt: HostRuntime) -> Result<(), Fail> {
+fn joins_on_the_first_column(rt: HostRuntime) {
     let alloc = rt.alloc();
-    let left = list(alloc, &[row(&[1, 10]), row(&[1, 11]), row(&[2, 12])])?;
-    let right = list(alloc, &[row(&[1, 20]), row(&[3, 21])])?;
+    let left = list(alloc, &[row(&[1, 10]), row(&[1, 11]), row(&[2, 12])]).expect(
+        &rt,
+        "ample memory",
+    );
+    let right = list(alloc, &[row(&[1, 20]), row(&[3, 21])]).expect(&rt, "ample memory");
     let keys = [JoinKey { left: 0, right: 0 }];
-    let pairs = join(alloc, &left, &right, &keys)?;
+    let pairs = join(alloc, &left, &right, &keys).expect(&rt, "ample memory");
     assert_eq!(rt;
         pairs.as_slice(),
         [row(&[1, 10, 20]), row(&[1, 11, 20])].as_slice()
     );
-    Ok(())
 }
 
 fn above_one(alloc: Global) -> TCond
@@ -80,28 +83,26 @@ fn above_one(alloc: Global) -> TCond
 }
 
 #[test]
-fn filters_and_maps(rt: HostRuntime) -> Result<(), Fail> {
-    let rows = list(rt.alloc(), &[row(&[1]), row(&[2])])?;
+fn filters_and_maps(rt: HostRuntime) {
+    let rows = list(rt.alloc(), &[row(&[1]), row(&[2])]).expect(&rt, "ample memory");
     let conds = [above_one(rt.alloc())];
-    let kept = filter(rt.alloc(), &rows, &conds, 0)?;
+    let kept = filter(rt.alloc(), &rows, &conds, 0).expect(&rt, "ample memory");
     assert_eq!(rt; kept.as_slice(), [row(&[2])].as_slice());
     let cols = [TExpr::Copy(0), TExpr::Const(7)];
-    let one = list(rt.alloc(), &[row(&[1])])?;
-    let made = map(rt.alloc(), &one, &cols)?;
+    let one = list(rt.alloc(), &[row(&[1])]).expect(&rt, "ample memory");
+    let made = map(rt.alloc(), &one, &cols).expect(&rt, "ample memory");
     assert_eq!(rt; made.as_slice(), [row(&[1, 7])].as_slice());
-    Ok(())
 }
 
 #[test]
-fn runs_operators_one_after_another(rt: HostRuntime) -> Result<(), Fail> {
-    let rows = list(rt.alloc(), &[row(&[5]), row(&[5]), row(&[4])])?;
-    let out = run(rt.alloc(), Seed::new(7), &[TOp::Distinct], 0, rows)?;
+fn runs_operators_one_after_another(rt: HostRuntime) {
+    let rows = list(rt.alloc(), &[row(&[5]), row(&[5]), row(&[4])]).expect(&rt, "ample memory");
+    let out = run(rt.alloc(), Seed::new(7), &[TOp::Distinct], 0, rows).expect(&rt, "ample memory");
     assert_eq!(rt; out.as_slice(), [row(&[5]), row(&[4])].as_slice());
-    Ok(())
 }
 
 #[test]
-fn divides_in_128_bits(rt: HostRuntime) -> Result<(), Fail> {
+fn divides_in_128_bits(rt: HostRuntime) {
     let row = ShortRow::empty().with(500).and_then(|row| row.with(20000));
     if let Some(row) = row {
         assert_eq!(rt; row.len(), 2);
@@ -117,5 +118,4 @@ fn divides_in_128_bits(rt: HostRuntime) -> Result<(), Fail> {
         assert_eq!(rt; row.len(), 2);
         assert_eq!(rt; expr(&TExpr::Ratio(0, 2, 1), &row), u64::MAX);
     }
-    Ok(())
 }

@@ -5,7 +5,6 @@ use sn_query::print::print;
 use sn_test_inputs::case::Case;
 use std::alloc::Global;
 use std::process::Abort;
-use std::test::Fail;
 
 const TEXTS: &str =
     "window 1000000 query q { refine ip.dst: 8, 32; packets | map ip.dst as d, 1 as n | reduce d: sum(n) width 16 | filter n > 1; }
@@ -96,28 +95,26 @@ fn plan_again(alloc: Global, text: &[u8]) -> Option<Seq<u8>> {
     }
 }
 
-fn expect_printed(rt: &impl Abort, alloc: Global, lines: &str) -> Result<(), Fail> {
-    let case = Case::read(alloc, lines)?;
+fn expect_printed(rt: &impl Abort, alloc: Global, lines: &str) {
+    let case = Case::read(alloc, lines).expect(rt, "a case");
     let printed = if case.plan.is_empty() {
         query_again(alloc, case.text.as_str().as_bytes())
     } else {
         plan_again(alloc, case.plan.as_str().as_bytes())
     };
-    let printed = printed.ok_or("not read")?;
+    let printed = printed.expect(rt, "a text");
     assert_eq!(rt;
         printed.as_slice(),
         case.wanted.as_str().as_bytes(),
         "of {lines}"
     );
-    Ok(())
 }
 
 #[test]
-fn prints_texts_again(rt: HostRuntime) -> Result<(), Fail> {
+fn prints_texts_again(rt: HostRuntime) {
     for lines in TEXTS.split("\n\n") {
-        expect_printed(&rt, rt.alloc(), lines)?;
+        expect_printed(&rt, rt.alloc(), lines);
     }
-    Ok(())
 }
 
 #[test]
