@@ -1,11 +1,13 @@
 #!/usr/bin/env python3
 """Tells where the gate's processor time goes: by crate, and there by proof, tests and edits that must fail.
 
-    python3 checks/gate_time.py [--seconds S] [COMMAND ..]
+    python3 checks/gate_time.py [--seconds S] [--to FILE] [COMMAND ..]
 
 Runs the command (`rt ci` where none is given) and looks every S seconds (0.5) at the prover's processes on this machine that
 are below it. For each it keeps the last processor time that it saw, so what a process used behind the last look is left out: with 0.5
 seconds some parts in a hundred. At the end it prints a table and the command's own sum, and ends with the command's status.
+With --to it writes the table to a file too: `rt ci --anew` with --to checks/gate_seconds.txt, on a machine that does nothing else, is what
+below.py and gate_schedule.py go by. A crate that the run kept has 0 there.
 Works on Linux (it reads /proc). Python 3 alone.
 """
 
@@ -14,6 +16,9 @@ import os
 import subprocess
 import sys
 import time
+
+import gate_seconds
+import house
 
 TICKS = os.sysconf("SC_CLK_TCK")
 
@@ -64,13 +69,9 @@ def kind_of(pid, words):
     return crate, "tests" if "--test" in words else "proof"
 
 
-def main():
-    parser = argparse.ArgumentParser(description=__doc__, formatter_class=argparse.RawDescriptionHelpFormatter)
-    parser.add_argument("--seconds", type=float, default=0.5, help="between two looks")
-    parser.add_argument("command", nargs=argparse.REMAINDER, help="what is run (rt ci)")
-    given = parser.parse_args()
-    began = time.time()
-    running = subprocess.Popen(given.command or ["rt", "ci"])
+def watched(command, between):
+    """Runs a command and looks at the provers below it. Returns the seconds of each crate by part, one number a process, and the status."""
+    running = subprocess.Popen(command)
     used, kinds = {}, {}
     while running.poll() is None:
         for pid, seconds, words in below(running.pid, list(processes())):
@@ -78,21 +79,47 @@ def main():
             if kind:
                 kinds[pid] = kind
                 used[pid] = seconds
-        time.sleep(given.seconds)
+        time.sleep(between)
     table = {}
     for pid, seconds in used.items():
         crate, kind = kinds[pid]
         table.setdefault(crate, {}).setdefault(kind, []).append(seconds)
-    parts = ("proof", "tests", "edits")
-    print(f"{'crate':24}" + "".join(f"{part:>10}" for part in parts) + f"{'sum':>10}   runs of edits")
-    rows = sorted(table.items(), key=lambda row: -sum(map(sum, row[1].values())))
-    for crate, kinds_of_crate in rows:
-        sums = [sum(kinds_of_crate.get(part, [])) for part in parts]
-        print(f"{crate:24}" + "".join(f"{number:10.0f}" for number in [*sums, sum(sums)]) + f"{len(kinds_of_crate.get('edits', [])):10}")
-    sums = [sum(sum(row.get(part, [])) for row in table.values()) for part in parts]
+    return table, running.returncode
+
+
+def tell(table, minutes):
+    """Prints the seconds of each crate by part, the dearest first, and the sums."""
+    print(f"{'crate':24}" + "".join(f"{part:>10}" for part in gate_seconds.PARTS) + f"{'sum':>10}   runs of edits")
+    for crate, kinds in sorted(table.items(), key=lambda row: -sum(map(sum, row[1].values()))):
+        sums = [sum(kinds.get(part, [])) for part in gate_seconds.PARTS]
+        print(f"{crate:24}" + "".join(f"{number:10.0f}" for number in [*sums, sum(sums)]) + f"{len(kinds.get('edits', [])):10}")
+    sums = [sum(sum(row.get(part, [])) for row in table.values()) for part in gate_seconds.PARTS]
     print(f"{'all, in seconds':24}" + "".join(f"{number:10.0f}" for number in [*sums, sum(sums)]))
-    print(f"{(time.time() - began) / 60:.1f} minutes by the clock, {sum(sums) / 60:.1f} processor minutes of the prover")
-    sys.exit(running.returncode)
+    print(f"{minutes:.1f} minutes by the clock, {sum(sums) / 60:.1f} processor minutes of the prover")
+
+
+def keep(table, minutes, path):
+    """Writes the seconds of each crate to a file, in the order of crates.txt, for below.py and gate_schedule.py."""
+    rooms, _ = house.listed()
+    sums = {crate: {part: sum(table.get(crate, {}).get(part, [])) for part in gate_seconds.PARTS} for crate in rooms}
+    said = [f"processor seconds of proof, tests and edits in a run of the gate from nothing, {time.strftime('%Y-%m-%d')}, by gate_time.py: {minutes:.0f} minutes on {os.cpu_count()} processors"]
+    with open(path, "w", encoding="utf-8") as file:
+        file.write(gate_seconds.text_of(sums, said))
+
+
+def main():
+    parser = argparse.ArgumentParser(description=__doc__, formatter_class=argparse.RawDescriptionHelpFormatter)
+    parser.add_argument("--seconds", type=float, default=0.5, help="between two looks")
+    parser.add_argument("--to", metavar="FILE", help="a file for the seconds of each crate")
+    parser.add_argument("command", nargs=argparse.REMAINDER, help="what is run (rt ci)")
+    given = parser.parse_args()
+    began = time.time()
+    table, status = watched(given.command or ["rt", "ci"], given.seconds)
+    minutes = (time.time() - began) / 60
+    tell(table, minutes)
+    if given.to:
+        keep(table, minutes, given.to)
+    sys.exit(status)
 
 
 if __name__ == "__main__":
