@@ -8,6 +8,7 @@ use sn_io::sink::Sink;
 use sn_test_inputs::trouble::Trouble;
 use sn_top::top::top;
 use std::alloc::Global;
+use std::process::Abort;
 
 /// How a command ended: its status, and what it wrote as its output and as its line.
 #[derive(Drop)]
@@ -23,8 +24,8 @@ pub fn file_of(alloc: Global, bytes: &[u8]) -> Result<Seq<u8>, Trouble> {
 }
 
 /// Puts bytes as a file, with ample memory.
-pub fn put(rt: &HostRuntime, files: &mut MemInputs, name: &str, bytes: &[u8]) {
-    let file = file_of(rt.alloc(), bytes).expect(rt, "ample memory");
+pub fn put(rt: &impl Abort, alloc: Global, files: &mut MemInputs, name: &str, bytes: &[u8]) {
+    let file = file_of(alloc, bytes).expect(rt, "ample memory");
     assert!(rt; files.put(name, file).is_ok());
 }
 

@@ -205,8 +205,8 @@ fn tells_each_write_that_takes_nothing(rt: HostRuntime) {
 fn keeps_the_status_where_the_line_fails(rt: HostRuntime) {
     let alloc = rt.alloc();
     let mut files = MemInputs::new(alloc);
-    put(&rt, &mut files, "q", SYN.as_bytes());
-    put(&rt, &mut files, "c", b"");
+    put(&rt, alloc, &mut files, "q", SYN.as_bytes());
+    put(&rt, alloc, &mut files, "c", b"");
     let mut out = MemSink::new(alloc, 1000).expect(&rt, "ample memory");
     let mut err = MemSink::new(alloc, 1000).expect(&rt, "ample memory");
     assert!(rt; err.fail_at(0).is_ok());

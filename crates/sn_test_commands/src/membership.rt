@@ -42,9 +42,9 @@ fn finishes_what_an_open_table_sends(rt: HostRuntime) {
     let mut capture = Vec::from_slice(alloc, &HEADER).expect(&rt, "ample memory");
     assert!(rt; push_syns(&mut capture, PACKETS).is_ok());
     let mut files = MemInputs::new(alloc);
-    put(&rt, &mut files, "s", SWITCH.as_bytes());
-    put(&rt, &mut files, "q", SPREAD.as_bytes());
-    put(&rt, &mut files, "p", PLAN.as_bytes());
+    put(&rt, alloc, &mut files, "s", SWITCH.as_bytes());
+    put(&rt, alloc, &mut files, "q", SPREAD.as_bytes());
+    put(&rt, alloc, &mut files, "p", PLAN.as_bytes());
     assert!(rt; files.put("c", Seq::from_vec(capture)).is_ok());
     let emitted = call(
         alloc,
@@ -54,7 +54,7 @@ fn finishes_what_an_open_table_sends(rt: HostRuntime) {
     )
     .expect(&rt, "ample memory");
     assert_eq!(rt; emitted.status, 0);
-    put(&rt, &mut files, "r", emitted.out.bytes());
+    put(&rt, alloc, &mut files, "r", emitted.out.bytes());
     for line in ["run s q p c", "finish q p r"] {
         let ran = call(
             alloc,

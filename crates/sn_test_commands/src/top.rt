@@ -114,7 +114,7 @@ fn finishes_what_it_emits(rt: HostRuntime) {
     let emitted = call(alloc, "emit s q p c", &mut files, out).expect(&rt, "ample memory");
     assert_eq!(rt; emitted.status, 0);
     assert_eq!(rt; emitted.out.bytes(), &REPORTS[..]);
-    put(&rt, &mut files, "r", emitted.out.bytes());
+    put(&rt, alloc, &mut files, "r", emitted.out.bytes());
     let out = MemSink::new(alloc, 1000).expect(&rt, "ample memory");
     let finished = call(alloc, "finish q p r", &mut files, out).expect(&rt, "ample memory");
     assert_eq!(rt; finished.status, 0);
@@ -128,7 +128,7 @@ fn finishes_what_it_emits(rt: HostRuntime) {
 fn finishes_reports_of_version_one(rt: HostRuntime) {
     let alloc = rt.alloc();
     let mut files = spread_files(alloc).expect(&rt, "ample memory");
-    put(&rt, &mut files, "r", &FIRST_REPORTS);
+    put(&rt, alloc, &mut files, "r", &FIRST_REPORTS);
     let out = MemSink::new(alloc, 1000).expect(&rt, "ample memory");
     let finished = call(alloc, "finish q p r", &mut files, out).expect(&rt, "ample memory");
     assert_eq!(rt; finished.status, 0);

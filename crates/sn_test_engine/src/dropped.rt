@@ -5,10 +5,12 @@ use sn_engine::engine::Engine;
 use sn_engine::fault::TakeFault;
 use sn_plan_fit::shape;
 use sn_report::frame::{Frame, Item, Tag};
+use std::alloc::Global;
+use std::process::Abort;
 
 /// An engine of two levels, with nothing cut. In window 0 level 8 has two packets to 10.0.0.0, and is closed.
-fn engine_after_a_window(rt: &HostRuntime) -> Engine {
-    let mut engine = engine(rt).expect(rt, "an engine");
+fn engine_after_a_window(rt: &impl Abort, alloc: Global) -> Engine {
+    let mut engine = engine(alloc).expect(rt, "an engine");
     assert!(rt; take(&mut engine, 0, &[NET, NET]).is_ok());
     assert!(rt; end(&mut engine, 0).is_ok());
     let first = engine.close_window().expect(rt, "answers");
@@ -18,11 +20,11 @@ fn engine_after_a_window(rt: &HostRuntime) -> Engine {
 }
 
 /// An engine of two levels, with nothing cut.
-fn engine(rt: &HostRuntime) -> Option<Engine> {
-    let t = queries(rt.alloc(), REFINED)?;
-    let plan = plan(rt.alloc(), TWO_LEVELS)?;
+fn engine(alloc: Global) -> Option<Engine> {
+    let t = queries(alloc, REFINED)?;
+    let plan = plan(alloc, TWO_LEVELS)?;
     match shape(&t, &plan) {
-        Ok(()) => Engine::make(rt.alloc(), &t, &plan).ok(),
+        Ok(()) => Engine::make(alloc, &t, &plan).ok(),
         Err(_) => None,
     }
 }
@@ -50,7 +52,7 @@ fn end(engine: &mut Engine, window: u64) -> Result<(), TakeFault> {
 
 #[test]
 fn drops_items_of_other_prefixes(rt: HostRuntime) {
-    let mut engine = engine_after_a_window(&rt);
+    let mut engine = engine_after_a_window(&rt, rt.alloc());
     assert!(rt;
         take(
             &mut engine,
@@ -70,7 +72,7 @@ fn drops_items_of_other_prefixes(rt: HostRuntime) {
 
 #[test]
 fn drops_all_items_after_a_gap(rt: HostRuntime) {
-    let mut engine = engine_after_a_window(&rt);
+    let mut engine = engine_after_a_window(&rt, rt.alloc());
     assert!(rt; take(&mut engine, 1, &[NET + 9, NET + 9]).is_ok());
     assert!(rt; end(&mut engine, 2).is_ok());
     let second = engine.close_window().expect(&rt, "ample memory");
@@ -80,7 +82,7 @@ fn drops_all_items_after_a_gap(rt: HostRuntime) {
 
 #[test]
 fn keeps_its_prefixes_where_items_are_dropped_at_once(rt: HostRuntime) {
-    let mut engine = engine_after_a_window(&rt);
+    let mut engine = engine_after_a_window(&rt, rt.alloc());
     assert!(rt; take(&mut engine, 0, &[2 * NET, 2 * NET]).is_ok());
     engine.clear();
     assert!(rt; !engine.started());

@@ -7,6 +7,7 @@ use sn_io::mem_inputs::MemInputs;
 use sn_io::mem_sink::MemSink;
 use sn_top::top::top;
 use std::alloc::Global;
+use std::process::Abort;
 
 /// Little-endian microseconds, Ethernet.
 const HEADER: [u8; 24] = [
@@ -36,8 +37,8 @@ fn file_of(alloc: Global, bytes: &[u8]) -> Result<Seq<u8>, Memory> {
 }
 
 /// Puts bytes as a file, with ample memory.
-fn put(rt: &HostRuntime, files: &mut MemInputs, name: &str, bytes: &[u8]) {
-    let file = file_of(rt.alloc(), bytes).expect(rt, "ample memory");
+fn put(rt: &impl Abort, alloc: Global, files: &mut MemInputs, name: &str, bytes: &[u8]) {
+    let file = file_of(alloc, bytes).expect(rt, "ample memory");
     assert!(rt; files.put(name, file).is_ok());
 }
 
@@ -67,9 +68,9 @@ fn what_the_machine_tells_is_printed(rt: HostRuntime) {
         );
     }
     let mut files = MemInputs::new(alloc);
-    put(&rt, &mut files, "s", SWITCH);
-    put(&rt, &mut files, "q", QUERIES);
-    put(&rt, &mut files, "p", PLAN);
+    put(&rt, alloc, &mut files, "s", SWITCH);
+    put(&rt, alloc, &mut files, "q", QUERIES);
+    put(&rt, alloc, &mut files, "p", PLAN);
     assert!(rt;
         files
             .put(
