@@ -4,7 +4,7 @@ with its error line. Of them, README.md and the documents around plans each `sh`
 block that stands after it, where one does; a line `...` there stands for any lines. Blocks of other kinds, as `bash`, aren't run. Of answers that are
 drawn each key must stand in the picture, and of stays each line, in the new one and in the one that the document shows. A document is left out
 where the program hasn't all its commands; checks/planned.py has them (`documents.py --sonata checks/planned.py`). Without matplotlib and graphviz pictures
-are left out, and without editcap, mergecap, psql, xxd, tcpdump, jq or Dask the blocks that use them."""
+are left out, and without editcap, mergecap, psql, xxd, tcpdump, jq, systemd-analyze or Dask the blocks that use them, which is said of each."""
 
 import os
 import re
@@ -21,10 +21,10 @@ TOP = os.path.dirname(HERE)
 GENERATE = os.path.join(TOP, 'bench', 'generate.py')
 PAIR = re.compile(r'```(query|refused)\n(.*?)```\n+```(answer|line)\n(.*?)```', re.S)
 BLOCK = re.compile(r'```sh\n(.*?)```(?:\n+```shows\n(.*?)```)?', re.S)
-# (the README, the queries and those around plans: blocks of other kinds than sh, as bash, aren't run)
-SESSIONS = ['README.md', 'QUERIES.md', 'FORMATS.md', 'FAQ.md', 'PLANS.md', 'TOUR.md', 'SCALE.md', 'examples/README.md']
+# (the README, the queries, those around plans and the operator's day: blocks of other kinds than sh, as bash, aren't run)
+SESSIONS = ['README.md', 'QUERIES.md', 'FORMATS.md', 'FAQ.md', 'PLANS.md', 'TOUR.md', 'SCALE.md', 'OPERATING.md', 'examples/README.md']
 COMMAND = re.compile(r'\bsonata (plain|plan|run|emit|finish|detect|many|check|live|replan|gen|job) [^-|;&>\n]+( --csv)?')
-TOOLS = re.compile(r'^(?:.*\| *)?(editcap|mergecap|reordercap|psql|xxd|jq|tcpdump) ', re.M)
+TOOLS = re.compile(r'^(?:.*\| *)?(editcap|mergecap|reordercap|psql|xxd|jq|tcpdump|systemd-analyze) ', re.M)
 DASK = re.compile(r'examples/scale/(?:parts|rest)\.py')
 PICTURE = re.compile(r'^/usr/bin/python3 \S*view/(?:layout|tree|emitted|answers|report)\.py .*\n', re.M)
 
@@ -64,10 +64,10 @@ def draws():
     return python.returncode == 0 and shutil.which('dot') is not None
 
 
-def is_missing(commands):
-    """Whether a block needs a tool that isn't there."""
+def missing_tools(commands):
+    """The tools that a block needs and that aren't there."""
     dask = DASK.search(commands) and subprocess.run(['/usr/bin/python3', '-c', 'import distributed, pandas'], stderr=subprocess.DEVNULL).returncode
-    return bool(dask) or any(shutil.which(tool) is None for tool in TOOLS.findall(commands))
+    return ['Dask (distributed, pandas)'] * bool(dask) + sorted({tool for tool in TOOLS.findall(commands) if shutil.which(tool) is None})
 
 
 def session_folder(executable, folder):
@@ -94,8 +94,9 @@ def try_session(executable, name):
         with open(place['PLACE'], 'w') as file:
             file.write(folder)
         for commands, shown in blocks:
-            if is_missing(commands):
-                print('%s: left out, a tool is missing: %s' % (name, commands.splitlines()[0]))
+            missing = missing_tools(commands)
+            if missing:
+                print('%s: left out without %s: %s' % (name, ', '.join(missing), commands.splitlines()[0]))
                 continue
             status, found = spoken(commands if pictures else PICTURE.sub('', commands), place)
             good = is_shown(shown, found) if shown else status == 0

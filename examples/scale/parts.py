@@ -5,15 +5,17 @@
     parts.py parts plain tour.query > whole.txt
     parts.py parts run tour.switch tour.query tour.plan --workers 4 > whole.txt
 
-Behind the folder stand the words of the command without the capture. --kill-one ends one worker in the midst of the work: Dask asks another one for what it
-had, and the answer is the same. How long it took, and by how many workers, goes to standard error."""
+After the folder stand the words of the command without the capture. --kill-one ends one worker while its `sonata` answers the middle part: Dask asks another
+one for what it had, and the answer is the same. How long it took, and by how many workers, goes to standard error."""
 
 import argparse
 import glob
 import os
+import shutil
 import signal
 import subprocess
 import sys
+import tempfile
 import time
 
 import cluster
@@ -24,17 +26,29 @@ sys.path.insert(0, VIEW)
 import programs  # noqa: E402
 
 
-def answer(words, part):
+def end_once(mark, words, part):
+    """End this worker's process in the midst of a part, the first time that it is asked for."""
+    try:
+        os.close(os.open(mark, os.O_CREAT | os.O_EXCL))
+    except FileExistsError:
+        return
+    subprocess.Popen([*words, part], stdout=subprocess.PIPE).stdout.read(1)
+    os.kill(os.getpid(), signal.SIGKILL)
+
+
+def answer(words, part, mark=None):
     """What the program prints for a part, on a worker. A damaged end is answered up to there."""
+    if mark:
+        end_once(mark, words, part)
     done = subprocess.run([*words, part], stdout=subprocess.PIPE, stderr=subprocess.PIPE, text=True)
     if done.returncode not in (0, 5) or not done.stdout:
         raise RuntimeError('%s: %s' % (os.path.basename(part), done.stderr.strip()))
     return part, done.stdout
 
 
-def kill_one(client):
-    """End the process of a worker of this machine. The cluster starts another one in its place."""
-    os.kill(sorted(client.run(os.getpid).values())[0], signal.SIGKILL)
+def processes(client):
+    """The processes of the workers."""
+    return set(client.run(os.getpid).values())
 
 
 def joined(answers):
@@ -56,21 +70,26 @@ def main():
     cluster.add_options(words)
     programs.add_option(words)
     given = words.parse_args()
+    if given.kill_one and given.scheduler:
+        words.error('--kill-one is for workers that are started here')
     parts = sorted(glob.glob(os.path.join(os.path.abspath(given.folder), 'part-*.pcap')))
     if not parts:
         sys.exit('%s: no parts' % given.folder)
+    if not given.scheduler and not shutil.which(given.sonata):
+        sys.exit('%s: no program; --sonata names it' % given.sonata)
     asked = [os.path.abspath(given.sonata), given.command, *map(os.path.abspath, given.files)]
     client = cluster.client(given)
-    begun, workers = time.monotonic(), len(client.scheduler_info()['workers'])
-    futures = [client.submit(answer, asked, part, pure=False) for part in parts]
-    if given.kill_one:
-        time.sleep(0.3)
-        kill_one(client)
-    try:
-        answers = client.gather(futures)
-    except RuntimeError as fault:
-        sys.exit(str(fault))
-    print('%d parts, %d workers, %.1f seconds%s' % (len(parts), workers, time.monotonic() - begun, ', one lost' if given.kill_one else ''), file=sys.stderr)
+    begun, before = time.monotonic(), processes(client)
+    marked = parts[len(parts) // 2] if given.kill_one else None
+    with tempfile.TemporaryDirectory(prefix='sonata-parts-') as folder:
+        futures = [client.submit(answer, asked, part, os.path.join(folder, 'ended') if part == marked else None, pure=False) for part in parts]
+        try:
+            answers = client.gather(futures)
+        except (RuntimeError, OSError) as fault:
+            cluster.end(client)
+            sys.exit(str(fault))
+    lost = ', one lost while it answered %s' % os.path.basename(marked) if marked and before - processes(client) else ''
+    print('%d parts, %d workers, %.1f seconds%s' % (len(parts), len(before), time.monotonic() - begun, lost), file=sys.stderr)
     status = joined(answers)
     cluster.end(client)
     return status
