@@ -16,8 +16,10 @@ one, and no flood may be told twice; after the trouble each flood must be told o
 need a mount namespace (root, or `unshare -r`), and are left out without; so is what needs another user, without root."""
 
 import collections
+import concurrent.futures
 import functools
 import glob
+import itertools
 import json
 import os
 import re
@@ -35,11 +37,16 @@ SCRIPT = os.path.join(TOP, 'examples', 'operating', 'hour')
 sys.path.insert(0, os.path.join(TOP, 'examples', 'recipes'))
 import written  # noqa: E402
 
-QUERY = 'window 1000000 query flood { packets | filter tcp.flags == 2 | map ip.dst as d, 1 as n | reduce d: sum(n) width 16 | filter n > 20; }\n'
-OTHER = 'window 1000000 query other { packets | filter ip.valid == 1 | map ip.src as s, pkt.len as b | reduce s: sum(b) width 32 | filter b > 1; }\n'
-SWITCH = 'stages 6; actions 2; bits 65536; meta 512; chain 1; slots 128, 512;\n'
+TEXTS = {
+    'q.query': 'window 1000000 query flood { packets | filter tcp.flags == 2 | map ip.dst as d, 1 as n | reduce d: sum(n) width 16 | filter n > 20; }\n',
+    'other.query': 'window 1000000 query other { packets | filter ip.valid == 1 | map ip.src as s, pkt.len as b | reduce s: sum(b) width 32 | filter b > 1; }\n',
+    's.switch': 'stages 6; actions 2; bits 65536; meta 512; chain 1; slots 128, 512;\n',
+    'sonata.conf': 'switch=s.switch queries=q.query\nback=1 keep=9 nodes=2000 sonata=PROGRAM\n',
+    'journal.txt': '',
+}
 SLOTS = ['slot-20261201-%02d0000' % hour for hour in range(4)]
 FLOODED = [hour for hour in range(4) if hour != 1]
+FIRST, NUMBER = 150, itertools.count()
 TOTAL = re.compile(r'total windows \d+( emitted \d+)?\n')
 # Ends itself at the N-th line that it comes to, or writes the lines that it comes to.
 TRACED = '''
@@ -80,9 +87,9 @@ def write_hour(name, hour, seconds=3):
 def template(folder, executable):
     """A folder as the script finds it, with a plan that fits and one of another query."""
     os.makedirs(folder)
-    for name, text in [('q.query', QUERY), ('other.query', OTHER), ('s.switch', SWITCH), ('sonata.conf', 'switch=s.switch queries=q.query\nback=1 keep=9 nodes=2000 sonata=%s\n' % executable)]:
+    for name, text in TEXTS.items():
         with open(os.path.join(folder, name), 'w') as file:
-            file.write(text)
+            file.write(text.replace('PROGRAM', executable))
     for hour, slot in enumerate(SLOTS):
         write_hour(os.path.join(folder, slot + '.pcap'), hour)
         os.utime(os.path.join(folder, slot + '.pcap'), (1, 1))
@@ -110,12 +117,11 @@ class Case:
     """A copy of the folder, the runs in it, and what was told there."""
 
     def __init__(self, place, name):
-        self.name, self.folder, self.wrong, self.user, self.lacking = name, os.path.join(place, 'case'), [], None, set()
-        shutil.rmtree(self.folder, ignore_errors=True)
+        self.name, self.folder, self.wrong, self.user, self.lacking, self.hours = name, os.path.join(place, 'case-%d' % next(NUMBER)), [], None, set(), list(range(4))
         shutil.copytree(os.path.join(place, 'template'), self.folder)
         if os.geteuid() == 0:
             self.user = 65534
-            for at, _, names in os.walk(place):
+            for at, _, names in os.walk(self.folder):
                 for it in [at, *(os.path.join(at, name) for name in names)]:
                     os.chown(it, self.user, self.user)
 
@@ -148,7 +154,7 @@ class Case:
         told = self.told() if told is None else told
         floods = collections.Counter(re.findall(r'flood 10\.9\.0\.(\d+) ', ' ; '.join(text for kind, text in told if kind == 'warning')))
         self.expect(sum(kind == 'warning' for kind, _ in told) == sum(floods.values()), 'told what is no flood')
-        for hour, slot in enumerate(SLOTS):
+        for hour, slot in ((hour, SLOTS[hour]) for hour in self.hours):
             self.expect(floods[str(1 + hour)] <= (hour in FLOODED), '%s: told %d times' % (slot, floods[str(1 + hour)]))
             if os.path.exists(self.path(slot + '.told')):
                 self.expect(slot in self.lacking or floods[str(1 + hour)] == (hour in FLOODED), '%s: taken for told' % slot)
@@ -162,18 +168,19 @@ class Case:
     def check_all(self, told=None):
         """What must be so when the trouble is over."""
         self.check_answers(told)
-        for slot in SLOTS:
+        for slot in (SLOTS[hour] for hour in self.hours):
             self.expect(os.path.exists(self.path(slot + '.told')), slot + ': not told')
         left = [os.path.basename(name) for ending in ('*.part', '*.how', '*.news', '*.known*', '*.failed') for name in glob.glob(self.path(ending))]
         self.expect(not [name for name in left if not name.startswith('known.json')], 'left: ' + ', '.join(left))
         with open(self.path('known.json')) as file:
-            self.expect(len(json.load(file)) == len(FLOODED), 'known.json')
+            self.expect(len(json.load(file)) == len({*FLOODED} & {*self.hours}), 'known.json')
 
     def said(self, slot, kind, *parts):
         """Whether a line of this kind on a capture has these parts."""
         return any(it == kind and text.startswith(slot) and all(part in text for part in parts) for it, text in self.told())
 
     def end(self):
+        shutil.rmtree(self.folder)
         for wrong in self.wrong:
             print('  %s: %s' % (self.name, wrong), flush=True)
         return bool(self.wrong)
@@ -277,13 +284,19 @@ def try_spoilt(place):
             if name == 'known.json':
                 case.expect(spoil in (missing, nowhere) or case.said('known.json', 'err'), 'not said: ' + name)
             else:
-                slots = [slot for slot in SLOTS if not os.path.exists(case.path(slot + '.told'))]
-                case.expect(all(any(kind == 'err' and (slot in text or name in text) for kind, text in case.told()) or spoil in (missing, folder, nowhere) and slot in name
-                                for slot in slots), 'not said of %s' % slots)
+                check_said(case, name, spoil)
                 again(case, name)
             case.run()
             case.check_all()
             yield case
+
+
+def check_said(case, name, spoil):
+    """Each capture without an answer must have an error, of it or of the file that was spoilt, but for one that is there no more."""
+    for slot in SLOTS:
+        if not os.path.exists(case.path(slot + '.told')):
+            gone = spoil in (missing, folder, nowhere) and slot in name
+            case.expect(gone or any(kind == 'err' and (slot in text or name in text) for kind, text in case.told()), 'not said of ' + slot)
 
 
 def again(case, name):
@@ -385,31 +398,44 @@ def try_mails(place):
         yield case
 
 
-def lines_of(case, chosen=lambda number: True):
-    """The numbers of the events at which to end a run: for each line the first and the last time that it comes to it."""
-    done = case.run('-c', TRACED, '0')
-    came = json.loads(done.stdout)
+def lines_of(case):
+    """The events at which to end a run, for each line of the script the first and the last time that it comes to it, but of the first hundred and fifty, before
+    which nothing is written but the lock, one in ten; and the lines of all events."""
+    came = json.loads(case.run('-c', TRACED, '0').stdout)
     first, last = {}, {}
     for number, line in enumerate(came, 1):
         first.setdefault(line, number)
         last[line] = number
-    return sorted(set(first.values()) | set(last.values())) if chosen(0) else sorted(set(last.values())), came
+    return [number for number in sorted({*first.values(), *last.values()}) if number > FIRST or number % 10 == 0], came
+
+
+def of_two(place, name):
+    """A case of two captures, both of which have a flood."""
+    case = Case(place, name)
+    case.hours = FLOODED[:2]
+    for hour in {*range(4)} - {*case.hours}:
+        os.unlink(case.path(SLOTS[hour] + '.pcap'))
+    return case
 
 
 def try_kills(place):
     """Ended at each line, and begun again."""
-    case = Case(place, 'not ended')
+    case = of_two(place, 'not ended')
     at, came = lines_of(case)
     case.check_all()
     yield case
-    for number in at:
-        case = Case(place, 'ended at line %d (event %d)' % (came[number - 1], number))
+
+    def ended(number):
+        case = of_two(place, 'ended at line %d (event %d)' % (came[number - 1], number))
         done = case.run('-c', TRACED, str(number))
         case.expect(done.returncode == -signal.SIGKILL, 'it ended by %d' % done.returncode)
         case.check_answers()
         case.run()
         case.check_all()
-        yield case
+        return case
+
+    with concurrent.futures.ThreadPoolExecutor(3) as several:
+        yield from several.map(ended, at)
 
 
 def try_together(place, executable):
@@ -469,42 +495,49 @@ def try_full(place):
 PLAYED = {'systemd-cat': 'cat > FILE.line; { printf "%s " "$4"; cat FILE.line; } >> FILE', 'journalctl': 'cut -d" " -f2- FILE'}
 
 
+def with_journal(place, name):
+    """A case whose folder has a journal's programs, and what to run it with."""
+    case = Case(place, name)
+    for tool, text in PLAYED.items():
+        stand_in(case, tool, text.replace('FILE', case.path('played')))
+    open(case.path('played'), 'w').close()
+    os.unlink(case.path('journal.txt'))
+    if case.user:
+        os.chown(case.path('played'), case.user, case.user)
+    return case, dict(os.environ, PATH=case.folder + os.pathsep + os.environ['PATH'])
+
+
+def played(case):
+    """The lines of the journal that was played."""
+    with open(case.path('played')) as file:
+        return [tuple(line[:-1].split(' ', 1)) for line in file]
+
+
+def telling_lines():
+    """The numbers of the script's lines that look at what was told, or tell."""
+    with open(SCRIPT) as file:
+        text = file.read().splitlines()
+    at = {name: next(n for n, line in enumerate(text, 1) if line.startswith('    def %s(' % name)) for name in ('lines', 'append', 'tell', 'mail')}
+    return {*range(at['lines'], at['append']), *range(at['tell'], at['mail'])}
+
+
 def try_journal(place):
     """Ended at each line of what tells, where the system has a journal. Run in a mount namespace."""
     subprocess.run(['mount', '-t', 'tmpfs', '-o', 'mode=755', 'none', '/run'], check=True)
     os.makedirs('/run/systemd/journal')
     open('/run/systemd/journal/socket', 'w').close()
-    place_of, number = None, 0
-
-    def begun(name):
-        case = Case(place, name)
-        for tool, text in PLAYED.items():
-            stand_in(case, tool, text.replace('FILE', case.path('played')))
-        open(case.path('played'), 'w').close()
-        if case.user:
-            os.chown(case.path('played'), case.user, case.user)
-        return case, dict(os.environ, PATH=case.folder + os.pathsep + os.environ['PATH'])
-
-    def told(case):
-        with open(case.path('played')) as file:
-            return [tuple(line[:-1].split(' ', 1)) for line in file]
-
-    case, place_of = begun('a journal, not ended')
-    done = case.run('-c', TRACED, '0', env=place_of)
-    came = json.loads(done.stdout)
-    case.check_all(told(case))
+    case, found_by = with_journal(place, 'a journal, not ended')
+    came = json.loads(case.run('-c', TRACED, '0', env=found_by).stdout)
+    case.check_all(played(case))
     case.expect(not os.path.exists(case.path('journal.txt')), 'journal.txt beside the journal')
     yield case
-    with open(SCRIPT) as file:
-        text = file.read().splitlines()
-    begins = {name: next(n for n, line in enumerate(text, 1) if line.startswith('    def %s(' % name)) for name in ('lines', 'append', 'tell', 'mail')}
-    telling = [n for n, line in enumerate(came, 1) if begins['lines'] <= line < begins['append'] or begins['tell'] <= line < begins['mail']]
-    for number in telling:
-        case, place_of = begun('a journal, ended at line %d (event %d)' % (came[number - 1], number))
-        case.run('-c', TRACED, str(number), env=place_of)
-        case.check_answers(told(case))
-        case.run(env=place_of)
-        case.check_all(told(case))
+    lines = telling_lines()
+    for number in [n for n, line in enumerate(came, 1) if line in lines]:
+        case, found_by = with_journal(place, 'a journal, ended at line %d (event %d)' % (came[number - 1], number))
+        case.run('-c', TRACED, str(number), env=found_by)
+        case.check_answers(played(case))
+        case.run(env=found_by)
+        case.check_all(played(case))
         yield case
 
 
@@ -520,8 +553,9 @@ def in_namespace():
 
 
 def trials(place, executable):
-    return {'files': [try_trains(place), try_spoilt(place), try_left(place)], 'others': [try_programs(place, executable), try_mails(place)], 'kills': [try_kills(place)],
-            'together': [try_together(place, executable)], 'full': [try_full(place)], 'journal': [try_journal(place)]}
+    """The cases of each kind."""
+    return {'files': [try_trains(place), try_spoilt(place), try_left(place)], 'others': [try_programs(place, executable), try_mails(place)],
+            'kills': [try_kills(place)], 'together': [try_together(place, executable)], 'full': [try_full(place)], 'journal': [try_journal(place)]}
 
 
 def tried(name, given):
