@@ -1,7 +1,7 @@
 #!/usr/bin/env python3
 """Tries the edits of checks/edits, each of which the prover must refuse, as it must those of crates/*/must-fail.
 
-    python3 checks/edits.py [--keep] [CRATE ..]
+    python3 checks/edits.py [--keep | --places] [CRATE ..]
 
 The gate tries the few edits of must-fail/ that tell most. The others stand in checks/edits/CRATE, and are tried here, of the crates that
 are named or of all. The crates are copied as they stand in the work tree (what git lists there, committed or not) to a temporary
@@ -10,7 +10,10 @@ the machine has processors. What an earlier run on this machine proved or refuse
 goes on where it was. At the end stand the edits that aren't refused, those that can't be applied or read, and those that weren't tried.
 The status is 0 only where all are refused.
 
-Needs git and the Rattle toolchain's rt, and some GB of disk. Python 3 alone.
+With --places nothing is proved: it says of each edit, those of must-fail/ too, whether each text that it names stands exactly once in its
+file, in a second. So an edit that a change left behind is found at once.
+
+Needs git and the Rattle toolchain's rt, and some GB of disk; --places needs neither. Python 3 alone.
 """
 
 import argparse
@@ -90,12 +93,53 @@ def tell(results):
     return not others
 
 
+def applied(crate, path):
+    """Returns what keeps an edit from being applied to a crate, or nothing."""
+    texts, file, old = {}, "", None
+    with open(path, encoding="utf-8") as edit:
+        lines = edit.read().splitlines()
+    for line in lines:
+        word, _, rest = line.partition(": ")
+        if word == "file":
+            file = os.path.join(ROOT, "crates", crate, rest.strip())
+            if file not in texts:
+                if not os.path.isfile(file):
+                    return f"{rest} is not there"
+                with open(file, encoding="utf-8") as source:
+                    texts[file] = source.read()
+        elif word == "old":
+            old = rest
+        elif word == "new" and old is not None:
+            if texts.get(file, "").count(old) != 1:
+                return f"stands {texts.get(file, '').count(old)} times: {old.strip()}"
+            texts[file] = texts[file].replace(old, rest)
+    return None if texts else "names no file"
+
+
+def tell_places(crates):
+    """Says which edits of these crates can't be applied. Returns whether there is none."""
+    found = []
+    for crate in crates:
+        for folder in (os.path.join(EDITS, crate), os.path.join(ROOT, "crates", crate, "must-fail")):
+            names = sorted(os.listdir(folder)) if os.path.isdir(folder) else []
+            found += [(f"{crate}/{name}", applied(crate, os.path.join(folder, name))) for name in names if name.endswith(".edit")]
+    lost = [(name, why) for name, why in found if why]
+    print("\n".join([f"{name}: {why}" for name, why in lost] + [f"edits: {len(found)}, can be applied: {len(found) - len(lost)}"]))
+    return not lost
+
+
 def main():
     parser = argparse.ArgumentParser(description=__doc__, formatter_class=argparse.RawDescriptionHelpFormatter)
     parser.add_argument("--keep", action="store_true", help="leave the temporary folder, and say where it is")
+    parser.add_argument("--places", action="store_true", help="only say whether each edit can be applied")
     parser.add_argument("crates", metavar="CRATE", nargs="*", help="a crate that has edits in checks/edits (all that have)")
     given = parser.parse_args()
     edits = edits_by_crate()
+    if given.places:
+        strangers = [crate for crate in given.crates if crate not in crates_in_order()]
+        if strangers:
+            sys.exit(f"crates.txt has no {', '.join(strangers)}")
+        sys.exit(0 if tell_places(given.crates or crates_in_order()) else 1)
     crates = chosen(given.crates, edits, crates_in_order())
     tree = tempfile.mkdtemp(prefix="sonata-edits-")
     try:
