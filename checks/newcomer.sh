@@ -2,11 +2,33 @@
 # Goes the way of docs/TOUR.md, section 13, on captures that nobody has seen, and tells how long each step takes.
 #
 #     newcomer.sh FOLDER SEED
+#     newcomer.sh --readme FOLDER [COUNT]
 #
 # It makes both captures by examples/recipes/hidden.py, answers which hosts, when, which packets, and how sure the plan is, by the commands that the section
 # says and by nothing else, and shows beside these answers what the script hid. A person needs longer, by what is read and typed: docs/TOUR.md says how
 # long. Needs sonata on the path, tcpdump and scipy (`apt-get install tcpdump python3-scipy`).
+#
+# With --readme it clones the last commit into a new folder and goes through the commands of README.md, "Two commands", as they stand there, or through the first
+# COUNT of them. It tells what each writes and how long it takes, ends with status 1 where one fails, and says whether the first and the last, the same job without a
+# proof and by the proved program, write the same. Needs the Rattle toolchain's rt and git, and for the second command as much time as README says.
 
+readme() {
+    local folder=$1 count=${2:-99} line at=0 begun failed=0
+    [ -e "$folder" ] && { echo "$folder is there"; exit 1; }
+    git clone -q "$(git -C "$(dirname "$0")" rev-parse --show-toplevel)" "$folder" && cd "$folder" || exit 1
+    while read -r line && [ $at -lt "$count" ]; do
+        at=$((at + 1))
+        echo "\$ $line"
+        begun=$(date +%s)
+        bash -c "$line" > "../$(basename "$folder").$at" 2> "../$(basename "$folder").$at.err" || failed=1
+        tail -n 3 "../$(basename "$folder").$at"
+        echo "    $(($(date +%s) - begun)) seconds"
+    done < <(awk '/^## Two commands/ { here = 1 } here && /^```bash/ { on = 1; next } on && /^```/ { exit } on' README.md)
+    [ $at -ge 3 ] && { cmp -s "../$(basename "$folder").1" "../$(basename "$folder").$at" && echo 'the first and the last write the same' || failed=1; }
+    exit $failed
+}
+
+[ "$1" = --readme ] && [ -n "$2" ] && readme "$2" "$3"
 case "${2:---help}" in -*) sed -n '2,$s/^# \{0,1\}//p' "$0" | sed '/^$/,$!b; /^case/,$d'; [ "$1" = --help ]; exit ;; esac
 top=$(cd "$(dirname "$0")/.." && pwd)
 whole=0
