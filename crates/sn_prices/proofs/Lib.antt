@@ -1,0 +1,4 @@
+pub mod Priced
+pub mod Kept
+pub mod Dear
+pub mod Bounds

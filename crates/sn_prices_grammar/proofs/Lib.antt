@@ -1,0 +1,4 @@
+pub mod Goods
+pub mod Starts
+pub mod Bounded
+pub mod Counts
