@@ -1,0 +1,2 @@
+pub mod PricesTexts
+pub mod PricesPrinting
