@@ -1,0 +1,4 @@
+mod Walks
+mod Knowing
+mod Sums
+mod Having

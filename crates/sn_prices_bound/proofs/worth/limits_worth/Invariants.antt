@@ -1,0 +1,10 @@
+use Rattle.std.proofs.Common.{◌≡◌, ◌+◌, ◌*◌, ◌^◌, ◌≤◌, drop}
+use Rattle.std.specs.List.{sum_by}
+use Rattle.sn_prices.specs.Limits.{limit_worth}
+use Rattle.sn_prices_bound.proofs.worth.limits_worth.Given as goal
+
+abbrev pub invariant-loop-limit : goal.invariant-loop-limit
+invariant-loop-limit l = record {
+  value : l.total + sum_by (limit_worth l.s l.stage) (drop l.limit-index l.limits) ≡ sum_by (limit_worth l.s l.stage) l.limits;
+  most : l.total ≤ l.limit-index * 2 ^ 97;
+}
