@@ -35,7 +35,7 @@ applies l stage = nat_le l.first stage && nat_le stage l.last
 
 -- ---- what is taken up pays
 
--- More than any plan that fits pays: what a register larger than a stage pays, and a piece past the last stage.
+-- More than a piece of a plan that fits pays at the prices of a text: what a register larger than a stage pays, and a piece past the last stage.
 abbrev pub forbidden : ℕ
 forbidden = 2 ^ 108
 

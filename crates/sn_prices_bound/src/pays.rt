@@ -8,7 +8,7 @@ use crate::weights::{applies, over, weight};
 use sn_prices_grammar::prices::{Limit, Prices};
 use sn_switch::switch::Switch;
 
-/// More than any plan that fits pays: a register larger than a stage pays it, and a piece past the last stage.
+/// More than a piece of a plan that fits pays: a register larger than a stage pays it, and a piece past the last stage.
 pub(crate) const FORBIDDEN: u128 = 1 << 108;
 
 /// What a register of these bits in a stage pays by a limit, in parts of an item.
