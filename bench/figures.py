@@ -40,7 +40,7 @@ def mark(x, y, way):
     kind = name_of(way)
     if way == 'Sonata':
         return '<circle class="%s" cx="%.1f" cy="%.1f" r="3.4"/>' % (kind, x, y)
-    corners = {'All-SP': [(-3, -3), (3, -3), (3, 3), (-3, 3)], 'Filter-DP': [(0, -4), (4, 3), (-4, 3)], 'Max-DP': [(0, -4), (4, 0), (0, 4), (-4, 0)], 'Fix-REF': [(0, 4), (4, -3), (-4, -3)]}[way]
+    corners = {'All-SP': [(-3, -3), (3, -3), (3, 3), (-3, 3)], 'Filter-DP': [(0, -4), (4, 3), (-4, 3)], 'Max-DP': [(0, -6), (6, 0), (0, 6), (-6, 0)], 'Fix-REF': [(0, 4), (4, -3), (-4, -3)]}[way]
     return '<polygon class="%s" points="%s"/>' % (kind, ' '.join('%.1f,%.1f' % (x + a, y + b) for a, b in corners))
 
 
@@ -105,7 +105,7 @@ def picture(width, height, title, parts):
 def powers(numbers):
     """The powers of ten around numbers."""
     some = [max(LEAST, number) for number in numbers]
-    return math.floor(math.log10(min(some))), math.ceil(math.log10(max(some)) + 0.01)
+    return math.floor(math.log10(min(some)) - 0.05), math.ceil(math.log10(max(some)) + 0.01)
 
 
 def a_window(row, field='sent'):

@@ -7,6 +7,7 @@ use Rattle.sn_cost.specs.Entries.{front_of}
 use Rattle.sn_plan_choices.specs.declared.setting.Setting as code
 use Rattle.sn_plan_choices.specs.Options.{Setting}
 use Rattle.sn_plan_choices.specs.Settings.{written}
+use Rattle.sonata_entries.specs.Table.{entry_text}
 
 -- the rest of a range, from one of its numbers on
 range_more : (n count : ℕ) → n < count → range_with_len n (count - n) ≡ n ∷ range_with_len (n + 1) (count - (n + 1))
@@ -62,3 +63,8 @@ pub option_back : (o : Setting) (w : code.Setting) → w ≡ written o → w.use
 option_back o w e few =
     let used = ap (λ (x : code.Setting). x.used) e in
     ap (λ (x : code.Setting). (x.cut, take x.used x.sizes)) e ∙ ap (λ (l : List ℕ). (o.0, l)) (sizes_back o.1 (omega (arith, used, few)))
+
+-- the line of an entry, whose parts may be said otherwise
+pub same_entry : (name name' levels levels' : List ℕ) (b : ℕ) (o o' : Setting) (cost cost' : ℕ) → name ≡ name' → levels ≡ levels' → o ≡ o' → cost ≡ cost' → entry_text name levels b o cost ≡ entry_text name' levels' b o' cost'
+same_entry name name' levels levels' b o o' cost cost' e f g h =
+    ap (λ n. entry_text n levels b o cost) e ∙ ap (λ l. entry_text name' l b o cost) f ∙ ap (λ p. entry_text name' levels' b p cost) g ∙ ap (λ c. entry_text name' levels' b o' c) h
