@@ -1,6 +1,6 @@
 -- to be believed
 -- What the program does.
-use Rattle.std.specs.Prelude.{◌≡◌, ℕ, ◌*◌, List, Result, Ok, Err}
+use Rattle.std.specs.Prelude.{◌≡◌, ℕ, ◌*◌, List, Result, Err}
 use Rattle.sn_io.specs.declared.inputs.Inputs.{Ghosts as InputsOf}
 use Rattle.sn_io.specs.declared.sink.Sink.{Ghosts as SinkOf}
 use Rattle.sn_command.specs.declared.refusal.Refusal.{Refusal}

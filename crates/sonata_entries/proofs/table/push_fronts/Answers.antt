@@ -1,4 +1,4 @@
-use Rattle.std.proofs.Common.{◌≡◌, ℕ, ◌*◌, ◌<◌, ◌≤◌, ◌++◌, ◌^◌, ◌%◌, List, length, ap, refl, arith}
+use Rattle.std.proofs.Common.{ℕ, ◌<◌, ◌≤◌, ◌++◌, ◌^◌, List, length, ap, refl, arith}
 use Rattle.std.proofs.lemmas.Nat.{one_shl}
 use Rattle.sn_cost.proofs.Paths.{few_fronts, four_levels}
 use Rattle.sn_plan_choices.specs.Costs.{entry_in}
