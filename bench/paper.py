@@ -37,6 +37,11 @@ NODES = 2000
 FIELDS = ['figure', 'queries', 'setting', 'value', 'way', 'by', 'cost', 'bound', 'sent', 'most', 'windows', 'packets']
 
 
+def usual(name):
+    """The program that the shell finds, else the one that this clone built."""
+    return shutil.which(name) or os.path.join(CRATES, name, 'out', name)
+
+
 def words_given():
     words = argparse.ArgumentParser(description=__doc__, formatter_class=argparse.RawDescriptionHelpFormatter)
     words.add_argument('folder', metavar='FOLDER', help='where all goes; it is made, or is empty')
@@ -46,8 +51,8 @@ def words_given():
     words.add_argument('--small', action='store_true', help='three queries over 60,000 packets in four windows')
     words.add_argument('--turns', type=int, default=60000, help='turns of the search for a plan (default 60000)')
     words.add_argument('--jobs', type=int, default=min(4, os.cpu_count() or 1), help='how many run at a time (default: the processors, at most 4)')
-    words.add_argument('--sonata', metavar='PROGRAM', default=os.path.join(CRATES, 'sonata', 'out', 'sonata'), help='the program (default: the one that this clone built)')
-    words.add_argument('--entries', metavar='PROGRAM', default=os.path.join(CRATES, 'sonata_entries', 'out', 'sonata_entries'), help='the program that prints the cost table')
+    words.add_argument('--sonata', metavar='PROGRAM', default=usual('sonata'), help='the program (default: the one on the path, else that of this clone)')
+    words.add_argument('--entries', metavar='PROGRAM', default=usual('sonata_entries'), help='the program that prints the cost table (default: likewise)')
     given = words.parse_args()
     if given.small:
         given.packets, given.window, given.queries, given.turns = 60000, 15000, 3, 3000

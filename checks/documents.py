@@ -4,7 +4,8 @@ with its error line. Of them, README.md and the documents around plans each `sh`
 block that stands after it, where one does; a line `...` there stands for any lines. Blocks of other kinds, as `bash`, aren't run. Of answers that are
 drawn each key must stand in the picture, and of stays each line, in the new one and in the one that the document shows. A document is left out
 where the program hasn't all its commands; checks/planned.py has them (`documents.py --sonata checks/planned.py`). Without matplotlib and graphviz pictures
-are left out, and without editcap, mergecap, psql, xxd, tcpdump, jq, systemd-analyze or Dask the blocks that use them, which is said of each."""
+are left out, and without editcap, mergecap, psql, xxd, tcpdump, jq, systemd-analyze or Dask the blocks that use them, which is said of each; so are those that
+ print a cost table, where `sonata_entries` (that this clone built, or that SONATA_ENTRIES names) or a C compiler isn't there."""
 
 import os
 import re
@@ -22,7 +23,9 @@ GENERATE = os.path.join(TOP, 'bench', 'generate.py')
 PAIR = re.compile(r'```(query|refused)\n(.*?)```\n+```(answer|line)\n(.*?)```', re.S)
 BLOCK = re.compile(r'```sh\n(.*?)```(?:\n+```shows\n(.*?)```)?', re.S)
 # (the README, the queries, those around plans and the operator's day: blocks of other kinds than sh, as bash, aren't run)
-SESSIONS = ['README.md', 'QUERIES.md', 'FORMATS.md', 'FAQ.md', 'PLANS.md', 'TOUR.md', 'SCALE.md', 'OPERATING.md', 'examples/README.md']
+SESSIONS = ['README.md', 'QUERIES.md', 'FORMATS.md', 'FAQ.md', 'PLANS.md', 'TOUR.md', 'SCALE.md', 'OPERATING.md', 'EVALUATION.md', 'CALLING.md', 'examples/README.md']
+ENTRIES = os.environ.get('SONATA_ENTRIES', os.path.join(TOP, 'crates', 'sonata_entries', 'out', 'sonata_entries'))
+TABLES = re.compile(r'\bsonata_entries |bench/paper\.py')
 COMMAND = re.compile(r'\bsonata (plain|plan|run|emit|finish|detect|many|check|live|replan|gen|job) [^-|;&>\n]+( --csv)?')
 TOOLS = re.compile(r'^(?:.*\| *)?(editcap|mergecap|reordercap|psql|xxd|jq|tcpdump|systemd-analyze) ', re.M)
 DASK = re.compile(r'examples/scale/(?:parts|rest)\.py')
@@ -67,7 +70,9 @@ def draws():
 def missing_tools(commands):
     """The tools that a block needs and that aren't there."""
     dask = DASK.search(commands) and subprocess.run(['/usr/bin/python3', '-c', 'import distributed, pandas'], stderr=subprocess.DEVNULL).returncode
-    return ['Dask (distributed, pandas)'] * bool(dask) + sorted({tool for tool in TOOLS.findall(commands) if shutil.which(tool) is None})
+    table = TABLES.search(commands) and not (os.access(ENTRIES, os.X_OK) and shutil.which(os.environ.get('CC', 'cc')))
+    tools = sorted({tool for tool in TOOLS.findall(commands) if shutil.which(tool) is None})
+    return ['Dask (distributed, pandas)'] * bool(dask) + ['sonata_entries and a C compiler'] * bool(table) + tools
 
 
 def session_folder(executable, folder):
@@ -76,6 +81,7 @@ def session_folder(executable, folder):
         os.symlink(os.path.join(TOP, part), os.path.join(folder, part))
     os.makedirs(os.path.join(folder, 'bin'))
     os.symlink(os.path.abspath(executable), os.path.join(folder, 'bin', 'sonata'))
+    os.symlink(os.path.abspath(ENTRIES), os.path.join(folder, 'bin', 'sonata_entries'))
     return dict(os.environ, PATH=os.path.join(folder, 'bin') + os.pathsep + os.environ['PATH'], PLACE=os.path.join(folder, '.place'))
 
 

@@ -4,8 +4,9 @@
     python3 checks/house.py
 
 Each crate of crates.txt must stand once in docs/ARCHITECTURE.md, under the heading that it has in crates.txt, and in docs/PROVED.md where it isn't one of tests
-or the program; and each path of a crate that a document names must be there, and the code of each CALLING.md must be that of a file of sn_test_callers, which the gate
-proves; and crates.txt may name below a crate only those that its text names. Prints how many crates there are, and the longest chain. The status is 0 only where all is so. Python 3 alone."""
+or the program; and each path of a crate that a document names must be there, and the code of each CALLING.md must be that of a file of sn_test_callers, and that of docs/CALLING.md of
+sonata_entries, which the gate proves; and crates.txt may name below a crate only those that its text names. Prints how many crates there are, and the longest chain. The status is 0
+only where all is so. Python 3 alone."""
 
 import functools
 import glob
@@ -15,7 +16,7 @@ import sys
 
 TOP = os.path.dirname(os.path.dirname(os.path.abspath(__file__)))
 ROOM = re.compile(r'^\*\*([^*\n]+)\*\*:[^\n]*\n+```\n(.*?)```', re.M | re.S)
-CRATE = re.compile(r'^(sn_\w+|sonata)  +\S', re.M)
+CRATE = re.compile(r'^(sn_\w+|sonata|sonata_entries)  +\S', re.M)
 NAMED = re.compile(r'\bRattle\.(sn_\w+)|\b(sn_\w+)::')
 PATH = re.compile(r'`(sn_\w+)/([\w/+]+)(\.\w+)?`')
 
@@ -89,6 +90,9 @@ def unproved_callers():
     for name in sorted(glob.glob('crates/*/CALLING.md', root_dir=TOP)):
         blocks = re.findall(r'```\w+\n(.*?)```', text(name), re.S)
         yield from (f'{name}: its code stands in no file of sn_test_callers' for it in blocks if it not in proved)
+    entries = [text(name) for name in glob.glob('crates/sonata_entries/*/*', root_dir=TOP) if name.endswith(('.rt', '.antt'))]
+    blocks = re.findall(r'```(?:rust|antt)\n(.*?)```', text('docs', 'CALLING.md'), re.S)
+    yield from (f'docs/CALLING.md: its code stands in no file of sonata_entries: {it.splitlines()[0]}' for it in blocks if not any(it in whole for whole in entries))
 
 
 def main():
