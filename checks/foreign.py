@@ -3,9 +3,10 @@
 
     foreign.py FOLDER        every file below the folder that begins as a capture does
 
-Each capture is asked the queries of examples/queries; status, text and error line of each must be those of the reference. Of those whose link type is read the 30
-fields of each packet must be those that tshark prints, or tshark must read less or more for one of the reasons of against_tshark.py. A capture that is refused
-counts under the word that says why. Captures whose answers or fields differ are named. The status is 0 where none differs, and where the folder has captures.
+Each capture is asked the queries of examples/queries, one that is refused the first of them; status, text and error line of each must be those of the reference. Of
+those that are answered to their end the 30 fields of each packet must be those that tshark prints, or tshark must read less or more for one of the reasons of
+against_tshark.py. A capture that is refused counts under the word that says why. Captures whose answers or fields differ are named. Control-C ends it with what was
+tried by then. The status is 0 where none differs, and where the folder has captures.
 
 docs/CAPTURES.md says which packages of Debian have captures, and what came out. Needs tshark for its part."""
 
@@ -52,13 +53,15 @@ def answer_of(status, line):
 
 def by_reference(executable, capture):
     """The kind of the first query's answer, and the queries whose answers aren't those of the reference."""
-    kinds, differ = [], []
+    kind, differ = None, []
     for queries in QUERIES:
         found = program.run(executable, queries, capture)
-        kinds.append(answer_of(found[0], found[2]))
+        kind = kind or answer_of(found[0], found[2])
         if found != plain.plain(queries, capture):
             differ.append('%s: the reference answers otherwise' % os.path.basename(queries))
-    return kinds[0], differ
+        if kind.startswith('refused'):
+            break
+    return kind, differ
 
 
 def by_tshark(executable, capture):
@@ -70,29 +73,28 @@ def by_tshark(executable, capture):
     return packets, reasons, differ
 
 
-def kind_of(capture):
-    """Why tshark isn't asked about a capture, or None."""
-    if os.path.getsize(capture) > MOST_BYTES:
-        return 'not compared: more than %d MB' % (MOST_BYTES >> 20)
-    return None
-
-
-def tally(executable, names, has_tshark):
+class Tally:
     """How many captures had which answer, the packets compared, the reasons, and the lines of those that differ."""
-    kinds, reasons, packets, lines = Counter(), Counter(), 0, []
-    for number, capture in enumerate(names):
+
+    def __init__(self):
+        self.kinds, self.reasons, self.packets, self.lines = Counter(), Counter(), 0, []
+
+    def add(self, executable, capture, has_tshark):
         kind, differ = by_reference(executable, capture)
-        kinds[kind] += 1
-        if has_tshark and kind == 'answered' and kind_of(capture) is None:
-            count, some, found = by_tshark(executable, capture)
-            packets += count
-            reasons.update(some)
-            kinds['compared with tshark' if found is not None else 'tshark ends with a fault'] += 1
+        self.kinds[kind] += 1
+        if has_tshark and kind == 'answered' and os.path.getsize(capture) <= MOST_BYTES:
+            packets, reasons, found = by_tshark(executable, capture)
+            self.packets += packets
+            self.reasons.update(reasons)
+            self.kinds['compared with tshark' if found is not None else 'on which tshark ends with a fault'] += 1
             differ += found or []
-        lines += ['%s: %s' % (capture, line) for line in differ[:5]]
-        if sys.stderr.isatty():
-            print('\r%d of %d' % (number + 1, len(names)), end='', file=sys.stderr)
-    return kinds, reasons, packets, lines
+        self.lines += ['%s: %s' % (capture, line) for line in differ[:5]]
+
+    def show(self, has_tshark):
+        print(*('%7d  %s' % (count, kind) for kind, count in self.kinds.most_common()), sep='\n')
+        print('%d packets compared with tshark%s' % (self.packets, '' if has_tshark else ', which is not there'))
+        print(*('%7d  %s' % (count, why) for why, count in self.reasons.most_common()), sep='\n', end='\n' if self.reasons else '')
+        print('\n'.join(self.lines) or 'nothing differs')
 
 
 def main():
@@ -104,14 +106,15 @@ def main():
     names = captures(given.folder)
     if not names:
         sys.exit('%s: no captures' % given.folder)
-    has_tshark = shutil.which('tshark') is not None
-    kinds, reasons, packets, lines = tally(given.sonata, names, has_tshark)
-    print('%d captures, %d query files' % (len(names), len(QUERIES)))
-    print(*('%7d  %s' % (count, kind) for kind, count in kinds.most_common()), sep='\n')
-    print('%d packets compared with tshark%s' % (packets, '' if has_tshark else ', which is not there'))
-    print(*('%7d  %s' % (count, why) for why, count in reasons.most_common()), sep='\n')
-    print('\n'.join(lines) or 'nothing differs')
-    return 1 if lines else 0
+    has_tshark, tally = shutil.which('tshark') is not None, Tally()
+    print('%d captures, %d query files' % (len(names), len(QUERIES)), flush=True)
+    try:
+        for number, capture in enumerate(names):
+            tally.add(given.sonata, capture, has_tshark)
+    except KeyboardInterrupt:
+        print('interrupted after %d' % number)
+    tally.show(has_tshark)
+    return 1 if tally.lines else 0
 
 
 if __name__ == '__main__':
