@@ -5,7 +5,6 @@ A plan is kept with the stages of its registers. In turn some queries lose their
 have room; a plan that costs more is kept now and then, and ever more seldom. So what is found fits, and nothing says that no plan costs less. The same words
 find the same plan on any machine: the search ends after a number of turns and not after a time."""
 
-import collections
 import dataclasses
 import math
 import os
@@ -104,7 +103,7 @@ class Space:
         """The table has what a piece costs by the query's number, the levels of its path up to it, its branch, its cut and its sizes."""
         self.switch, self.queries = switch, queries
         self.paths = [paths_of(query, way) for query in queries]
-        self.options = {}
+        self.options, self.known = {}, {}
         for (q, front, branch, cut, sizes), cost in table.items():
             if any(path[:len(front)] == front for path in self.paths[q]) and has_cut(queries[q], branch, cut, way):
                 option = option_of(switch, queries[q], front, branch, cut, sizes, cost)
@@ -114,7 +113,9 @@ class Space:
 
     def lanes(self, q, path):
         """The pieces of a query along a path: its number, the levels up to the piece, and the branch."""
-        return [(q, path[:length], branch) for length in range(1, len(path) + 1) for branch in range(len(self.queries[q].branches))]
+        if (q, path) not in self.known:
+            self.known[q, path] = [(q, path[:length], branch) for length in range(1, len(path) + 1) for branch in range(len(self.queries[q].branches))]
+        return self.known[q, path]
 
 
 class Load:
@@ -201,7 +202,7 @@ class Search:
     def put_along(self, q, path, price):
         """Puts the pieces of a query along a path in. Whether they fit."""
         self.paths[q] = path
-        lanes = self.space.lanes(q, path)
+        lanes = list(self.space.lanes(q, path))
         self.draw.shuffle(lanes)
         for lane in lanes:
             if not self.put_piece(lane, price):
@@ -253,57 +254,63 @@ class Search:
             self.bring_back(q, path, {lane: placed[lane] for lane in self.space.lanes(q, path)})
 
     def turn_queries(self, heat):
-        """Some queries lose their pieces and get others."""
+        """Some queries lose their pieces and get others. What undoes it, and whether they fit."""
         count = len(self.space.queries)
         some = self.draw.sample(range(count), min(count, self.draw.choice([1, 1, 2, 2, 3])))
         gone = {q: self.take_out(q) for q in some}
         price = math.exp(self.draw.uniform(0, math.log(64 * heat + 64)))
         self.draw.shuffle(some)
-        done = []
-        for q in some:
-            if not self.put_best(q, price * self.draw.choice([1, 1, 16])):
-                break
-            done.append(q)
-        return gone, len(done) == len(some)
+        fits = all(self.put_best(q, price * self.draw.choice([1, 1, 16])) for q in some)
+        return lambda: self.undo_queries(gone), fits
 
-    def turn_pieces(self):
-        """Some pieces lose their stages and options and get others, each one that is drawn among the cheaper ones."""
-        lanes = self.draw.sample(sorted(self.placed), min(len(self.placed), self.draw.choice([1, 2, 2, 3, 4])))
-        gone = {q: (self.paths[q], {lane: self.placed[lane] for lane in self.space.lanes(q, self.paths[q])}) for q in {lane[0] for lane in lanes}}
-        for lane in lanes:
-            self.load.remove(*self.placed.pop(lane))
-        for lane in lanes:
-            options = self.space.options[lane]
-            first = min(len(options) - 1, int(self.draw.expovariate(0.4)))
-            for option in options[first:]:
-                stages = self.load.stages_for(option)
-                if stages is not None:
-                    self.load.add(option, stages)
-                    self.placed[lane] = option, stages
-                    break
-            else:
-                return gone, False
-        return gone, True
-
-    def undo(self, gone):
+    def undo_queries(self, gone):
         for q in gone:
             self.withdraw(q)
         for q, (path, pieces) in gone.items():
             self.bring_back(q, path, pieces)
+
+    def put_any(self, lane):
+        """Puts one of the cheaper options of a piece in, a drawn one. Whether one fits."""
+        options = self.space.options[lane]
+        first = min(len(options) - 1, int(self.draw.expovariate(0.4)))
+        for option in options[first:]:
+            stages = self.load.stages_for(option)
+            if stages is not None:
+                self.load.add(option, stages)
+                self.placed[lane] = option, stages
+                return True
+        return False
+
+    def turn_pieces(self):
+        """Some pieces lose their stages and options and get others. What undoes it, and whether they fit."""
+        lanes = self.draw.sample(list(self.placed), min(len(self.placed), self.draw.choice([1, 2, 2, 3, 4])))
+        gone = {lane: self.placed.pop(lane) for lane in lanes}
+        for option, stages in gone.values():
+            self.load.remove(option, stages)
+        fits = all(self.put_any(lane) for lane in lanes)
+        return lambda: self.undo_pieces(gone), fits
+
+    def undo_pieces(self, gone):
+        for lane in gone:
+            if lane in self.placed:
+                self.load.remove(*self.placed[lane])
+        for lane, (option, stages) in gone.items():
+            self.load.add(option, stages)
+            self.placed[lane] = option, stages
 
     def improve(self, turns):
         """The best plan of many turns."""
         best, now = self.held(), self.cost()
         for turn in range(turns):
             heat = 0.05 * best[0] * (1 - turn / turns) ** 2 + 0.01
-            gone, fits = self.turn_queries(heat) if self.draw.random() < 0.15 else self.turn_pieces()
+            undo, fits = self.turn_queries(heat) if self.draw.random() < 0.15 else self.turn_pieces()
             cost = self.cost() if fits else math.inf
             if cost <= now or (fits and self.draw.random() < math.exp((now - cost) / heat)):
                 now = cost
                 if cost < best[0]:
                     best = self.held()
             else:
-                self.undo(gone)
+                undo()
         self.restore(best)
 
     def entries(self):
