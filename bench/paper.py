@@ -34,6 +34,7 @@ CRATES = os.path.join(HERE, '..', 'crates')
 USUAL_WINDOW = 60000
 SETTINGS = [('stages', [8, 12, 16, 24]), ('actions', [2, 4, 8, 16]), ('bits', [1 << 21, 1 << 22, 1 << 23, 1 << 24]), ('meta', [1024, 2048, 4096, 8192])]
 NODES = 2000
+FIGURES = ['alone', 'together', 'settings']
 FIELDS = ['figure', 'queries', 'setting', 'value', 'way', 'by', 'cost', 'bound', 'sent', 'most', 'windows', 'packets']
 
 
@@ -70,7 +71,8 @@ def refuse_bad(given):
         sys.exit('%s: not an empty folder' % given.folder)
     if not os.path.isdir(os.path.dirname(os.path.abspath(given.folder))):
         sys.exit('%s: no such folder' % os.path.dirname(given.folder))
-    if not (1 <= given.queries <= 8 and 2 <= given.packets // max(1, given.window) and given.window <= 1000000 and given.packets <= 4194304 and given.turns >= 1 and given.jobs >= 1):
+    fits = given.packets <= 4194304 and 1 <= given.window <= min(1000000, given.packets // 2) and 1 <= given.queries <= 8
+    if not fits or given.turns < 1 or given.jobs < 1:
         sys.exit('at most 8 queries, at least two windows of at most 1,000,000 packets, and at most 4,194,304 packets')
 
 
@@ -258,8 +260,9 @@ def by_way(rows):
 
 
 def case_name(case):
-    row = case['Sonata']
-    return '%s %s' % (row['queries'].split()[-1] if row['figure'] == 'alone' else '%d together' % len(row['queries'].split()), '%s %s' % (row['setting'], row['value']) if row['setting'] else '')
+    row, names = case['Sonata'], case['Sonata']['queries'].split()
+    setting = ', %s %s' % (row['setting'], row['value']) if row['setting'] else ''
+    return (names[-1] if row['figure'] == 'alone' else '%d together' % len(names)) + setting
 
 
 def unordered(cases):
@@ -300,7 +303,7 @@ def make_traffic(folder, given):
     program = os.path.join(folder, 'backbone')
     done = subprocess.run([compiler(), '-O2', '-o', program, os.path.join(HERE, 'backbone.c'), '-lm'], capture_output=True, text=True)
     if done.returncode:
-        sys.exit('%s: backbone.c is not compiled: %s' % (compiler(), done.stderr.strip().splitlines()[-1] if done.stderr.strip() else ''))
+        sys.exit('%s: backbone.c is not compiled, %s' % (compiler(), (done.stderr.strip().splitlines() or ['status %d' % done.returncode])[-1]))
     for name, seed in (('train', 1), ('test', 2)):
         _, _, parties = answered([program, os.path.join(folder, name + '.pcap'), 'packets', str(given.packets), 'rate', str(given.window), 'seed', str(seed)])
         put(folder, name + '.parties', parties)
@@ -335,13 +338,14 @@ def measured(folder, given):
         for done in concurrent.futures.as_completed([pool.submit(run_cases, work, cases) for cases in lists]):
             rows += done.result()
             print('%d of %d plans' % (len(rows), len(WAYS) * sum(map(len, lists))), flush=True)
-    order = [(case.figure, ' '.join(names[q] for q in case.queries), case.setting, case.value) for cases in lists for case in cases]
-    rows.sort(key=lambda row: (FIGURES.index(row['figure']), order.index((row['figure'], row['queries'], row['setting'], row['value'])) * (1 if row['figure'] == 'settings' else 0),
-                               len(row['queries'].split()), names.index(row['queries'].split()[-1]), WAYS.index(row['way'])))
+    rows.sort(key=lambda row: place_of(row, names))
     return [{**row, 'packets': given.packets} for row in rows]
 
 
-FIGURES = ['alone', 'together', 'settings']
+def place_of(row, names):
+    """Where a row stands in the table of all numbers."""
+    words, some = ['', *(word for word, _ in SETTINGS)], row['queries'].split()
+    return FIGURES.index(row['figure']), words.index(row['setting']), row['value'], len(some), names.index(some[-1]), WAYS.index(row['way'])
 
 
 def main():
@@ -366,3 +370,5 @@ if __name__ == '__main__':
         sys.exit(main())
     except KeyboardInterrupt:
         sys.exit('stopped')
+    except OSError as fault:
+        sys.exit('%s: %s' % (fault.filename or 'paper.py', fault.strerror))
