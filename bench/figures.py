@@ -57,8 +57,8 @@ class Panel:
         self.drawn.append(line((left, top + height), (left + width, top + height), 'axis'))
 
     def y(self, number):
-        share = (math.log10(max(LEAST, number)) - self.low) / (self.high - self.low)
-        return self.top + self.height * (1 - max(0, share))
+        share = (math.log10(max(10.0 ** self.low, number)) - self.low) / (self.high - self.low)
+        return self.top + self.height * (1 - share)
 
     def x(self, place, count):
         """The middle of one of so many places."""

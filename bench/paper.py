@@ -214,11 +214,11 @@ def measure(work, case, files, way, made):
     """A row of the table of all numbers. A cost that isn't what the training capture sends ends the command."""
     entries, by, bound = made
     names = work.names()
-    plan_name = put(os.path.join(work.folder, 'plans'), '%s-%s.plan' % (label_of(work, case), way), '\n'.join(plans.lines(entries)) + '\n')
+    name = put(os.path.join(work.folder, 'plans'), '%s-%s.plan' % (label_of(work, case), way), '\n'.join(plans.lines(entries)) + '\n')
     cost = planner.cost_of(files.queries, files.table, entries)
-    train, test = sent(work, files, plan_name, 'train.pcap'), sent(work, files, plan_name, 'test.pcap')
+    train, test = sent(work, files, name, 'train.pcap'), sent(work, files, name, 'test.pcap')
     if sum(train) != cost:
-        sys.exit('%s: the plan costs %d by the table, and %d are sent' % (plan_name, cost, sum(train)))
+        sys.exit('%s: the plan costs %d by the table, and %d are sent' % (name, cost, sum(train)))
     return {'figure': case.figure, 'queries': ' '.join(names[q] for q in case.queries), 'setting': case.setting, 'value': case.value, 'way': way, 'by': by, 'cost': cost,
             'bound': '' if bound is None else bound, 'sent': sum(test), 'most': max(test), 'windows': len(test)}
 
@@ -249,6 +249,37 @@ def all_cases(count, items):
     together = [[Case('together', '', 0, tuple(range(k)), usual)] for k in range(1, count + 1)]
     settings = [[Case('settings', word, value, tuple(range(count)), tuple({**items, word: value}.items())) for value in values] for word, values in SETTINGS]
     return settings + together[::-1] + alone
+
+
+# ---- cases that share plans
+
+def plan_name(folder, row):
+    """The file of a row's plan."""
+    case = {'alone': row['queries'], 'together': str(len(row['queries'].split())), 'settings': '%s-%s' % (row['setting'], row['value'])}[row['figure']]
+    return os.path.join(folder, 'plans', '%s-%s-%s.plan' % (row['figure'], case, row['way']))
+
+
+def hand_on(folder, row, others):
+    """Gives a row's plan to those of other rows that cost more."""
+    for other in others:
+        if row['cost'] < other['cost']:
+            shutil.copyfile(plan_name(folder, row), plan_name(folder, other))
+            other.update({name: row[name] for name in ('by', 'cost', 'sent', 'most')})
+
+
+def share_plans(folder, rows, items):
+    """Gives each case of all queries the cheapest plan that is known to fit its switch: one that was found for the same switch in another figure, or for one with less
+    of a setting, since all settings that are changed are limits from above."""
+    whole = max((row['queries'] for row in rows), key=len)
+    for way in WAYS:
+        some = sorted((row for row in rows if row['way'] == way and row['queries'] == whole and row['figure'] != 'alone'), key=lambda row: row['value'])
+        usual = [row for row in some if row['figure'] == 'together' or str(row['value']) == items[row['setting']]]
+        for _ in range(2):
+            for word, _ in SETTINGS:
+                chain = [row for row in some if row['setting'] == word]
+                for small, large in zip(chain, chain[1:]):
+                    hand_on(folder, small, [large])
+            hand_on(folder, min(usual, key=lambda row: row['cost']), usual)
 
 
 # ---- what the page claims
@@ -338,6 +369,7 @@ def measured(folder, given):
         for done in concurrent.futures.as_completed([pool.submit(run_cases, work, cases) for cases in lists]):
             rows += done.result()
             print('%d of %d plans' % (len(rows), len(WAYS) * sum(map(len, lists))), flush=True)
+    share_plans(folder, rows, switch_items(read('paper.switch')))
     rows.sort(key=lambda row: place_of(row, names))
     return [{**row, 'packets': given.packets} for row in rows]
 
