@@ -15,7 +15,7 @@ from collections import Counter
 import program
 import rewrite
 
-COLUMNS = ['frame.len', 'frame.cap_len', 'frame.protocols', 'eth.dst', 'eth.src', 'eth.type', 'eth.len', 'vlan.etype', 'vlan.id', 'ieee8021ad.id', 'sll.etype',
+COLUMNS = ['frame.len', 'frame.cap_len', 'frame.protocols', 'eth.dst', 'eth.src', 'eth.type', 'eth.len', 'vlan.etype', 'vlan.len', 'vlan.id', 'ieee8021ad.id', 'sll.etype',
            'sll.ltype', 'ip.version', 'ip.hdr_len', 'ip.frag_offset', 'ip.len', 'ip.ttl', 'ip.proto', 'ip.src', 'ip.dst', 'tcp.srcport', 'tcp.dstport', 'tcp.seq_raw',
            'tcp.ack_raw', 'tcp.flags', 'udp.srcport', 'udp.dstport', 'udp.length', 'icmp.type', 'icmp.code', 'ipv6.version',
            'ipv6.plen', 'ipv6.nxt', 'ipv6.hlim', 'ipv6.src', 'ipv6.dst']
@@ -67,6 +67,10 @@ class Reading:
         return number(self.row[column][0]) if self.row[column] else None
 
     def read(self):
+        if self.layers[:2] == ['eth', 'eth']:
+            self.values.update(dict.fromkeys(program.FIELDS[1:], UNTOLD))
+            self.reasons.add('untold: an ISL header before the one of Ethernet')
+            return
         start = {1: self.ethernet, 101: self.raw, 113: self.cooked, 276: self.cooked2}[self.link]()
         if start is None:
             self.left_out('a cut link header')
@@ -84,7 +88,8 @@ class Reading:
         if self.captured < 14:
             return None
         self.values['eth.dst'], self.values['eth.src'] = self.first('eth.dst'), self.first('eth.src')
-        types = [self.first('eth.len') if self.row['eth.len'] else self.first('eth.type')] + [number(v) for v in self.row['vlan.etype']]
+        is_length = self.row['eth.len'] and self.layers[1:2] != ['ethertype']
+        types = [self.first('eth.len') if is_length else self.first('eth.type')] + [number(v) for v in self.row['vlan.etype'] + self.row['vlan.len'][:1]]
         numbers = [number(v) for v in self.row['ieee8021ad.id'][:1] + self.row['vlan.id']]
         if types[0] == 0x88A8 and len(types) == 1:
             types.append({'ip': 0x0800, 'ipv6': 0x86DD, 'arp': 0x0806, 'vlan': 0x8100}.get((self.layers + [''] * 5)[4]))
@@ -102,6 +107,8 @@ class Reading:
         if self.captured < 16:
             return None
         self.values['eth.type'] = self.first('sll.ltype') if self.row['sll.ltype'] else self.first('sll.etype')
+        if self.values['eth.type'] is None:
+            self.values['eth.type'] = {'ip': 0x0800, 'ipv6': 0x86DD}.get((self.layers + ['', ''])[1])
         return 16
 
     def cooked2(self):
