@@ -2,8 +2,8 @@
 queries for which its search doesn't end.
 
 A plan is kept with the stages of its registers. In turn some queries lose their pieces, and get a path and options again, a piece at the earliest stages that
-have room; a plan that costs more is kept now and then, and ever more seldom. So what is found fits, and nothing says that no plan costs less. The same words
-find the same plan on any machine: the search ends after a number of turns and not after a time."""
+have room; a plan that costs more is kept now and then, and ever more seldom. So what is found fits, and nothing says that no plan costs less. A slow
+machine finds the same plan: the search ends after a number of turns and not after a time."""
 
 import dataclasses
 import math
