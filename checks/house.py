@@ -5,7 +5,8 @@
 
 Each crate of crates.txt must stand once in docs/ARCHITECTURE.md, under the heading that it has in crates.txt, and in docs/PROVED.md where it isn't one of tests
 or the program; and each path of a crate that a document names must be there, and the code of each CALLING.md must be that of a file of sn_test_callers, and that of docs/CALLING.md of
-sonata_entries, which the gate proves; and crates.txt may name below a crate only those that its text names. Prints how many crates there are, and the longest chain. The status is 0
+sonata_entries, which the gate proves; and crates.txt may name below a crate only those that its text names. Under each "Proved" of docs/PROVED.md a crate's part must name a clause, a
+function or a definition that stands in that crate, and each name in brackets must stand in some crate. Prints how many crates there are, and the longest chain. The status is 0
 only where all is so. Python 3 alone."""
 
 import functools
@@ -69,6 +70,33 @@ def off_the_map(rooms):
     yield from (f'{name}: not in docs/PROVED.md' for name in rooms if not re.match(r'sn_test_|sonata$', name) and f'`{name}`' not in proved)
 
 
+PROVED = re.compile(r'^\*\*Proved\.\*\*\n(.*?)(?=\n\*\*|\n## |\Z)', re.M | re.S)
+STANDS = re.compile(r"\bensures (\w+) \{|\bfn (\w+)|\b(?:struct|enum|trait) (\w+)|\bpub (?:(?:record|data) )?(?!fn |struct |enum |trait )(\w+)|^ *(\w+) :", re.M)
+
+
+@functools.lru_cache(None)
+def names_in(crate):
+    """The clauses, functions, types and definitions that stand in a crate."""
+    found = set()
+    for file in files_of(crate):
+        if os.path.relpath(file, os.path.join(TOP, 'crates', crate)).startswith(('src', 'specs')):
+            found.update(name for groups in STANDS.findall(text(file)) for name in groups if name)
+    return found
+
+
+def unnamed_clauses(rooms):
+    """The parts of docs/PROVED.md under "Proved" that name nothing which stands in their crates, and the names in brackets that stand in no crate."""
+    every = set().union(*(names_in(crate) for crate in rooms)) | set(rooms)
+    for part in PROVED.findall(text('docs', 'PROVED.md')):
+        for bullet in re.split(r'^- ', part, flags=re.M)[1:]:
+            crates = re.findall(r'`(sn_\w+|sonata\w*)`', bullet.partition('.**')[0].partition('** ')[0])
+            named = set(re.findall(r'`(\w+)', bullet.partition('** ')[2]))
+            if not named & set().union(*(names_in(crate) for crate in crates if crate in rooms)):
+                yield f'docs/PROVED.md: of {", ".join(crates)} names no clause or definition: {bullet[:60]}'
+            bracketed = {name for piece in re.findall(r'\(([^()]*)\)', bullet) for name in re.findall(r'`(\w+)`', piece)}
+            yield from (f'docs/PROVED.md: ({name}) stands in no crate' for name in sorted(bracketed - every))
+
+
 def is_there(crate, path, ending):
     """Whether a crate has a file or folder, or a definition file, test file or table of cases of this name."""
     folder = os.path.join(TOP, 'crates', crate)
@@ -99,7 +127,7 @@ def main():
     rooms, below = listed()
     chain = longest(below)
     print(f'{len(rooms)} crates, the longest chain has {len(chain)}: {" ".join(chain)}')
-    wrong = [*off_the_map(rooms), *unnamed(below), *lost_paths(), *unproved_callers()]
+    wrong = [*off_the_map(rooms), *unnamed(below), *lost_paths(), *unproved_callers(), *unnamed_clauses(rooms)]
     print('\n'.join(wrong) or 'the documents name the house as it is')
     return 1 if wrong else 0
 

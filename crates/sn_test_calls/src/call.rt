@@ -5,6 +5,7 @@
 //! ```text
 //! word LENGTH               a word of the command line
 //! file NAMELENGTH LENGTH    a file that a word names: its name, then its bytes
+//! made NAMELENGTH PACKETS   a capture of so many packets that a word names: its name
 //! status S
 //! out LENGTH                what standard output is to get
 //! err LENGTH                what standard error is to get
@@ -12,6 +13,7 @@
 //!
 //! A line feed ends each line and each text. A word that names no file of the call is a name that isn't known.
 use crate::cursor::Cursor;
+use crate::made::capture;
 use crate::trouble::Trouble;
 use sn_base::seq::Seq;
 use sn_core_net::net::Net;
@@ -71,6 +73,18 @@ fn read_file(alloc: Global, cursor: &mut Cursor, lengths: &str) -> Result<Part, 
     Ok(Part::File(name, bytes))
 }
 
+/// Makes the capture of this name's length and this number of packets.
+fn make_file(alloc: Global, cursor: &mut Cursor, numbers: &str) -> Result<Part, Trouble> {
+    let Some((name, packets)) = numbers.split_once(' ') else {
+        return Err(Trouble::Form);
+    };
+    let Ok(packets) = packets.parse::<u32>() else {
+        return Err(Trouble::Form);
+    };
+    let name = String::from_str(alloc, cursor.text(number(name)?)?)?;
+    Ok(Part::File(name, capture(alloc, packets)?))
+}
+
 /// Reads a part of a call.
 fn read_part(alloc: Global, cursor: &mut Cursor) -> Result<Part, Trouble> {
     match cursor.line()?.split_once(' ') {
@@ -79,6 +93,7 @@ fn read_part(alloc: Global, cursor: &mut Cursor) -> Result<Part, Trouble> {
             Ok(Part::Word(String::from_str(alloc, text)?))
         }
         Some(("file", lengths)) => read_file(alloc, cursor, lengths),
+        Some(("made", numbers)) => make_file(alloc, cursor, numbers),
         Some(("status", status)) => match status.parse::<u8>() {
             Ok(status) => Ok(Part::Status(status)),
             Err(_) => Err(Trouble::Form),

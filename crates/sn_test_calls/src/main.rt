@@ -4,6 +4,7 @@
 
 mod call;
 mod cursor;
+mod made;
 mod tally;
 mod trouble;
 
@@ -15,7 +16,19 @@ use std::fs;
 use std::process::ExitCode;
 
 /// The files of the calls.
-const FILES: [&str; 4] = ["calls", "many.calls", "wide.calls", "tables.calls"];
+const FILES: [&str; 11] = [
+    "calls",
+    "many.calls",
+    "wide.calls",
+    "tables.calls",
+    "thin.calls",
+    "tags.calls",
+    "texts.calls",
+    "twelve.calls",
+    "changing.calls",
+    "levels.calls",
+    "large.calls",
+];
 
 /// Makes each call of a list, and tells those that answer otherwise as they come.
 fn make_calls(rt: &HostRuntime, bytes: &[u8], tally: &mut Tally) -> Result<(), Trouble> {
