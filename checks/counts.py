@@ -92,6 +92,9 @@ def calls_of(content):
         at = end + 1
         if words[0] == 'call':
             found.append(words[1])
+        elif words[0] == 'made':
+            # a capture that the program makes: its name alone stands in the file
+            at += int(words[1]) + 1
         elif words[0] != 'status':
             at += sum(int(word) + 1 for word in words[1:])
     return found
