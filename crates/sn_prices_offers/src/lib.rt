@@ -1,0 +1,8 @@
+//! What the pieces of a plan may take of a switch, in plain numbers, and where the least of prices lets it stand.
+#![tactic(auto)]
+
+pub mod beaten;
+pub mod gather;
+pub mod numbers;
+pub mod offers;
+pub mod walk;
