@@ -1,0 +1,124 @@
+//! Prices, limit by limit.
+
+use crate::bound::bound;
+use crate::forms::forms_of;
+use crate::raise::{raise, raise_each};
+use crate::sheet::{Form, Knob, Line, Sheet, blank};
+use sn_base::memory::Memory;
+use sn_prices_offers::offers::Offers;
+use std::alloc::Global;
+
+/// How many limits get a price at most.
+const LIMITS: usize = 20;
+/// A limit that raises the bound by less than this part of it is the last.
+const PART: u64 = 100000;
+
+/// The limit that raises the bound most, and the bound with it.
+#[derive(Clone, Copy)]
+struct Best {
+    line: Option<Line>,
+    value: u64,
+}
+
+/// The better one of the best limit so far and this one.
+fn tried(
+    o: &Offers,
+    sheet: &mut Sheet,
+    line: Line,
+    value: u64,
+    best: Best,
+) -> Result<Best, Memory> {
+    let number = sheet.lines.as_slice().len();
+    sheet.lines.push(line)?;
+    let found = raise(o, sheet, Knob::Line(number), value);
+    let line = sheet.lines.pop();
+    if found > best.value {
+        Ok(Best { line, value: found })
+    } else {
+        Ok(best)
+    }
+}
+
+/// The better one of the best limit so far and those of a form from this stage on.
+fn best_from(
+    o: &Offers,
+    sheet: &mut Sheet,
+    form: Form,
+    first: usize,
+    value: u64,
+    best: Best,
+) -> Result<Best, Memory> {
+    let mut best = best;
+    for last in first..o.stages {
+        let line = Line {
+            first,
+            last,
+            form,
+            price: 0,
+        };
+        best = tried(o, sheet, line, value, best)?;
+    }
+    Ok(best)
+}
+
+/// The better one of the best limit so far and those of a form.
+fn best_of(
+    o: &Offers,
+    sheet: &mut Sheet,
+    form: Form,
+    value: u64,
+    best: Best,
+) -> Result<Best, Memory> {
+    let mut best = best;
+    for first in 0..o.stages {
+        best = best_from(o, sheet, form, first, value, best)?;
+    }
+    Ok(best)
+}
+
+/// The limit that raises the bound most from this one, among those of these forms.
+fn best_line(o: &Offers, sheet: &mut Sheet, forms: &[Form], value: u64) -> Result<Best, Memory> {
+    let mut best = Best { line: None, value };
+    for form in forms {
+        best = best_of(o, sheet, *form, value, best)?;
+    }
+    Ok(best)
+}
+
+/// Raises the bound by one limit more, and by the prices of all. The bound that is reached from this one.
+fn add_line(o: &Offers, sheet: &mut Sheet, forms: &[Form], value: u64) -> Result<u64, Memory> {
+    let best = best_line(o, sheet, forms, value)?;
+    match best.line {
+        Some(line) => {
+            sheet.lines.push(line)?;
+            let once = raise_each(o, sheet, best.value);
+            Ok(raise_each(o, sheet, once))
+        }
+        None => Ok(value),
+    }
+}
+
+/// Prices for what pieces may take, found limit by limit: each is the one that raises the bound most. The tables of the sheet
+/// are those of its prices.
+///
+/// They are good ones in general and not the best: nothing is promised of them.
+///
+/// # Errors
+/// Out of memory.
+pub fn ascend(alloc: Global, o: &Offers) -> Result<Sheet, Memory> {
+    let forms = forms_of(alloc, o)?;
+    let mut flat = blank(alloc, o, 0)?;
+    let cost = bound(o, &mut flat) / flat.scale.max(1);
+    let mut sheet = blank(alloc, o, cost)?;
+    let mut value = bound(o, &mut sheet);
+    value = raise(o, &mut sheet, Knob::Metadata, value);
+    for _ in 0..LIMITS {
+        let found = add_line(o, &mut sheet, forms.as_slice(), value)?;
+        if found <= value.saturating_add(value / PART) {
+            break;
+        }
+        value = found;
+    }
+    bound(o, &mut sheet);
+    Ok(sheet)
+}
