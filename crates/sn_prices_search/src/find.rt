@@ -1,0 +1,91 @@
+//! A plan that costs little, with prices that bound what plans cost.
+ghost use Rattle.std.specs.Prelude.{length};
+ghost use Rattle.sn_switch.specs.Texts.{IsSwitch};
+ghost use Rattle.sn_plan_choices.specs.Costs.{HasPlaces};
+
+use crate::board::Stand;
+use crate::choice::Choice;
+use crate::search::search;
+use sn_base::memory::Memory;
+use sn_base::seq::Seq;
+use sn_plan_choices::costs::CostTable;
+use sn_plan_grammar::plan::Plan;
+use sn_plan_lists::naming::plan_of;
+use sn_plan_space::queries::queries_of;
+use sn_prices_dual::ascent::ascend;
+use sn_prices_dual::bound::bound;
+use sn_prices_dual::sheet::Sheet;
+use sn_prices_offers::gather::gather;
+use sn_prices_offers::offers::{Offers, Shape};
+use sn_switch::switch::Switch;
+use sn_types::typed::Typed;
+use std::alloc::Global;
+
+/// A plan, and prices on the limits of the switch.
+#[derive(Drop)]
+pub struct Found {
+    pub plan: Plan,
+    pub prices: Sheet,
+}
+
+/// Adds the choices of the stages of a piece's registers.
+fn add_stages(choices: &mut Seq<u32>, shape: &Shape, stages: &[usize]) -> Result<(), Memory> {
+    for (_, stage) in shape.stays.as_slice().iter().zip(stages.iter()) {
+        choices.push((*stage).min(31) as u32)?;
+    }
+    Ok(())
+}
+
+/// Adds the choices of a piece.
+fn add_piece(o: &Offers, choices: &mut Seq<u32>, stand: &Stand) -> Result<(), Memory> {
+    choices.push(stand.offer.number)?;
+    match o.shapes.as_slice().get(stand.offer.shape) {
+        Some(shape) => add_stages(choices, shape, &stand.stages),
+        None => Ok(()),
+    }
+}
+
+/// Adds the choices of a query.
+fn add_query(o: &Offers, choices: &mut Seq<u32>, choice: &Choice) -> Result<(), Memory> {
+    choices.push(choice.path.min(7) as u32)?;
+    for stand in choice.stands.as_slice() {
+        add_piece(o, choices, stand)?;
+    }
+    Ok(())
+}
+
+/// The choices of a plan, query by query.
+fn choices_of(alloc: Global, o: &Offers, found: &[Choice]) -> Result<Seq<u32>, Memory> {
+    let mut choices = Seq::new(alloc);
+    for choice in found {
+        add_query(o, &mut choices, choice)?;
+    }
+    Ok(choices)
+}
+
+/// What no plan costs less than by these prices, in items.
+fn least_of(o: &Offers, prices: &mut Sheet) -> u64 {
+    bound(o, prices).div_ceil(prices.scale.max(1))
+}
+
+/// A plan for these queries on this switch that costs little, with prices on the limits of the switch that show how little plans
+/// can cost. The table is one of these queries, and the switch is one that a text can stand for. The same queries, switch and
+/// table give the same plan and prices each time.
+///
+/// Nothing is promised of them: that the plan fits, what it costs and what the prices show is tested by whoever writes them.
+///
+/// # Errors
+/// Out of memory.
+pub fn find(t: &Typed, s: &Switch, c: &CostTable) -> Result<Found, Memory>
+    requires switch { IsSwitch s.now }
+    requires places { HasPlaces c.now (length t.now.queries) }
+{
+    let known = queries_of(t.alloc, s, c, t.queries.as_slice())?;
+    let o = gather(t.alloc, s, known.as_slice())?;
+    let mut prices = ascend(t.alloc, &o)?;
+    let least = least_of(&o, &mut prices);
+    let found = search(t.alloc, &o, &prices, least)?;
+    let choices = choices_of(t.alloc, &o, found.as_slice())?;
+    let plan = plan_of(t, s, choices.as_slice())?;
+    Ok(Found { plan, prices })
+}
