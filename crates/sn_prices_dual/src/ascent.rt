@@ -13,10 +13,21 @@ const LIMITS: usize = 20;
 /// A limit that raises the bound by less than this part of it is the last.
 const PART: u64 = 100000;
 
-/// The limit that raises the bound most, and the bound with it.
+/// What raises the bound most.
+#[derive(Clone, Copy)]
+enum Move {
+    /// Nothing raises it.
+    Nothing,
+    /// This price of metadata.
+    Metadata(u64),
+    /// One limit more.
+    Line(Line),
+}
+
+/// What raises the bound most, and the bound with it.
 #[derive(Clone, Copy)]
 struct Best {
-    line: Option<Line>,
+    chosen: Move,
     value: u64,
 }
 
@@ -31,11 +42,12 @@ fn tried(
     let number = sheet.lines.as_slice().len();
     sheet.lines.push(line)?;
     let found = raise(o, sheet, Knob::Line(number), value);
-    let line = sheet.lines.pop();
-    if found > best.value {
-        Ok(Best { line, value: found })
-    } else {
-        Ok(best)
+    match sheet.lines.pop() {
+        Some(line) if found > best.value => Ok(Best {
+            chosen: Move::Line(line),
+            value: found,
+        }),
+        _ => Ok(best),
     }
 }
 
@@ -76,26 +88,42 @@ fn best_of(
     Ok(best)
 }
 
-/// The limit that raises the bound most from this one, among those of these forms.
-fn best_line(o: &Offers, sheet: &mut Sheet, forms: &[Form], value: u64) -> Result<Best, Memory> {
-    let mut best = Best { line: None, value };
+/// How much metadata at another price raises the bound from this one. Its price stays.
+fn best_metadata(o: &Offers, sheet: &mut Sheet, value: u64) -> Best {
+    let before = sheet.metadata;
+    let found = raise(o, sheet, Knob::Metadata, value);
+    let price = sheet.metadata;
+    sheet.metadata = before;
+    let chosen = if found > value {
+        Move::Metadata(price)
+    } else {
+        Move::Nothing
+    };
+    Best {
+        chosen,
+        value: found,
+    }
+}
+
+/// What raises the bound most from this one: metadata at another price, or a limit of one of these forms.
+fn best_move(o: &Offers, sheet: &mut Sheet, forms: &[Form], value: u64) -> Result<Best, Memory> {
+    let mut best = best_metadata(o, sheet, value);
     for form in forms {
         best = best_of(o, sheet, *form, value, best)?;
     }
     Ok(best)
 }
 
-/// Raises the bound by one limit more, and by the prices of all. The bound that is reached from this one.
-fn add_line(o: &Offers, sheet: &mut Sheet, forms: &[Form], value: u64) -> Result<u64, Memory> {
-    let best = best_line(o, sheet, forms, value)?;
-    match best.line {
-        Some(line) => {
-            sheet.lines.push(line)?;
-            let once = raise_each(o, sheet, best.value);
-            Ok(raise_each(o, sheet, once))
-        }
-        None => Ok(value),
+/// Raises the bound by what raises it most, and then by the prices of all limits. The bound that is reached from this one.
+fn improve(o: &Offers, sheet: &mut Sheet, forms: &[Form], value: u64) -> Result<u64, Memory> {
+    let best = best_move(o, sheet, forms, value)?;
+    match best.chosen {
+        Move::Nothing => return Ok(value),
+        Move::Metadata(price) => sheet.metadata = price,
+        Move::Line(line) => sheet.lines.push(line)?,
     }
+    let once = raise_each(o, sheet, best.value);
+    Ok(raise_each(o, sheet, once))
 }
 
 /// Prices for what pieces may take, found limit by limit: each is the one that raises the bound most. The tables of the sheet
@@ -111,9 +139,8 @@ pub fn ascend(alloc: Global, o: &Offers) -> Result<Sheet, Memory> {
     let cost = bound(o, &mut flat) / flat.scale.max(1);
     let mut sheet = blank(alloc, o, cost)?;
     let mut value = bound(o, &mut sheet);
-    value = raise(o, &mut sheet, Knob::Metadata, value);
     for _ in 0..LIMITS {
-        let found = add_line(o, &mut sheet, forms.as_slice(), value)?;
+        let found = improve(o, &mut sheet, forms.as_slice(), value)?;
         if found <= value.saturating_add(value / PART) {
             break;
         }

@@ -60,11 +60,10 @@ fn filling(bits: u64, divisor: u64) -> u64 {
     }
 }
 
-/// Adds the forms that tell two kinds of registers apart: the smaller weighs a whole number, and the larger up to three more.
-fn add_pair(o: &Offers, forms: &mut Seq<Form>, large: u64, small: u64) -> Result<(), Memory> {
-    for parts in 1..4 {
-        let divisor = large.saturating_sub(small) / parts;
-        let plus = filling(small, divisor);
+/// Adds the forms that divide by this, each with a number added that fills up a kind of register.
+fn add_filled(o: &Offers, forms: &mut Seq<Form>, divisor: u64) -> Result<(), Memory> {
+    for bits in o.kinds.as_slice() {
+        let plus = filling(*bits, divisor);
         add(
             o,
             forms,
@@ -78,16 +77,30 @@ fn add_pair(o: &Offers, forms: &mut Seq<Form>, large: u64, small: u64) -> Result
     Ok(())
 }
 
-/// Adds the forms that tell a kind of register from the smaller ones.
-fn add_larger(o: &Offers, forms: &mut Seq<Form>, large: u64) -> Result<(), Memory> {
-    for small in o.kinds.as_slice() {
-        add_pair(o, forms, large, *small)?;
+/// Adds the forms that tell two sizes of registers apart: the larger weighs up to three more than the smaller.
+fn add_pair(o: &Offers, forms: &mut Seq<Form>, large: u64, small: u64) -> Result<(), Memory> {
+    for parts in 1..4 {
+        let divisor = large.saturating_sub(small) / parts;
+        add_filled(o, forms, divisor)?;
+        add_filled(o, forms, divisor.saturating_add(1))?;
     }
     Ok(())
 }
 
-/// Adds the forms that tell kinds of registers that fit from one another.
+/// Adds the forms that tell a size of registers from the smaller ones.
+fn add_larger(o: &Offers, forms: &mut Seq<Form>, large: u64) -> Result<(), Memory> {
+    add_pair(o, forms, large, 0)?;
+    for small in o.kinds.as_slice() {
+        if *small < large {
+            add_pair(o, forms, large, *small)?;
+        }
+    }
+    Ok(())
+}
+
+/// Adds the forms that tell kinds of registers that fit from one another, and from a whole stage.
 fn add_mixed(o: &Offers, forms: &mut Seq<Form>) -> Result<(), Memory> {
+    add_larger(o, forms, o.bits)?;
     for large in o.kinds.as_slice() {
         if *large <= o.bits {
             add_larger(o, forms, *large)?;

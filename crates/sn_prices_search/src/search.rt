@@ -14,7 +14,9 @@ use std::alloc::Global;
 /// The steps that a search takes at most.
 const STEPS: usize = 1000000;
 /// The steps that may change nothing before it ends.
-const IDLE: usize = 20000;
+const IDLE: usize = 7000;
+/// How often a plan is made anew, with other numbers drawn.
+const ATTEMPTS: u64 = 3;
 
 /// The queries put into the switch one after another, each the best way that those before it leave room for. `None` where one
 /// finds no room.
@@ -90,6 +92,31 @@ fn widen(
     Ok(wide)
 }
 
+/// A plan that is made with the numbers that are drawn from this one on. Where not all queries find room there are no choices.
+fn attempt(
+    alloc: Global,
+    o: &Offers,
+    sheet: &Sheet,
+    least: u64,
+    number: u64,
+) -> Result<Making, Memory> {
+    let mut board = bare(alloc, o)?;
+    board.ask(o, sheet.asked.as_slice(), 4);
+    let choices = match first_choices(alloc, o, sheet, &mut board)? {
+        Some(choices) => choices,
+        None => Vec::new(alloc),
+    };
+    let order = numbers_below(alloc, choices.as_slice().len())?;
+    let mut making = Making {
+        board,
+        choices,
+        order,
+        draws: Draws { number },
+    };
+    improve(alloc, o, sheet, &mut making, least)?;
+    Ok(making)
+}
+
 /// How each query stands in a plan that costs little, guided by prices; none costs less than `least`. Where not all queries find
 /// room there are none.
 ///
@@ -98,19 +125,16 @@ fn widen(
 /// # Errors
 /// Out of memory.
 pub fn search(alloc: Global, o: &Offers, sheet: &Sheet, least: u64) -> Result<Vec<Choice>, Memory> {
-    let mut board = bare(alloc, o)?;
-    board.ask(o, sheet.asked.as_slice(), 4);
-    let Some(choices) = first_choices(alloc, o, sheet, &mut board)? else {
-        return Ok(Vec::new(alloc));
-    };
-    let order = numbers_below(alloc, choices.as_slice().len())?;
-    let draws = Draws { number: 1 };
-    let mut making = Making {
-        board,
-        choices,
-        order,
-        draws,
-    };
-    improve(alloc, o, sheet, &mut making, least)?;
-    widen(alloc, o, sheet, &mut making)
+    let mut best = attempt(alloc, o, sheet, least, 1)?;
+    for number in 2..ATTEMPTS + 1 {
+        let cost = cost_of(best.choices.as_slice());
+        if cost <= least {
+            break;
+        }
+        let other = attempt(alloc, o, sheet, least, number)?;
+        if cost_of(other.choices.as_slice()) < cost {
+            best = other;
+        }
+    }
+    widen(alloc, o, sheet, &mut best)
 }
