@@ -126,6 +126,34 @@ fn improve(o: &Offers, sheet: &mut Sheet, forms: &[Form], value: u64) -> Result<
     Ok(raise_each(o, sheet, once))
 }
 
+/// A price in whole items, rounded.
+fn whole(price: u64, scale: u64) -> u64 {
+    price.saturating_add(scale / 2) / scale.max(1)
+}
+
+/// Adds the limits of a sheet with their prices in whole items.
+fn add_whole(plain: &mut Sheet, sheet: &Sheet) -> Result<(), Memory> {
+    for line in sheet.lines.as_slice() {
+        let price = whole(line.price, sheet.scale);
+        plain.lines.push(Line { price, ..*line })?;
+    }
+    Ok(())
+}
+
+/// The prices of a sheet in whole items, where they show as much, and else as they are.
+fn in_items(alloc: Global, o: &Offers, sheet: Sheet, value: u64) -> Result<Sheet, Memory> {
+    let mut sheet = sheet;
+    let mut plain = blank(alloc, o, 0)?;
+    plain.scale = 1;
+    plain.metadata = whole(sheet.metadata, sheet.scale);
+    add_whole(&mut plain, &sheet)?;
+    if bound(o, &mut plain) >= value.div_ceil(sheet.scale.max(1)) {
+        return Ok(plain);
+    }
+    bound(o, &mut sheet);
+    Ok(sheet)
+}
+
 /// Prices for what pieces may take, found limit by limit: each is the one that raises the bound most. The tables of the sheet
 /// are those of its prices.
 ///
@@ -146,6 +174,5 @@ pub fn ascend(alloc: Global, o: &Offers) -> Result<Sheet, Memory> {
         }
         value = found;
     }
-    bound(o, &mut sheet);
-    Ok(sheet)
+    in_items(alloc, o, sheet, value)
 }

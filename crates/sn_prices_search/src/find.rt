@@ -1,11 +1,13 @@
 //! A plan that costs little, with prices that bound what plans cost.
-ghost use Rattle.std.specs.Prelude.{length};
+ghost use Rattle.std.specs.Prelude.{length, IfOk};
 ghost use Rattle.sn_switch.specs.Texts.{IsSwitch};
 ghost use Rattle.sn_plan_choices.specs.Costs.{HasPlaces};
+ghost use Rattle.sn_prices_search.specs.Told.{AreTold};
 
 use crate::board::Stand;
 use crate::choice::Choice;
 use crate::search::search;
+use crate::told::told;
 use sn_base::memory::Memory;
 use sn_base::seq::Seq;
 use sn_plan_choices::costs::CostTable;
@@ -15,6 +17,7 @@ use sn_plan_space::queries::queries_of;
 use sn_prices_dual::ascent::ascend;
 use sn_prices_dual::bound::bound;
 use sn_prices_dual::sheet::Sheet;
+use sn_prices_grammar::prices::Prices;
 use sn_prices_offers::gather::gather;
 use sn_prices_offers::offers::{Offers, Shape};
 use sn_switch::switch::Switch;
@@ -25,7 +28,7 @@ use std::alloc::Global;
 #[derive(Drop)]
 pub struct Found {
     pub plan: Plan,
-    pub prices: Sheet,
+    pub prices: Prices,
 }
 
 /// Adds the choices of the stages of a piece's registers.
@@ -63,29 +66,32 @@ fn choices_of(alloc: Global, o: &Offers, found: &[Choice]) -> Result<Seq<u32>, M
     Ok(choices)
 }
 
-/// What no plan costs less than by these prices, in items.
-fn least_of(o: &Offers, prices: &mut Sheet) -> u64 {
-    bound(o, prices).div_ceil(prices.scale.max(1))
+/// What no plan costs less than by the prices of a sheet, in items.
+fn least_of(o: &Offers, sheet: &mut Sheet) -> u64 {
+    bound(o, sheet).div_ceil(sheet.scale.max(1))
 }
 
 /// A plan for these queries on this switch that costs little, with prices on the limits of the switch that show how little plans
 /// can cost. The table is one of these queries, and the switch is one that a text can stand for. The same queries, switch and
 /// table give the same plan and prices each time.
 ///
-/// Nothing is promised of them: that the plan fits, what it costs and what the prices show is tested by whoever writes them.
+/// A text can tell the prices. Nothing else is promised: that the plan fits, what it costs and what the prices show is tested by
+/// whoever writes them.
 ///
 /// # Errors
 /// Out of memory.
 pub fn find(t: &Typed, s: &Switch, c: &CostTable) -> Result<Found, Memory>
     requires switch { IsSwitch s.now }
     requires places { HasPlaces c.now (length t.now.queries) }
+    ensures { IfOk result (λ found. AreTold found.prices) }
 {
     let known = queries_of(t.alloc, s, c, t.queries.as_slice())?;
     let o = gather(t.alloc, s, known.as_slice())?;
-    let mut prices = ascend(t.alloc, &o)?;
-    let least = least_of(&o, &mut prices);
-    let found = search(t.alloc, &o, &prices, least)?;
+    let mut sheet = ascend(t.alloc, &o)?;
+    let least = least_of(&o, &mut sheet);
+    let found = search(t.alloc, &o, &sheet, least)?;
     let choices = choices_of(t.alloc, &o, found.as_slice())?;
     let plan = plan_of(t, s, choices.as_slice())?;
+    let prices = told(t.alloc, &sheet)?;
     Ok(Found { plan, prices })
 }
