@@ -53,7 +53,7 @@ fn limit_of(line: &Line) -> Option<Limit>
 
 /// Adds a limit, while there is room for it.
 fn add(limits: &mut Seq<Limit>, limit: Limit) -> Result<(), Memory>
-    requires { CanBeTold limit }
+    requires own { CanBeTold limit }
     requires few { length limits.old ≤ 64 }
     requires fine { All CanBeTold limits.old }
     ensures few { OnOk result (length limits.new ≤ 64) }
