@@ -21,6 +21,13 @@ fn narrow(number: u64) -> u32 {
     number.min(MOST) as u32
 }
 
+/// A number, or 1 in place of 0.
+fn some(number: u32) -> u32
+    ensures { 1 ≤ result }
+{
+    if number == 0 { 1 } else { number }
+}
+
 /// What is divided, where it isn't the bits alone.
 fn mix_of(form: Form) -> Option<Mix> {
     if form.times == 1 && form.plus == 0 {
@@ -101,7 +108,7 @@ pub fn told(alloc: Global, sheet: &Sheet) -> Result<Prices, Memory>
 {
     let limits = limits_of(alloc, sheet)?;
     Ok(Prices {
-        scale: narrow(sheet.scale.max(1)),
+        scale: some(narrow(sheet.scale)),
         limits,
     })
 }

@@ -12,7 +12,7 @@ use sn_types_read::read::read;
 use std::alloc::Global;
 
 /// What a piece costs: of a query, a front, a branch and an option.
-type Count = (u32, u32, u32, u32, u64);
+pub(crate) type Count = (u32, u32, u32, u32, u64);
 
 /// Writes an entry, if it has a place.
 fn put(t: &Typed, table: &mut CostTable, count: Count)
@@ -26,7 +26,7 @@ fn put(t: &Typed, table: &mut CostTable, count: Count)
 }
 
 /// A table with these entries, and 0 elsewhere.
-fn table(t: &Typed, s: &Switch, counts: &[Count]) -> Option<CostTable>
+pub(crate) fn table(t: &Typed, s: &Switch, counts: &[Count]) -> Option<CostTable>
     ensures { IfSome result (λ table. HasPlaces table (length t.now.queries)) }
 {
     let mut table = CostTable::make(t, s).ok()?;
@@ -36,14 +36,14 @@ fn table(t: &Typed, s: &Switch, counts: &[Count]) -> Option<CostTable>
     Some(table)
 }
 
-fn queries(alloc: Global, text: &[u8]) -> Option<Typed> {
+pub(crate) fn queries(alloc: Global, text: &[u8]) -> Option<Typed> {
     if text.len() > 1000 {
         return None;
     }
     read(alloc, text).ok()
 }
 
-fn switch(alloc: Global, text: &[u8]) -> Option<Switch>
+pub(crate) fn switch(alloc: Global, text: &[u8]) -> Option<Switch>
     ensures { IfSome result (λ s. IsSwitch s) }
 {
     if text.len() > 1000 {
@@ -69,10 +69,10 @@ fn prices(alloc: Global, text: &[u8]) -> Option<Shown>
 
 /// A space: its queries, its switch and what its pieces cost.
 #[derive(Drop)]
-struct Space<'a> {
-    queries: &'a [u8],
-    switch: &'a [u8],
-    counts: &'a [Count],
+pub(crate) struct Space<'a> {
+    pub(crate) queries: &'a [u8],
+    pub(crate) switch: &'a [u8],
+    pub(crate) counts: &'a [Count],
 }
 
 /// What a text of prices shows of a space. `None` where a text isn't read.
@@ -87,7 +87,7 @@ fn shown(rt: &HostRuntime, space: &Space<'_>, text: &[u8]) -> Option<u128> {
 /// Two queries of which a switch has room for one register, in stage 1.
 ///
 /// Without the switch either costs 5, with its register a costs 1 and b 3.
-fn two() -> Space<'static> {
+pub(crate) fn two() -> Space<'static> {
     Space {
         queries: b"window 1000000 query a { packets | map ip.dst as d, 1 as n | reduce d: sum(n) width 8; } query b { packets | map ip.src as s, 1 as n | reduce s: sum(n) width 8; }",
         switch: b"stages 2; actions 1; bits 41; meta 100; chain 1; slots 1;",
@@ -156,7 +156,7 @@ fn shows_what_two_queries_share(rt: HostRuntime) {
 ///
 /// Along 32 alone the branches cost 4 and 4, with their registers 2 and 1; along 8 and 32 at 8 3 and 3, 1 and 1, and at 32 2 and 2, 0 and 0.
 /// The registers have 49 and 65 bits.
-fn joined() -> Space<'static> {
+pub(crate) fn joined() -> Space<'static> {
     Space {
         queries: b"window 1000000 query q { refine ip.dst: 8, 32; packets | map ip.dst as d, 1 as n | reduce d: sum(n) width 16; packets | map ip.dst as d, ip.len as m | reduce d: sum(m) width 32; join d; }",
         switch: b"stages 3; actions 1; bits 65; meta 1000; chain 1; slots 1;",
@@ -214,7 +214,7 @@ fn shows_the_cheapest_path(rt: HostRuntime) {
 /// A distinct in chains of two on a switch of four stages: its registers have 65 bits, or 260 where they have four slots, which no stage has.
 ///
 /// It costs 90, with registers of one slot 20, and with larger ones it would cost nothing. A row in the switch takes 64 bits of metadata.
-fn chained() -> Space<'static> {
+pub(crate) fn chained() -> Space<'static> {
     Space {
         queries: b"window 1000000 query q { packets | map ip.dst as d, ip.src as s | distinct; }",
         switch: b"stages 4; actions 1; bits 200; meta 100; chain 2; slots 1, 4;",
