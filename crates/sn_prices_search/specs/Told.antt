@@ -1,6 +1,6 @@
 -- to be believed
 -- Prices that a text can tell.
-use Rattle.std.specs.Prelude.{ℕ, ◌≤◌, length}
+use Rattle.std.specs.Prelude.{◌≤◌, length}
 use Rattle.std.specs.List.{All}
 use Rattle.sn_prices_grammar.specs.declared.prices.Limit.{Limit}
 use Rattle.sn_prices_grammar.specs.declared.prices.Limit.TheVariants.{Stages, Meta}
