@@ -1,3 +1,4 @@
 pub mod BranchLemmas
+pub mod FrontLemmas
 pub mod QueryLemmas
 pub mod StreamLemmas

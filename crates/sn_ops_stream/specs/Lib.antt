@@ -1,2 +1,3 @@
+pub mod Fronts
 pub mod States
 pub mod Streams

@@ -1,14 +1,15 @@
 -- serves proofs
 -- Branches and queries to which tuples come one after another.
-use Rattle.std.specs.Prelude.{◌≡◌, ◌≢◌, ℕ, ◌+◌, ◌<◌, List, [], ◌∷◌, ◌++◌, length, Option, None, Some}
+use Rattle.std.specs.Prelude.{◌≡◌, ◌≢◌, ℕ, ◌+◌, ◌<◌, List, [], ◌∷◌, ◌++◌, length, Bool, Option, None, Some}
 use Rattle.std.specs.List.{AllByRecursion}
 use Rattle.sn_base.specs.Columns.{IsOf}
 use Rattle.sn_base.specs.Groups.{Row}
 use Rattle.sn_types.specs.declared.typed_query.TypedQuery.{TypedQuery}
-use Rattle.sn_types.specs.Typed.{IsTyped, branch_at, end_columns, final_columns, finest_level, first_columns, query_at}
+use Rattle.sn_types.specs.Typed.{IsTyped, branch_at, end_columns, final_columns, finest_level, first_columns, packet_row, query_at}
 use Rattle.sn_ops.specs.Packets.{packet_rows}
 use Rattle.sn_ops.specs.Plain.{branch_rows, query_rows}
 use Rattle.sn_ops.specs.Standing.{Stands}
+use Rattle.sn_ops_stream.specs.Fronts.{lets_in}
 use Rattle.sn_ops_stream.specs.States.{BranchState}
 use Rattle.sn_ops_stream.specs.declared.any_branch.AnyBranch.{AnyBranch}
 use Rattle.sn_ops_stream.specs.declared.any_branch.AnyBranch.TheVariants as kinds
@@ -28,6 +29,17 @@ pub record HasTaken (queries : List TypedQuery) (q b level : ℕ) (tuples : List
   pub same_ops : s.ops ≡ (branch_at queries q b).ops
   pub stands : Stands level (branch_at queries q b).ops s.seen (packet_rows (query_at queries q) b level None tuples) s.out
   pub columns : AllByRecursion (IsOf (first_columns (branch_at queries q b))) (packet_rows (query_at queries q) b level None tuples)
+
+-- it is the same branch at the same level
+pub record IsSameBranch (old new : BranchState) : Type 0 where
+  pub same_refined : new.refined ≡ old.refined
+  pub same_level : new.level ≡ old.level
+  pub same_fields : new.fields ≡ old.fields
+  pub same_ops : new.ops ≡ old.ops
+
+-- its first operators let a tuple through
+abbrev pub lets_tuple : BranchState → ℕ → List ℕ → Bool
+lets_tuple s front tuple = lets_in s.level front s.ops (packet_row s.refined s.level s.fields tuple)
 
 -- some tuples have come to it
 abbrev pub IsTaking : BranchState → Type 0

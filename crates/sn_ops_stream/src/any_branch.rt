@@ -3,6 +3,7 @@ ghost use Rattle.std.specs.Prelude.{◌≡◌, ◌<◌, [], length, nat_eq, true
 ghost use Rattle.std.specs.List.{list_any};
 ghost use Rattle.sn_base.specs.RowLists.{rows_in};
 ghost use Rattle.sn_types.specs.Typed.{branch_of, query_at};
+ghost use Rattle.sn_lanes_narrow.specs.Asked.{AreOf};
 ghost use Rattle.sn_ops_stream.specs.Streams.{GivesRows, HasTaken, HasTakenMore, IsTaking, branch_in};
 
 use crate::branch::BranchStream;
@@ -11,6 +12,7 @@ use sn_base::row::Row;
 use sn_base::row_list::RowList;
 use sn_base::short_row::ShortRow;
 use sn_fields::tuple::Tuple;
+use sn_lanes_narrow::asked::Asked;
 use sn_types::typed::Typed;
 use std::alloc::Global;
 
@@ -56,14 +58,16 @@ impl<'a> AnyBranch<'a> {
         }
     }
 
-    /// Takes the next tuples. The kind of rows is asked once for all of them.
-    pub fn take(&mut self, tuples: &[Tuple]) -> Result<(), Memory>
-        requires { IsTaking (branch_in self.old) }
-        ensures { OnOk result (HasTakenMore tuples.now (branch_in self.old) (branch_in self.new)) }
+    /// Takes the next tuples, of which `asked` may be asked. The kind of rows is asked once for all of them.
+    pub fn take(&mut self, tuples: &[Tuple], asked: &mut Asked) -> Result<(), Memory>
+        requires taking { IsTaking (branch_in self.old) }
+        requires asked { AreOf tuples.now asked.old }
+        ensures taken { OnOk result (HasTakenMore tuples.now (branch_in self.old) (branch_in self.new)) }
+        ensures asked { OnOk result (AreOf tuples.now asked.new) }
     {
         match self {
-            AnyBranch::Short(branch) => branch.take(tuples),
-            AnyBranch::Wide(branch) => branch.take(tuples),
+            AnyBranch::Short(branch) => branch.take(tuples, asked),
+            AnyBranch::Wide(branch) => branch.take(tuples, asked),
         }
     }
 

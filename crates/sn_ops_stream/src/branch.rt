@@ -1,18 +1,24 @@
 //! A branch to which tuples come one after another.
-ghost use Rattle.std.specs.Prelude.{◌≡◌, ◌<◌, [], ◌∷◌, length, nat_eq, true, IfOk, OnOk};
+ghost use Rattle.std.specs.Prelude.{◌≡◌, ◌<◌, [], ◌∷◌, length, map, nat_eq, true, IfOk, OnOk};
 ghost use Rattle.std.specs.List.{list_any};
 ghost use Rattle.sn_types.specs.Kinds.{AreBelow};
 ghost use Rattle.sn_types.specs.Typed.{branch_at, branch_of, query_at};
-ghost use Rattle.sn_ops_stream.specs.Streams.{GivesRows, HasTaken, HasTakenMore, IsTaking};
+ghost use Rattle.sn_lanes_narrow.specs.Asked.{AreOf};
+ghost use Rattle.sn_lanes_narrow.specs.Marks.{mark};
+ghost use Rattle.sn_ops_stream.specs.Fronts.{AreFilters};
+ghost use Rattle.sn_ops_stream.specs.Streams.{GivesRows, HasTaken, HasTakenMore, IsSameBranch, IsTaking, lets_tuple};
 
+use crate::after::start_after;
+use crate::front::front_into;
 use sn_base::any_row::AnyRow;
 use sn_base::memory::Memory;
 use sn_base::row_seq::RowSeq;
 use sn_base::seed::Seed;
 use sn_fields::tuple::Tuple;
+use sn_lanes_narrow::asked::Asked;
+use sn_lanes_narrow::condition::Condition;
 use sn_ops::finish::finish;
 use sn_ops::seen::{Seen, expect_all, unseen};
-use sn_ops::start::start;
 use sn_types::packet::Packets;
 use sn_types::typed::Typed;
 use sn_types::typed_op::TOp;
@@ -29,6 +35,8 @@ pub struct BranchStream<'a, R: AnyRow> {
     seen: Vec<Seen<R>>,
     /// A packet's row on its way through the operators.
     row: R,
+    /// The conditions of the filters at the front of the operators, as they were last asked.
+    conditions: Vec<Condition>,
     /// What came out after the operators, where none of them is a reduce.
     out: RowSeq<R>,
 }
@@ -67,6 +75,7 @@ impl<'a, R: AnyRow> BranchStream<'a, R> {
             seed: t.seed,
             seen,
             row: R::empty(),
+            conditions: Vec::new(alloc),
             out: RowSeq::new(alloc),
         })
     }
@@ -79,14 +88,21 @@ impl<'a, R: AnyRow> BranchStream<'a, R> {
         expect_all(&mut self.seen, &before.seen);
     }
 
-    /// Takes the next tuple.
+    /// Takes the next tuple, of which a mark says whether the first `front` operators, all of them filters, let it through.
     #[inline(always)]
-    fn give(&mut self, tuple: &Tuple) -> Result<(), Memory>
-        requires { IsTaking self.old }
-        ensures { OnOk result (HasTakenMore (tuple.now ∷ []) self.old self.new) }
+    fn give(&mut self, front: usize, marked: u8, tuple: &Tuple) -> Result<(), Memory>
+        requires taking { IsTaking self.old }
+        requires filters { AreFilters front self.old.ops }
+        requires marked { marked ≡ mark (lets_tuple self.old front tuple.now) }
+        ensures taken { OnOk result (HasTakenMore (tuple.now ∷ []) self.old self.new) }
+        ensures same { OnOk result (IsSameBranch self.old self.new) }
     {
         let packet = self.packets.row(tuple);
-        start(
+        if marked == 0 {
+            return Ok(());
+        }
+        start_after(
+            front,
             self.ops,
             &mut self.seen,
             self.packets.level,
@@ -96,15 +112,30 @@ impl<'a, R: AnyRow> BranchStream<'a, R> {
         )
     }
 
-    /// Takes the next tuples.
-    pub fn take(&mut self, tuples: &[Tuple]) -> Result<(), Memory>
-        requires { IsTaking self.old }
+    /// Takes the next tuples, of which marks say which ones the first `front` operators let through.
+    fn take_marked(&mut self, front: usize, tuples: &[Tuple], marks: &[u8]) -> Result<(), Memory>
+        requires taking { IsTaking self.old }
+        requires filters { AreFilters front self.old.ops }
+        requires marks { marks.now ≡ map (λ tuple. mark (lets_tuple self.old front tuple)) tuples.now }
         ensures { OnOk result (HasTakenMore tuples.now self.old self.new) }
     {
-        for tuple in tuples {
-            self.give(tuple)?;
+        for (place, tuple) in tuples.iter().enumerate() {
+            self.give(front, marks[place], tuple)?;
         }
         Ok(())
+    }
+
+    /// Takes the next tuples, of which `asked` may be asked. The filters at its front are asked for all of them at once, and only
+    /// tuples that pass are gone into.
+    pub fn take(&mut self, tuples: &[Tuple], asked: &mut Asked) -> Result<(), Memory>
+        requires taking { IsTaking self.old }
+        requires asked { AreOf tuples.now asked.old }
+        ensures taken { OnOk result (HasTakenMore tuples.now self.old self.new) }
+        ensures asked { OnOk result (AreOf tuples.now asked.new) }
+    {
+        let front = front_into(&self.packets, self.ops, &mut self.conditions)?;
+        asked.ask_all(self.conditions.as_slice(), tuples)?;
+        self.take_marked(front, tuples, asked.passed.as_slice())
     }
 
     /// The rows of the branch on the tuples that came.

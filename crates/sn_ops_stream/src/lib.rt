@@ -2,8 +2,10 @@
 //! block of tuples at most.
 #![tactic(auto)]
 
+mod after;
 pub mod any_branch;
 pub mod branch;
+mod front;
 mod queries;
 pub mod query;
 pub mod streams;

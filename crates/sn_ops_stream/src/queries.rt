@@ -1,11 +1,13 @@
 //! All queries of a file, to which tuples come one after another.
 ghost use Rattle.std.specs.Prelude.{◌≡◌, ℕ, List, [], ◌∷◌, ◌++◌, IfOk, OnOk};
 ghost use Rattle.sn_types.specs.declared.typed_query.TypedQuery.{TypedQuery};
+ghost use Rattle.sn_lanes_narrow.specs.Asked.{AreOf};
 ghost use Rattle.sn_ops_stream.specs.Streams.{AllHaveTaken};
 
 use crate::query::QueryStream;
 use sn_base::memory::Memory;
 use sn_fields::tuple::Tuple;
+use sn_lanes_narrow::asked::Asked;
 use sn_types::typed::Typed;
 use std::alloc::Global;
 
@@ -32,14 +34,19 @@ pub(crate) fn expect_all(streams: &mut [QueryStream<'_>], before: &[QueryStream<
     }
 }
 
-/// All queries take the next tuples, one query after another.
-pub(crate) fn take_all(streams: &mut [QueryStream<'_>], tuples: &[Tuple]) -> Result<(), Memory>
-    requires { (queries : List TypedQuery) × (before : List (List ℕ)) × AllHaveTaken queries before streams.old }
+/// All queries take the next tuples, of which `asked` may be asked, one query after another.
+pub(crate) fn take_all(
+    streams: &mut [QueryStream<'_>],
+    tuples: &[Tuple],
+    asked: &mut Asked,
+) -> Result<(), Memory>
+    requires taking { (queries : List TypedQuery) × (before : List (List ℕ)) × AllHaveTaken queries before streams.old }
+    requires asked { AreOf tuples.now asked.old }
     ensures { OnOk result ((queries : List TypedQuery) (before : List (List ℕ)) → AllHaveTaken queries before streams.old →
         AllHaveTaken queries (before ++ tuples.now) streams.new) }
 {
     for stream in streams.iter_mut() {
-        stream.take(tuples)?;
+        stream.take(tuples, asked)?;
     }
     Ok(())
 }

@@ -3,12 +3,14 @@ ghost use Rattle.std.specs.Prelude.{◌≡◌, ◌<◌, ℕ, List, [], length, n
 ghost use Rattle.std.specs.List.{list_any};
 ghost use Rattle.sn_base.specs.RowLists.{rows_in};
 ghost use Rattle.sn_types.specs.Typed.{query_at};
+ghost use Rattle.sn_lanes_narrow.specs.Asked.{AreOf};
 ghost use Rattle.sn_ops_stream.specs.Streams.{QueryGivesRows, QueryHasTaken, QueryHasTakenMore, QueryIsTaking};
 
 use crate::any_branch::AnyBranch;
 use sn_base::memory::Memory;
 use sn_base::row_list::RowList;
 use sn_fields::tuple::Tuple;
+use sn_lanes_narrow::asked::Asked;
 use sn_ops::lists::join_lists;
 use sn_types::typed::Typed;
 use std::alloc::Global;
@@ -59,14 +61,16 @@ impl<'a> QueryStream<'a> {
         }
     }
 
-    /// Takes the next tuples, one branch after the other.
-    pub fn take(&mut self, tuples: &[Tuple]) -> Result<(), Memory>
-        requires { QueryIsTaking self.old }
-        ensures { OnOk result (QueryHasTakenMore tuples.now self.old self.new) }
+    /// Takes the next tuples, of which `asked` may be asked, one branch after the other.
+    pub fn take(&mut self, tuples: &[Tuple], asked: &mut Asked) -> Result<(), Memory>
+        requires taking { QueryIsTaking self.old }
+        requires asked { AreOf tuples.now asked.old }
+        ensures taken { OnOk result (QueryHasTakenMore tuples.now self.old self.new) }
+        ensures asked { OnOk result (AreOf tuples.now asked.new) }
     {
-        self.first.take(tuples)?;
+        self.first.take(tuples, asked)?;
         match &mut self.second {
-            Some(second) => second.take(tuples),
+            Some(second) => second.take(tuples, asked),
             None => Ok(()),
         }
     }

@@ -8,6 +8,7 @@ use crate::query::QueryStream;
 use sn_base::memory::Memory;
 use sn_base::seq::Seq;
 use sn_fields::tuple::Tuple;
+use sn_lanes_narrow::asked::Asked;
 use sn_types::typed::Typed;
 use std::alloc::Global;
 use std::mem;
@@ -17,12 +18,14 @@ const BLOCK: usize = 16384;
 
 /// All queries, each at its finest level, to which tuples come one after another. They take them a block at a time, query by query and
 /// branch by branch: tuple by tuple the tables of all branches would be in use at once, and each would find less of itself in the
-/// processor's caches.
+/// processor's caches. Each different condition of the filters at their fronts is asked once for all tuples of a block.
 #[derive(Drop)]
 pub struct Streams<'a> {
     pub streams: Vec<QueryStream<'a>>,
     /// The tuples that came last, which the queries are still to take.
     pub block: Seq<Tuple>,
+    /// What the filters at the fronts of the branches ask of the tuples of a block.
+    asked: Asked,
 }
 
 impl<'a> Streams<'a> {
@@ -34,6 +37,7 @@ impl<'a> Streams<'a> {
         Ok(Streams {
             streams,
             block: Seq::new(alloc),
+            asked: Asked::new(alloc),
         })
     }
 
@@ -44,7 +48,8 @@ impl<'a> Streams<'a> {
             AllHaveTaken queries tuples self.new.streams.items) }
         ensures empty { OnOk result (self.new.block ≡ []) }
     {
-        take_all(&mut self.streams, self.block.as_slice())?;
+        self.asked.fill(self.block.as_slice())?;
+        take_all(&mut self.streams, self.block.as_slice(), &mut self.asked)?;
         self.block.clear();
         Ok(())
     }
