@@ -1,5 +1,5 @@
 -- The filters at the front of a branch.
-use Rattle.std.proofs.Common.{◌≡◌, ℕ, zero, suc, ◌+◌, ◌-◌, ◌<◌, List, [], ◌∷◌, ◌++◌, map, get_or, length, Bool, true, false, not, ◌&&◌, cond, Option, None, Some, slice_index, add-one, refl, ap, sym, ◌∙◌, subst, arith}
+use Rattle.std.proofs.Common.{◌≡◌, ℕ, zero, suc, ◌+◌, ◌-◌, ◌<◌, ◌≤◌, List, [], ◌∷◌, ◌++◌, map, get_or, length, Bool, true, false, not, ◌&&◌, cond, Option, None, Some, slice_index, add-one, refl, ap, sym, ◌∙◌, subst, arith}
 use Rattle.std.specs.List.{list_all}
 use Rattle.std.specs.Prelude.{◌==◌, slice_get}
 use Rattle.std.proofs.lemmas.Bool.{false≢true}
@@ -180,6 +180,17 @@ mark_at f tuples marks i tuple is within at = ap (λ (ms : List ℕ). get_or ms 
     here [] i t within at = absurd (omega arith)
     here (u ∷ ts) zero t within at = ap f (sym at)
     here (u ∷ ts) (suc i) t within at = here ts i t (omega arith) at
+
+long_as : (f : List ℕ → ℕ) (tuples : List (List ℕ)) → length (map f tuples) ≡ length tuples
+long_as f [] = refl
+long_as f (t ∷ tuples) = ap suc (long_as f tuples)
+
+-- marks are as many as tuples
+pub at_tuple : (tuples : List (List ℕ)) (marks : List ℕ) (i : ℕ) (f : List ℕ → ℕ) → marks ≡ map f tuples → i < length marks → i < length tuples
+at_tuple tuples marks i f is within = let long : length marks ≡ length tuples = ap length is ∙ long_as f tuples in omega (arith, long, within)
+
+pub past_tuples : (tuples : List (List ℕ)) (marks : List ℕ) (i : ℕ) (f : List ℕ → ℕ) → marks ≡ map f tuples → length marks ≤ i → length tuples ≤ i
+past_tuples tuples marks i f is past = let long : length marks ≡ length tuples = ap length is ∙ long_as f tuples in omega (arith, long, past)
 
 -- of the same branch
 pub same_lets : (s s' : BranchState) (front : ℕ) (tuple : List ℕ) → IsSameBranch s s' → lets_tuple s front tuple ≡ lets_tuple s' front tuple

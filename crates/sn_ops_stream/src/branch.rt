@@ -19,7 +19,7 @@ use sn_lanes_narrow::asked::Asked;
 use sn_lanes_narrow::condition::Condition;
 use sn_ops::finish::finish;
 use sn_ops::seen::{Seen, expect_all, unseen};
-use sn_types::packet::Packets;
+use sn_types::packet::{PacketRow, Packets};
 use sn_types::typed::Typed;
 use sn_types::typed_op::TOp;
 use std::alloc::Global;
@@ -97,10 +97,12 @@ impl<'a, R: AnyRow> BranchStream<'a, R> {
         ensures taken { OnOk result (HasTakenMore (tuple.now ∷ []) self.old self.new) }
         ensures same { OnOk result (IsSameBranch self.old self.new) }
     {
-        let packet = self.packets.row(tuple);
         if marked == 0 {
+            // No code is made of it: it tells that the row, which isn't looked at, would be one of the branch.
+            let _packet: PacketRow<'_, R::Number> = self.packets.row(tuple);
             return Ok(());
         }
+        let packet = self.packets.row(tuple);
         start_after(
             front,
             self.ops,
@@ -119,8 +121,8 @@ impl<'a, R: AnyRow> BranchStream<'a, R> {
         requires marks { marks.now ≡ map (λ tuple. mark (lets_tuple self.old front tuple)) tuples.now }
         ensures { OnOk result (HasTakenMore tuples.now self.old self.new) }
     {
-        for (place, tuple) in tuples.iter().enumerate() {
-            self.give(front, marks[place], tuple)?;
+        for (place, marked) in marks.iter().enumerate() {
+            self.give(front, *marked, &tuples[place])?;
         }
         Ok(())
     }

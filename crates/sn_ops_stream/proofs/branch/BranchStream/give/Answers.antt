@@ -18,7 +18,7 @@ pub start_after-requires-clause-front : goal.start_after-requires-clause-front
 start_after-requires-clause-front g c =
     let inside = c.self.inside in
     let s : BranchState = record { refined = inside.packets.refined; level = inside.packets.level; fields = inside.packets.fields.now; ops = inside.ops.now; seen = inside.seen.items; out = inside.out } in
-    goes_past s c.args.front c.args.marked c.args.tuple.now c.row-packet.result c.row-packet.ensures.row
+    goes_past s c.args.front c.args.marked c.args.tuple.now c.row-packet-2.result c.row-packet-2.ensures.row
     (subst (λ (v : BranchState). c.args.marked ≡ mark (lets_tuple v c.args.front c.args.tuple.now)) (sym c.self.view_is) c.requires.marked) c.if-marked-eq0.false
 
 pub start_after-requires-clause-can : goal.start_after-requires-clause-can
@@ -27,8 +27,8 @@ start_after-requires-clause-can g c =
     let inside = c.self.inside in
     let s : BranchState = record { refined = inside.packets.refined; level = inside.packets.level; fields = inside.packets.fields.now; ops = inside.ops.now; seen = inside.seen.items; out = inside.out } in
     let taken : HasTaken given.0 given.1 given.2 given.3 given.4 s = subst (HasTaken given.0 given.1 given.2 given.3 given.4) (sym c.self.view_is) given.5 in
-    subst (λ (seen : List SeenState). CanTake s.level s.ops seen c.row-packet.result) (sym c.deref_mut.ensures.value)
-    (can_take_one given.0 given.1 given.2 given.3 given.4 c.row-packet.result s taken c.row-packet.ensures.columns)
+    subst (λ (seen : List SeenState). CanTake s.level s.ops seen c.row-packet-2.result) (sym c.deref_mut.ensures.value)
+    (can_take_one given.0 given.1 given.2 given.3 given.4 c.row-packet-2.result s taken c.row-packet-2.ensures.columns)
 
 pub returns-then-marked-eq0-clause-taken : goal.returns-then-marked-eq0-clause-taken
 returns-then-marked-eq0-clause-taken g c queries q b level tuples taken =
@@ -45,14 +45,14 @@ returns-then-marked-eq0-clause-taken g c queries q b level tuples taken =
 pub returns-clause-taken : goal.returns-clause-taken
 returns-clause-taken g c =
     let inside = c.self.inside in
-    let row : Row = c.row-packet.result in
+    let row : Row = c.row-packet-2.result in
     let s : BranchState = record { refined = inside.packets.refined; level = inside.packets.level; fields = inside.packets.fields.now; ops = inside.ops.now; seen = inside.seen.items; out = inside.out } in
     let s' : BranchState = record s { seen = (with_items inside.seen c.start_after.new.seen).items; out = c.start_after.new.out } in
     let as_long : length c.start_after.new.seen ≡ inside.seen.len = omega (arith, c.start_after.auto.seen, c.deref_mut.ensures.len) in
     let Steps : Type 0 = (rows : List Row) → Stands s.level s.ops c.deref_mut.result.now rows s.out → Stands s.level s.ops c.start_after.new.seen (rows ++ row ∷ []) c.start_after.new.out in
     on_ok_weaker Steps (HasTakenMore (c.args.tuple.now ∷ []) c.args.self.now s')
     (λ step queries q b level tuples taken.
-    taken_one queries q b level tuples c.args.tuple.now row s s' (subst (HasTaken queries q b level tuples) (sym c.self.view_is) taken) refl refl refl refl c.row-packet.ensures.row c.row-packet.ensures.columns
+    taken_one queries q b level tuples c.args.tuple.now row s s' (subst (HasTaken queries q b level tuples) (sym c.self.view_is) taken) refl refl refl refl c.row-packet-2.ensures.row c.row-packet-2.ensures.columns
     (λ (rows : List Row) stands.
     subst (λ (seen : List SeenState). Stands s.level s.ops seen (rows ++ row ∷ []) c.start_after.new.out) (sym (with_items_is inside.seen c.start_after.new.seen as_long))
     (step rows (subst (λ (seen : List SeenState). Stands s.level s.ops seen rows s.out) (sym c.deref_mut.ensures.value) stands))))
@@ -61,7 +61,7 @@ returns-clause-taken g c =
 pub returns-clause-same : goal.returns-clause-same
 returns-clause-same g c =
     let inside = c.self.inside in
-    let row : Row = c.row-packet.result in
+    let row : Row = c.row-packet-2.result in
     let s : BranchState = record { refined = inside.packets.refined; level = inside.packets.level; fields = inside.packets.fields.now; ops = inside.ops.now; seen = inside.seen.items; out = inside.out } in
     let s' : BranchState = record s { seen = (with_items inside.seen c.start_after.new.seen).items; out = c.start_after.new.out } in
     let Steps : Type 0 = (rows : List Row) → Stands s.level s.ops c.deref_mut.result.now rows s.out → Stands s.level s.ops c.start_after.new.seen (rows ++ row ∷ []) c.start_after.new.out in
