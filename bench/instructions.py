@@ -24,7 +24,7 @@ import run
 PARTS = [
     ('reading the capture, and windows', r'^sn_pcap::|^sn_io::|^sn_command_capture::|^sn_top::|^sn_windows::'),
     ('fields', r'^sn_fields::'),
-    ('blocks of tuples', r'^sn_ops_stream::'),
+    ('blocks of tuples, and what they are asked', r'^sn_(ops_stream|lanes_narrow)::'),
     ('filters and maps', r'^sn_types::|^sn_ops::((plain|packets|seen|start|take)::|lists::branch_list)'),
     ('distincts', r'^sn_table::(keys|rows)::'),
     ('reduces', r'^sn_table::(entries|table)::'),
