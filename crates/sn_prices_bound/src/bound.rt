@@ -125,8 +125,8 @@ fn rounded_up(parts: u128, scale: u32) -> u128
     }
 }
 
-/// What prices show of the queries on a switch: no plan that fits costs less. The table was made for these queries and this switch, and there
-/// are at most 64 limits, as in a text.
+/// What prices show of the queries on a switch: no plan that fits costs less by the table. The table has places for the queries; its
+/// entries are taken as they are. There are at most 64 limits, as in a text.
 ///
 /// It is 0 where the limits are worth more than the queries have. Each number on the way is below 2^116.
 ///
