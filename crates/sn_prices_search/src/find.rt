@@ -72,10 +72,9 @@ fn least_of(o: &Offers, sheet: &mut Sheet) -> u64 {
 }
 
 /// A plan for these queries on this switch that costs little, with prices on the limits of the switch that show how little plans
-/// can cost. The table is one of these queries, and the switch is one that a text can stand for. The same queries, switch and
-/// table give the same plan and prices each time.
+/// can cost. The table has places for the queries, and the switch is one that a text can stand for.
 ///
-/// A text can tell the prices. Nothing else is promised: that the plan fits, what it costs and what the prices show is tested by
+/// The prices' numbers are in the text's ranges (`AreTold`). Nothing else is promised: that the plan fits, what it costs and what the prices show is tested by
 /// whoever writes them.
 ///
 /// # Errors
