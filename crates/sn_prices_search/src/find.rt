@@ -74,6 +74,10 @@ fn least_of(o: &Offers, sheet: &mut Sheet) -> u64 {
 /// A plan for these queries on this switch that costs little, with prices on the limits of the switch that show how little plans
 /// can cost. The table has places for the queries, and the switch is one that a text can stand for.
 ///
+/// Where the search's first attempt finds no room for every query, there are no choices, and the plan is the one that an empty list
+/// names: each query at its finest level alone, with cut 0. Such pieces take up nothing of a switch, so that this comes only where
+/// what a piece costs, in parts of an item, reaches 2^64 - 1.
+///
 /// The prices' numbers are in the text's ranges (`AreTold`). Nothing else is promised: that the plan fits, what it costs and what the prices show is tested by
 /// whoever writes them.
 ///

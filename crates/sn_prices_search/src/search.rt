@@ -117,8 +117,9 @@ fn attempt(
     Ok(making)
 }
 
-/// How each query stands in a plan that costs little, guided by prices; none costs less than `least`. Where not all queries find
-/// room there are none.
+/// How each query stands in a plan that costs little, guided by prices. `least`: a number that no plan is known to cost less than;
+/// the search ends there. Where the queries, put in one after another, don't all find room, there are no choices, and no other
+/// attempt is made: each begins alike.
 ///
 /// That it is the least isn't promised, nor that it fits: whoever runs it has it tested.
 ///
