@@ -50,7 +50,7 @@ fn climb(o: &Offers, sheet: &mut Sheet, knob: Knob, up: bool, value: u64) -> u64
     value
 }
 
-/// Moves a price up or down until the bound doesn't rise any more. The bound that is reached from this one.
+/// Moves a price up, or down where that raises nothing, nearer to where the bound is greatest. The bound that is reached from this one.
 pub fn raise(o: &Offers, sheet: &mut Sheet, knob: Knob, value: u64) -> u64 {
     let found = climb(o, sheet, knob, true, value);
     if found > value {

@@ -15,17 +15,22 @@ pub const DEAREST: u64 = 4294967295;
 /// What registers of a stage weigh: their bits times a number, and another for each register, over the divisor, rounded down.
 #[derive(Clone, Copy, Debug, PartialEq, Eq)]
 pub struct Form {
+    /// What bits are multiplied by.
     pub times: u64,
+    /// What is added for each register.
     pub plus: u64,
+    /// What the sum is divided by; with 0 nothing weighs anything.
     pub divisor: u64,
 }
 
 /// A limit of each stage from the first to the last one, with the price of a unit of it.
 #[derive(Clone, Copy, Debug, PartialEq, Eq)]
 pub struct Line {
-    /// From 0.
+    /// The first stage, from 0.
     pub first: usize,
+    /// The last stage.
     pub last: usize,
+    /// What registers weigh by it.
     pub form: Form,
     /// In parts of an item, at most [`DEAREST`].
     pub price: u64,
@@ -47,6 +52,7 @@ pub struct Sheet {
     pub scale: u64,
     /// The price of a bit of metadata, in parts of an item, at most [`DEAREST`].
     pub metadata: u64,
+    /// The limits of stages, with their prices.
     pub lines: Vec<Line>,
     /// What all limits are worth.
     pub paid: u64,

@@ -5,7 +5,9 @@ use sn_base::seq::Seq;
 /// What a register weighs before it is divided: its bits times one number, plus another.
 #[derive(Clone, Copy, Debug, PartialEq, Eq)]
 pub struct Mix {
+    /// What the bits are multiplied by, of 32 bits.
     pub times: u32,
+    /// What is added for the register, of 32 bits.
     pub plus: u32,
 }
 
@@ -40,7 +42,9 @@ pub struct MetaLimit {
 /// A limit of a switch that has a price.
 #[derive(Clone, Copy, Debug, PartialEq, Eq)]
 pub enum Limit {
+    /// Of what registers weigh in each of some stages.
     Stages(StageLimit),
+    /// Of what the metadata of all pieces weighs.
     Meta(MetaLimit),
 }
 
@@ -58,6 +62,7 @@ pub struct Prices {
 pub struct Shown {
     /// What the plan costs.
     pub cost: u64,
+    /// The prices, of which `least` is said.
     pub prices: Prices,
     /// What no plan that fits costs less than, as the text has it.
     pub least: u64,

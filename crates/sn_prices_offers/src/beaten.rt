@@ -36,7 +36,7 @@ fn no_worse(kinds: &[u64], shapes: &[Shape], a: &Offer, b: &Offer) -> bool {
     }
 }
 
-/// Whether another of these ways beats the one at this place. Of such that are equal in all the first stays.
+/// Whether another of these ways beats the one at this place. Of equal ones the first is kept.
 fn is_beaten(kinds: &[u64], shapes: &[Shape], offers: &[Offer], place: usize, own: &Offer) -> bool {
     for (n, other) in offers.iter().enumerate() {
         if n != place
@@ -50,6 +50,9 @@ fn is_beaten(kinds: &[u64], shapes: &[Shape], offers: &[Offer], place: usize, ow
 }
 
 /// The ways to ask a piece, each marked where another beats it.
+///
+/// # Errors
+/// Out of memory.
 pub fn marked(
     alloc: Global,
     kinds: &[u64],

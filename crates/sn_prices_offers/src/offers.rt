@@ -38,6 +38,7 @@ pub struct Offer {
 /// What the pieces of each query may take, and what the switch has room for.
 #[derive(Drop)]
 pub struct Offers {
+    /// How many stages the switch has.
     pub stages: usize,
     /// Registers in one stage at most.
     pub actions: u64,

@@ -17,7 +17,7 @@ pub fn walk_size(o: &Offers) -> usize {
 }
 
 /// What the registers of a shape after this one pay at least, where this one stands in this stage.
-fn behind(o: &Offers, shape: &Shape, place: usize, stage: usize, least: &[u64]) -> u64 {
+fn after_it(o: &Offers, shape: &Shape, place: usize, stage: usize, least: &[u64]) -> u64 {
     let after = stage.saturating_add(1);
     let next = place.saturating_add(1);
     match shape.stays.as_slice().get(next) {
@@ -40,7 +40,7 @@ fn standing(
     least: &[u64],
 ) -> u64 {
     match shape.stays.as_slice().get(place) {
-        Some(stay) => number_at(asked, cell(stay.kind, o.stages, stage)).saturating_add(behind(
+        Some(stay) => number_at(asked, cell(stay.kind, o.stages, stage)).saturating_add(after_it(
             o, shape, place, stage, least,
         )),
         None => NONE,

@@ -9,6 +9,7 @@ use std::alloc::Global;
 /// A piece in the switch.
 #[derive(Clone, Copy)]
 pub struct Stand {
+    /// The way in which it is asked.
     pub offer: Offer,
     /// The stages of its registers, of which it has at most eight.
     pub stages: [usize; 8],

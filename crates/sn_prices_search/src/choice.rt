@@ -31,6 +31,9 @@ impl Choice {
     }
 
     /// Adds a piece that costs this with what it was asked.
+    ///
+    /// # Errors
+    /// Out of memory. Its cost is counted then all the same.
     pub fn add(&mut self, stand: Stand, key: u64) -> Result<(), Memory> {
         self.cost = self.cost.saturating_add(stand.offer.cost);
         self.key = self.key.saturating_add(key);

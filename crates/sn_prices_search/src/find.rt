@@ -27,7 +27,9 @@ use std::alloc::Global;
 /// A plan, and prices on the limits of the switch.
 #[derive(Drop)]
 pub struct Found {
+    /// The plan, not yet tested with `fits`.
     pub plan: Plan,
+    /// The prices; what they show isn't worked out.
     pub prices: Prices,
 }
 

@@ -25,6 +25,7 @@ pub struct Making {
     pub choices: Vec<Choice>,
     /// The numbers of the queries, of which the first ones are taken out next.
     pub order: Vec<usize>,
+    /// What is drawn next.
     pub draws: Draws,
 }
 

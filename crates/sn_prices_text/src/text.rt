@@ -51,7 +51,7 @@ fn answer(stop: Stop<'_>) -> PricesFault
 ///
 /// # Errors
 /// `Memory` where memory runs out, and else what is wrong with the first token with which no text of a cost and prices goes on.
-/// Where the text ends in place of the word `cost`, that is its end.
+/// Where the text ends before `cost`, the fault is at its end.
 pub fn parse(alloc: Global, text: &[u8], from: u64) -> Result<Shown, PricesFault>
     requires { length text.now ≤ 2 ^ 30 }
     // What is read is what the text stands for.
