@@ -2,8 +2,8 @@
 """Measures five ways to share queries between a switch and an engine, and draws what they send: each query alone, the first queries together, and all together on
 switches of several sizes. docs/EVALUATION.md shows the figures and says what each way is.
 
-    paper.py FOLDER            all of it, over two captures of 1,200,000 packets: half an hour on four processors
-    paper.py FOLDER --small    three queries over 60,000 packets: a minute
+    paper.py FOLDER            all of it, over two captures of 1,200,000 packets: 18 minutes with three jobs on four processors that had other work
+    paper.py FOLDER --small    three queries over 60,000 packets: 41 seconds with two jobs there
 
 The folder is made, or is empty. It gets the captures (of backbone.c, the second with other victims), the queries, a plan for each way and case, paper.csv with
 all numbers, and three pictures. Each plan's cost is compared with what `sonata run` says of it on the first capture, and each inequality that the page claims is
@@ -27,7 +27,7 @@ import tempfile
 import figures
 import planner
 from planner import WAYS, plans
-from texts import grammar, switches, typing_rules
+from texts import grammar, switches, tokens, typing_rules
 
 HERE = os.path.dirname(os.path.abspath(__file__))
 CRATES = os.path.join(HERE, '..', 'crates')
@@ -55,6 +55,7 @@ def words_given():
     words.add_argument('--sonata', metavar='PROGRAM', default=usual('sonata'), help='the program (default: the one on the path, else that of this clone)')
     words.add_argument('--entries', metavar='PROGRAM', default=usual('sonata_entries'), help='the program that prints the cost table (default: likewise)')
     given = words.parse_args()
+    given.folder = os.path.abspath(given.folder)
     if given.small:
         given.packets, given.window, given.queries, given.turns = 60000, 15000, 3, 3000
     return given
@@ -67,13 +68,23 @@ def refuse_bad(given):
             sys.exit('%s: not there; --sonata and --entries name the programs' % name)
     if shutil.which(compiler()) is None:
         sys.exit('%s: no C compiler; CC names one' % compiler())
-    if os.path.exists(given.folder) and (not os.path.isdir(given.folder) or os.listdir(given.folder)):
-        sys.exit('%s: not an empty folder' % given.folder)
-    if not os.path.isdir(os.path.dirname(os.path.abspath(given.folder))):
-        sys.exit('%s: no such folder' % os.path.dirname(given.folder))
+    refuse_folder(given.folder)
     fits = given.packets <= 4194304 and 1 <= given.window <= min(1000000, given.packets // 2) and 1 <= given.queries <= 8
     if not fits or given.turns < 1 or given.jobs < 1:
         sys.exit('at most 8 queries, at least two windows of at most 1,000,000 packets, and at most 4,194,304 packets')
+
+
+def refuse_folder(folder):
+    """Ends the command where the folder that is made in the end can't take this one's place."""
+    parent = os.path.dirname(folder)
+    if not os.path.isdir(parent):
+        sys.exit('%s: no such folder' % parent)
+    if not os.access(parent, os.W_OK | os.X_OK):
+        sys.exit('%s: not writable' % parent)
+    if os.path.lexists(folder) and (os.path.islink(folder) or not os.path.isdir(folder) or os.listdir(folder)):
+        sys.exit('%s: not an empty folder' % folder)
+    if os.path.ismount(folder) or os.path.exists(folder) and os.path.samefile(folder, os.getcwd()):
+        sys.exit('%s: no other folder can take its place; name one that is made' % folder)
 
 
 def compiler():
@@ -90,10 +101,14 @@ def put(folder, name, text):
 
 def answered(words, good=(0,)):
     """Status, output and the line on standard error of a program."""
-    done = subprocess.run(words, capture_output=True, text=True)
+    try:
+        done = subprocess.run(words, stdin=subprocess.DEVNULL, capture_output=True)
+    except OSError as error:
+        sys.exit('%s: %s' % (words[0], error.strerror))
+    text, line = done.stdout.decode(errors='replace'), done.stderr.decode(errors='replace')
     if done.returncode not in good:
-        sys.exit('%s: %s' % (' '.join(words[:2]), done.stderr.strip() or 'status %d' % done.returncode))
-    return done.returncode, done.stdout, done.stderr
+        sys.exit('%s: %s' % (' '.join(words[:2]), line.strip() or 'status %d' % done.returncode))
+    return done.returncode, text, line
 
 
 # ---- what is asked
@@ -131,9 +146,14 @@ def table_of(text, queries):
     """A cost table as `sonata_entries` prints it: by the query's number, the levels, the branch, the cut and the sizes."""
     numbers, found = {query.name: q for q, query in enumerate(queries)}, {}
     form = re.compile(r'(\S+) levels ([\d, ]+) branch (\d+) cut (\d+)(?: slots ([\d, ]+))? cost (\d+)$')
-    for line in text.splitlines():
-        name, levels, branch, cut, sizes, cost = form.match(line).groups()
+    for place, line in enumerate(text.splitlines(), 1):
+        entry = form.match(line)
+        if entry is None or entry[1] not in numbers:
+            sys.exit('`sonata_entries`: line %d is no entry' % place)
+        name, levels, branch, cut, sizes, cost = entry.groups()
         found[numbers[name], tuple(map(int, levels.split(', '))), int(branch), int(cut), tuple(map(int, sizes.split(', '))) if sizes else ()] = int(cost)
+    if {key[0] for key in found} != set(numbers.values()):
+        sys.exit('`sonata_entries`: not an entry of each query')
     return found
 
 
@@ -188,9 +208,18 @@ def searched(work, files):
     """What `sonata plan` finds of the training capture within its nodes: the entries, or None, and what no plan costs less than."""
     train = os.path.join(work.folder, 'train.pcap')
     status, text, line = answered([work.sonata, 'plan', files.switch_name, files.queries_name, train, '--nodes', str(NODES)], (0, 8))
-    if status == 8:
-        return None, int(line.split()[-1])
-    return plans.parse(text.encode()), int(re.search(r'^cost (\d+);$', text, re.M)[1])
+    bound = re.search(r' bound (\d+)$', line.strip()) if status == 8 else re.search(r'^cost (\d+);$', text, re.M)
+    if bound is None:
+        sys.exit('`sonata plan`: no %s' % ('bound' if status == 8 else 'plan with a cost'))
+    return None if status == 8 else entries_of(text), int(bound[1])
+
+
+def entries_of(text):
+    """The entries of a plan as `sonata plan` prints it."""
+    try:
+        return plans.parse(text.encode())
+    except tokens.Fault as fault:
+        sys.exit('`sonata plan`: line %d is none of a plan' % fault.line)
 
 
 def sent(work, files, plan_name, capture):
@@ -353,6 +382,20 @@ def write_csv(name, rows):
         table.writerows(rows)
 
 
+def run_lists(work, lists, jobs):
+    """The rows of all lists of cases. After a fault no list is begun."""
+    rows = []
+    with concurrent.futures.ProcessPoolExecutor(jobs) as pool:
+        try:
+            for done in concurrent.futures.as_completed([pool.submit(run_cases, work, cases) for cases in lists]):
+                rows += done.result()
+                print('%d of %d plans' % (len(rows), len(WAYS) * sum(map(len, lists))), flush=True)
+        except BaseException:
+            pool.shutdown(cancel_futures=True)
+            raise
+    return rows
+
+
 def measured(folder, given):
     """All rows."""
     text = scaled(read('paper.query'), given.window / USUAL_WINDOW)
@@ -361,14 +404,10 @@ def measured(folder, given):
     queries_name, switch_name = put(folder, 'paper.query', text), put(folder, 'paper.switch', read('paper.switch'))
     make_traffic(folder, given)
     _, entries, _ = answered([given.entries, switch_name, queries_name, os.path.join(folder, 'train.pcap')])
+    work = Work(folder, given.sonata, text, table_of(entries, typed(text)), given.turns)
     put(folder, 'entries', entries)
     os.mkdir(os.path.join(folder, 'plans'))
-    work = Work(folder, given.sonata, text, table_of(entries, typed(text)), given.turns)
-    rows, lists = [], all_cases(given.queries, switch_items(read('paper.switch')))
-    with concurrent.futures.ProcessPoolExecutor(given.jobs) as pool:
-        for done in concurrent.futures.as_completed([pool.submit(run_cases, work, cases) for cases in lists]):
-            rows += done.result()
-            print('%d of %d plans' % (len(rows), len(WAYS) * sum(map(len, lists))), flush=True)
+    rows = run_lists(work, all_cases(given.queries, switch_items(read('paper.switch'))), given.jobs)
     share_plans(folder, rows, switch_items(read('paper.switch')))
     rows.sort(key=lambda row: place_of(row, names))
     return [{**row, 'packets': given.packets} for row in rows]
@@ -383,7 +422,7 @@ def place_of(row, names):
 def main():
     given = words_given()
     refuse_bad(given)
-    with tempfile.TemporaryDirectory(prefix='paper-', dir=os.path.dirname(os.path.abspath(given.folder))) as beside:
+    with tempfile.TemporaryDirectory(prefix='paper-', dir=os.path.dirname(given.folder)) as beside:
         folder = os.path.join(beside, 'all')
         os.mkdir(folder)
         rows = measured(folder, given)
