@@ -15,7 +15,7 @@ import planned
 import program
 import random_certificates
 import random_plans
-from reference import costs, plans
+from reference import costs, plans, tokens
 
 ENTRIES = os.environ.get('SONATA_ENTRIES', os.path.join(os.path.dirname(program.USUAL), '..', '..', 'sonata_entries', 'out', 'sonata_entries'))
 
@@ -66,10 +66,16 @@ def least_of(found, queries):
 
 
 def agrees(found, queries, certificate):
-    """Whether a printed table and what `plan` found of the same files agree."""
-    text = certificate.decode()
-    cost, bound = int(re.search(r'^cost (\d+);$', text, re.M)[1]), int(re.search(r'^tree\n\w (\d+)$', text, re.M)[1])
-    return cost_of(found, plans.parse(certificate)) == cost and least_of(found, queries) == bound
+    """Whether a printed table and what `plan` found of the same files agree. A plan without a cost or a tree doesn't, nor a table without an entry of the plan's."""
+    text = certificate.decode(errors='replace')
+    cost, bound = re.search(r'^cost (\d+);$', text, re.M), re.search(r'^tree\n\w (\d+)$', text, re.M)
+    try:
+        same = cost and bound and cost_of(found, plans.parse(certificate)) == int(cost[1]) and least_of(found, queries) == int(bound[1])
+    except (KeyError, ValueError, tokens.Fault):
+        same = False
+    if not same:
+        print('  the table and what `plan` found differ')
+    return bool(same)
 
 
 def case(executable, seed, folder):

@@ -80,6 +80,15 @@ class Tally:
         self.kinds, self.reasons, self.packets, self.lines = Counter(), Counter(), 0, []
 
     def add(self, executable, capture, has_tshark):
+        """Compares the answers of a capture; one that can't be read any more counts as that."""
+        try:
+            self.compare(executable, capture, has_tshark)
+        except OSError as fault:
+            if fault.filename != capture:
+                raise
+            self.kinds['gone since the list was made: ' + fault.strerror] += 1
+
+    def compare(self, executable, capture, has_tshark):
         kind, differ = by_reference(executable, capture)
         self.kinds[kind] += 1
         if has_tshark and kind == 'answered' and os.path.getsize(capture) <= MOST_BYTES:
@@ -103,10 +112,12 @@ def main():
     given = words.parse_args()
     if not os.path.isdir(given.folder):
         sys.exit('%s: no such folder' % given.folder)
+    if shutil.which(given.sonata) is None:
+        sys.exit('%s: not there; --sonata names the program' % given.sonata)
     names = captures(given.folder)
     if not names:
         sys.exit('%s: no captures' % given.folder)
-    has_tshark, tally = shutil.which('tshark') is not None, Tally()
+    has_tshark, tally, number = shutil.which('tshark') is not None, Tally(), 0
     print('%d captures, %d query files' % (len(names), len(QUERIES)), flush=True)
     try:
         for number, capture in enumerate(names):

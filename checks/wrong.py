@@ -5,7 +5,7 @@
 
 checks/wrong/CRATE.wrong lists wrong definitions: paragraphs of lines `definition:` (the file and the name of the one that is contradicted), `says:` (what is
 wrong), `file:`, `in:` (the function, where the words stand more than once in the file), `old:` and `new:`. All of them are put into one copy of the tree,
-each behind its number (checks/wrong_text.py), and the programs of tests are built there once, without proofs (checks/unproved.py; some minutes). Then each
+each under its number (checks/wrong_text.py), and the programs of tests are built there once, without proofs (checks/unproved.py; some minutes). Then each
 program runs with each number in turn, until `--most` calls (2) answer otherwise than they are to.
 
 Prints of each wrong definition the first calls that see it; then those that one call alone sees, those that none sees, and with --all the definitions to be
@@ -15,6 +15,7 @@ showing that it answers as the right one does. With --work the copy, the program
 
 import argparse
 import concurrent.futures
+import contextlib
 import glob
 import json
 import os
@@ -72,6 +73,12 @@ def equals():
         return dict(line.strip().split(': ', 1) for line in file if line.strip() and not line.startswith('#'))
 
 
+def killed(run):
+    """Ends a program, and what it started."""
+    with contextlib.suppress(ProcessLookupError):
+        os.killpg(run.pid, signal.SIGKILL)
+
+
 def copy_tree(tree):
     """Copies the crates of the work tree, and adds the crate that has the number."""
     words = ['git', 'ls-files', '-z', '--cached', '--others', '--exclude-standard', '--', 'crates', 'crates.txt', 'HANDLES']
@@ -105,6 +112,16 @@ def write_files(tree, every, numbered):
             file.write(wrong_text.put(text, variants))
 
 
+def make_tree(tree, every, numbered):
+    """Makes the copy with all wrong definitions. It has its name when it is whole."""
+    part = tree + '.part'
+    shutil.rmtree(part, ignore_errors=True)
+    os.makedirs(part)
+    copy_tree(part)
+    write_files(part, every, numbered)
+    os.rename(part, tree)
+
+
 def patchable(kit, module, made):
     """Writes a module in words, in which the number is read from a place that can be written in the program."""
     subprocess.run([os.path.join(kit, 'toolchain', 'bin', 'clang'), '-S', '-emit-llvm', '-O0', '-Xclang', '-disable-O0-optnone', '-x', 'ir', module, '-o', made], check=True)
@@ -122,14 +139,16 @@ def patchable(kit, module, made):
 
 
 def build(work, tree, name):
-    """Builds a program of tests of the copy, in which a number can be written."""
+    """Builds a program of tests of the copy, in which a number can be written. It and its module have their names when they are whole."""
     made, kit = os.path.join(work, name), unproved.kit_folder()
+    module, part = made + '.bc', made + '.part'
     if not os.path.exists(made):
-        module = made + '.bc'
         if not os.path.exists(module):
-            unproved.module_of(kit, tree, name, module)
+            unproved.module_of(kit, tree, name, part)
+            os.replace(part, module)
         patchable(kit, module, made + '.ll')
-        unproved.link(kit, made + '.ll', made, '-O1')
+        unproved.link(kit, made + '.ll', part, '-O1')
+        os.replace(part, made)
     return made
 
 
@@ -219,7 +238,7 @@ class Program:
                 self.numbered(number, path)
                 run = subprocess.Popen([path], cwd=self.folder, stdin=subprocess.DEVNULL, stdout=subprocess.PIPE, stderr=subprocess.DEVNULL,
                                        preexec_fn=limited, start_new_session=True)
-            late = threading.Timer(SECONDS, run.kill)
+            late = threading.Timer(SECONDS, killed, [run])
             late.start()
             found = []
             for line in run.stdout:
@@ -227,7 +246,7 @@ class Program:
                 if differs:
                     found.append(differs[1] or differs[2])
                 if len(found) >= most:
-                    run.kill()
+                    killed(run)
             status = run.wait()
             was_late = not late.is_alive() or status == -signal.SIGXCPU
             late.cancel()
@@ -271,6 +290,17 @@ def built_programs(work, tree, every, numbered):
             numbered = without_refused(work, tree, every, numbered, unbuilt)
 
 
+def answers(ask, asked, jobs):
+    """What a function says of each of a list, as it comes, some side by side. After a fault none is begun."""
+    with concurrent.futures.ThreadPoolExecutor(jobs) as pool:
+        try:
+            for done in concurrent.futures.as_completed([pool.submit(ask, one) for one in asked]):
+                yield done.result()
+        except BaseException:
+            pool.shutdown(cancel_futures=True)
+            raise
+
+
 def try_all(programs, numbered, most, jobs, kept):
     """What sees each wrong definition, and writes it down as it is found."""
     def ask(pair):
@@ -285,9 +315,8 @@ def try_all(programs, numbered, most, jobs, kept):
         with open(kept, encoding='utf-8') as file:
             results = dict(json.loads(line) for line in file)
     left = [pair for pair in numbered if pair[1].name not in results]
-    with open(kept, 'a', encoding='utf-8') as file, concurrent.futures.ThreadPoolExecutor(jobs) as pool:
-        for asked in concurrent.futures.as_completed([pool.submit(ask, pair) for pair in left]):
-            one, found = asked.result()
+    with open(kept, 'a', encoding='utf-8') as file, contextlib.closing(answers(ask, left, jobs)) as pairs:
+        for one, found in pairs:
             results[one.name] = found
             print('%s: %s' % (one.name, ', '.join(found) or 'seen by none'), flush=True)
             file.write(json.dumps([one.name, found]) + '\n')
@@ -323,29 +352,44 @@ def report(numbered, results, shows_all, every):
     return not wrong_equals and all(one.name in equal for one in unseen)
 
 
-def main():
+def count(word):
+    """A number of the command line that is at least 1."""
+    if not word.isdecimal() or int(word) < 1:
+        raise argparse.ArgumentTypeError('%s is no number of at least 1' % word)
+    return int(word)
+
+
+def words_given():
     parser = argparse.ArgumentParser(description=__doc__, formatter_class=argparse.RawDescriptionHelpFormatter)
     parser.add_argument('crates', metavar='CRATE', nargs='*', help='a crate that has a list in checks/wrong (all that have)')
     parser.add_argument('--work', help='a folder for the copy, the programs and what was found')
-    parser.add_argument('--most', type=int, default=2, help='how many calls are to see one before the next is tried (2)')
-    parser.add_argument('--jobs', type=int, default=os.cpu_count(), help='how many run side by side (the processors)')
+    parser.add_argument('--most', type=count, default=2, help='how many calls are to see one before the next is tried (2)')
+    parser.add_argument('--jobs', type=count, default=os.cpu_count() or 1, help='how many run side by side (the processors)')
     parser.add_argument('--all', action='store_true', help='also list the definitions without a wrong one')
-    given = parser.parse_args()
-    work = os.path.abspath(given.work) if given.work else tempfile.mkdtemp(prefix='sonata-wrong-')
+    return parser.parse_args()
+
+
+def tried(given, work):
+    """Whether each wrong definition of the lists is seen or equal."""
+    every = entries(given.crates)
+    numbered = [pair for pair in enumerate(every, 1) if pair[1].name not in refused(work)]
     tree = os.path.join(work, 'tree')
+    if not os.path.exists(tree):
+        make_tree(tree, every, numbered)
+    numbered, programs = built_programs(work, tree, every, numbered)
+    results = try_all(programs, numbered, given.most, given.jobs, os.path.join(work, 'found'))
+    return report(numbered, results, given.all, every)
+
+
+def main():
+    given = words_given()
+    work = os.path.abspath(given.work) if given.work else tempfile.mkdtemp(prefix='sonata-wrong-')
     try:
-        every = entries(given.crates)
-        numbered = list(enumerate(every, 1))
-        numbered = [pair for pair in numbered if pair[1].name not in refused(work)]
-        if not os.path.exists(tree):
-            os.makedirs(tree)
-            copy_tree(tree)
-            write_files(tree, every, numbered)
-        numbered, programs = built_programs(work, tree, every, numbered)
-        results = try_all(programs, numbered, given.most, given.jobs, os.path.join(work, 'found'))
-        sys.exit(0 if report(numbered, results, given.all, every) else 1)
+        sys.exit(0 if tried(given, work) else 1)
     except wrong_text.Bad as bad:
         sys.exit(str(bad))
+    except unproved.ENDS as fault:
+        sys.exit(unproved.why(fault))
     finally:
         if not given.work:
             shutil.rmtree(work, ignore_errors=True)
