@@ -170,10 +170,10 @@ static void write_packet(const Packet *p) {
     frame[0] = frame[5] = frame[6] = 2;
     frame[11] = 1;
     put16(frame + 12, p->is_ipv6 ? 0x86dd : 0x0800);
-    uint32_t behind = (p->protocol == TCP ? 20 : 8) + p->payload;
-    uint8_t *transport = put_ip(frame + 14, p, behind);
+    uint32_t rest = (p->protocol == TCP ? 20 : 8) + p->payload;
+    uint8_t *transport = put_ip(frame + 14, p, rest);
     put_transport(transport, p);
-    uint32_t whole = (uint32_t)(transport - frame) + behind;
+    uint32_t whole = (uint32_t)(transport - frame) + rest;
     uint32_t captured = whole < snap ? whole : snap;
     uint32_t head[4] = { (uint32_t)(FIRST_SECOND + now / 1000000), (uint32_t)(now % 1000000), captured, whole < 60 ? 60 : whole };
     fwrite(head, sizeof head, 1, file);

@@ -3,7 +3,7 @@
 
 Of the first kind are keys of two columns (Ethernet addresses) with one hash of 64 bits, of the second keys of three columns (addresses and a port) that agree in
 the low bits of their hashes, of the third prefixes of IPv6 addresses with one hash; all for tables that hash from a known number (checks/crafted.c, which takes
-about a minute for a million keys). Nothing is left behind. Needs a C compiler."""
+about a minute for a million keys). No file is left. Needs a C compiler."""
 
 import argparse
 import os

@@ -30,7 +30,7 @@ PARTS = [
     ('reduces', r'^sn_table::(entries|table)::'),
     ('growth of tables and lists', r'^indexmap::|^std_alloc::|alloc|free|memset'),
     ('copies of memory', r'memcpy|memmove'),
-    ('joins, and rows behind reduces', r'^sn_ops::'),
+    ('joins, and rows after reduces', r'^sn_ops::'),
     ('sorting and printing', r'^sn_out::|^sn_query_print|^core::|^sn_rows::|sort'),
 ]
 

@@ -4,7 +4,7 @@ reports of many windows, and of `sonata check` over a long tree.
 
 Generates two captures of one window each, of as many packets as sources: with somewhat fewer than tables and lists have room for before they double, and with
 somewhat more. Tells the peak over that of a window of one packet, divided by the packets; of keys and rows what they take beside the packets. The reports are
-40 MB of frames in windows of 10,000 rows; what `finish` takes over the first of them alone is told beside it. Nothing is left behind. Needs a C compiler."""
+40 MB of frames in windows of 10,000 rows; what `finish` takes over the first of them alone is told beside it. No file is left. Needs a C compiler."""
 
 import argparse
 import os

@@ -17,7 +17,7 @@ open      `run` with the same queries along paths of two levels, with nothing cu
           tables are open all packets come to level 32, and the engine drops those of other prefixes. The answers are compared.
 lanes     `run` against `emit` along plans of 8 to 64 lanes, each of which tests each packet and sends none: what a machine's choice of events costs as lanes grow.
 short     `run`, `emit` and the training with windows of one packet each: what is done at each window's end, whatever it holds.
-training  `plan` and `check` with the queries and the switch of the generated job, at several sizes of both captures. `plan --nodes 1` ends behind the cost
+training  `plan` and `check` with the queries and the switch of the generated job, at several sizes of both captures. `plan --nodes 1` ends after the cost
           table, so it is the training alone, and what `plan` takes beyond it is the search and the printing of the tree.
 job       `job 7` against `plain` with its queries on the capture of 8.
 search    a million expanded nodes of a space in which the search doesn't end.
@@ -26,7 +26,7 @@ reading   `plan` and `run` against planned.py, the slow reading in Python, on 20
 A ratio is that of the least processor times, and where the commands ran in the same turns there stands, too, the median of the turns' ratios: the least may come
 from different whiles, between which a shared machine changes its speed, so the median of some fifty turns (`--runs 51`) tells more on such a one.
 
-What the program hasn't is left out. Nothing is left behind but with --keep. Needs a C compiler, and libpcap-dev for switch.c and planned.c, which are left out without it."""
+What the program hasn't is left out. No file is left but with --keep. Needs a C compiler, and libpcap-dev for switch.c and planned.c, which are left out without it."""
 
 import argparse
 import os

@@ -3,7 +3,7 @@
 
 Builds the C program, generates two captures into a temporary folder, runs all on both, and prints whether the answers are equal, the processor
 time (user and system), packets a second, peak memory, and the ratios. An engine in C, which reads the queries when it runs and whose tables are seeded, is
-measured as well: what it takes more than the C program is what that program has by its queries being compiled in. Nothing is left behind but with --keep. Needs
+measured as well: what it takes more than the C program is what that program has by its queries being compiled in. No file is left but with --keep. Needs
 a C compiler and libpcap-dev."""
 
 import argparse
@@ -160,7 +160,7 @@ def words_given():
 
 def measured(given, measure, keep=None):
     """The status of a script: 2 where there is no program, and else 0 where all that measure(measurer, folder) gives is true. The folder is for its files, and is
-    removed behind it, unless one is named that is kept."""
+    removed after it, unless one is named that is kept."""
     if not os.access(given.sonata, os.X_OK):
         print('no program at %s; build it first, or name one with --sonata' % given.sonata, file=sys.stderr)
         return 2

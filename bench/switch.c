@@ -60,7 +60,7 @@ static Slot *offer(Chain *c, const uint64_t *key, int *fresh)
 
 /* ---- lanes: what the switch holds, and what the engine makes of the rest ---- */
 
-/* A distinct and a reduce behind it, or a reduce alone (without `seen`). `pairs` and `rest` are the engine's. */
+/* A distinct and a reduce after it, or a reduce alone (without `seen`). `pairs` and `rest` are the engine's. */
 typedef struct {
     Chain seen, sums;
     Table pairs, rest;

@@ -32,7 +32,7 @@ def carried(name, place='', test=''):
     return '(%s) or (%s)' % (four, six)
 
 
-# The condition of a query, the expression of tcpdump, and whether it is meant behind tags too.
+# The condition of a query, the expression of tcpdump, and whether it is meant after tags too.
 QUESTIONS = [
     ('pkt.len >= 0', '', False),
     ('pkt.len > 1000', 'len > 1000', False),
@@ -64,8 +64,8 @@ ETHERNET_QUESTIONS = [
 ]
 
 
-def behind_tags(expression):
-    """The expression without a tag, behind one, or behind two."""
+def after_tags(expression):
+    """The expression without a tag, after one, or after two."""
     two = '(%s) or (%s and vlan and (%s))' % (expression, TAG % (16, 16, 21), expression)
     return '(%s) or (%s and vlan and (%s))' % (expression, TAG % (12, 12, 17), two)
 
@@ -97,7 +97,7 @@ def compare(executable, capture):
     ours = counts_of(executable, [condition for condition, _, _ in questions], capture)
     differ = []
     for (condition, expression, tagged), count in zip(questions, ours):
-        theirs = count_of(capture, behind_tags(expression) if tagged and ethernet else expression)
+        theirs = count_of(capture, after_tags(expression) if tagged and ethernet else expression)
         if theirs != count:
             differ.append('%s: sonata %d, tcpdump %d' % (condition, count, theirs))
     return differ, len(questions)

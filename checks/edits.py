@@ -11,7 +11,7 @@ goes on where it was. At the end stand the edits that aren't refused, those that
 The status is 0 only where all are refused.
 
 With --places nothing is proved: it says of each edit, those of must-fail/ too, whether each text that it names stands exactly once in its
-file, in a second. So an edit that a change left behind is found at once.
+file, in a second. So an edit that a change made stale is found at once.
 
 Needs git and the Rattle toolchain's rt, and some GB of disk; --places needs neither. Python 3 alone.
 """

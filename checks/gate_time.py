@@ -4,7 +4,7 @@
     python3 checks/gate_time.py [--seconds S] [--to FILE] [COMMAND ..]
 
 Runs the command (`rt ci` where none is given) and looks every S seconds (0.5) at the prover's processes on this machine that
-are below it. For each it keeps the last processor time that it saw, so what a process used behind the last look is left out: with 0.5
+are below it. For each it keeps the last processor time that it saw, so what a process used after the last look is left out: with 0.5
 seconds some parts in a hundred. At the end it prints a table and the command's own sum, and ends with the command's status.
 With --to it writes the table to a file too: `rt ci --anew` with --to checks/gate_seconds.txt, on a machine that does nothing else, is what
 below.py and gate_schedule.py go by. A crate that the run kept has 0 there.

@@ -71,14 +71,14 @@ def read_plan(name, check):
 
 
 def whole(text, ending, front=b''):
-    """The text over an answered capture, which is refused behind it where the capture is damaged."""
+    """The text over an answered capture, which is refused after it where the capture is damaged."""
     if ending:
         raise Refused(5, 'capture %s byte %d' % ending, front + text)
     return front + text
 
 
 def answered(command, window, queries, switch, entries, name, front=b''):
-    """What a command makes of an answered capture, behind a text that was written before."""
+    """What a command makes of an answered capture, after a text that was written before."""
     file = read(name)
     if file is None:
         raise Refused(9, 'read fault', front)

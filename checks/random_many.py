@@ -42,7 +42,7 @@ def parted(draw):
 
 
 def spoilt(draw, file):
-    """A capture with another header, or cut anywhere, or with bytes behind it, or with times that fall."""
+    """A capture with another header, or cut anywhere, or with bytes after it, or with times that fall."""
     form = draw.randrange(4)
     if form == 0:
         return bytes([file[0] ^ 1]) + file[1:]

@@ -87,7 +87,7 @@ def reduced(draw, names, carried):
 
 
 def branch(draw, carried, levels, pool):
-    """A branch whose maps carry this field on, and its columns behind it. Mostly well typed."""
+    """A branch whose maps carry this field on, and its columns after it. Mostly well typed."""
     names, ops, mapped_yet = program.FIELDS, [], False
     for left in reversed(range(draw.randrange(1, 6))):
         form = draw.choice(['filter', 'map', 'distinct', 'reduce'] if mapped_yet else ['filter', 'map'])

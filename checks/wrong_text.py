@@ -1,4 +1,4 @@
-"""Wrong definitions as texts: reads the lists of checks/wrong, and puts each edit into the code beside what it stands for, behind a number.
+"""Wrong definitions as texts: reads the lists of checks/wrong, and puts each edit into the code beside what it stands for, under a number.
 
 An edit changes a few words of an expression or a statement. Around these words the smallest expression is found that stands by itself (between brackets,
 commas, `=`, `=>`, `&&`, `||` and the like), and in its place stands `(if sn_wrong::is(N) { WRONG } else { RIGHT })`."""
@@ -101,7 +101,7 @@ def changed(old, new):
 
 
 def is_bar(text, token):
-    """Whether a bar ends the parameters of a closure: it stands right behind the last."""
+    """Whether a bar ends the parameters of a closure: it stands right after the last."""
     return token[0] == '|' and not text[token[1] - 1].isspace() or token[0] == '||' and text[token[1] - 1] == '('
 
 

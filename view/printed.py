@@ -122,7 +122,7 @@ def prefixes(name, queries):
 
 
 def table_sizes(answered, query, before):
-    """How many prefixes the table behind a level has in each window: those that the level answered in the window before."""
+    """How many prefixes the table after a level has in each window: those that the level answered in the window before."""
     return {window: len(answered.get(window - 1, {}).get((query.name, before), ())) for window in answered}
 
 

@@ -157,8 +157,8 @@ class Partial:
             return False
         if not registers:
             return len(tables) > self.costs.switch.stages
-        behind = len(tables) - 1 - tables.index(registers - 1)
-        return piece.stages[-1] + behind > self.costs.switch.stages - 1
+        later = len(tables) - 1 - tables.index(registers - 1)
+        return piece.stages[-1] + later > self.costs.switch.stages - 1
 
     def broken_limit(self):
         """The first limit of the switch that the partial plan breaks, where, and what was found there; none where all are kept."""
@@ -293,7 +293,7 @@ def certificate(costs, plan):
 
 
 class TreeReader(plans.PlanReader):
-    """Reads on behind a plan."""
+    """Reads on after a plan."""
 
     def node(self):
         letter = self.step().value

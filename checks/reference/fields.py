@@ -58,7 +58,7 @@ def number(bytes_, at, length):
 
 
 def ethernet(packet, values):
-    """Where the bytes behind an Ethernet header and its tags begin, or None."""
+    """Where the bytes after an Ethernet header and its tags begin, or None."""
     if len(packet) < 14:
         return None
     values['eth.dst'], values['eth.src'], kind = number(packet, 0, 6), number(packet, 6, 6), number(packet, 12, 2)

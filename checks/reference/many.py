@@ -37,7 +37,7 @@ def prefix(operators, cut):
 
 
 def retagged(operators, count, item):
-    """What stands behind the switch's register is given the register's own number: a row of a distinct as its input, one of a reduce as a part."""
+    """What stands after the switch's register is given the register's own number: a row of a distinct as its input, one of a reduce as a part."""
     tag, number, row = item
     last = operators[count - 1].kind if count else None
     if number != count or last not in ('distinct', 'reduce'):

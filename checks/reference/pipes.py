@@ -8,12 +8,12 @@ BASIS, PRIME, MODULUS = 14695981039346656037, 1099511628211, 1 << 64
 
 
 def max_cut(operators):
-    """The greatest cut: no stateful operators before it but one distinct, one reduce, or both in this order, and only filters behind the reduce."""
+    """The greatest cut: no stateful operators before it but one distinct, one reduce, or both in this order, and only filters after the reduce."""
     for count in range(len(operators), -1, -1):
         kinds = [op.kind for op in operators[:count]]
         stateful = [kind for kind in kinds if kind in ('distinct', 'reduce')]
-        behind = kinds[kinds.index('reduce') + 1:] if 'reduce' in kinds else []
-        if stateful in ([], ['distinct'], ['reduce'], ['distinct', 'reduce']) and set(behind) <= {'filter'}:
+        later = kinds[kinds.index('reduce') + 1:] if 'reduce' in kinds else []
+        if stateful in ([], ['distinct'], ['reduce'], ['distinct', 'reduce']) and set(later) <= {'filter'}:
             return count
     return 0
 
@@ -95,8 +95,8 @@ def items(query, number, level, tuples, cut, depth, sizes):
             held = held_rows([row for (_, row), key in zip(flow, keys) if key in home], operator, home)
             if spilled:
                 return sent, [('partial', i, tuple(row.values())) for row in held]
-            for behind in operators[i + 1:cut]:
-                held = answers.apply(held, behind, level)
+            for later in operators[i + 1:cut]:
+                held = answers.apply(held, later, level)
             return sent, [('at', cut, tuple(row.values())) for row in held]
         spilled = any(key not in home for key in keys)
         seen = set()

@@ -177,7 +177,7 @@ def registers_of(switch, query, piece):
 
 
 def metadata_of(query, piece):
-    """The widest row behind an operator of the prefix from the first map on."""
+    """The widest row after an operator of the prefix from the first map on."""
     schemas, mapped, widest = pipes.schemas(query, piece.branch), False, 0
     for number, operator in enumerate(query.branches[piece.branch][:piece.cut]):
         mapped = mapped or operator.kind == 'map'

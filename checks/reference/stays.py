@@ -14,10 +14,10 @@ def is_threshold(query, value, condition):
 def is_monotone(query):
     if len(query.branches) != 1:
         return False
-    distincts, behind = 0, None
+    distincts, reduced = 0, None
     for operator in query.branches[0]:
-        if behind is not None:
-            if operator.kind != 'filter' or not all(is_threshold(query, behind, condition) for condition in operator.conditions):
+        if reduced is not None:
+            if operator.kind != 'filter' or not all(is_threshold(query, reduced, condition) for condition in operator.conditions):
                 return False
         elif operator.kind == 'filter':
             if any(condition.relaxed for condition in operator.conditions):
@@ -27,8 +27,8 @@ def is_monotone(query):
         elif operator.kind == 'reduce':
             if operator.fold not in ('sum', 'max', 'or') or distincts > 1:
                 return False
-            behind = operator.value
-    return behind is not None
+            reduced = operator.value
+    return reduced is not None
 
 
 def stays_of(held):

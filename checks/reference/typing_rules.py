@@ -119,7 +119,7 @@ def reduced(operator, at):
 
 
 def walk(operator, at):
-    """Check one operator and go on behind it."""
+    """Check one operator and go on after it."""
     fault = first_fault(operator, at)
     if fault:
         raise Fault(fault, operator.line)
