@@ -5,3 +5,4 @@ pub mod Leasts
 pub mod Saying
 pub mod Judging
 pub mod Steps
+pub mod NoPrices

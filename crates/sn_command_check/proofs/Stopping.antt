@@ -53,9 +53,9 @@ module _ {A : Type 0} (judgement : Result A Fault → Type 0) (files : ByName (L
   judged j = judged_by j.verdict j.is j.same
 
 -- what was given so adds nothing
-pub given : {A : Type 0} (verdict : Result A Fault) (files : ByName (List ℕ)) (text : List ℕ) (value : A) → Gives verdict files (record { text = text; end = Ok value }) → (verdict ≡ Ok value) × (text ≡ [])
-given {A = A} (Ok found) files text value same = (ap Ok (sym (ok_is value found (ap (λ (o : Outcome A). o.end) same))), ap (λ (o : Outcome A). o.text) same)
-given {A = A} (Err fault) files text value same = ok_err (ap (λ (o : Outcome A). o.end) same)
+pub given_so : {A : Type 0} (verdict : Result A Fault) (files : ByName (List ℕ)) (text : List ℕ) (value : A) → Gives verdict files (record { text = text; end = Ok value }) → (verdict ≡ Ok value) × (text ≡ [])
+given_so {A = A} (Ok found) files text value same = (ap Ok (sym (ok_is value found (ap (λ (o : Outcome A). o.end) same))), ap (λ (o : Outcome A). o.text) same)
+given_so {A = A} (Err fault) files text value same = ok_err (ap (λ (o : Outcome A). o.end) same)
 
 -- the bytes of a file that were read
 module _ (most : ℕ) (name : List ℕ) (files : ByName (List ℕ)) (text bytes : List ℕ) where

@@ -15,14 +15,20 @@ use Rattle.sn_command_run.specs.Run.{window_ns}
 use Rattle.sn_switch.specs.declared.switch.Switch.{Switch}
 use Rattle.sn_command_training.specs.Training.{TrainingIn}
 use Rattle.sn_cost_training.specs.Trained.{Training}
-use Rattle.sn_command_check.specs.Check.{yes_line}
+use Rattle.sn_command_check.specs.Check.{bounded_line, yes_line}
 
 -- what a plan costs over the windows of a training capture: the items that it sends, and the switch's weight for each prefix that is
 -- installed
 abbrev pub training_cost : Queries → Switch → Training → List Entry → ℕ
 training_cost read limits training entries = cost_over limits read.queries entries (trained training.numbers training.tuples)
 
--- What is so where `check` says yes in this text, whoever made the tree.
+-- What a line says of a plan among those that fit: that none of them costs less, or that none costs less than a number, which is at most what the plan
+-- costs.
+pub data SaysLeast (cost : List Entry → ℕ) (fits : List Entry → Type 0) (entries : List Entry) (text : List ℕ) : Type 0 where
+  by_tree : (nodes : ℕ) → ((others : List Entry) → fits others → cost entries ≤ cost others) → text ≡ yes_line (cost entries) nodes → SaysLeast cost fits entries text
+  by_prices : (least : ℕ) → ((others : List Entry) → fits others → least ≤ cost others) → text ≡ bounded_line (cost entries) least → SaysLeast cost fits entries text
+
+-- What is so where `check` says yes in this text, whoever made the tree or the prices.
 pub record ShowsLeast (switch queries train plantree : List ℕ) (files : ByName (List ℕ)) (text : List ℕ) : Type 0 where
   -- The files hold accepted queries, an accepted switch, a training capture, and a plan.
   pub query_text : List ℕ
@@ -43,8 +49,5 @@ pub record ShowsLeast (switch queries train plantree : List ℕ) (files : ByName
   pub is_plan : PlanIn plan_text (Ok plan)
   -- The plan fits every limit of the switch.
   pub fits : Fits read.queries limits plan.entries
-  -- No plan that fits costs less over the training capture,
-  pub least : (entries : List Entry) → Fits read.queries limits entries → training_cost read limits training plan.entries ≤ training_cost read limits training entries
-  -- and the line says what this one costs.
-  pub nodes : ℕ
-  pub told : text ≡ yes_line (training_cost read limits training plan.entries) nodes
+  -- The line says what it costs over the training capture, and what no plan that fits costs less than.
+  pub bounds : SaysLeast (training_cost read limits training) (Fits read.queries limits) plan.entries text

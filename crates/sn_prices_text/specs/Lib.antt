@@ -1,2 +1,3 @@
 pub mod PricesTexts
 pub mod PricesPrinting
+pub mod Announced

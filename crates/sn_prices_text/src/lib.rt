@@ -1,6 +1,8 @@
-//! The text of prices after a plan: `parse`, which reads a cost, prices and what they show, and `print`, which writes them.
+//! The text of prices after a plan: `has_prices`, which tells whether it stands there, `parse`, which reads a cost, prices and what they show, and
+//! `print`, which writes them.
 #![tactic(auto)]
 
+mod announced;
 mod canonical;
 pub mod fault;
 pub mod law;
@@ -8,5 +10,6 @@ mod limits;
 mod place;
 mod text;
 
+pub use announced::has_prices;
 pub use canonical::print;
 pub use text::parse;

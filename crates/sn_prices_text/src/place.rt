@@ -9,7 +9,7 @@ use sn_text::place::{Lexer, Piece};
 use sn_text::scan::scan;
 
 /// Whether no token stands after this one.
-fn is_last(piece: Piece<'_>) -> bool
+pub(crate) fn is_last(piece: Piece<'_>) -> bool
     ensures { result ≡ is_last (seen piece.entry) }
 {
     matches!(piece, Piece::End | Piece::Bad)

@@ -64,7 +64,7 @@ fn capture_of(alloc: Global, packets: &str) -> Result<Vec<u8>, Trouble> {
 }
 
 /// The files `s`, `q`, `t` and `c` of `live`, and `p` of `check`.
-fn live_files(alloc: Global) -> Result<MemInputs, Trouble> {
+pub(crate) fn live_files(alloc: Global) -> Result<MemInputs, Trouble> {
     let mut files = MemInputs::new(alloc);
     files.put("s", file_of(alloc, SWITCH.as_bytes())?)?;
     files.put("q", file_of(alloc, QUERIES.as_bytes())?)?;

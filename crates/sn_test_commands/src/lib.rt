@@ -11,4 +11,6 @@ mod jobs;
 #[cfg(test)]
 mod membership;
 #[cfg(test)]
+mod prices;
+#[cfg(test)]
 mod top;

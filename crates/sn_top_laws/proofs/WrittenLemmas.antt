@@ -1,5 +1,5 @@
 -- `check` says yes to what `plan` wrote, and `run` along it sends what it costs.
-use Rattle.std.proofs.Common.{◌≡◌, ℕ, zero, suc, ◌+◌, ◌≤◌, ◌<◌, ◌^◌, false, cond, List, [], ◌∷◌, ◌++◌, length, map, nat_lt, append-nil, Result, Ok, Err, slice_get, refl, sym, ap, ◌∙◌, subst, arith}
+use Rattle.std.proofs.Common.{◌≡◌, ℕ, zero, suc, ◌+◌, ◌≤◌, ◌<◌, ◌^◌, false, cond, List, [], ◌∷◌, ◌++◌, length, map, nat_lt, append-nil, Bool, Result, Ok, Err, slice_get, refl, sym, ap, ◌∙◌, subst, arith}
 use Rattle.std.specs.Prelude.{◌*◌, unwrap_or}
 use Rattle.std.specs.List.{AllByRecursion, flat_map}
 use Rattle.std.proofs.lemmas.Bool.{le-ltb, ltb-false}
@@ -15,10 +15,11 @@ use Rattle.sn_command.specs.Refusals.{refusing}
 use Rattle.sn_command.specs.Stages.{Bytes, Does, Gives, GoesOn, Judges, Text, Then, most_text, within_limit}
 use Rattle.sn_command_capture.specs.Capture.{ending_verdict, packet_tuple, time_of}
 use Rattle.sn_windows.specs.Rising.{Window}
-use Rattle.sn_command_check.specs.Check.{Check}
+use Rattle.sn_command_check.specs.Check.{Behind, Check}
 use Rattle.sn_command_check.specs.PlanTrees.{PlanBefore, TreeBehind}
 use Rattle.sn_command_check.specs.Shown.{ShownFor, flaw_verdict}
 use Rattle.sn_command_check.proofs.CheckLemmas.{one_check}
+use Rattle.sn_command_check.proofs.NoPrices.{tree_without_prices}
 use Rattle.sn_command_live.specs.Captures.{IsHeld}
 use Rattle.sn_command_live.specs.Live.{Certifies, Plan as Planning, Searched, Searches, trained_windows}
 use Rattle.sn_command_live.proofs.HeadlineLemmas.{Shows}
@@ -371,8 +372,9 @@ module _ (show : Shows) (switch queries train written : List ℕ) (nodes : ℕ) 
       (then_given [] text yes (bytes_given most_text written later text held_text)
       (then_given [] place yes (record { verdict = Ok place; is = plan_before; same = refl })
       (then_given [] tt yes fitting
+      (subst (λ (b : Bool). Behind k.read k.limits k.training text c.plan back.0 b later yes) (sym (tree_without_prices text back.0 tree back.2))
       (then_given [] tree yes (record { verdict = Ok tree; is = tree_behind; same = refl })
-      (then_given [] tt yes (record { verdict = Ok tt; is = shown; same = refl }) refl)))))))
+      (then_given [] tt yes (record { verdict = Ok tt; is = shown; same = refl }) refl))))))))
 
   pub says_yes : (checked : Outcome (Unit {0})) → Check switch queries train written later checked → SaysYes text checked
   says_yes checked is = record { found = found; checked_so = (one_check switch queries train written).once later checked yes is check_given }

@@ -1,14 +1,12 @@
-use Rattle.std.proofs.Common.{ℕ, List}
+use Rattle.std.proofs.Common.{ℕ, sym, ◌∙◌}
 use Rattle.std.proofs.lemmas.Result.{err_from_is_err_and}
-use Rattle.sn_cost.specs.Entries.{trained}
 use Rattle.sn_plan_grammar.specs.declared.plan.Plan.{Plan}
-use Rattle.sn_tree_space.specs.declared.node.Node.{Node}
 use Rattle.sn_command.proofs.StageLemmas.{named_may, runs_judges, stage_stops, stage_then}
-use Rattle.sn_command_check.specs.PlanTrees.{PlanBefore, TreeBehind}
-use Rattle.sn_command_check.specs.Shown.{ShownFor}
-use Rattle.sn_command_check.proofs.Steps.{of_line}
+use Rattle.sn_command_texts.specs.Queries.{queries_of}
+use Rattle.sn_command_check.specs.PlanTrees.{PlanBefore}
 use Rattle.sn_command_texts.proofs.Verdicts.{gives_misfit, plan_may}
-use Rattle.sn_command_check.proofs.Verdicts.{plan_once, shown_may, shown_once, tree_may, tree_once}
+use Rattle.sn_command_check.proofs.Steps.{of_behind}
+use Rattle.sn_command_check.proofs.Verdicts.{plan_once}
 use Rattle.sn_command_check.proofs.check.check_text.Goals as goal
 
 pub returns-in_err-plan : goal.returns-in_err-plan
@@ -21,25 +19,12 @@ returns-in_err-test_fit g c =
     let p = err_from_is_err_and c.from_residual-in_err-test_fit.result c.from_residual-in_err-test_fit.ensures.1 in
     rw (p.1, p.2) (stage_then (runs_judges (PlanBefore c.args.text.now) (plan_once c.args.text.now) _ (named_may 0 (plan_may (Plan × ℕ))) _ c.in_ok-plan.ensures) (stage_stops (gives_misfit _ c.in_err-test_fit.ensures.verdict)))
 
-pub returns-in_err-tree : goal.returns-in_err-tree
-returns-in_err-tree g c =
-    let p = err_from_is_err_and c.from_residual-in_err-tree.result c.from_residual-in_err-tree.ensures.1 in
-    rw (p.1, p.2) (stage_then (runs_judges (PlanBefore c.args.text.now) (plan_once c.args.text.now) _ (named_may 0 (plan_may (Plan × ℕ))) _ c.in_ok-plan.ensures) (stage_then (gives_misfit _ c.in_ok-test_fit.ensures.verdict)
-    (stage_stops (runs_judges (TreeBehind c.args.text.now c.in_ok-plan.byte) (tree_once c.args.text.now c.in_ok-plan.byte) _ (named_may 0 (tree_may (ℕ × List Node))) _ c.in_err-tree.ensures))))
-
-pub returns-in_err-test_tree : goal.returns-in_err-test_tree
-returns-in_err-test_tree g c =
-    let p = err_from_is_err_and c.from_residual-in_err-test_tree.result c.from_residual-in_err-test_tree.ensures.1 in
-    let given = trained c.args.training.now.numbers c.args.training.now.tuples in
-    rw (p.1, p.2) (stage_then (runs_judges (PlanBefore c.args.text.now) (plan_once c.args.text.now) _ (named_may 0 (plan_may (Plan × ℕ))) _ c.in_ok-plan.ensures) (stage_then (gives_misfit _ c.in_ok-test_fit.ensures.verdict)
-    (stage_then (runs_judges (TreeBehind c.args.text.now c.in_ok-plan.byte) (tree_once c.args.text.now c.in_ok-plan.byte) _ (named_may 0 (tree_may (ℕ × List Node))) _ c.in_ok-tree.ensures)
-    (stage_stops (runs_judges (ShownFor c.args.limits.now c.args.typed.now.queries given c.in_ok-plan.plan c.in_ok-tree.tree.0 c.in_ok-tree.tree.1)
-    (shown_once c.args.limits.now c.args.typed.now.queries given c.in_ok-plan.plan c.in_ok-tree.tree.0 c.in_ok-tree.tree.1) _ (shown_may c.args.limits.now c.args.typed.now.queries given c.in_ok-plan.plan c.in_ok-tree.tree.0 c.in_ok-tree.tree.1) _ c.in_err-test_tree.ensures)))))
+pub returns-then-has_prices : goal.returns-then-has_prices
+returns-then-has_prices g c =
+    stage_then (runs_judges (PlanBefore c.args.text.now) (plan_once c.args.text.now) _ (named_may 0 (plan_may (Plan × ℕ))) _ c.in_ok-plan.ensures) (stage_then (gives_misfit _ c.in_ok-test_fit.ensures.verdict)
+    (of_behind (queries_of c.args.typed.now) c.args.limits.now c.args.training.now c.args.text.now c.in_ok-plan.plan c.in_ok-plan.byte (sym c.has_prices.ensures ∙ c.if-has_prices.true) c.check_prices.ensures))
 
 pub returns : goal.returns
 returns g c =
-    let given = trained c.args.training.now.numbers c.args.training.now.tuples in
     stage_then (runs_judges (PlanBefore c.args.text.now) (plan_once c.args.text.now) _ (named_may 0 (plan_may (Plan × ℕ))) _ c.in_ok-plan.ensures) (stage_then (gives_misfit _ c.in_ok-test_fit.ensures.verdict)
-    (stage_then (runs_judges (TreeBehind c.args.text.now c.in_ok-plan.byte) (tree_once c.args.text.now c.in_ok-plan.byte) _ (named_may 0 (tree_may (ℕ × List Node))) _ c.in_ok-tree.ensures)
-    (stage_then (runs_judges (ShownFor c.args.limits.now c.args.typed.now.queries given c.in_ok-plan.plan c.in_ok-tree.tree.0 c.in_ok-tree.tree.1)
-    (shown_once c.args.limits.now c.args.typed.now.queries given c.in_ok-plan.plan c.in_ok-tree.tree.0 c.in_ok-tree.tree.1) _ (shown_may c.args.limits.now c.args.typed.now.queries given c.in_ok-plan.plan c.in_ok-tree.tree.0 c.in_ok-tree.tree.1) _ c.in_ok-test_tree.ensures) (of_line c.cost.ensures c.count.ensures c.say_yes.ensures))))
+    (of_behind (queries_of c.args.typed.now) c.args.limits.now c.args.training.now c.args.text.now c.in_ok-plan.plan c.in_ok-plan.byte (sym c.has_prices.ensures ∙ c.if-has_prices.false) c.check_tree.ensures))

@@ -1,0 +1,4 @@
+pub mod Alike
+pub mod Counted
+pub mod Verdicts
+pub mod Makes

@@ -1,0 +1,9 @@
+//! Prices over training windows, as commands read, test, make and write them.
+#![tactic(auto)]
+
+pub mod behind;
+pub mod law;
+pub mod make;
+pub mod shown;
+pub mod test;
+pub mod text;
