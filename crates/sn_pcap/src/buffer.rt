@@ -83,6 +83,7 @@ impl Buffer {
     }
 
     /// How many bytes are held.
+    #[inline(always)]
     pub fn len(&self) -> usize
         ensures len { result ≡ length self.now }
         ensures most { result ≤ BUFFER_BYTES }
@@ -91,6 +92,7 @@ impl Buffer {
     }
 
     /// The bytes that are held.
+    #[inline(always)]
     pub fn as_slice(&self) -> &[u8]
         ensures { result.now ≡ self.now }
     {
@@ -100,6 +102,7 @@ impl Buffer {
     }
 
     /// Takes bytes off the front.
+    #[inline(always)]
     pub fn pass(&mut self, count: usize)
         requires { count ≤ length self.old }
         ensures { self.new ≡ drop count self.old }

@@ -81,6 +81,7 @@ pub fn record_at(head: &Header, file: &[u8], at: usize) -> Result<Packet, Ending
 }
 
 /// The time of a record, in nanoseconds. A fraction of a second or more is added as it is.
+#[inline(always)]
 pub fn time_at(head: &Header, file: &[u8], at: usize) -> u64
     requires { at + 16 ≤ length file.now }
     ensures { result ≡ time_at head.now file.now at }

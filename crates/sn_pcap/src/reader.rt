@@ -169,6 +169,7 @@ fn stands<I: Inputs>(
 
 /// How a capture ends of which fewer bytes stand from the offset on than are needed. `None` where they stand, within
 /// the most that are read.
+#[inline(always)]
 fn short<I: Inputs>(
     buffer: &mut Buffer,
     files: &mut I,
@@ -240,7 +241,25 @@ fn short_when_read<I: Inputs>(
     Ok(Some(Last::Ended(Ending::Cut(offset))))
 }
 
+/// Writes the first bytes to the beginning of `front`. Where at least [`FRONT_BYTES`] stand there, all of `front` is
+/// written: a copy of a length that the compiler knows is some moves, and one of another length is a call.
+#[inline(always)]
+fn keep_front(bytes: &[u8], len: usize, front: &mut [u8; 128])
+    requires most { len ≤ 128 }
+    requires stands { len ≤ length bytes.now }
+    ensures { take len front.new ≡ take len bytes.now }
+{
+    if bytes.len() >= FRONT_BYTES {
+        let (first, _) = bytes.split_at(FRONT_BYTES);
+        front.copy_from_slice(first);
+    } else {
+        let (first, _) = bytes.split_at(len);
+        front[..len].copy_from_slice(first);
+    }
+}
+
 /// Writes the packet of the record at the front of some bytes, of which this many were captured, into `seen`.
+#[inline(always)]
 fn see(header: &Header, bytes: &[u8], cap: u32, seen: &mut Seen)
     requires cap { cap ≡ captured header.now bytes.now 0 }
     requires stands { 16 + min cap 128 ≤ length bytes.now }
@@ -250,8 +269,7 @@ fn see(header: &Header, bytes: &[u8], cap: u32, seen: &mut Seen)
 {
     let len = cap.min(FRONT_BYTES as u32);
     let (_, behind) = bytes.split_at(RECORD_BYTES);
-    let (first, _) = behind.split_at(len as usize);
-    seen.front[..len as usize].copy_from_slice(first);
+    keep_front(behind, len as usize, &mut seen.front);
     seen.time = time_at(header, bytes, 0);
     seen.wire = u32_at(header.big, bytes, 12);
     seen.cap = cap;
@@ -404,6 +422,7 @@ impl Reader {
     }
 
     /// Goes on after a record.
+    #[inline(always)]
     fn pass(&mut self, count: u64)
         requires { self.old.offset + count ≤ 2 ^ 40 }
         ensures { self.new ≡ record self.old { offset = self.old.offset + count; held = drop count self.old.held } }
