@@ -64,9 +64,9 @@ nat_self a = eq-eqb a a refl
 -- ---- options
 
 -- what holds of a value holds of one that equals it
-pub told_is : {X : Type 0} (P : X → Type 0) (told : Option X) (x y : X) → y ≡ x → IfSome told (λ z. x ≡ z) → P y → IfSome told P
-told_is P None x y e same h = tt
-told_is P (Some z) x y e same h = subst P (e ∙ same) h
+pub reported_is : {X : Type 0} (P : X → Type 0) (reported : Option X) (x y : X) → y ≡ x → IfSome reported (λ z. x ≡ z) → P y → IfSome reported P
+reported_is P None x y e same h = tt
+reported_is P (Some z) x y e same h = subst P (e ∙ same) h
 
 pub some_same : {X : Type 0} (x y : X) → Some x ≡ Some y → x ≡ y
 some_same x y e = ap (λ o. unwrap_or o x) e
@@ -88,11 +88,11 @@ map_one f xs i x e = ap (map f) (take_one xs i x e) ∙ map-append f (take i xs)
 
 -- what holds of no element, and of a list with one element more wherever it holds of the list, holds of every list
 pub by_pushes : {X : Type 0} (P : List X → Type 0) → P [] → ((xs : List X) (x : X) → P xs → P (xs ++ x ∷ [])) → (xs : List X) → P xs
-by_pushes {X = X} P none push xs = behind [] xs none
+by_pushes {X = X} P none push xs = following [] xs none
   where
-    behind : (front back : List X) → P front → P (front ++ back)
-    behind front [] h = subst P (sym (append-nil front)) h
-    behind front (x ∷ back) h = subst P (append_assoc front (x ∷ []) back) (behind (front ++ x ∷ []) back (push front x h))
+    following : (front back : List X) → P front → P (front ++ back)
+    following front [] h = subst P (sym (append-nil front)) h
+    following front (x ∷ back) h = subst P (append_assoc front (x ∷ []) back) (following (front ++ x ∷ []) back (push front x h))
 
 pub any_push : {X : Type 0} (t : X → Bool) (xs : List X) (x : X) → list_any t (xs ++ x ∷ []) ≡ (list_any t xs || t x)
 any_push t xs x = list_any-append t xs (x ∷ []) ∙ ap (λ b. list_any t xs || b) (or_false (t x))

@@ -4,7 +4,7 @@ use Rattle.std.specs.Cmp.{IsEquivalence}
 use Rattle.std.proofs.lemmas.Bool.{false≢true}
 use Rattle.std.proofs.lemmas.List.Elements.{filter-append}
 use Rattle.sn_base.specs.Bags.{SameBag}
-use Rattle.sn_base.specs.Bags.SameBag.{behind}
+use Rattle.sn_base.specs.Bags.SameBag.{following}
 use Rattle.sn_base.specs.Groups.{once, Apart}
 use Rattle.sn_base.proofs.Lists.{by_test, or_true, filter_within, filter_turned, all_filter}
 use Rattle.sn_base.proofs.BagLemmas.{bag_same, bag_then, bag_back, bag_middle, bag_parted, bag_any}
@@ -111,7 +111,7 @@ module _ {K : Type 0} {same : K → K → Bool} (E : IsEquivalence same) (exact 
       (λ is. let same_key : k ≡ x = sym (exact x k is) in
       ap (λ z. list_any (same z) xs) same_key ∙ none_xs ∙ sym (ap (λ z. list_any (same z) rest) same_key ∙ none_rest))
       (λ isnt. sym (ap (λ b. b || list_any (same k) xs) (E.symm k x ∙ isnt)) ∙ e k ∙ sym (any_kept k x isnt ys))) in
-      bag_back ys (x ∷ xs) (bag_then front (bag_then (bag_same (ap (λ zs. x ∷ zs) (append-nil rest))) (behind x rest xs (bag_back xs rest tail))))
+      bag_back ys (x ∷ xs) (bag_then front (bag_then (bag_same (ap (λ zs. x ∷ zs) (append-nil rest))) (following x rest xs (bag_back xs rest tail))))
 
   pub bag_once : (xs ys : List K) → SameBag xs ys → SameBag (once same xs) (once same ys)
   bag_once xs ys b =

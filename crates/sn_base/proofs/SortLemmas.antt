@@ -9,7 +9,7 @@ use Rattle.std.specs.Ordering.{nat_cmp, is_gt, is_lt, is_eq, ordering_reverse}
 use Rattle.std.specs.Cmp.Lexicographic.{slice_cmp, nat_list_cmp_total, texts_ties}
 use Rattle.std.proofs.lemmas.Cmp.{upto}
 use Rattle.sn_base.specs.Bags.{SameBag}
-use Rattle.sn_base.specs.Bags.SameBag.{stays, behind, turned, joined}
+use Rattle.sn_base.specs.Bags.SameBag.{stays, following, turned, joined}
 use Rattle.sn_base.specs.Groups.{Row}
 use Rattle.sn_base.specs.Sorted.{put_row, sorted_rows}
 use Rattle.sn_base.proofs.Lists.{by_test}
@@ -66,7 +66,7 @@ put_turned x y zs =
 -- equal bags have one order
 pub sort_bag : (xs ys : List Row) → SameBag xs ys → sorted_rows xs ≡ sorted_rows ys
 sort_bag _ _ (stays xs) = refl
-sort_bag _ _ (behind x xs ys b) = ap (put_row x) (sort_bag xs ys b)
+sort_bag _ _ (following x xs ys b) = ap (put_row x) (sort_bag xs ys b)
 sort_bag _ _ (turned x y xs) = put_turned x y (sorted_rows xs)
 sort_bag _ _ (joined xs ys zs b c) = sort_bag xs ys b ∙ sort_bag ys zs c
 
@@ -76,14 +76,14 @@ bag_put : {A : Type 0} (x : A) (xs : List A) (j : ℕ) (d : A) → j < length xs
 bag_put x [] j d lt = absurd (omega arith)
 bag_put x (y ∷ ys) zero d lt = turned x y ys
 bag_put x (y ∷ ys) (suc j) d lt =
-    bag_then (turned x y ys) (bag_then (behind y (x ∷ ys) (get_or ys j d ∷ set ys j x) (bag_put x ys j d (omega arith))) (turned y (get_or ys j d) (set ys j x)))
+    bag_then (turned x y ys) (bag_then (following y (x ∷ ys) (get_or ys j d ∷ set ys j x) (bag_put x ys j d (omega arith))) (turned y (get_or ys j d) (set ys j x)))
 
 bag_swapped : {A : Type 0} (xs : List A) (i j : ℕ) (d : A) → i < length xs → j < length xs → SameBag xs (set (set xs i (get_or xs j d)) j (get_or xs i d))
 bag_swapped [] i j d li lj = absurd (omega arith)
 bag_swapped (x ∷ xs) zero zero d li lj = stays (x ∷ xs)
 bag_swapped (x ∷ xs) zero (suc j) d li lj = bag_put x xs j d (omega arith)
 bag_swapped (x ∷ xs) (suc i) zero d li lj = bag_put x xs i d (omega arith)
-bag_swapped (x ∷ xs) (suc i) (suc j) d li lj = behind x xs (set (set xs i (get_or xs j d)) j (get_or xs i d)) (bag_swapped xs i j d (omega arith) (omega arith))
+bag_swapped (x ∷ xs) (suc i) (suc j) d li lj = following x xs (set (set xs i (get_or xs j d)) j (get_or xs i d)) (bag_swapped xs i j d (omega arith) (omega arith))
 
 swap_bag : (xs : List Row) (i j : ℕ) → i < length xs → j < length xs → SameBag xs (swap xs i j)
 swap_bag xs i j li lj = subst (SameBag xs) (swap_is xs i j [] li lj) (bag_swapped xs i j [] li lj)

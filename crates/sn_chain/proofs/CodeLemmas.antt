@@ -5,12 +5,12 @@ use Rattle.std.proofs.lemmas.Bool.{ltb-true, eq-eqb}
 use Rattle.sn_base.specs.Groups.{Row, same_row}
 use Rattle.sn_base.proofs.Lists.{and_parts, not_true, nat_same}
 use Rattle.sn_base.proofs.FoldedLemmas.{same_row_exact}
-use Rattle.sn_chain.specs.Codes.{whole_code, told, code_of, key_in, IsStored}
+use Rattle.sn_chain.specs.Codes.{whole_code, reported, code_of, key_in, IsStored}
 use Rattle.sn_chain.specs.declared.code.Code.{Code}
 
 -- ---- a key is what its code says
 
-kept_if : (fits : Bool) (code : Code) (key whole : Row) → (fits ≡ true → key_in code whole ≡ key) → ((told fits code).kind ≡ 9 → whole ≡ key) → key_in (told fits code) whole ≡ key
+kept_if : (fits : Bool) (code : Code) (key whole : Row) → (fits ≡ true → key_in code whole ≡ key) → ((reported fits code).kind ≡ 9 → whole ≡ key) → key_in (reported fits code) whole ≡ key
 kept_if true code key whole kept same = kept refl
 kept_if false code key whole kept same = same refl
 
@@ -110,26 +110,26 @@ code_of_more (a ∷ b ∷ c ∷ []) one two three = absurd (three refl)
 code_of_more (a ∷ b ∷ c ∷ d ∷ row) one two three = refl
 
 -- only a key of one column is of kind 1
-told_not_one : (fits : Bool) (code : Code) → (code.kind ≡ 1 → ⊥) → (told fits code).kind ≡ 1 → ⊥
-told_not_one true code other = other
-told_not_one false code other = λ e. omega (arith, e)
+reported_not_one : (fits : Bool) (code : Code) → (code.kind ≡ 1 → ⊥) → (reported fits code).kind ≡ 1 → ⊥
+reported_not_one true code other = other
+reported_not_one false code other = λ e. omega (arith, e)
 
 pub one_column : (row : Row) → (code_of row).kind ≡ 1 → length row ≡ 1
 one_column [] kind = absurd (omega (arith, kind))
 one_column (a ∷ []) kind = refl
-one_column (a ∷ b ∷ []) kind = absurd (told_not_one (nat_lt a (2 ^ 64) && nat_lt b (2 ^ 64)) (record { kind = 2; first = a; second = b }) (λ e. omega (arith, e)) kind)
+one_column (a ∷ b ∷ []) kind = absurd (reported_not_one (nat_lt a (2 ^ 64) && nat_lt b (2 ^ 64)) (record { kind = 2; first = a; second = b }) (λ e. omega (arith, e)) kind)
 one_column (a ∷ b ∷ c ∷ []) kind =
-    absurd (told_not_one (nat_lt a (2 ^ 64) && (nat_lt b (2 ^ 32) && nat_lt c (2 ^ 32))) (record { kind = 3; first = a; second = b + c * 2 ^ 32 }) (λ e. omega (arith, e)) kind)
+    absurd (reported_not_one (nat_lt a (2 ^ 64) && (nat_lt b (2 ^ 32) && nat_lt c (2 ^ 32))) (record { kind = 3; first = a; second = b + c * 2 ^ 32 }) (λ e. omega (arith, e)) kind)
 one_column (a ∷ b ∷ c ∷ d ∷ row) kind = absurd (omega (arith, kind))
 
 -- ---- a key that takes a cell
 
 module _ (limit : ℕ) (code : Code) (key whole : Row) (is : code ≡ code_of key) (same : code.kind ≡ 9 → whole ≡ key) where
-  pub key_told : key_in code whole ≡ key
-  key_told = ap (λ (c : Code). key_in c whole) is ∙ key_kept key whole (λ nine. same (ap (λ (c : Code). c.kind) is ∙ nine))
+  pub key_reported : key_in code whole ≡ key
+  key_reported = ap (λ (c : Code). key_in c whole) is ∙ key_kept key whole (λ nine. same (ap (λ (c : Code). c.kind) is ∙ nine))
 
-  pub told_stored : (code.kind ≡ 1 → code.first + code.second * 2 ^ 64 < limit) → IsStored limit code whole
-  told_stored single = record { single = single; code_is = is ∙ ap code_of (sym key_told) }
+  pub reported_stored : (code.kind ≡ 1 → code.first + code.second * 2 ^ 64 < limit) → IsStored limit code whole
+  reported_stored single = record { single = single; code_is = is ∙ ap code_of (sym key_reported) }
 
 -- two tests one after another
 module _ (first second answer : Bool) (whole : (first && second) ≡ answer) where

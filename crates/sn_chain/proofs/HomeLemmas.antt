@@ -7,7 +7,7 @@ use Rattle.std.specs.Cmp.{IsEquivalence}
 use Rattle.std.specs.Cmp.Lexicographic.{nat_list_eq_equiv}
 use Rattle.std.proofs.lemmas.Bool.{false≢true, le-leb, lt-leb}
 use Rattle.sn_base.specs.Bags.{SameBag}
-use Rattle.sn_base.specs.Bags.SameBag.{stays, behind, turned, joined}
+use Rattle.sn_base.specs.Bags.SameBag.{stays, following, turned, joined}
 use Rattle.sn_base.specs.Groups.{Row, Apart, same_row}
 use Rattle.sn_base.proofs.Lists.{by_test, by_pushes, map_both, nat_same, nat_self, none_all}
 use Rattle.sn_base.proofs.BagLemmas.{all_bag, bag_map, bag_any, bag_back}
@@ -27,12 +27,12 @@ put_bag h [] = stays (h ∷ [])
 put_bag h (g ∷ gs) =
     elim (nat_le h.0 g.0) as (λ b. SameBag (cond b (h ∷ g ∷ gs) (g ∷ put_by_place h gs)) (h ∷ g ∷ gs)) [
       | true ↦ stays (h ∷ g ∷ gs)
-      | false ↦ joined (g ∷ put_by_place h gs) (g ∷ h ∷ gs) (h ∷ g ∷ gs) (behind g (put_by_place h gs) (h ∷ gs) (put_bag h gs)) (turned g h gs)
+      | false ↦ joined (g ∷ put_by_place h gs) (g ∷ h ∷ gs) (h ∷ g ∷ gs) (following g (put_by_place h gs) (h ∷ gs) (put_bag h gs)) (turned g h gs)
     ]
 
 pub place_bag : {K : Type 0} (hs : List (ℕ × K)) → SameBag (by_place hs) hs
 place_bag [] = stays []
-place_bag (h ∷ hs) = joined (put_by_place h (by_place hs)) (h ∷ by_place hs) (h ∷ hs) (put_bag h (by_place hs)) (behind h (by_place hs) hs (place_bag hs))
+place_bag (h ∷ hs) = joined (put_by_place h (by_place hs)) (h ∷ by_place hs) (h ∷ hs) (put_bag h (by_place hs)) (following h (by_place hs) hs (place_bag hs))
 
 -- ---- a walk over the places
 
@@ -53,11 +53,11 @@ walk_none a zero = refl
 walk_none a (suc n) = walk_none (a + 1) n
 
 -- a place before the walk isn't met
-walk_behind : {K : Type 0} (p : ℕ) (k : K) (a n : ℕ) (hs : List (ℕ × K)) → p < a → walk a n ((p, k) ∷ hs) ≡ walk a n hs
-walk_behind p k a zero hs below = refl
-walk_behind p k a (suc n) hs below =
+walk_after : {K : Type 0} (p : ℕ) (k : K) (a n : ℕ) (hs : List (ℕ × K)) → p < a → walk a n ((p, k) ∷ hs) ≡ walk a n hs
+walk_after p k a zero hs below = refl
+walk_after p k a (suc n) hs below =
     ap (λ b. met a (cond b (Some k) (lookup (nat_eq a) hs)) (walk (a + 1) n ((p, k) ∷ hs))) (nat_above a p below)
-    ∙ ap (λ rest. met a (lookup (nat_eq a) hs) rest) (walk_behind p k (a + 1) n hs (omega arith))
+    ∙ ap (λ rest. met a (lookup (nat_eq a) hs) rest) (walk_after p k (a + 1) n hs (omega arith))
 
 -- and its key goes before all that are met
 walk_front : {K : Type 0} (p : ℕ) (k : K) (a n : ℕ) (hs : List (ℕ × K)) → p < a → put_by_place (p, k) (walk a n hs) ≡ (p, k) ∷ walk a n hs
@@ -78,7 +78,7 @@ walk_put {K = K} p k a (suc n) hs low high free =
     ap (λ o. put_by_place (p, k) (met a o (walk (a + 1) n hs))) (ap (λ (q : ℕ). lookup (nat_eq q) hs) same ∙ free)
     ∙ walk_front p k (a + 1) n hs (omega arith)
     ∙ ap (λ (q : ℕ). beside q (walk (a + 1) n hs)) (sym same)
-    ∙ ap (λ rest. (a, k) ∷ rest) (sym (walk_behind p k (a + 1) n hs (omega arith)))
+    ∙ ap (λ rest. (a, k) ∷ rest) (sym (walk_after p k (a + 1) n hs (omega arith)))
     ∙ sym (ap (λ b. met a (cond b (Some k) (lookup (nat_eq a) hs)) (walk (a + 1) n ((p, k) ∷ hs))) is))
     (λ isnt. let above : a < p = past isnt in
     by_first above (walk_put p k (a + 1) n hs (omega arith) (omega arith) free) (lookup (nat_eq a) hs)
@@ -123,7 +123,7 @@ cells_walk {K = K} {X = X} f hs (c ∷ cells) a shown =
 
 apart_bagged : {K : Type 0} {same : K → K → Bool} → IsEquivalence same → (xs ys : List K) → SameBag xs ys → Apart same xs → Apart same ys
 apart_bagged E _ _ (stays xs) h = h
-apart_bagged {same = same} E _ _ (behind x xs ys b) h = (all_bag (λ y. same x y ≡ false) xs ys b h.0, apart_bagged E xs ys b h.1)
+apart_bagged {same = same} E _ _ (following x xs ys b) h = (all_bag (λ y. same x y ≡ false) xs ys b h.0, apart_bagged E xs ys b h.1)
 apart_bagged E _ _ (turned x y xs) h = ((E.symm y x ∙ h.0.0, h.1.0), (h.0.1, h.1.1))
 apart_bagged E _ _ (joined xs ys zs b c) h = apart_bagged E ys zs c (apart_bagged E xs ys b h)
 

@@ -9,15 +9,15 @@ abbrev pub whole_code : Code
 whole_code = record { kind = 9; first = 0; second = 0 }
 
 -- of a key that fits, or not
-abbrev pub told : Bool → Code → Code
-told fits code = if fits then code else whole_code
+abbrev pub reported : Bool → Code → Code
+reported fits code = if fits then code else whole_code
 
 -- a column alone takes both words, two columns one each, and of three the second and third the halves of one
 abbrev pub code_of : Row → Code
 code_of [] = whole_code
 code_of (a ∷ []) = record { kind = 1; first = a % 2 ^ 64; second = a / 2 ^ 64 }
-code_of (a ∷ b ∷ []) = told (nat_lt a (2 ^ 64) && nat_lt b (2 ^ 64)) (record { kind = 2; first = a; second = b })
-code_of (a ∷ b ∷ c ∷ []) = told (nat_lt a (2 ^ 64) && (nat_lt b (2 ^ 32) && nat_lt c (2 ^ 32))) (record { kind = 3; first = a; second = b + c * 2 ^ 32 })
+code_of (a ∷ b ∷ []) = reported (nat_lt a (2 ^ 64) && nat_lt b (2 ^ 64)) (record { kind = 2; first = a; second = b })
+code_of (a ∷ b ∷ c ∷ []) = reported (nat_lt a (2 ^ 64) && (nat_lt b (2 ^ 32) && nat_lt c (2 ^ 32))) (record { kind = 3; first = a; second = b + c * 2 ^ 32 })
 code_of (a ∷ b ∷ c ∷ d ∷ key) = whole_code
 
 -- the key that a cell has, by what it says of it and the key that it holds whole

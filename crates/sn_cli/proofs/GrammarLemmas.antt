@@ -17,14 +17,14 @@ use Rattle.sn_cli.proofs.OptionLemmas.{flag_step, options_found, options_are_sai
 use Rattle.sn_base.proofs.Tests.{not_to_false as is_false}
 
 -- what was found after a step
-record Behind {A B : Type 0} (f : A → Option B) (from : Option A) (to : B) : Type 0 where
+record After {A B : Type 0} (f : A → Option B) (from : Option A) (to : B) : Type 0 where
   value : A
   is : from ≡ Some value
   gives : f value ≡ Some to
 
-behind : {A B : Type 0} (f : A → Option B) (from : Option A) (to : B) → option_and_then f from ≡ Some to → Behind f from to
-behind f None to e = absurd (none_some e)
-behind f (Some a) to e = record { value = a; is = refl; gives = e }
+following : {A B : Type 0} (f : A → Option B) (from : Option A) (to : B) → option_and_then f from ≡ Some to → After f from to
+following f None to e = absurd (none_some e)
+following f (Some a) to e = record { value = a; is = refl; gives = e }
 
 mapped : {A B : Type 0} (f : A → B) (from : Option A) (to : B) → option_map f from ≡ Some to → (a : A) × (from ≡ Some a) × (to ≡ f a)
 mapped f None to e = absurd (none_some e)
@@ -55,7 +55,7 @@ line_is command files rest options e =
     by_test (all_file_words (take files rest))
     (λ named. record {
       names = take files rest;
-      behind = drop files rest;
+      following = drop files rest;
       are = ap (λ ws. command ∷ ws) (front_back files rest);
       as_many = length-take-le files rest long;
       named = named;
@@ -70,11 +70,11 @@ record Stands (command : List ℕ) (files : ℕ) (options : Options) (words : Li
 
 stands : (command : List ℕ) (files : ℕ) (options : Options) (words : List (List ℕ)) → Line command files options words → Stands command files options words
 stands command files options words l =
-    let rest : List (List ℕ) = l.names ++ l.behind in
+    let rest : List (List ℕ) = l.names ++ l.following in
     let many = l.as_many in
     let long : nat_lt (length rest) files ≡ false = le-ltb (length rest) files (rw length-append (omega arith)) in
-    let front : take files rest ≡ l.names = ap (λ n. take n rest) (sym l.as_many) ∙ take_front l.names l.behind in
-    let back : drop files rest ≡ l.behind = ap (λ n. drop n rest) (sym l.as_many) ∙ drop_front l.names l.behind in
+    let front : take files rest ≡ l.names = ap (λ n. take n rest) (sym l.as_many) ∙ take_front l.names l.following in
+    let back : drop files rest ≡ l.following = ap (λ n. drop n rest) (sym l.as_many) ∙ drop_front l.names l.following in
     record {
       rest = rest;
       are = l.are;
@@ -82,7 +82,7 @@ stands command files options words l =
           ∙ ap (λ ws. cond (all_file_words ws) (options_from no_options (drop files rest)) None) front
           ∙ ap (λ b. cond b (options_from no_options (drop files rest)) None) l.named
           ∙ ap (options_from no_options) back
-          ∙ options_found l.behind options l.options_are;
+          ∙ options_found l.following options l.options_are;
     }
 
 lone_is : (command : List ℕ) (rest : List (List ℕ)) (n : ℕ) → lone_number rest ≡ Some n → Numbered command n (command ∷ rest)
@@ -154,32 +154,32 @@ replan_is n o c e =
 module _ (rest : List (List ℕ)) (c : Command) where
   bare_found : (name : List ℕ) (files : ℕ) (k : Command) → ((words : List (List ℕ)) → Line name files no_options words → Spells words k) → option_and_then (bare_of k) (line_of files rest) ≡ Some c → Spells (name ∷ rest) c
   bare_found name files k spells e =
-      let b = behind (bare_of k) (line_of files rest) c e in
+      let b = following (bare_of k) (line_of files rest) c e in
       let is = bare_is k b.value c b.gives in
       subst (λ (d : Command). Spells (name ∷ rest) d) (sym is.0) (spells (name ∷ rest) (line_is name files rest no_options (b.is ∙ ap (λ o. Some o) is.1)))
 
   plan_found : option_and_then plan_of (line_of 3 rest) ≡ Some c → Spells (codes "plan" ∷ rest) c
   plan_found e =
-      let b = behind plan_of (line_of 3 rest) c e in
+      let b = following plan_of (line_of 3 rest) c e in
       let is = plan_is b.value c b.gives in
       subst (λ (d : Command). Spells (codes "plan" ∷ rest) d) (sym is.0) (b.value.nodes, line_is (codes "plan") 3 rest _ (b.is ∙ ap (λ o. Some o) is.1), refl)
 
   run_found : option_and_then run_of (line_of 4 rest) ≡ Some c → Spells (codes "run" ∷ rest) c
   run_found e =
-      let b = behind run_of (line_of 4 rest) c e in
+      let b = following run_of (line_of 4 rest) c e in
       let is = run_is b.value c b.gives in
       subst (λ (d : Command). Spells (codes "run" ∷ rest) d) (sym is.0) (line_is (codes "run") 4 rest _ (b.is ∙ ap (λ o. Some o) is.1))
 
   live_found : option_and_then live_of (line_of 4 rest) ≡ Some c → Spells (codes "live" ∷ rest) c
   live_found e =
-      let b = behind live_of (line_of 4 rest) c e in
+      let b = following live_of (line_of 4 rest) c e in
       let is = live_is b.value c b.gives in
       subst (λ (d : Command). Spells (codes "live" ∷ rest) d) (sym is.0) (b.value.nodes, b.value.schedule, line_is (codes "live") 4 rest _ (b.is ∙ ap (λ o. Some o) is.1), refl, refl)
 
   replan_found : replan_of rest ≡ Some c → Spells (codes "replan" ∷ rest) c
   replan_found e =
-      let b = behind (replan_at rest) (line_of 5 rest) c e in
-      let n = behind (λ most. replan_with most b.value) (number_of 0 4294967295 (word_at rest 4)) c b.gives in
+      let b = following (replan_at rest) (line_of 5 rest) c e in
+      let n = following (λ most. replan_with most b.value) (number_of 0 4294967295 (word_at rest 4)) c b.gives in
       let is = replan_is n.value b.value c n.gives in
       subst (λ (d : Command). Spells (codes "replan" ∷ rest) d) (sym is.0)
       (b.value.nodes, line_is (codes "replan") 5 rest _ (b.is ∙ ap (λ o. Some o) is.1), number_is 0 4294967295 (word_at rest 4) n.value n.is, refl)
@@ -190,7 +190,7 @@ module _ (rest : List (List ℕ)) (c : Command) where
   job_found : option_map (λ n. commands.Job n) (lone_number rest) ≡ Some c → Spells (codes "job" ∷ rest) c
   job_found e = let m = mapped (λ n. commands.Job n) (lone_number rest) c e in subst (λ (d : Command). Spells (codes "job" ∷ rest) d) (sym m.2) (lone_is (codes "job") rest m.0 m.1)
 
-  -- no option stands behind the file words
+  -- no option stands after the file words
   many_found : many_of rest ≡ Some c → Spells (codes "many" ∷ rest) c
   many_found e =
       let outside : Bool = nat_lt (length rest) 5 || nat_lt 11 (length rest) in
@@ -199,7 +199,7 @@ module _ (rest : List (List ℕ)) (c : Command) where
       (λ isnt.
       let few : 5 ≤ length rest = ltb-false (length rest) 5 (or_none (nat_lt (length rest) 5) (nat_lt 11 (length rest)) isnt).0 in
       let most : length rest ≤ 11 = ltb-false 11 (length rest) (or_none (nat_lt (length rest) 5) (nat_lt 11 (length rest)) isnt).1 in
-      let b = behind (bare_of (commands.Many (length rest - 3))) (line_of (length rest) rest) c (passed outside _ _ isnt e) in
+      let b = following (bare_of (commands.Many (length rest - 3))) (line_of (length rest) rest) c (passed outside _ _ isnt e) in
       let is = bare_is (commands.Many (length rest - 3)) b.value c b.gives in
       let line = line_is (codes "many") (length rest) rest no_options (b.is ∙ ap (λ o. Some o) is.1) in
       let all : length rest ≡ 3 + (length rest - 3) = omega arith in
@@ -257,7 +257,7 @@ spelled_is_read words (commands.Live nodes schedule trace) (given, turn, l, e, f
 spelled_is_read words commands.Detect l = let s = stands (codes "detect") 3 no_options words l in ap command_of s.are ∙ ap (option_and_then (bare_of commands.Detect)) s.is
 spelled_is_read words (commands.Many captures) (few, most, l) =
     let s = stands (codes "many") (3 + captures) no_options words l in
-    let all : words ≡ codes "many" ∷ l.names = l.are ∙ ap (λ ws. codes "many" ∷ (l.names ++ ws)) (no_words l.behind no_options l.options_are refl) ∙ ap (λ ws. codes "many" ∷ ws) (append-nil l.names) in
+    let all : words ≡ codes "many" ∷ l.names = l.are ∙ ap (λ ws. codes "many" ∷ (l.names ++ ws)) (no_words l.following no_options l.options_are refl) ∙ ap (λ ws. codes "many" ∷ ws) (append-nil l.names) in
     let rest : s.rest ≡ l.names = same_rest (sym s.are ∙ all) in
     ap command_of s.are ∙ many_read s.rest captures few most (ap length rest ∙ l.as_many) s.is
 spelled_is_read words (commands.Replan early most) (given, l, n, e) =

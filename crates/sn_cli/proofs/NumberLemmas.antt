@@ -5,18 +5,18 @@ use Rattle.std.specs.List.{list_all}
 use Rattle.std.proofs.Math.Seq.{drop-cons}
 use Rattle.std.proofs.lemmas.Bool.{false≢true, le-ltb, lt-leb, le-leb, ltb-false, leb-true, eqb-false, ne_eqb}
 use Rattle.sn_base.proofs.Lists.{by_test, or_none}
-use Rattle.sn_cli.specs.Words.{is_digit, value_behind, decimal_value, IsNumber}
+use Rattle.sn_cli.specs.Words.{is_digit, value_after, decimal_value, IsNumber}
 use Rattle.sn_cli.specs.Reading.{value_within, at_least, number_of}
 use Rattle.sn_base.proofs.Tests.{and_never}
 
 -- more digits give no smaller number
-value_grows : (n : ℕ) (digits : List ℕ) → n ≤ value_behind n digits
+value_grows : (n : ℕ) (digits : List ℕ) → n ≤ value_after n digits
 value_grows n [] = omega arith
-value_grows n (d ∷ ds) = let more : n * 10 + (d - 48) ≤ value_behind (n * 10 + (d - 48)) ds = value_grows (n * 10 + (d - 48)) ds in omega arith
+value_grows n (d ∷ ds) = let more : n * 10 + (d - 48) ≤ value_after (n * 10 + (d - 48)) ds = value_grows (n * 10 + (d - 48)) ds in omega arith
 
 -- a number past the most stays so
-pub past_most : (most n : ℕ) (digits : List ℕ) → most < n → nat_le (value_behind n digits) most ≡ false
-past_most most n digits lt = let grows = value_grows n digits in lt-leb (value_behind n digits) most (omega arith)
+pub past_most : (most n : ℕ) (digits : List ℕ) → most < n → nat_le (value_after n digits) most ≡ false
+past_most most n digits lt = let grows = value_grows n digits in lt-leb (value_after n digits) most (omega arith)
 
 pub none_some : {A : Type 0} {a : A} → ◌≡◌ {A = Option A} None (Some a) → ⊥
 none_some e = cc
@@ -88,10 +88,10 @@ is_number least most word n is =
     ∙ ap (λ m. Some m) (sym value)
 
 -- a number that is past the most before its last digit
-pub value_past : (most v i : ℕ) (digits : List ℕ) → i < length digits → most < v * 10 + (get_or digits i 0 - 48) → value_behind v (drop i digits) ≡ decimal_value digits → None ≡ value_within most digits
+pub value_past : (most v i : ℕ) (digits : List ℕ) → i < length digits → most < v * 10 + (get_or digits i 0 - 48) → value_after v (drop i digits) ≡ decimal_value digits → None ≡ value_within most digits
 value_past most v i digits lt past value =
     let d : ℕ = get_or digits i 0 in
     let here : drop i digits ≡ d ∷ drop (i + 1) digits = rw (add-one) (drop-cons digits i 0 lt) in
-    let same : value_behind (v * 10 + (d - 48)) (drop (i + 1) digits) ≡ decimal_value digits = sym (ap (value_behind v) here) ∙ value in
+    let same : value_after (v * 10 + (d - 48)) (drop (i + 1) digits) ≡ decimal_value digits = sym (ap (value_after v) here) ∙ value in
     let large : nat_le (decimal_value digits) most ≡ false = sym (ap (λ n. nat_le n most) same) ∙ past_most most (v * 10 + (d - 48)) (drop (i + 1) digits) past in
     sym (ap (λ b. cond (list_all is_digit digits && b) (Some (decimal_value digits)) None) large ∙ ap (λ b. cond b (Some (decimal_value digits)) None) (and_never (list_all is_digit digits)))

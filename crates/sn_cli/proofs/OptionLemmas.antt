@@ -77,7 +77,7 @@ and_some (Some o) = refl
 
 pub flag_step : (given : Options) (word : List ℕ) (words : List (List ℕ)) → is_flag word ≡ true → options_from given (word ∷ words) ≡ option_and_then (λ more. options_from more words) (flag_of word given)
 flag_step given word [] is = sym (and_some (flag_of word given))
-flag_step given word (behind ∷ words) is = ap (λ b. cond b (option_and_then (λ more. options_from more (behind ∷ words)) (flag_of word given)) (option_and_then (λ more. options_from more words) (numbered_of word behind given))) is
+flag_step given word (following ∷ words) is = ap (λ b. cond b (option_and_then (λ more. options_from more (following ∷ words)) (flag_of word given)) (option_and_then (λ more. options_from more words) (numbered_of word following given))) is
 
 -- ---- what is written is read
 
@@ -219,10 +219,10 @@ found [] given all e = record {
   is = sym (some_same e) ∙ sym (both_none given);
 }
 found (word ∷ []) given all e = flag_case word [] given all (λ more f. found [] more all f) (and_some (flag_of word given) ∙ e)
-found (word ∷ behind ∷ words) given all e =
+found (word ∷ following ∷ words) given all e =
     by_test (is_flag word)
-    (λ is. flag_case word (behind ∷ words) given all (λ more f. found (behind ∷ words) more all f) (sym (flag_step given word (behind ∷ words) is) ∙ e))
-    (λ isnt. number_case behind words given all (λ more f. found words more all f) word
+    (λ is. flag_case word (following ∷ words) given all (λ more f. found (following ∷ words) more all f) (sym (flag_step given word (following ∷ words) is) ∙ e))
+    (λ isnt. number_case following words given all (λ more f. found words more all f) word
     (passed (is_flag word) _ _ isnt e))
 
 -- from no options on

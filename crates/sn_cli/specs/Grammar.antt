@@ -30,11 +30,11 @@ pub data AreOptions : List (List ℕ) → Options → Type 0 where
 -- a command word, this many file words, and after all of them the options that say this
 pub record Line (command : List ℕ) (files : ℕ) (options : Options) (words : List (List ℕ)) : Type 0 where
   pub names : List (List ℕ)
-  pub behind : List (List ℕ)
-  pub are : words ≡ command ∷ (names ++ behind)
+  pub following : List (List ℕ)
+  pub are : words ≡ command ∷ (names ++ following)
   pub as_many : length names ≡ files
   pub named : list_all is_file_word names ≡ true
-  pub options_are : AreOptions behind options
+  pub options_are : AreOptions following options
 
 -- a command word and a number from 0 to 4294967295
 pub record Numbered (command : List ℕ) (number : ℕ) (words : List (List ℕ)) : Type 0 where

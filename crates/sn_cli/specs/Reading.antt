@@ -43,17 +43,17 @@ abbrev pub with_schedule : Options → ℕ → Options
 with_schedule given n = record given { schedule = Some n }
 
 abbrev pub numbered_of : List ℕ → List ℕ → Options → Option Options
-numbered_of word behind given =
-    if same word (codes "--nodes") && is_none given.nodes then option_map (with_nodes given) (number_of 1 1000000 behind)
-    else if same word (codes "--schedule") && is_none given.schedule then option_map (with_schedule given) (number_of 0 4294967295 behind)
+numbered_of word following given =
+    if same word (codes "--nodes") && is_none given.nodes then option_map (with_nodes given) (number_of 1 1000000 following)
+    else if same word (codes "--schedule") && is_none given.schedule then option_map (with_schedule given) (number_of 0 4294967295 following)
     else None
 
 abbrev pub options_from : Options → List (List ℕ) → Option Options
 options_from given [] = Some given
 options_from given (word ∷ []) = flag_of word given
-options_from given (word ∷ behind ∷ words) =
-    if is_flag word then option_and_then (λ more. options_from more (behind ∷ words)) (flag_of word given)
-    else option_and_then (λ more. options_from more words) (numbered_of word behind given)
+options_from given (word ∷ following ∷ words) =
+    if is_flag word then option_and_then (λ more. options_from more (following ∷ words)) (flag_of word given)
+    else option_and_then (λ more. options_from more words) (numbered_of word following given)
 
 -- ---- lines
 

@@ -23,13 +23,13 @@ abbrev pub is_digit : ℕ → Bool
 is_digit byte = nat_le 48 byte && nat_le byte 57
 
 -- the number that digits stand for after this one
-abbrev pub value_behind : ℕ → List ℕ → ℕ
-value_behind n [] = n
-value_behind n (digit ∷ digits) = value_behind (n * 10 + (digit - 48)) digits
+abbrev pub value_after : ℕ → List ℕ → ℕ
+value_after n [] = n
+value_after n (digit ∷ digits) = value_after (n * 10 + (digit - 48)) digits
 
 -- the number that decimal digits stand for, the highest first
 abbrev pub decimal_value : List ℕ → ℕ
-decimal_value digits = value_behind 0 digits
+decimal_value digits = value_after 0 digits
 
 -- a word of one to ten decimal digits, and its number in this range
 pub record IsNumber (least most : ℕ) (word : List ℕ) (number : ℕ) : Type 0 where

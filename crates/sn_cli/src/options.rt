@@ -50,17 +50,17 @@ fn flag(word: &str, given: Options) -> Option<Options>
 }
 
 /// What is given with an option and its number, if it wasn't given before.
-fn numbered(word: &str, behind: &str, given: Options) -> Option<Options>
-    ensures { result ≡ numbered_of word.now behind.now given }
+fn numbered(word: &str, following: &str, given: Options) -> Option<Options>
+    ensures { result ≡ numbered_of word.now following.now given }
 {
     if word == "--nodes" && given.nodes.is_none() {
-        let nodes = number(behind, 1, 1_000_000)?;
+        let nodes = number(following, 1, 1_000_000)?;
         Some(Options {
             nodes: Some(nodes),
             ..given
         })
     } else if word == "--schedule" && given.schedule.is_none() {
-        let schedule = number(behind, 0, u32::MAX)?;
+        let schedule = number(following, 0, u32::MAX)?;
         Some(Options {
             schedule: Some(schedule),
             ..given
@@ -77,12 +77,12 @@ pub fn read_options(words: &[String], given: Options) -> Option<Options>
     let Some((word, rest)) = words.split_first() else {
         return Some(given);
     };
-    let Some((behind, after)) = rest.split_first() else {
+    let Some((following, after)) = rest.split_first() else {
         return flag(word.as_str(), given);
     };
     if is_flag(word.as_str()) {
         read_options(rest, flag(word.as_str(), given)?)
     } else {
-        read_options(after, numbered(word.as_str(), behind.as_str(), given)?)
+        read_options(after, numbered(word.as_str(), following.as_str(), given)?)
     }
 }

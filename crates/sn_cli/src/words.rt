@@ -47,11 +47,11 @@ fn line(words: &[String], files: usize) -> Option<Options>
     if words.len() < files {
         return None;
     }
-    let (names, behind) = words.split_at(files);
+    let (names, following) = words.split_at(files);
     if !are_file_words(names) {
         return None;
     }
-    read_options(behind, NO_OPTIONS)
+    read_options(following, NO_OPTIONS)
 }
 
 /// The number of a word that stands alone.

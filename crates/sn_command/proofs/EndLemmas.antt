@@ -12,7 +12,7 @@ use Rattle.sn_command.specs.Refusals.{by_chance}
 use Rattle.sn_command.specs.Worlds.{Sunk, World, AnyRose, OutRose}
 use Rattle.sn_command.specs.Outcomes.{Outcome, Stage, Keeps}
 use Rattle.sn_command.specs.Runs.{WorksFrom}
-use Rattle.sn_command.specs.Ends.{end_status, end_line, Excused, Comes, IsRun, IsTold, IsStatusTold, IsCommandRun}
+use Rattle.sn_command.specs.Ends.{end_status, end_line, Excused, Comes, IsRun, IsReported, IsStatusReported, IsCommandRun}
 use Rattle.sn_command.proofs.FaultLemmas.{faults_own, three_of, four_of}
 
 -- status 1 is that of being out of memory alone
@@ -150,18 +150,18 @@ line_due : (outcome : Outcome (Unit {0})) (answer : Result (Unit {0}) Refusal) (
 line_due outcome answer before now k e = by_test (by_chance answer) (λ chance. chance_line answer outcome.end chance (sym e)) (λ sure. ap end_line (k.ends sure))
 
 -- what is printed of an answer
-pub status_told : (answer : Result (Unit {0}) Refusal) (before now : Sunk) → IsTold (end_line answer) before now → IsStatusTold (end_status answer) before now
-status_told answer before now told = (answer, refl, told)
+pub status_reported : (answer : Result (Unit {0}) Refusal) (before now : Sunk) → IsReported (end_line answer) before now → IsStatusReported (end_status answer) before now
+status_reported answer before now reported = (answer, refl, reported)
 
 -- the call of a command, from the run of its work and the line on its answer
-pub command_run : (names : List (List ℕ)) (work : Stage (Unit {0})) (answer : Result (Unit {0}) Refusal) (before now : World) (err_before err_now : Sunk) → WorksFrom 2 names work before answer now → IsTold (end_line answer) err_before err_now
+pub command_run : (names : List (List ℕ)) (work : Stage (Unit {0})) (answer : Result (Unit {0}) Refusal) (before now : World) (err_before err_now : Sunk) → WorksFrom 2 names work before answer now → IsReported (end_line answer) err_before err_now
     → IsCommandRun names work (record { files = before.files; out = before.out; err = err_before }) (end_status answer) (record { files = now.files; out = now.out; err = err_now })
-command_run names work answer before now err_before err_now w told = record {
+command_run names work answer before now err_before err_now w reported = record {
   run = λ files same outcome is. is_run (AnyRose names before.files now.files) (OutRose before.out now.out) answer w.runs.read_fault w.runs.write_fault outcome before.out.written now.out.written (w.runs.keeps files same outcome is);
-  due_line = λ files same outcome is due. subst (λ (line : List ℕ). IsTold line err_before err_now) (line_due outcome answer before.out.written now.out.written (w.runs.keeps files same outcome is) due) told;
+  due_line = λ files same outcome is due. subst (λ (line : List ℕ). IsReported line err_before err_now) (line_due outcome answer before.out.written now.out.written (w.runs.keeps files same outcome is) due) reported;
   read_fault = λ is. elim (nine_is answer is) [ inl read ↦ inl (w.runs.read_fault read) | inr none ↦ inr (w.runs.missing none) ];
   unknown = λ none. ap end_status (w.unknown none);
-  told = w.runs.follows.told;
+  reported = w.runs.follows.reported;
   known = w.runs.follows.known;
   faults = w.runs.follows.faults;
   others = w.runs.others;

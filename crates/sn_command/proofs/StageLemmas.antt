@@ -13,7 +13,7 @@ use Rattle.sn_command.specs.Worlds.{Sunk, World, AnyRose, Spares, Follows}
 use Rattle.sn_command.specs.Outcomes.{Outcome, silent, Stage, WentOutFront, Keeps}
 use Rattle.sn_command.specs.Stages.{Does, Adds, Gives, Judges, named, ReadAs, Bytes, most_text, GoesOn, Then, Text}
 use Rattle.sn_command.specs.Runs.{RunsFrom, Runs, WorksFrom, Works, Answers}
-use Rattle.sn_command.proofs.OutcomeLemmas.{front_longer, behind_text, silent_keeps, chance_keeps}
+use Rattle.sn_command.proofs.OutcomeLemmas.{front_longer, after_text, silent_keeps, chance_keeps}
 use Rattle.sn_command.proofs.WorldLemmas.{follows_self, follows_then, any_earlier, any_left, any_right, unknown_left, unknown_right, unknown_earlier, out_earlier, spares_self, spares_left, spares_front, spares_one, spares_same, spares_then}
 
 err_ok : {A : Type 0} {r : Refusal} {a : A} {G : Type 0} → ◌≡◌ {A = Result A Refusal} (Err r) (Ok a) → G
@@ -39,8 +39,8 @@ module _ {A B : Type 0} {first : Stage A} {second : A → Stage B} {unread : ℕ
   -- the first stage refused
   pub runs_stops : {refusal : Refusal} → RunsFrom unread names first before (Err refusal) now → RunsFrom unread (names ++ more) (Then first second) before (Err refusal) now
   runs_stops {refusal} r = record {
-    keeps = λ files told outcome is.
-        let k = r.keeps files told is.begun is.begins in
+    keeps = λ files reported outcome is.
+        let k = r.keeps files reported is.begun is.begins in
         stops first second files before.out.written now.out.written refusal is.begun.text is.begun.end outcome k.front k.ends k.whole is.goes_on;
     missing = λ e. unknown_left names more before.files (r.missing (err_err e));
     read_fault = λ e. any_left names more before.files now.files (r.read_fault (err_err e));
@@ -53,16 +53,16 @@ module _ {A B : Type 0} {first : Stage A} {second : A → Stage B} {unread : ℕ
   }
 
   -- the first stage gave a value, and the second went on from it
-  goes_on : {behind : ℕ} {value : A} {answer : Result B Refusal} {later : World} → RunsFrom unread names first before (Ok value) now → RunsFrom behind more (second value) now answer later
+  goes_on : {following : ℕ} {value : A} {answer : Result B Refusal} {later : World} → RunsFrom unread names first before (Ok value) now → RunsFrom following more (second value) now answer later
       → ((fault : QueryFault) → answer ≡ Err (Refused (Queries fault)) → (unread ≡ 2) × Spares (take 1 (names ++ more)) before.files later.files)
       → ((fault : TextFault) → answer ≡ Err (Refused (Switch fault)) → (1 ≤ unread) × Spares (take unread (names ++ more)) before.files later.files)
       → RunsFrom unread (names ++ more) (Then first second) before answer later
   goes_on {value = value} {answer} {later} r s queries switch = record {
-    keeps = λ files told outcome is.
-        let k = r.keeps files told is.begun is.begins in
+    keeps = λ files reported outcome is.
+        let k = r.keeps files reported is.begun is.begins in
         let goes : GoesOn second files is.begun.text (Ok value) outcome = subst (λ (end : Result A Refusal). GoesOn second files is.begun.text end outcome) (sym (k.ends refl)) is.goes_on in
         subst (λ (o : Outcome B). Keeps o answer before.out.written later.out.written) (sym goes.2)
-        (behind_text is.begun.text goes.0 answer before.out.written now.out.written later.out.written (k.whole refl) (s.keeps files (r.follows.told ∙ told) goes.0 goes.1));
+        (after_text is.begun.text goes.0 answer before.out.written now.out.written later.out.written (k.whole refl) (s.keeps files (r.follows.reported ∙ reported) goes.0 goes.1));
     missing = λ e. unknown_right names more before.files (unknown_earlier more before now r.follows (s.missing e));
     read_fault = λ e. any_right names more before.files later.files (any_earlier more before now later r.follows (s.read_fault e));
     write_fault = λ e. out_earlier before now later r.follows (s.write_fault e);
@@ -132,7 +132,7 @@ works_alone r = record { runs = r; unknown = λ none. absurd none }
 -- nothing is read or written, and the answer is a chance
 pub runs_chance : {A : Type 0} (stage : Stage A) (w : World) → Runs [] stage w (Err Memory) w
 runs_chance stage w = record {
-  keeps = λ files told outcome is. chance_keeps outcome Memory w.out.written refl;
+  keeps = λ files reported outcome is. chance_keeps outcome Memory w.out.written refl;
   missing = λ e. absurd cc;
   read_fault = λ e. absurd cc;
   write_fault = λ e. absurd cc;
@@ -174,7 +174,7 @@ module _ {A : Type 0} (judgement : Result A Fault → Type 0) (once : (first sec
   -- a judgement is a stage
   pub runs_judges : {unread : ℕ} → ((verdict : Result A Fault) → judgement verdict → MayCome unread verdict) → (answer : Result A Refusal) → Answers judgement answer → RunsFrom unread [] (Judges judgement) w answer w
   runs_judges may (Ok value) here = record {
-    keeps = λ files told outcome is. judged (Ok value) here files outcome is;
+    keeps = λ files reported outcome is. judged (Ok value) here files outcome is;
     missing = λ e. absurd cc;
     read_fault = λ e. absurd cc;
     write_fault = λ e. absurd cc;
@@ -186,7 +186,7 @@ module _ {A : Type 0} (judgement : Result A Fault → Type 0) (once : (first sec
   }
   runs_judges may (Err Memory) here = runs_any (runs_chance (Judges judgement) w)
   runs_judges {unread} may (Err (Refused fault)) here = record {
-    keeps = λ files told outcome is. judged (Err fault) here files outcome is;
+    keeps = λ files reported outcome is. judged (Err fault) here files outcome is;
     missing = λ e. absurd cc;
     read_fault = λ e. absurd cc;
     write_fault = λ e. absurd cc;
@@ -204,7 +204,7 @@ module _ {A : Type 0} (judgement : Result A Fault → Type 0) (once : (first sec
 -- a verdict is given
 pub runs_gives : {A : Type 0} (verdict : Result A Fault) (w : World) → MayCome 0 verdict → Runs [] (Gives verdict) w (refusing verdict) w
 runs_gives (Ok value) w may = record {
-  keeps = λ files told outcome is. subst (λ (o : Outcome _). Keeps o (Ok value) w.out.written w.out.written) (sym is) (silent_keeps (Ok value) w.out.written);
+  keeps = λ files reported outcome is. subst (λ (o : Outcome _). Keeps o (Ok value) w.out.written w.out.written) (sym is) (silent_keeps (Ok value) w.out.written);
   missing = λ e. absurd cc;
   read_fault = λ e. absurd cc;
   write_fault = λ e. absurd cc;
@@ -215,7 +215,7 @@ runs_gives (Ok value) w may = record {
   follows = follows_self w;
 }
 runs_gives (Err fault) w may = record {
-  keeps = λ files told outcome is. subst (λ (o : Outcome _). Keeps o (Err (Refused fault)) w.out.written w.out.written) (sym is) (silent_keeps (Err (Refused fault)) w.out.written);
+  keeps = λ files reported outcome is. subst (λ (o : Outcome _). Keeps o (Err (Refused fault)) w.out.written w.out.written) (sym is) (silent_keeps (Err (Refused fault)) w.out.written);
   missing = λ e. absurd cc;
   read_fault = λ e. absurd cc;
   write_fault = λ e. absurd cc;
@@ -229,7 +229,7 @@ runs_gives (Err fault) w may = record {
 -- a run of a stage is one of another that allows no more
 pub runs_as : {A : Type 0} {unread : ℕ} {names : List (List ℕ)} {from to : Stage A} {before now : World} {answer : Result A Refusal} → ((files : ByName (List ℕ)) (outcome : Outcome A) → to files outcome → from files outcome) → RunsFrom unread names from before answer now → RunsFrom unread names to before answer now
 runs_as within r = record {
-  keeps = λ files told outcome is. r.keeps files told outcome (within files outcome is);
+  keeps = λ files reported outcome is. r.keeps files reported outcome (within files outcome is);
   missing = r.missing;
   read_fault = r.read_fault;
   write_fault = r.write_fault;
@@ -242,14 +242,14 @@ runs_as within r = record {
 
 -- a text and then what it leads to
 module _ {A : Type 0} (text : List ℕ) (rest : Outcome A) where
-  behind : (files : ByName (List ℕ)) (outcome : Outcome A) → Does (record { text = text ++ rest.text; end = rest.end }) files outcome → Then (Adds text) (λ u. Does rest) files outcome
-  behind files outcome is = record { begun = record { text = text; end = Ok tt }; begins = refl; goes_on = (rest, refl, is) }
+  following : (files : ByName (List ℕ)) (outcome : Outcome A) → Does (record { text = text ++ rest.text; end = rest.end }) files outcome → Then (Adds text) (λ u. Does rest) files outcome
+  following files outcome is = record { begun = record { text = text; end = Ok tt }; begins = refl; goes_on = (rest, refl, is) }
 
   pub text_stops : {before now : World} {refusal : Refusal} → Runs [] (Adds text) before (Err refusal) now → Runs [] (Does (record { text = text ++ rest.text; end = rest.end })) before (Err refusal) now
-  text_stops r = runs_as behind (stage_stops r)
+  text_stops r = runs_as following (stage_stops r)
 
   pub text_then : {before now later : World} {answer : Result A Refusal} → Runs [] (Adds text) before (Ok tt) now → Runs [] (Does rest) now answer later → Runs [] (Does (record { text = text ++ rest.text; end = rest.end })) before answer later
-  text_then r s = runs_as behind (stage_then r s)
+  text_then r s = runs_as following (stage_then r s)
 
 -- a text that is read and judged
 module _ {A : Type 0} {judgement : List ℕ → Result A Fault → Type 0} {name : List ℕ} {before now : World} where
@@ -276,7 +276,7 @@ gives_as verdict {w = w} may e = rw e (runs_gives verdict w may)
 -- A step that wrote nothing may stand before any run: the files are the same, no count fell, and no other name's count changed.
 pub runs_earlier : {A : Type 0} {names : List (List ℕ)} {stage : Stage A} {before now later : World} {answer : Result A Refusal} → Follows before now → Spares names before.files now.files → now.out ≡ before.out → Runs names stage now answer later → Runs names stage before answer later
 runs_earlier {names = names} {before = before} {now} {later} {answer} f spares same r = record {
-  keeps = λ files told outcome is. subst (λ (out : Sunk). Keeps outcome answer out.written later.out.written) same (r.keeps files (f.told ∙ told) outcome is);
+  keeps = λ files reported outcome is. subst (λ (out : Sunk). Keeps outcome answer out.written later.out.written) same (r.keeps files (f.reported ∙ reported) outcome is);
   missing = λ e. unknown_earlier names before now f (r.missing e);
   read_fault = λ e. any_earlier names before now later f (r.read_fault e);
   write_fault = λ e. out_earlier before now later f (r.write_fault e);
@@ -290,7 +290,7 @@ runs_earlier {names = names} {before = before} {now} {later} {answer} f spares s
 -- a read failed, and nothing was written
 pub runs_read_fault : {A : Type 0} {names : List (List ℕ)} {stage : Stage A} {before now : World} → Follows before now → Spares names before.files now.files → now.out ≡ before.out → AnyRose names before.files now.files → Runs names stage before (Err ReadFault) now
 runs_read_fault {before = before} {now} f spares same rose = record {
-  keeps = λ files told outcome is. subst (λ (out : Sunk). Keeps outcome (Err ReadFault) before.out.written out.written) (sym same) (chance_keeps outcome ReadFault before.out.written refl);
+  keeps = λ files reported outcome is. subst (λ (out : Sunk). Keeps outcome (Err ReadFault) before.out.written out.written) (sym same) (chance_keeps outcome ReadFault before.out.written refl);
   missing = λ e. absurd cc;
   read_fault = λ e. rose;
   write_fault = λ e. absurd cc;

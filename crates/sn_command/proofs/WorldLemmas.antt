@@ -7,11 +7,11 @@ use Rattle.sn_command.specs.Worlds.{Files, World, AnyRose, AnyUnknown, IsNoneOf,
 use Rattle.sn_io.proofs.CountLemmas.{rose_earlier}
 
 pub follows_self : (w : World) → Follows w w
-follows_self w = record { told = refl; known = λ name. refl; faults = λ name. omega arith; write_faults = omega arith; empty_takes = omega arith; places = refl }
+follows_self w = record { reported = refl; known = λ name. refl; faults = λ name. omega arith; write_faults = omega arith; empty_takes = omega arith; places = refl }
 
 pub follows_then : (a b c : World) → Follows a b → Follows b c → Follows a c
 follows_then a b c f g = record {
-  told = g.told ∙ f.told;
+  reported = g.reported ∙ f.reported;
   known = λ name. g.known name ∙ f.known name;
   faults = λ name. let x = f.faults name in let y = g.faults name in omega arith;
   write_faults = let x = f.write_faults in let y = g.write_faults in omega arith;

@@ -6,7 +6,7 @@ use Rattle.sn_command.specs.declared.desk.Desk.{Desk}
 use Rattle.sn_command.specs.Worlds.{Files, Sunk, World}
 
 abbrev pub files_of : {I : Type 0} → InputsOf I → I → Files
-files_of inputs files = record { told = inputs.told files; faults = inputs.faults files }
+files_of inputs files = record { reported = inputs.reported files; faults = inputs.faults files }
 
 abbrev pub sunk : {O : Type 0} → SinkOf O → O → Sunk
 sunk sink out = record { written = sink.written out; faults = sink.faults out; empty_takes = sink.empty_takes out }

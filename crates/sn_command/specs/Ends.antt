@@ -61,13 +61,13 @@ pub record IsRun (outcome : Outcome (Unit {0})) (read_rose write_rose : Type 0) 
   pub complete : (read_rose → ⊥) → (write_rose → ⊥) → (status ≡ 1) ⊎ ((status ≡ end_status outcome.end) × (now ≡ append_known before outcome.text))
 
 -- a line is printed: a front of it always, and all of it where no count rose
-pub record IsTold (line : List ℕ) (before now : Sunk) : Type 0 where
+pub record IsReported (line : List ℕ) (before now : Sunk) : Type 0 where
   pub front : WentOutFront line before.written now.written
   pub whole : (OutRose before now → ⊥) → now.written ≡ append_known before.written line
 
 -- a line of this status is printed, by the table of statuses and lines
-abbrev pub IsStatusTold : ℕ → Sunk → Sunk → Type 0
-IsStatusTold status before now = (end : Result (Unit {0}) Refusal) × (status ≡ end_status end) × IsTold (end_line end) before now
+abbrev pub IsStatusReported : ℕ → Sunk → Sunk → Type 0
+IsStatusReported status before now = (end : Result (Unit {0}) Refusal) × (status ≡ end_status end) × IsReported (end_line end) before now
 
 -- the files, the output and the error output of a call
 pub record Around : Type 0 where
@@ -78,16 +78,16 @@ pub record Around : Type 0 where
 -- A call with the words of a command that reads the files of these names, against the stages of the command's work.
 pub record IsCommandRun (names : List (List ℕ)) (work : Stage (Unit {0})) (before : Around) (status : ℕ) (now : Around) : Type 0 where
   -- Over files whose contents are known, it is the run of the work's outcome.
-  pub run : (files : ByName (List ℕ)) → before.files.told ≡ Some files → (outcome : Outcome (Unit {0})) → work files outcome →
+  pub run : (files : ByName (List ℕ)) → before.files.reported ≡ Some files → (outcome : Outcome (Unit {0})) → work files outcome →
       IsRun outcome (AnyRose names before.files now.files) (OutRose before.out now.out) status before.out.written now.out.written
   -- Then, where the status is the one that is due, the line is that of the outcome.
-  pub due_line : (files : ByName (List ℕ)) → before.files.told ≡ Some files → (outcome : Outcome (Unit {0})) → work files outcome →
-      status ≡ end_status outcome.end → IsTold (end_line outcome.end) before.err now.err
+  pub due_line : (files : ByName (List ℕ)) → before.files.reported ≡ Some files → (outcome : Outcome (Unit {0})) → work files outcome →
+      status ≡ end_status outcome.end → IsReported (end_line outcome.end) before.err now.err
   -- 9 over any files: only where the count of a file word rose, or a file word isn't known; always where the first one isn't.
   pub read_fault : status ≡ 9 → AnyRose names before.files now.files ⊎ AnyUnknown names before.files
   pub unknown : FirstUnknown names before.files → status ≡ 9
   -- Over any files: what is known of their contents stays, the same names are known, and no count falls.
-  pub told : now.files.told ≡ before.files.told
+  pub reported : now.files.reported ≡ before.files.reported
   pub known : (name : List ℕ) → is_some (get now.files.faults name) ≡ is_some (get before.files.faults name)
   pub faults : (name : List ℕ) → count_of before.files.faults name ≤ count_of now.files.faults name
   -- Each name that is no file word of the command keeps its count.

@@ -16,7 +16,7 @@ use Rattle.sn_command.specs.Outcomes.{Outcome, Stage, Keeps}
 pub record RunsFrom {A : Type 0} (unread : ℕ) (names : List (List ℕ)) (stage : Stage A) (before : World) (answer : Result A Refusal)
     (now : World) : Type 0 where
   -- Over files whose contents are known, it is the run of each outcome of the stage.
-  pub keeps : (files : ByName (List ℕ)) → before.files.told ≡ Some files → (outcome : Outcome A) → stage files outcome
+  pub keeps : (files : ByName (List ℕ)) → before.files.reported ≡ Some files → (outcome : Outcome A) → stage files outcome
       → Keeps outcome answer before.out.written now.out.written
   -- A name is missing only where one of them isn't known.
   pub missing : answer ≡ Err Missing → AnyUnknown names before.files

@@ -3,9 +3,9 @@
 ghost use Rattle.std.specs.Prelude.{◌≡◌, List, [], ◌∷◌, ◌++◌, codes};
 ghost use Rattle.std.specs.Fmt.{decimal};
 ghost use Rattle.sn_command.specs.Desks.{sunk};
-ghost use Rattle.sn_command.specs.Ends.{end_line, IsTold};
+ghost use Rattle.sn_command.specs.Ends.{end_line, IsReported};
 ghost use Rattle.sn_command.specs.Lines.{query_kind, text_kind, misfit_kind, tree_kind, report_kind, head_words, fault_line, line_of};
-ghost use Rattle.sn_command.specs.Told.{Tells};
+ghost use Rattle.sn_command.specs.Reported.{Tells};
 
 use crate::fault::{Fault, ReportFault, Spent, TextFault, TreeFlaw, TreeKind};
 use crate::kinds::{misfit_kind, query_kind, report_kind, text_kind, tree_kind};
@@ -274,7 +274,7 @@ fn tell_refusal<E: Sink>(refusal: Refusal, err: &mut E) -> bool
 
 /// Prints the line on an answer, piece by piece, without memory. After a piece that failed nothing more is printed.
 pub fn tell<E: Sink>(answer: Result<(), Refusal>, err: &mut E)
-    ensures { IsTold (end_line answer) (sunk E.Sink err.old) (sunk E.Sink err.new) }
+    ensures { IsReported (end_line answer) (sunk E.Sink err.old) (sunk E.Sink err.new) }
 {
     match answer {
         Ok(()) => {}

@@ -2,7 +2,7 @@
 ghost use Rattle.std.specs.Prelude.{◌≡◌};
 ghost use Rattle.std.specs.Fmt.{decimal};
 ghost use Rattle.sn_command.specs.Desks.{sunk};
-ghost use Rattle.sn_command.specs.Told.{Tells, piece_text, pieces_text};
+ghost use Rattle.sn_command.specs.Reported.{Tells, piece_text, pieces_text};
 
 use itoa::Buffer;
 use sn_io::sink::{Sink, write_all_to};

@@ -1,5 +1,6 @@
 //! Why a command ends otherwise than with its whole text.
 ghost use Rattle.std.specs.Prelude.{◌≡◌};
+ghost use Rattle.sn_command.specs.Ends.{end_status};
 
 use crate::fault::Fault;
 use sn_base::memory::Memory;
@@ -67,5 +68,15 @@ impl From<TooMany> for Refusal {
 
     fn from(_: TooMany) -> Refusal {
         Refusal::Refused(Fault::TooLarge)
+    }
+}
+
+/// The status of a call of the program that ends with this answer.
+pub fn end_status(answer: Result<(), Refusal>) -> u8
+    ensures { result ≡ end_status answer }
+{
+    match answer {
+        Ok(()) => 0,
+        Err(refusal) => refusal.status(),
     }
 }

@@ -36,9 +36,9 @@ abbrev at_hand : ℕ → List Packet → List (ℕ × Packet)
 at_hand n held = map (λ p. (n, p)) held
 
 -- all are above
-abbrev Behind : ℕ → List (ℕ × Packet) → Type 0
-Behind n [] = Unit {0}
-Behind n (z ∷ zs) = n < z.0
+abbrev After : ℕ → List (ℕ × Packet) → Type 0
+After n [] = Unit {0}
+After n (z ∷ zs) = n < z.0
 
 at_least_run : (n : ℕ) (held : List Packet) (zs : List (ℕ × Packet)) → AtLeast n zs → AtLeast n (at_hand n held ++ zs)
 at_least_run n [] zs h = h
@@ -48,7 +48,7 @@ rises_run : (n : ℕ) (held : List Packet) (zs : List (ℕ × Packet)) → AtLea
 rises_run n [] zs h r = r
 rises_run n (p ∷ ps) zs h r = (at_least_run n ps zs h, rises_run n ps zs h r)
 
-run_none : (n : ℕ) (zs : List (ℕ × Packet)) → Behind n zs → run_of n zs ≡ 0
+run_none : (n : ℕ) (zs : List (ℕ × Packet)) → After n zs → run_of n zs ≡ 0
 run_none n [] h = refl
 run_none n (z ∷ zs) h = let ne : (z.0 == n) ≡ false = ne_eqb z.0 n (λ e. omega arith) in rw ne refl
 
@@ -92,9 +92,9 @@ hand_at_least n (p ∷ ps) = (omega arith, hand_at_least n ps)
 cut_hand : (n : ℕ) (held : List Packet) → closed_packets last.TooLarge (at_hand n held) ≡ []
 cut_hand n held = below_none n (last_number (at_hand n held)) (at_hand n held) (hand_at_least n held) (last_hand 0 n held (omega arith))
 
-cut_behind : (l : Last) (n : ℕ) (held : List Packet) (z : ℕ × Packet) (zs : List (ℕ × Packet)) → n < z.0 → AtLeast z.0 zs → Rises zs → closed_packets l (at_hand n held ++ z ∷ zs) ≡ at_hand n held ++ closed_packets l (z ∷ zs)
-cut_behind (last.Ended ending) n held z zs lt h r = refl
-cut_behind last.TooLarge n held z zs lt h r =
+cut_after : (l : Last) (n : ℕ) (held : List Packet) (z : ℕ × Packet) (zs : List (ℕ × Packet)) → n < z.0 → AtLeast z.0 zs → Rises zs → closed_packets l (at_hand n held ++ z ∷ zs) ≡ at_hand n held ++ closed_packets l (z ∷ zs)
+cut_after (last.Ended ending) n held z zs lt h r = refl
+cut_after last.TooLarge n held z zs lt h r =
     let m = last_from z.0 zs in
     let same : last_number (at_hand n held ++ z ∷ zs) ≡ m = last_append 0 (at_hand n held) z zs in
     let above : n < m = let later = last_later z.0 zs h r in omega arith in
@@ -108,9 +108,9 @@ at_least_le : (n m : ℕ) → n ≤ m → (zs : List (ℕ × Packet)) → AtLeas
 at_least_le n m le [] h = tt
 at_least_le n m le (z ∷ zs) h = (let first = h.0 in omega arith, at_least_le n m le zs h.1)
 
-behind_of : (n : ℕ) (zs : List (ℕ × Packet)) → AtLeast (suc n) zs → Behind n zs
-behind_of n [] h = tt
-behind_of n (z ∷ zs) h = let first = h.0 in omega arith
+after_of : (n : ℕ) (zs : List (ℕ × Packet)) → AtLeast (suc n) zs → After n zs
+after_of n [] h = tt
+after_of n (z ∷ zs) h = let first = h.0 in omega arith
 
 filter_least : (t : ℕ × Packet → Bool) (n : ℕ) (zs : List (ℕ × Packet)) → AtLeast n zs → AtLeast n (filter t zs)
 filter_least t n [] h = tt
@@ -134,8 +134,8 @@ cut_rises last.TooLarge z zs r = filter_rises (λ p. nat_lt p.0 (last_number (z 
 abbrev refused_as : Refusal → List ℕ → Outcome (List Window × Ending)
 refused_as refusal text = record { text = text; end = Err refusal }
 
-abbrev refused_behind : List ℕ → Outcome (List Window × Ending)
-refused_behind text = refused_as (Refused TooLarge) text
+abbrev refused_after : List ℕ → Outcome (List Window × Ending)
+refused_after text = refused_as (Refused TooLarge) text
 
 -- blocks, and after them what stands of the current window where the capture is refused
 abbrev ended_with : Ending → List ℕ → Result (List Window) Refusal → List ℕ → Outcome (List Window × Ending)
@@ -144,7 +144,7 @@ ended_with ending text (Err refusal) more = record { text = text ++ more; end = 
 
 abbrev ended : Last → Outcome (List Window) → List ℕ → Outcome (List Window × Ending)
 ended (last.Ended ending) o more = ended_with ending o.text o.end more
-ended last.TooLarge o more = refused_behind (o.text ++ more)
+ended last.TooLarge o more = refused_after (o.text ++ more)
 
 -- an outcome after a text
 abbrev pub put_before : {B : Type 0} → List ℕ → Outcome B → Outcome B
@@ -230,10 +230,10 @@ module _ (wording : Wording) (shown : Packet → List ℕ)
   hand_back n h hs zs none = ap (λ (k : ℕ). drop k (at_hand n (h ∷ hs) ++ zs)) (hand_first n h hs zs none) ∙ drop-append_seam (at_hand n (h ∷ hs)) zs
 
   -- the current window comes first
-  hand_windows : (n : ℕ) (h : Packet) (hs : List Packet) (zs : List (ℕ × Packet)) → Behind n zs → AtLeast n zs → Rises zs → windows_in shown (at_hand n (h ∷ hs) ++ zs) ≡ held_window n (h ∷ hs) ∷ windows_in shown zs
-  hand_windows n h hs zs behind least rises =
+  hand_windows : (n : ℕ) (h : Packet) (hs : List Packet) (zs : List (ℕ × Packet)) → After n zs → AtLeast n zs → Rises zs → windows_in shown (at_hand n (h ∷ hs) ++ zs) ≡ held_window n (h ∷ hs) ∷ windows_in shown zs
+  hand_windows n h hs zs following least rises =
       let ys : List (ℕ × Packet) = at_hand n (h ∷ hs) ++ zs in
-      let none : run_of n zs ≡ 0 = run_none n zs behind in
+      let none : run_of n zs ≡ 0 = run_none n zs following in
       windows_more shown (n, h) (at_hand n hs ++ zs) (rises_run n (h ∷ hs) zs least rises)
       ∙ ap (λ (xs : List (ℕ × Packet)). (n, map shown (map record_at xs)) ∷ windows_in shown (drop (first_run ys) ys)) (hand_front n h hs zs none)
       ∙ ap (λ (qs : List Packet). (n, map shown qs) ∷ windows_in shown (drop (first_run ys) ys)) (hand_records n (h ∷ hs))
@@ -242,9 +242,9 @@ module _ (wording : Wording) (shown : Packet → List ℕ)
   held_few : (held : List Packet) → length held ≤ most_records → nat_lt most_records (length (map shown held)) ≡ false
   held_few held few = let long : length (map shown held) ≡ length held = length-map held shown in le-ltb most_records (length (map shown held)) (omega arith)
 
-  some_behind : (l : Last) (z : ℕ × Packet) (zs : List (ℕ × Packet)) → ends_large l (windows_in shown (z ∷ zs)) ≡ false
-  some_behind (last.Ended ending) z zs = refl
-  some_behind last.TooLarge z zs = refl
+  some_after : (l : Last) (z : ℕ × Packet) (zs : List (ℕ × Packet)) → ends_large l (windows_in shown (z ∷ zs)) ≡ false
+  some_after (last.Ended ending) z zs = refl
+  some_after last.TooLarge z zs = refl
 
   -- the capture isn't refused in the current window
   unfinished_next : (closed : List Window) (n : ℕ) (h : Packet) (hs : List Packet) (z : ℕ × Packet) (zs : List (ℕ × Packet)) (l : Last) → n < z.0 → AtLeast z.0 zs → Rises zs → length (h ∷ hs) ≤ most_records
@@ -252,7 +252,7 @@ module _ (wording : Wording) (shown : Packet → List ℕ)
   unfinished_next closed n h hs z zs l lt least rises few =
       let more : List Window = windows_in shown (z ∷ zs) in
       let tuples : List (List ℕ) = map shown (h ∷ hs) in
-      let others : (ends_large l more || nat_lt most_records (length tuples)) ≡ false = ap (λ b. b || nat_lt most_records (length tuples)) (some_behind l z zs) ∙ held_few (h ∷ hs) few in
+      let others : (ends_large l more || nat_lt most_records (length tuples)) ≡ false = ap (λ b. b || nat_lt most_records (length tuples)) (some_after l z zs) ∙ held_few (h ∷ hs) few in
       ap (unfinished_in wording l closed) (hand_windows n h hs (z ∷ zs) lt (omega arith, at_least_le n z.0 (omega arith) zs least) (least, rises))
       ∙ ap (λ b. cond b (wording.unfinished closed n (take most_records tuples)) (unfinished_in wording l (closed_with closed n (h ∷ hs)) more)) others
 
@@ -303,12 +303,12 @@ module _ (wording : Wording) (shown : Packet → List ℕ)
   unfinished_some closed n (h ∷ hs) some = refl
 
   -- the current window has its block, and the others are left
-  hand_next : (closed : List Window) (n : ℕ) (h : Packet) (hs : List Packet) (zs : List (ℕ × Packet)) → AreRising None (closed_with closed n (h ∷ hs)) → Behind n zs → AtLeast n zs → Rises zs → length (h ∷ hs) ≤ most_records
+  hand_next : (closed : List Window) (n : ℕ) (h : Packet) (hs : List Packet) (zs : List (ℕ × Packet)) → AreRising None (closed_with closed n (h ∷ hs)) → After n zs → AtLeast n zs → Rises zs → length (h ∷ hs) ≤ most_records
       → left_outcome wording shown closed (at_hand n (h ∷ hs) ++ zs) ≡ put_before (packet_block closed n (h ∷ hs)) (left_outcome wording shown (closed_with closed n (h ∷ hs)) zs)
-  hand_next closed n h hs zs rising behind least rises few =
+  hand_next closed n h hs zs rising following least rises few =
       let held : List Packet = h ∷ hs in
       let hand : List (ℕ × Packet) = at_hand n held in
-      let none : run_of n zs ≡ 0 = run_none n zs behind in
+      let none : run_of n zs ≡ 0 = run_none n zs following in
       let first : first_run (hand ++ zs) ≡ length hand = hand_first n h hs zs none in
       let long : length hand ≡ length held = hand_long n held in
       let packets : held ≡ map record_at (take (first_run (hand ++ zs)) (hand ++ zs)) = sym (ap (λ (xs : List (ℕ × Packet)). map record_at xs) (hand_front n h hs zs none) ∙ hand_records n held) in
@@ -316,13 +316,13 @@ module _ (wording : Wording) (shown : Packet → List ℕ)
       left_next wording shown closed (hand ++ zs) (rises_run n held zs least rises) (omega arith) (omega arith) n held refl packets rising (causal closed n (map shown held))
       ∙ ap (λ (xs : List (ℕ × Packet)). put_before (packet_block closed n held) (left_outcome wording shown (closed_with closed n held) xs)) back
 
-  with_behind : (ending : Ending) (text first : List ℕ) (end : Result (List Window) Refusal) (more : List ℕ) → ended_with ending (text ++ first) end more ≡ put_before text (ended_with ending first end more)
-  with_behind ending text first (Ok ws) more = refl
-  with_behind ending text first (Err refusal) more = ap (refused_as refusal) (append_assoc text first more)
+  with_after : (ending : Ending) (text first : List ℕ) (end : Result (List Window) Refusal) (more : List ℕ) → ended_with ending (text ++ first) end more ≡ put_before text (ended_with ending first end more)
+  with_after ending text first (Ok ws) more = refl
+  with_after ending text first (Err refusal) more = ap (refused_as refusal) (append_assoc text first more)
 
-  ended_behind : (l : Last) (text : List ℕ) (o : Outcome (List Window)) (more : List ℕ) → ended l (put_before text o) more ≡ put_before text (ended l o more)
-  ended_behind (last.Ended ending) text o more = with_behind ending text o.text o.end more
-  ended_behind last.TooLarge text o more = ap refused_behind (append_assoc text o.text more)
+  ended_after : (l : Last) (text : List ℕ) (o : Outcome (List Window)) (more : List ℕ) → ended l (put_before text o) more ≡ put_before text (ended l o more)
+  ended_after (last.Ended ending) text o more = with_after ending text o.text o.end more
+  ended_after last.TooLarge text o more = ap refused_after (append_assoc text o.text more)
 
   windows_next : (closed : List Window) (n : ℕ) (h : Packet) (hs : List Packet) (z : ℕ × Packet) (zs : List (ℕ × Packet)) (l : Last) → AreRising None (closed_with closed n (h ∷ hs)) → n < z.0 → AtLeast z.0 zs → Rises zs → length (h ∷ hs) ≤ most_records
       → windows_left closed (at_hand n (h ∷ hs) ++ z ∷ zs) l ≡ put_before (packet_block closed n (h ∷ hs)) (windows_left (closed_with closed n (h ∷ hs)) (z ∷ zs) l)
@@ -330,10 +330,10 @@ module _ (wording : Wording) (shown : Packet → List ℕ)
       let rest : List (ℕ × Packet) = closed_packets l (z ∷ zs) in
       let above : AtLeast (suc n) rest = cut_above l z zs (suc n) (omega arith) least in
       let unfinished : List ℕ = unfinished_in wording l closed (windows_in shown (at_hand n (h ∷ hs) ++ z ∷ zs)) in
-      ap (λ (ys : List (ℕ × Packet)). ended l (left_outcome wording shown closed ys) unfinished) (cut_behind l n (h ∷ hs) z zs lt least rises)
-      ∙ ap (λ (o : Outcome (List Window)). ended l o unfinished) (hand_next closed n h hs rest rising (behind_of n rest above) (at_least_le n (suc n) (omega arith) rest above) (cut_rises l z zs (least, rises)) few)
+      ap (λ (ys : List (ℕ × Packet)). ended l (left_outcome wording shown closed ys) unfinished) (cut_after l n (h ∷ hs) z zs lt least rises)
+      ∙ ap (λ (o : Outcome (List Window)). ended l o unfinished) (hand_next closed n h hs rest rising (after_of n rest above) (at_least_le n (suc n) (omega arith) rest above) (cut_rises l z zs (least, rises)) few)
       ∙ ap (ended l (put_before (packet_block closed n (h ∷ hs)) (left_outcome wording shown (closed_with closed n (h ∷ hs)) rest))) (unfinished_next closed n h hs z zs l lt least rises few)
-      ∙ ended_behind l (packet_block closed n (h ∷ hs)) (left_outcome wording shown (closed_with closed n (h ∷ hs)) rest) (unfinished_in wording l (closed_with closed n (h ∷ hs)) (windows_in shown (z ∷ zs)))
+      ∙ ended_after l (packet_block closed n (h ∷ hs)) (left_outcome wording shown (closed_with closed n (h ∷ hs)) rest) (unfinished_in wording l (closed_with closed n (h ∷ hs)) (windows_in shown (z ∷ zs)))
 
   -- the current window has too many records
   hand_large : (closed : List Window) (n : ℕ) (held : List Packet) (p : Packet) (zs : List (ℕ × Packet)) → most_records ≤ length held → AtLeast n zs → Rises zs → left_outcome wording shown closed (at_hand n held ++ (n, p) ∷ zs) ≡ silent (Err (Refused TooLarge))
@@ -346,7 +346,7 @@ module _ (wording : Wording) (shown : Packet → List ℕ)
       left_large wording shown closed (at_hand n (h ∷ hs) ++ more) (rises_run n (h ∷ hs) more (omega arith, least) (least, rises)) (omega arith)
 
   blocks_large : (closed : List Window) (n : ℕ) (held : List Packet) (p : Packet) (zs : List (ℕ × Packet)) (l : Last) (text : List ℕ) → most_records ≤ length held → AtLeast n zs → Rises zs
-      → ended l (left_outcome wording shown closed (closed_packets l (at_hand n held ++ (n, p) ∷ zs))) text ≡ refused_behind text
+      → ended l (left_outcome wording shown closed (closed_packets l (at_hand n held ++ (n, p) ∷ zs))) text ≡ refused_after text
   blocks_large closed n held p zs (last.Ended ending) text many least rises = ap (λ (o : Outcome (List Window)). ended (last.Ended ending) o text) (hand_large closed n held p zs many least rises)
   blocks_large closed n held p zs last.TooLarge text many least rises =
       let ys : List (ℕ × Packet) = at_hand n held ++ (n, p) ∷ zs in
@@ -366,22 +366,22 @@ module _ (wording : Wording) (shown : Packet → List ℕ)
       ap (λ (xs : List (ℕ × Packet)). ended last.TooLarge (left_outcome wording shown closed xs) text) nothing)
 
   windows_large : (closed : List Window) (n : ℕ) (held : List Packet) (p : Packet) (zs : List (ℕ × Packet)) (l : Last) → length held ≡ most_records → AtLeast n zs → Rises zs
-      → windows_left closed (at_hand n held ++ (n, p) ∷ zs) l ≡ refused_behind (wording.unfinished closed n (map shown held))
+      → windows_left closed (at_hand n held ++ (n, p) ∷ zs) l ≡ refused_after (wording.unfinished closed n (map shown held))
   windows_large closed n held p zs l many least rises =
       blocks_large closed n held p zs l (unfinished_in wording l closed (windows_in shown (at_hand n held ++ (n, p) ∷ zs))) (omega arith) least rises
-      ∙ ap refused_behind (unfinished_large closed n held p zs l many least rises)
+      ∙ ap refused_after (unfinished_large closed n held p zs l many least rises)
 
   -- ---- stops
 
   -- the current window may stop, and else the others are looked at
-  hand_stops : {A : Type 0} (closed : List Window) (n : ℕ) (h : Packet) (hs : List Packet) (zs : List (ℕ × Packet)) → AreRising None (closed_with closed n (h ∷ hs)) → Behind n zs → AtLeast n zs → Rises zs → length (h ∷ hs) ≤ most_records
+  hand_stops : {A : Type 0} (closed : List Window) (n : ℕ) (h : Packet) (hs : List Packet) (zs : List (ℕ × Packet)) → AreRising None (closed_with closed n (h ∷ hs)) → After n zs → AtLeast n zs → Rises zs → length (h ∷ hs) ≤ most_records
       → (whole : Outcome A) → stopped (stop_left wording shown closed (at_hand n (h ∷ hs) ++ zs)) (text_left wording shown closed (at_hand n (h ∷ hs) ++ zs)) whole
       ≡ stops_or (packet_stop closed n (h ∷ hs)) (stopped (stop_left wording shown (closed_with closed n (h ∷ hs)) zs) (packet_block closed n (h ∷ hs) ++ text_left wording shown (closed_with closed n (h ∷ hs)) zs) whole)
-  hand_stops closed n h hs zs rising behind least rises few whole =
+  hand_stops closed n h hs zs rising following least rises few whole =
       let held : List Packet = h ∷ hs in
       let hand : List (ℕ × Packet) = at_hand n held in
       let now : List Window = closed_with closed n held in
-      let none : run_of n zs ≡ 0 = run_none n zs behind in
+      let none : run_of n zs ≡ 0 = run_none n zs following in
       let first : first_run (hand ++ zs) ≡ length hand = hand_first n h hs zs none in
       let long : length hand ≡ length held = hand_long n held in
       let packets : held ≡ map record_at (take (first_run (hand ++ zs)) (hand ++ zs)) = sym (ap (λ (xs : List (ℕ × Packet)). map record_at xs) (hand_front n h hs zs none) ∙ hand_records n held) in
@@ -399,8 +399,8 @@ module _ (wording : Wording) (shown : Packet → List ℕ)
       let rest : List (ℕ × Packet) = closed_packets l (z ∷ zs) in
       let above : AtLeast (suc n) rest = cut_above l z zs (suc n) (omega arith) least in
       let whole : Outcome (List Window × Ending) = windows_left closed (at_hand n held ++ z ∷ zs) l in
-      ap (λ (xs : List (ℕ × Packet)). stopped (stop_left wording shown closed xs) (text_left wording shown closed xs) whole) (cut_behind l n held z zs lt least rises)
-      ∙ hand_stops closed n h hs rest rising (behind_of n rest above) (at_least_le n (suc n) (omega arith) rest above) (cut_rises l z zs (least, rises)) few whole
+      ap (λ (xs : List (ℕ × Packet)). stopped (stop_left wording shown closed xs) (text_left wording shown closed xs) whole) (cut_after l n held z zs lt least rises)
+      ∙ hand_stops closed n h hs rest rising (after_of n rest above) (at_least_le n (suc n) (omega arith) rest above) (cut_rises l z zs (least, rises)) few whole
       ∙ ap (λ (o : Outcome (List Window × Ending)). stops_or stop (stopped (stop_left wording shown now rest) (block ++ text_left wording shown now rest) o)) (windows_next closed n h hs z zs l rising lt least rises few)
       ∙ ap (λ (o : Outcome (List Window × Ending)). stops_or stop o) (stopped_put (stop_left wording shown now rest) block (text_left wording shown now rest) (windows_left now (z ∷ zs) l))
 
@@ -433,7 +433,7 @@ module _ (wording : Wording) (shown : Packet → List ℕ)
       ap answered nothing)
 
   stopped_large : (closed : List Window) (n : ℕ) (held : List Packet) (p : Packet) (zs : List (ℕ × Packet)) (l : Last) → length held ≡ most_records → AtLeast n zs → Rises zs
-      → stopped_left closed (at_hand n held ++ (n, p) ∷ zs) l ≡ refused_behind (wording.unfinished closed n (map shown held))
+      → stopped_left closed (at_hand n held ++ (n, p) ∷ zs) l ≡ refused_after (wording.unfinished closed n (map shown held))
   stopped_large closed n held p zs l many least rises =
       let ys : List (ℕ × Packet) = at_hand n held ++ (n, p) ∷ zs in
       let xs : List (ℕ × Packet) = closed_packets l ys in
@@ -445,9 +445,9 @@ module _ (wording : Wording) (shown : Packet → List ℕ)
   none_left : (g : Gathering) (held : List Packet) (l : Last) → Holds g held → left_of wording shown g [] l ≡ stopped_left g.closed (at_hand g.numbering.number held) l
   none_left g held last.TooLarge h =
       let n : ℕ = g.numbering.number in
-      ap (λ (ts : List (List ℕ)). refused_behind (unfinished_of wording n g.closed ts)) h.tuples
+      ap (λ (ts : List (List ℕ)). refused_after (unfinished_of wording n g.closed ts)) h.tuples
       ∙ sym (ap (λ (xs : List (ℕ × Packet)). stopped (stop_left wording shown g.closed xs) (text_left wording shown g.closed xs) (ended last.TooLarge (left_outcome wording shown g.closed xs) (unfinished_in wording last.TooLarge g.closed (windows_in shown (at_hand n held))))) (cut_hand n held)
-      ∙ ap refused_behind (unfinished_last g.closed n held h.few))
+      ∙ ap refused_after (unfinished_last g.closed n held h.few))
   none_left g [] (last.Ended ending) h =
       ap (closing_of wording g.numbering.number g.closed ending) h.tuples ∙ sym (ap (λ (o : Outcome (List Window)). ended (last.Ended ending) o []) (left_none wording shown g.closed))
   none_left g (p ∷ ps) (last.Ended ending) h =
@@ -555,8 +555,8 @@ module _ (wording : Wording) (shown : Packet → List ℕ)
       let long : g.numbering.count ≡ length held = h.count known.0 in
       let full : length held ≡ most_records = let c = known.2 in let few = h.few in omega arith in
       ap (λ (b : Bool). follow (cond b many (cond (number == n) more next)) on) is
-      ∙ ap (λ (ts : List (List ℕ)). refused_behind (unfinished_of wording n g.closed ts)) h.tuples
-      ∙ ap refused_behind (unfinished_some g.closed n held (omega arith))
+      ∙ ap (λ (ts : List (List ℕ)). refused_after (unfinished_of wording n g.closed ts)) h.tuples
+      ∙ ap refused_after (unfinished_some g.closed n held (omega arith))
       ∙ sym (ap (λ (k : ℕ). stopped_left g.closed (at_hand n held ++ (k, p) ∷ zs) l) same
       ∙ stopped_large g.closed n held p zs l full (at_least_le n number (omega arith) zs least) rises))
       (λ isnt.

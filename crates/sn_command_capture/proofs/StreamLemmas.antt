@@ -9,7 +9,7 @@ use Rattle.sn_fields.specs.Tuples.{tuple}
 use Rattle.sn_fields.proofs.Fronts.{tuple_front}
 use Rattle.sn_io.specs.Counts.{ByName, OnlyRises, RoseAt}
 use Rattle.sn_command.proofs.FileLemmas.{known_still, none_fell}
-use Rattle.sn_io.specs.Inputs.{told_file}
+use Rattle.sn_io.specs.Inputs.{stated_file}
 use Rattle.sn_io.specs.declared.inputs.ReadError.{ReadError}
 use Rattle.sn_io.specs.declared.inputs.ReadError.TheVariants as errors
 use Rattle.sn_pcap.specs.declared.header.Header.{Header}
@@ -44,17 +44,17 @@ use Rattle.sn_command_capture.specs.declared.stop.Stop.{Stop}
 use Rattle.sn_command_capture.specs.declared.stop.Stop.TheVariants as stops
 use Rattle.sn_command_capture.specs.Capture.{known_bytes, Whole, Head, Found, RecordsIn, packet_tuple, time_of, ending_verdict, windows_outcome, WindowsIn, WindowsOf}
 use Rattle.sn_command_capture.specs.Gathering.{Gathering, after, all_of, begins, closed_as, closing, closing_of, hand_stop, hand_text, joined, none_gathered, refused, taken}
-use Rattle.sn_pcap.proofs.ToldLemmas.{at_told}
+use Rattle.sn_pcap.proofs.ReportedLemmas.{at_reported}
 use Rattle.sn_command_capture.proofs.GatherLemmas.{left_of, followed_by, gathered_all}
 use Rattle.sn_windows.specs.Rising.{Window}
 use Rattle.sn_base.proofs.Tests.{by_order as below_or_not}
 use Rattle.sn_windows.specs.Blocks.{most_records}
 
 -- a run of a stage is one of another that allows no more over the files that are known
-pub runs_told : {A : Type 0} {names : List (List ℕ)} {from to : Stage A} {before now : World} {answer : Result A Refusal}
-    → ((files : ByName (List ℕ)) → before.files.told ≡ Some files → (outcome : Outcome A) → to files outcome → from files outcome) → Runs names from before answer now → Runs names to before answer now
-runs_told within r = record {
-  keeps = λ files told outcome is. r.keeps files told outcome (within files told outcome is);
+pub runs_reported : {A : Type 0} {names : List (List ℕ)} {from to : Stage A} {before now : World} {answer : Result A Refusal}
+    → ((files : ByName (List ℕ)) → before.files.reported ≡ Some files → (outcome : Outcome A) → to files outcome → from files outcome) → Runs names from before answer now → Runs names to before answer now
+runs_reported within r = record {
+  keeps = λ files reported outcome is. r.keeps files reported outcome (within files reported outcome is);
   missing = r.missing;
   read_fault = r.read_fault;
   write_fault = r.write_fault;
@@ -71,9 +71,9 @@ module _ {A : Type 0} (name : List ℕ) (stage : Stage A) (answer : Result A Ref
   kept : Keeps (silent answer) answer before.out.written now.out.written
   kept = subst (λ (o : Sunk). Keeps (silent answer) answer before.out.written o.written) (sym out) (silent_keeps answer before.out.written)
 
-  pub runs_read : ((files : ByName (List ℕ)) → before.files.told ≡ Some files → (outcome : Outcome A) → stage files outcome → outcome ≡ silent answer) → Runs (name ∷ []) stage before answer now
+  pub runs_read : ((files : ByName (List ℕ)) → before.files.reported ≡ Some files → (outcome : Outcome A) → stage files outcome → outcome ≡ silent answer) → Runs (name ∷ []) stage before answer now
   runs_read due = record {
-    keeps = λ files told outcome is. subst (λ (o : Outcome A). Keeps o answer before.out.written now.out.written) (sym (due files told outcome is)) kept;
+    keeps = λ files reported outcome is. subst (λ (o : Outcome A). Keeps o answer before.out.written now.out.written) (sym (due files reported outcome is)) kept;
     missing = λ e. inl (missing e);
     read_fault = λ e. inl (fault e);
     write_fault = λ e. absurd (no_write e);
@@ -89,9 +89,9 @@ pub head_may : (found : HeadFault) (fault : Fault) → ◌≡◌ {A = Result Hea
 head_may found fault e = subst (λ (f : Fault). MayCome {A = Header} 0 (Err f)) (let same : faults.Head found ≡ fault = cc in same) tt
 
 -- a read of one file leaves all else
-pub read_follows : (name : List ℕ) (before now : World) → now.files.told ≡ before.files.told → OnlyRises name before.files.faults now.files.faults → now.out ≡ before.out → now.places ≡ before.places → Follows before now
-read_follows name before now told rises out places = record {
-  told = told;
+pub read_follows : (name : List ℕ) (before now : World) → now.files.reported ≡ before.files.reported → OnlyRises name before.files.faults now.files.faults → now.out ≡ before.out → now.places ≡ before.places → Follows before now
+read_follows name before now reported rises out places = record {
+  reported = reported;
   known = known_still name before.files.faults now.files.faults rises;
   faults = none_fell name before.files.faults now.files.faults rises;
   write_faults = let e = ap (λ (s : Sunk). s.faults) out in omega arith;
@@ -110,7 +110,7 @@ file_known files counts name law known = of (get files name) refl (law ∙ known
 -- out of memory, before anything was read or written
 pub runs_memory : {A : Type 0} (names : List (List ℕ)) (stage : Stage A) (w : World) → Runs names stage w (Err Memory) w
 runs_memory names stage w = record {
-  keeps = λ files told outcome is. chance_keeps outcome Memory w.out.written refl;
+  keeps = λ files reported outcome is. chance_keeps outcome Memory w.out.written refl;
   missing = λ e. absurd cc;
   read_fault = λ e. absurd cc;
   write_fault = λ e. absurd cc;
@@ -142,11 +142,11 @@ head_outcome name files file outcome held t =
     goes.same ∙ goes.is
 
 -- the header of a file with known contents
-pub head_due : (told : Option (ByName (List ℕ))) (counts : ByName ℕ) (name : List ℕ) (found : Result Header HeadFault) → is_some (get counts name) ≡ true → ((held : ByName (List ℕ)) (other : List ℕ) → told ≡ Some held → is_some (get held other) ≡ is_some (get counts other))
-    → IfSome (told_file told name) (λ file. found ≡ head_of file) → (files : ByName (List ℕ)) → told ≡ Some files → (outcome : Outcome Header) → Head name files outcome → outcome ≡ silent (refusing (named faults.Head found))
-head_due told counts name found known law head files same outcome is =
+pub head_due : (reported : Option (ByName (List ℕ))) (counts : ByName ℕ) (name : List ℕ) (found : Result Header HeadFault) → is_some (get counts name) ≡ true → ((held : ByName (List ℕ)) (other : List ℕ) → reported ≡ Some held → is_some (get held other) ≡ is_some (get counts other))
+    → IfSome (stated_file reported name) (λ file. found ≡ head_of file) → (files : ByName (List ℕ)) → reported ≡ Some files → (outcome : Outcome Header) → Head name files outcome → outcome ≡ silent (refusing (named faults.Head found))
+head_due reported counts name found known law head files same outcome is =
     let file = file_known files counts name (law files name same) known in
-    let found_is : found ≡ head_of file.0 = at_told (λ f. found ≡ head_of f) (told_file told name) file.0 (ap (λ (t : Option (ByName (List ℕ))). told_file t name) same ∙ file.1) head in
+    let found_is : found ≡ head_of file.0 = at_reported (λ f. found ≡ head_of f) (stated_file reported name) file.0 (ap (λ (t : Option (ByName (List ℕ))). stated_file t name) same ∙ file.1) head in
     head_outcome name files file.0 outcome file.1 is ∙ ap (λ (h : Result Header HeadFault). silent (refusing (named faults.Head h))) (sym found_is)
 
 none_like : {X Y : Type 0} (a : Option X) (b : Option Y) → is_some a ≡ is_some b → a ≡ None → b ≡ None
@@ -154,9 +154,9 @@ none_like a None same e = refl
 none_like a (Some y) same e = absurd (false≢true (sym (ap is_some e) ∙ same))
 
 -- the header of a file that isn't known
-pub head_missing : (told : Option (ByName (List ℕ))) (counts : ByName ℕ) (name : List ℕ) → get counts name ≡ None → ((held : ByName (List ℕ)) (other : List ℕ) → told ≡ Some held → is_some (get held other) ≡ is_some (get counts other))
-    → (files : ByName (List ℕ)) → told ≡ Some files → (outcome : Outcome Header) → Head name files outcome → outcome ≡ silent (Err Missing)
-head_missing told counts name unknown law files same outcome t =
+pub head_missing : (reported : Option (ByName (List ℕ))) (counts : ByName ℕ) (name : List ℕ) → get counts name ≡ None → ((held : ByName (List ℕ)) (other : List ℕ) → reported ≡ Some held → is_some (get held other) ≡ is_some (get counts other))
+    → (files : ByName (List ℕ)) → reported ≡ Some files → (outcome : Outcome Header) → Head name files outcome → outcome ≡ silent (Err Missing)
+head_missing reported counts name unknown law files same outcome t =
     let none : get files name ≡ None = none_like (get counts name) (get files name) (sym (law files name same)) unknown in
     let begun : t.begun ≡ silent (Err Missing) = t.begins ∙ ap (λ (o : Option (List ℕ)). silent (known_bytes o)) none in
     subst (λ (o : Outcome (List ℕ)). GoesOn (λ bytes. Gives (named faults.Head (head_of bytes))) files o.text o.end outcome) begun t.goes_on
@@ -241,13 +241,13 @@ large_is : (l : Last) → large_answer ≡ answer_of l → l ≡ last.TooLarge
 large_is (last.Ended e) is = absurd cc
 large_is last.TooLarge is = refl
 
-module _ (wording : Wording) (link : Link) (capture : List ℕ) (reader after : ReaderState) (seen : Seen) (g : Gathering) (told : Option (ByName (List ℕ))) (files : ByName (List ℕ)) (outcome : Outcome (List Window × Ending)) (same : told ≡ Some files) (l : LeftOver wording link capture reader g files outcome) where
-  takes_here : (answer : Result Next ReadError) → answer ≢ Err errors.ReadFault → IfSome (told_file told capture) (λ file. (packets : List Packet) (e : Last) → Left file reader packets e → answer ≢ Err errors.ReadFault → Takes file packets e answer seen after) → Takes l.file l.packets l.end answer seen after
+module _ (wording : Wording) (link : Link) (capture : List ℕ) (reader after : ReaderState) (seen : Seen) (g : Gathering) (reported : Option (ByName (List ℕ))) (files : ByName (List ℕ)) (outcome : Outcome (List Window × Ending)) (same : reported ≡ Some files) (l : LeftOver wording link capture reader g files outcome) where
+  takes_here : (answer : Result Next ReadError) → answer ≢ Err errors.ReadFault → IfSome (stated_file reported capture) (λ file. (packets : List Packet) (e : Last) → Left file reader packets e → answer ≢ Err errors.ReadFault → Takes file packets e answer seen after) → Takes l.file l.packets l.end answer seen after
   takes_here answer read_on takes =
-      at_told (λ file. (packets : List Packet) (e : Last) → Left file reader packets e → answer ≢ Err errors.ReadFault → Takes file packets e answer seen after) (told_file told capture) l.file (ap (λ (t : Option (ByName (List ℕ))). told_file t capture) same ∙ l.held) takes l.packets l.end l.left read_on
+      at_reported (λ file. (packets : List Packet) (e : Last) → Left file reader packets e → answer ≢ Err errors.ReadFault → Takes file packets e answer seen after) (stated_file reported capture) l.file (ap (λ (t : Option (ByName (List ℕ))). stated_file t capture) same ∙ l.held) takes l.packets l.end l.left read_on
 
   -- a packet is taken, and the others are left
-  pub left_packet : IfSome (told_file told capture) (λ file. (packets : List Packet) (e : Last) → Left file reader packets e → packet_answer ≢ Err errors.ReadFault → Takes file packets e packet_answer seen after)
+  pub left_packet : IfSome (stated_file reported capture) (λ file. (packets : List Packet) (e : Last) → Left file reader packets e → packet_answer ≢ Err errors.ReadFault → Takes file packets e packet_answer seen after)
       → Then (Does (taken wording g seen.time (tuple link seen.wire (take seen.len seen.front)))) (λ later. LeftOver wording link capture after later) files outcome
   left_packet takes = of l.packets l.is (takes_here packet_answer (λ e. absurd cc) takes)
     where
@@ -267,7 +267,7 @@ module _ (wording : Wording) (link : Link) (capture : List ℕ) (reader after : 
           }
 
   -- the records end
-  pub left_end : (ending : Ending) → IfSome (told_file told capture) (λ file. (packets : List Packet) (e : Last) → Left file reader packets e → end_answer ending ≢ Err errors.ReadFault → Takes file packets e (end_answer ending) seen after)
+  pub left_end : (ending : Ending) → IfSome (stated_file reported capture) (λ file. (packets : List Packet) (e : Last) → Left file reader packets e → end_answer ending ≢ Err errors.ReadFault → Takes file packets e (end_answer ending) seen after)
       → Does (closing wording g ending) files outcome
   left_end ending takes = of l.packets l.is (takes_here (end_answer ending) (λ e. absurd cc) takes)
     where
@@ -276,7 +276,7 @@ module _ (wording : Wording) (link : Link) (capture : List ℕ) (reader after : 
       of (p ∷ ps) is t = absurd (never_end ending (sym t.answered))
 
   -- the capture has too many bytes
-  pub left_large : IfSome (told_file told capture) (λ file. (packets : List Packet) (e : Last) → Left file reader packets e → large_answer ≢ Err errors.ReadFault → Takes file packets e large_answer seen after) → outcome ≡ refused wording g
+  pub left_large : IfSome (stated_file reported capture) (λ file. (packets : List Packet) (e : Last) → Left file reader packets e → large_answer ≢ Err errors.ReadFault → Takes file packets e large_answer seen after) → outcome ≡ refused wording g
   left_large takes = of l.packets l.is (takes_here large_answer (λ e. absurd cc) takes)
     where
       of : (packets : List Packet) → outcome ≡ left_of wording (packet_tuple link (within l.file)) g packets l.end → Takes l.file packets l.end large_answer seen after → outcome ≡ refused wording g
@@ -286,12 +286,12 @@ module _ (wording : Wording) (link : Link) (capture : List ℕ) (reader after : 
 -- ---- the turn of the loop
 
 module _ {A B : Type 0} {names : List (List ℕ)} {left whole : Stage B} {due : Outcome A} {later : A → Stage B} {first before mid after : World} (follows : Follows before mid) (spares : Spares names before.files mid.files) (out : mid.out ≡ before.out)
-    (goes : (files : ByName (List ℕ)) → before.files.told ≡ Some files → (outcome : Outcome B) → left files outcome → Then (Does due) later files outcome) (leads : Leads names left whole first before) where
+    (goes : (files : ByName (List ℕ)) → before.files.reported ≡ Some files → (outcome : Outcome B) → left files outcome → Then (Does due) later files outcome) (leads : Leads names left whole first before) where
   pub turn_goes : {value : A} → Runs [] (Does due) mid (Ok value) after → Leads names (later value) whole first after
-  turn_goes r = λ answer end s. leads answer end (runs_told goes (runs_earlier follows spares out (runs_then names r s)))
+  turn_goes r = λ answer end s. leads answer end (runs_reported goes (runs_earlier follows spares out (runs_then names r s)))
 
   pub turn_stops : {refusal : Refusal} → Runs [] (Does due) mid (Err refusal) after → Runs names whole first (Err refusal) after
-  turn_stops {refusal} r = leads (Err refusal) after (runs_told goes (runs_earlier follows spares out (runs_stops names r)))
+  turn_stops {refusal} r = leads (Err refusal) after (runs_reported goes (runs_earlier follows spares out (runs_stops names r)))
 
 -- a run that reads no file is one that may read a file
 pub with_name : {A : Type 0} {stage : Stage A} {before now : World} {answer : Result A Refusal} (name : List ℕ) → Runs [] stage before answer now → Runs (name ∷ []) stage before answer now
@@ -336,8 +336,8 @@ same_name {before = before} {now} {name = name} r = record {
 
 -- the last turn
 pub turn_ends : {B : Type 0} {name : List ℕ} {left whole : Stage B} {due : Outcome B} {first before mid after : World} {answer : Result B Refusal} → Follows before mid → Spares (name ∷ []) before.files mid.files → mid.out ≡ before.out
-    → ((files : ByName (List ℕ)) → before.files.told ≡ Some files → (outcome : Outcome B) → left files outcome → Does due files outcome) → Leads (name ∷ []) left whole first before → Runs [] (Does due) mid answer after → Runs (name ∷ []) whole first answer after
-turn_ends {name = name} {after = after} {answer = answer} follows spares out is leads r = leads answer after (runs_told is (runs_earlier follows spares out (with_name name r)))
+    → ((files : ByName (List ℕ)) → before.files.reported ≡ Some files → (outcome : Outcome B) → left files outcome → Does due files outcome) → Leads (name ∷ []) left whole first before → Runs [] (Does due) mid answer after → Runs (name ∷ []) whole first answer after
+turn_ends {name = name} {after = after} {answer = answer} follows spares out is leads r = leads answer after (runs_reported is (runs_earlier follows spares out (with_name name r)))
 
 -- ---- a window is closed
 
@@ -356,7 +356,7 @@ module _ {A B : Type 0} (view : A → B) where
 
   runs_seen : {before now : World} (o : Outcome A) (answer : Result A Refusal) → Runs [] (Does o) before answer now → Runs [] (Does (viewed o)) before (seen_as view answer) now
   runs_seen {before} {now} o answer r = record {
-    keeps = λ files told outcome is. subst (λ (p : Outcome B). Keeps p (seen_as view answer) before.out.written now.out.written) (sym is) (keeps_seen o answer before.out.written now.out.written (r.keeps files told o refl));
+    keeps = λ files reported outcome is. subst (λ (p : Outcome B). Keeps p (seen_as view answer) before.out.written now.out.written) (sym is) (keeps_seen o answer before.out.written now.out.written (r.keeps files reported o refl));
     missing = λ e. r.missing (seen_err answer e);
     read_fault = λ e. r.read_fault (seen_err answer e);
     write_fault = λ e. r.write_fault (seen_err answer e);
@@ -461,8 +461,8 @@ module _ {A : Type 0} (text : List ℕ) (before now : World) where
 pub refused_elsewhere : {A B : Type 0} {text : List ℕ} {due refusal : Refusal} {before now : World} → Runs [] (Does {A = A} (record { text = text; end = Err due })) before (Err refusal) now
     → Runs [] (Does {A = B} (record { text = text; end = Err due })) before (Err refusal) now
 refused_elsewhere {A} {B} {text} {due} {refusal} {before} {now} r = record {
-  keeps = λ files told outcome is.
-      let k : Keeps {A = A} (record { text = text; end = Err due }) (Err refusal) before.out.written now.out.written = r.keeps files told (record { text = text; end = Err due }) refl in
+  keeps = λ files reported outcome is.
+      let k : Keeps {A = A} (record { text = text; end = Err due }) (Err refusal) before.out.written now.out.written = r.keeps files reported (record { text = text; end = Err due }) refl in
       subst (λ (o : Outcome B). Keeps o (Err refusal) before.out.written now.out.written) (sym is) (record { front = k.front; ends = λ e. err_err (k.ends e); whole = k.whole });
   missing = λ e. r.missing (err_err e);
   read_fault = λ e. r.read_fault (err_err e);

@@ -114,9 +114,9 @@ module _ (wording : Wording) (shown : Packet → List ℕ) where
       let yes-few : nat_le (first_run ys) most_records ≡ true = le-leb (first_run ys) most_records few in
       let next : List ℕ = block p.0 (map record_at (take (first_run ys) ys)) ++ blocks block left in
       let above : Above p.0 left = run_above p.0 ps r.0 r.1 in
-      let behind : AreRising (Some number) (windows_in shown left) = rising_above shown number left (rw number_is above) (drop_rises (first_run ys) ys r) in
+      let following : AreRising (Some number) (windows_in shown left) = rising_above shown number left (rw number_is above) (drop_rises (first_run ys) ys r) in
       let here_is : block number packets ≡ wording.block (closed ++ window ∷ []) number (map shown packets) =
-      ap (λ (ws : List Window). wording.block ws number (map shown packets)) split ∙ causal (windows_in shown left) (rising_join None closed number (map shown packets) (map shown packets) (windows_in shown left) rising behind) in
+      ap (λ (ws : List Window). wording.block ws number (map shown packets)) split ∙ causal (windows_in shown left) (rising_join None closed number (map shown packets) (map shown packets) (windows_in shown left) rising following) in
       let text : blocks block ys ≡ wording.block (closed ++ window ∷ []) number (map shown packets) ++ blocks (block_in wording shown ((closed ++ window ∷ []) ++ windows_in shown left)) left =
       blocks_step block p ps r ∙ ap (λ n. cond (nat_le n most_records) next []) (run_long p ps) ∙ ap (λ b. cond b next []) yes-few
       ∙ ap (λ n. block n (map record_at (take (first_run ys) ys)) ++ blocks block left) (sym number_is) ∙ ap (λ qs. block number qs ++ blocks block left) (sym packets_are)
@@ -201,7 +201,7 @@ module _ (wording : Wording) (shown : Packet → List ℕ) where
       ap (λ (ws : List Window). closed ++ ws) (windows_more shown p ps r ∙ ap (λ (qs : List Packet). (p.0, map shown qs) ∷ windows_in shown left) (sym packets_are)) in
       let joined : all ≡ later_all = split ∙ sym (append_assoc closed (window ∷ []) (windows_in shown left)) in
       let above : Above p.0 left = run_above p.0 ps r.0 r.1 in
-      let behind : AreRising (Some p.0) (windows_in shown left) = rising_above shown p.0 left above (drop_rises (first_run ys) ys r) in
+      let following : AreRising (Some p.0) (windows_in shown left) = rising_above shown p.0 left above (drop_rises (first_run ys) ys r) in
       let yes-few : nat_le (first_run ys) most_records ≡ true = le-leb (first_run ys) most_records few in
       let ns : List ℕ = answered left in
       let over : AllByRecursion (λ n. p.0 < n) ns = all_while (λ w. is_few w left) (λ n. p.0 < n) (windows_of left) (once_above p.0 left above) in
@@ -213,7 +213,7 @@ module _ (wording : Wording) (shown : Packet → List ℕ) where
       let same_stop : (n : ℕ) → p.0 < n → f n ≡ g n = λ n lt. ap (λ (ws : List Window). stop_in wording shown ws n (in_window n ys)) joined ∙ ap (stop_in wording shown later_all n) (later p ps n lt) in
       let same_block : (n : ℕ) → p.0 < n → b n ≡ c n = λ n lt. ap (λ (ws : List Window). block_in wording shown ws n (in_window n ys)) joined ∙ ap (block_in wording shown later_all n) (later p ps n lt) in
       let own : in_window p.0 ys ≡ packets = here p ps r ∙ sym packets_are in
-      let rising_all : AreRising None (closed ++ window ∷ windows_in shown left) = rising_join None closed p.0 tuples tuples (windows_in shown left) rising behind in
+      let rising_all : AreRising None (closed ++ window ∷ windows_in shown left) = rising_join None closed p.0 tuples tuples (windows_in shown left) rising following in
       let stop_is : f p.0 ≡ wording.stops now p.0 tuples =
       ap (stop_in wording shown all p.0) own ∙ ap (λ (ws : List Window). wording.stops ws p.0 tuples) split ∙ timely (windows_in shown left) rising_all in
       let block_is : b p.0 ≡ wording.block now p.0 tuples =

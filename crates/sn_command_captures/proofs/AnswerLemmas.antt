@@ -130,6 +130,6 @@ module _ (wording : JointWording) (all : List Shared) (ends : List Ending) where
           (text_stops (wording.last all ends) (silent (refusing (damage_from 1 ends))) (subst (λ (t : List ℕ). Runs [] (Adds t) now (Err refusal) after) is r)))
 
       pub lines_end : {after : World} {answer : Result (Unit {0}) Refusal} → Runs [] (Adds text) now (Ok tt) after → answer ≡ refusing (damage_from 1 ends) → Runs [] whole before answer after
-      lines_end {after} {answer} r told = lines answer after
+      lines_end {after} {answer} r reported = lines answer after
           (subst (λ (o : Outcome (Unit {0})). Runs [] (Does o) now answer after) (sym last_text)
-          (text_then (wording.last all ends) (silent (refusing (damage_from 1 ends))) (subst (λ (t : List ℕ). Runs [] (Adds t) now (Ok tt) after) is r) (gives_as (damage_from 1 ends) (damage_may 1 ends) told)))
+          (text_then (wording.last all ends) (silent (refusing (damage_from 1 ends))) (subst (λ (t : List ℕ). Runs [] (Adds t) now (Ok tt) after) is r) (gives_as (damage_from 1 ends) (damage_may 1 ends) reported)))

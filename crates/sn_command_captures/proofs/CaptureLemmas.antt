@@ -79,7 +79,7 @@ module _ {number most : ℕ} {name : List ℕ} {world later : World} (before : L
       subst (λ (n : ℕ). Runs (name ∷ []) (NextCapture n (most_text - bytes_in before) name) world answer later) number_is
       (subst (λ (m : ℕ). Runs (name ∷ []) (NextCapture number m name) world answer later) most_is r)
 
-  -- it is refused, or memory runs out behind it, or the others are read
+  -- it is refused, or memory runs out after it, or the others are read
   pub next_stops : {refusal : Refusal} → Runs (name ∷ []) (NextCapture number most name) world (Err refusal) later → Runs names (CapturesAfter before names) world (Err refusal) later
   next_stops {refusal} r =
       subst (λ (ns : List (List ℕ)). Runs ns (CapturesAfter before ns) world (Err refusal) later) (sym parts) (file_stops (next_run (Err refusal) r))

@@ -35,9 +35,9 @@ header_each (short_header n some few) = omega arith
 header_each (too_large n stands large) = omega arith
 header_each (short_packet n stands lawful few) = omega arith
 header_each {header} {file} (whole n packets ending has rest) =
-    let behind : 16 * length packets ≤ length file - (n + 16 + captured header file n) = header_each rest in
+    let following : 16 * length packets ≤ length file - (n + 16 + captured header file n) = header_each rest in
     let stands = has.stands in
-    omega (arith, behind, stands)
+    omega (arith, following, stands)
 
 module _ (header : Header) (file : List ℕ) where
   pub found_records : (at : ℕ) → Records header file at (packets_from header file at) (ending_from header file at)

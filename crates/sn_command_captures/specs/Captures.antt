@@ -13,14 +13,14 @@ use Rattle.sn_command.specs.Stages.{Bytes, Gives, Judges, Then, most_text}
 use Rattle.sn_command_captures.specs.declared.capture.Capture.{Capture}
 
 -- after a header: the whole records count, however they end
-pub record JudgedBehind (header : Header) (file : List ℕ) (verdict : Result Capture Fault) : Type 0 where
+pub record JudgedAfter (header : Header) (file : List ℕ) (verdict : Result Capture Fault) : Type 0 where
   pub packets : List Packet
   pub ending : Ending
   pub are : Records header file 24 packets ending
   pub same : verdict ≡ Ok (record { link = header.link; file = file; packets = packets; ending = ending })
 
 abbrev pub JudgedAs : ℕ → List ℕ → Result Header HeadFault → Result Capture Fault → Type 0
-JudgedAs number file (Ok header) verdict = JudgedBehind header file verdict
+JudgedAs number file (Ok header) verdict = JudgedAfter header file verdict
 JudgedAs number file (Err fault) verdict = verdict ≡ Err (faults.HeadOf fault number)
 
 -- what a file is judged to be, as the capture of this number

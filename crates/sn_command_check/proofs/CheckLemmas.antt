@@ -17,26 +17,26 @@ use Rattle.sn_prices_text.specs.Announced.{has_prices}
 use Rattle.sn_switch.specs.declared.switch.Switch.{Switch}
 use Rattle.sn_cost_training.specs.Trained.{Training}
 use Rattle.sn_types_read.specs.Texts.{Queries}
-use Rattle.sn_command_prices.proofs.Verdicts.{one_priced, one_prices_behind}
-use Rattle.sn_command_check.specs.Check.{Behind, Check, Priced, Treed}
-use Rattle.sn_command_check.proofs.Verdicts.{one_plan_before, one_shown, one_tree_behind}
+use Rattle.sn_command_prices.proofs.Verdicts.{one_priced, one_prices_after}
+use Rattle.sn_command_check.specs.Check.{After, Check, Priced, Treed}
+use Rattle.sn_command_check.proofs.Verdicts.{one_plan_before, one_shown, one_tree_after}
 
 module _ (read : Queries) (limits : Switch) (training : Training) (text : List ℕ) (plan : Plan) (byte : ℕ) where
   one_treed : HasOne (Treed read limits training text plan byte)
   one_treed =
-      one_then (one_judges (one_tree_behind text byte)) (λ tree.
+      one_then (one_judges (one_tree_after text byte)) (λ tree.
       one_then (one_judges (one_shown limits read.queries (trained training.numbers training.tuples) plan tree.0 tree.1)) (λ _.
       one_does _))
 
   one_bounded : HasOne (Priced read limits training text plan byte)
   one_bounded =
-      one_then (one_judges (one_prices_behind text byte)) (λ shown.
+      one_then (one_judges (one_prices_after text byte)) (λ shown.
       one_then (one_judges (one_priced limits read.queries (trained training.numbers training.tuples) plan shown)) (λ _.
       one_does _))
 
-  one_behind : (prices : Bool) → HasOne (Behind read limits training text plan byte prices)
-  one_behind true = one_bounded
-  one_behind false = one_treed
+  one_after : (prices : Bool) → HasOne (After read limits training text plan byte prices)
+  one_after true = one_bounded
+  one_after false = one_treed
 
 pub one_check : (switch queries train plantree : List ℕ) → HasOne (Check switch queries train plantree)
 one_check switch queries train plantree =
@@ -46,4 +46,4 @@ one_check switch queries train plantree =
     one_then (one_bytes most_text plantree) (λ text.
     one_then (one_judges (one_plan_before text)) (λ found.
     one_then (one_does _) (λ _.
-    one_behind read limits training text found.0 found.1 (has_prices (from_byte found.1 (tokens_of text)))))))))
+    one_after read limits training text found.0 found.1 (has_prices (from_byte found.1 (tokens_of text)))))))))

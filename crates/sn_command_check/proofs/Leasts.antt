@@ -29,12 +29,12 @@ use Rattle.sn_command_check.specs.Shown.{flaw_verdict}
 
 -- ---- a plan without a misfit fits
 
-none_told : (o : Option Misfit) → misfit_verdict o ≡ Ok tt → o ≡ None
-none_told None e = refl
-none_told (Some m) e = ok_err (sym e)
+none_reported : (o : Option Misfit) → misfit_verdict o ≡ Ok tt → o ≡ None
+none_reported None e = refl
+none_reported (Some m) e = ok_err (sym e)
 
 pub plan_fits : (queries : List TypedQuery) (s : Switch) (entries : List Entry) → IsSwitch s → misfit_verdict (fit_misfit queries s entries) ≡ Ok tt → Fits queries s entries
-plan_fits queries s entries is e = (fits_none queries s entries is.stages.0).0 (none_told (fit_misfit queries s entries) e)
+plan_fits queries s entries is e = (fits_none queries s entries is.stages.0).0 (none_reported (fit_misfit queries s entries) e)
 
 -- ---- a tree without a fault
 

@@ -29,11 +29,11 @@ use Rattle.sn_windows.specs.Rising.{Window}
 use Rattle.sn_types.specs.declared.typed_query.TypedQuery.{TypedQuery}
 use Rattle.sn_prices_grammar.specs.declared.prices.Shown.{Shown}
 use Rattle.sn_prices_text.specs.Announced.{has_prices}
-use Rattle.sn_command_prices.specs.Behind.{PricesBehind}
+use Rattle.sn_command_prices.specs.After.{PricesAfter}
 use Rattle.sn_command_prices.specs.Priced.{PricedFor}
-use Rattle.sn_command_check.specs.Check.{Behind, Bounding, Check, PlanTree, Priced, Showing, Treed, bounded_line, yes_line}
+use Rattle.sn_command_check.specs.Check.{After, Bounding, Check, PlanTree, Priced, Showing, Treed, bounded_line, yes_line}
 use Rattle.sn_command_check.specs.Least.{SaysLeast, ShowsLeast, by_prices, by_tree, training_cost}
-use Rattle.sn_command_check.specs.PlanTrees.{PlanBefore, TreeBehind}
+use Rattle.sn_command_check.specs.PlanTrees.{PlanBefore, TreeAfter}
 use Rattle.sn_command_check.specs.Shown.{ShownFor}
 use Rattle.sn_command_check.proofs.Leasts.{cost_is_so, none_costs_less, plan_fits}
 use Rattle.sn_command_check.proofs.Stopping.{given_so, held, judged, passed, was_read}
@@ -65,14 +65,14 @@ module _ (read : Queries) (limits : Switch) (training : Training) (files : ByNam
   given = trained training.numbers training.tuples
 
   -- what was said of a plan by what stands after it
-  data SaidOf (plan : Plan) (told : List ℕ) : Type 0 where
-    of_tree : (tree : ℕ × List Node) → ShownFor limits read.queries given plan tree.0 tree.1 (Ok tt) → told ≡ yes_line tree.0 (length tree.1) → SaidOf plan told
-    of_prices : (x : Shown) → PricedFor limits read.queries given plan x (Ok tt) → told ≡ bounded_line x.cost x.least → SaidOf plan told
+  data SaidOf (plan : Plan) (reported : List ℕ) : Type 0 where
+    of_tree : (tree : ℕ × List Node) → ShownFor limits read.queries given plan tree.0 tree.1 (Ok tt) → reported ≡ yes_line tree.0 (length tree.1) → SaidOf plan reported
+    of_prices : (x : Shown) → PricedFor limits read.queries given plan x (Ok tt) → reported ≡ bounded_line x.cost x.least → SaidOf plan reported
 
   said_tree : (text : List ℕ) (plan : Plan) (byte : ℕ) (whole : Outcome (Unit {0})) → Treed read limits training text plan byte files whole → whole.end ≡ Ok tt → SaidOf plan whole.text
   said_tree text plan byte whole t e =
-      let r = passed (Judges (TreeBehind text byte)) (λ tree. Showing read limits training plan tree) files whole tt e t in
-      let tree = judged (TreeBehind text byte) files r.text r.value r.is in
+      let r = passed (Judges (TreeAfter text byte)) (λ tree. Showing read limits training plan tree) files whole tt e t in
+      let tree = judged (TreeAfter text byte) files r.text r.value r.is in
       let judgement = ShownFor limits read.queries given plan r.value.0 r.value.1 in
       let s = passed (Judges judgement) (λ _. Adds (yes_line r.value.0 (length r.value.1))) files r.rest tt r.ends r.rest_is in
       let shown = judged judgement files s.text s.value s.is in
@@ -80,48 +80,48 @@ module _ (read : Queries) (limits : Switch) (training : Training) (files : ByNam
 
   said_prices : (text : List ℕ) (plan : Plan) (byte : ℕ) (whole : Outcome (Unit {0})) → Priced read limits training text plan byte files whole → whole.end ≡ Ok tt → SaidOf plan whole.text
   said_prices text plan byte whole t e =
-      let r = passed (Judges (PricesBehind text byte)) (λ x. Bounding read limits training plan x) files whole tt e t in
-      let x = judged (PricesBehind text byte) files r.text r.value r.is in
+      let r = passed (Judges (PricesAfter text byte)) (λ x. Bounding read limits training plan x) files whole tt e t in
+      let x = judged (PricesAfter text byte) files r.text r.value r.is in
       let judgement = PricedFor limits read.queries given plan r.value in
       let s = passed (Judges judgement) (λ _. Adds (bounded_line r.value.cost r.value.least)) files r.rest tt r.ends r.rest_is in
       let shown = judged judgement files s.text s.value s.is in
       of_prices r.value shown.0 (silent_both r.text r.rest.text whole.text _ r.texts x.1 (silent_both s.text s.rest.text r.rest.text _ s.texts shown.1 (ap (λ (o : Outcome (Unit {0})). o.text) s.rest_is)))
 
-  said_behind : (text : List ℕ) (plan : Plan) (byte : ℕ) (prices : Bool) (whole : Outcome (Unit {0})) → Behind read limits training text plan byte prices files whole → whole.end ≡ Ok tt → SaidOf plan whole.text
-  said_behind text plan byte true = said_prices text plan byte
-  said_behind text plan byte false = said_tree text plan byte
+  said_after : (text : List ℕ) (plan : Plan) (byte : ℕ) (prices : Bool) (whole : Outcome (Unit {0})) → After read limits training text plan byte prices files whole → whole.end ≡ Ok tt → SaidOf plan whole.text
+  said_after text plan byte true = said_prices text plan byte
+  said_after text plan byte false = said_tree text plan byte
 
   -- what was said of a plan, and that it fits
   record Said (text : List ℕ) (whole : Outcome (Unit {0})) : Type 0 where
     plan : Plan × ℕ
     is_plan : PlanBefore text (Ok plan)
     fits : misfit_verdict (fit_misfit read.queries limits plan.0.entries) ≡ Ok tt
-    told : List ℕ
-    of : SaidOf plan.0 told
-    same : whole.text ≡ told
+    reported : List ℕ
+    of : SaidOf plan.0 reported
+    same : whole.text ≡ reported
 
   said : (text : List ℕ) (whole : Outcome (Unit {0})) → PlanTree read limits training text files whole → whole.end ≡ Ok tt → Said text whole
   said text whole t e =
-      let p = passed (Judges (PlanBefore text)) (λ found. Then (Fitting read.queries limits found.0) (λ _. Behind read limits training text found.0 found.1 (has_prices (from_byte found.1 (tokens_of text))))) files whole tt e t in
+      let p = passed (Judges (PlanBefore text)) (λ found. Then (Fitting read.queries limits found.0) (λ _. After read limits training text found.0 found.1 (has_prices (from_byte found.1 (tokens_of text))))) files whole tt e t in
       let plan = judged (PlanBefore text) files p.text p.value p.is in
-      let f = passed (Fitting read.queries limits p.value.0) (λ _. Behind read limits training text p.value.0 p.value.1 (has_prices (from_byte p.value.1 (tokens_of text)))) files p.rest tt p.ends p.rest_is in
+      let f = passed (Fitting read.queries limits p.value.0) (λ _. After read limits training text p.value.0 p.value.1 (has_prices (from_byte p.value.1 (tokens_of text)))) files p.rest tt p.ends p.rest_is in
       let fit = given_so (misfit_verdict (fit_misfit read.queries limits p.value.0.entries)) files f.text f.value f.is in
       record {
         plan = p.value;
         is_plan = plan.0;
         fits = fit.0;
-        told = f.rest.text;
-        of = said_behind text p.value.0 p.value.1 (has_prices (from_byte p.value.1 (tokens_of text))) f.rest f.rest_is f.ends;
+        reported = f.rest.text;
+        of = said_after text p.value.0 p.value.1 (has_prices (from_byte p.value.1 (tokens_of text))) f.rest f.rest_is f.ends;
         same = silent_both p.text p.rest.text whole.text _ p.texts plan.1 (silent_both f.text f.rest.text p.rest.text _ f.texts fit.1 refl);
       }
 
   -- What was said is so where prices without a fault are of the plan's cost and no plan costs less than they show.
   module _ (costs : CostLaw) (leasts : LeastLaw) (rising : HaveRisingNumbers limits read.queries) (plan : Plan) (fits : Fits read.queries limits plan.entries) where
-    says : (told : List ℕ) → SaidOf plan told → SaysLeast (training_cost read limits training) (Fits read.queries limits) plan.entries told
-    says told (of_tree tree shown same) =
+    says : (reported : List ℕ) → SaidOf plan reported → SaysLeast (training_cost read limits training) (Fits read.queries limits) plan.entries reported
+    says reported (of_tree tree shown same) =
         by_tree (length tree.1) (none_costs_less limits read.queries given rising plan.entries fits tree.0 tree.1 shown)
         (same ∙ ap (λ (n : ℕ). yes_line n (length tree.1)) (cost_is_so limits read.queries given rising plan.entries fits tree.0 tree.1 shown))
-    says told (of_prices x shown same) =
+    says reported (of_prices x shown same) =
         by_prices x.least (λ others k. leasts limits read.queries given plan x others rising shown k)
         (same ∙ ap (λ (n : ℕ). bounded_line n x.least) (costs limits read.queries given plan x rising fits shown))
 
@@ -164,5 +164,5 @@ yes_shows costs leasts switch queries train plantree files outcome c e =
       is_plan = plan_read b.value said.plan said.is_plan;
       fits = fits;
       bounds = subst (SaysLeast (training_cost read limits training) (Fits read.queries limits) said.plan.0.entries) (sym texts)
-          (says read limits training files costs leasts rising said.plan.0 fits said.told said.of);
+          (says read limits training files costs leasts rising said.plan.0 fits said.reported said.of);
     }

@@ -9,7 +9,7 @@ use Rattle.sn_switch.specs.declared.switch.Switch.{Switch}
 use Rattle.sn_command_training.specs.Training.{TrainingIn}
 use Rattle.sn_cost_training.specs.Trained.{Training}
 use Rattle.sn_plan_grammar.specs.declared.plan.Plan.{Plan}
-use Rattle.sn_command_check.specs.Check.{Behind, PlanTree, yes_line}
+use Rattle.sn_command_check.specs.Check.{After, PlanTree, yes_line}
 
 pub of_window : {w v : ℕ} {name : List ℕ} {before now : World} {answer : Result Training Refusal} → w ≡ v → Works (name ∷ []) (Text name (TrainingIn w)) before answer now
     → Runs (name ∷ []) (Text name (TrainingIn v)) before answer now
@@ -24,6 +24,6 @@ of_line {paid} {n = n} {m} {before = before} {now} {answer} e f r =
     subst (λ (k : ℕ). Runs [] (Adds (yes_line k m)) before answer now) e (subst (λ (k : ℕ). Runs [] (Adds (yes_line paid k)) before answer now) f r)
 
 -- what stands after a plan, where it is known whether prices do
-pub of_behind : (read : Queries) (limits : Switch) (training : Training) (text : List ℕ) (plan : Plan) (byte : ℕ) {has is : Bool} {before now : World} {answer : Result (Unit {0}) Refusal} → has ≡ is
-    → Runs [] (Behind read limits training text plan byte is) before answer now → Runs [] (Behind read limits training text plan byte has) before answer now
-of_behind read limits training text plan byte {before = before} {now} {answer} e r = subst (λ (b : Bool). Runs [] (Behind read limits training text plan byte b) before answer now) (sym e) r
+pub of_after : (read : Queries) (limits : Switch) (training : Training) (text : List ℕ) (plan : Plan) (byte : ℕ) {has is : Bool} {before now : World} {answer : Result (Unit {0}) Refusal} → has ≡ is
+    → Runs [] (After read limits training text plan byte is) before answer now → Runs [] (After read limits training text plan byte has) before answer now
+of_after read limits training text plan byte {before = before} {now} {answer} e r = subst (λ (b : Bool). Runs [] (After read limits training text plan byte b) before answer now) (sym e) r

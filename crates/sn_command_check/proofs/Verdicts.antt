@@ -26,7 +26,7 @@ use Rattle.sn_tree_text.specs.declared.fault.TextFault.{TextFault}
 use Rattle.sn_tree_text.specs.declared.fault.TextFault.TheVariants as tree_faults
 use Rattle.sn_tree_text.proofs.Readings as tree_readings
 use Rattle.sn_types.specs.declared.typed_query.TypedQuery.{TypedQuery}
-use Rattle.sn_command_check.specs.PlanTrees.{PlanBefore, TreeBehind, tree_text_fault, tree_text_refusal}
+use Rattle.sn_command_check.specs.PlanTrees.{PlanBefore, TreeAfter, tree_text_fault, tree_text_refusal}
 use Rattle.sn_command_check.specs.Shown.{ShownFor, flaw_refusal, flaw_verdict}
 
 -- ---- the plan
@@ -44,7 +44,7 @@ plan_refused text plan_faults.Memory h = tt
 
 -- ---- the cost and the tree
 
-pub tree_once : (text : List ℕ) (byte : ℕ) (first second : Result (ℕ × List Node) Fault) → TreeBehind text byte first → TreeBehind text byte second → first ≡ second
+pub tree_once : (text : List ℕ) (byte : ℕ) (first second : Result (ℕ × List Node) Fault) → TreeAfter text byte first → TreeAfter text byte second → first ≡ second
 tree_once text byte = read_once tree_text_fault (trees.IsRead text byte) (tree_readings.reading_once text byte)
 
 -- the faults of a cost and a tree may come where the queries and the switch were read before
@@ -53,11 +53,11 @@ tree_may A (tree_faults.Lex line) = tt
 tree_may A (tree_faults.Expected line) = tt
 tree_may A tree_faults.Memory = tt
 
-pub one_tree_behind : (text : List ℕ) (byte : ℕ) → HasVerdict (TreeBehind text byte)
-one_tree_behind text byte =
+pub one_tree_after : (text : List ℕ) (byte : ℕ) → HasVerdict (TreeAfter text byte)
+one_tree_after text byte =
     one_reading tree_text_fault (trees.IsRead text byte) (tree_readings.reading_once text byte) (tree_readings.reading_some text byte).reading (tree_readings.reading_some text byte).is
 
-pub tree_refused : (text : List ℕ) (byte : ℕ) (e : TextFault) → trees.IsFault (from_byte byte (tokens_of text)) e → Answers {A = ℕ × List Node} (TreeBehind text byte) (Err (tree_text_refusal e))
+pub tree_refused : (text : List ℕ) (byte : ℕ) (e : TextFault) → trees.IsFault (from_byte byte (tokens_of text)) e → Answers {A = ℕ × List Node} (TreeAfter text byte) (Err (tree_text_refusal e))
 tree_refused text byte (tree_faults.Lex line) h = record { found = Err (tree_faults.Lex line); is = (h, λ e. cc); same = refl }
 tree_refused text byte (tree_faults.Expected line) h = record { found = Err (tree_faults.Expected line); is = (h, λ e. cc); same = refl }
 tree_refused text byte tree_faults.Memory h = tt
@@ -89,13 +89,13 @@ module _ (fault : Option TreeFault) where
   abbrev Verdict : Result (Unit {0}) Fault → Type 0
   Verdict verdict = verdict ≡ flaw_verdict fault
 
-  fault_told : (e : TreeFault) → Some e ≡ fault → Answers Verdict (Err (flaw_refusal e))
-  fault_told (flaws.Cost node want got) is = ap flaw_verdict is
-  fault_told (flaws.Shape node want got) is = ap flaw_verdict is
-  fault_told (flaws.Bound node want got) is = ap flaw_verdict is
-  fault_told (flaws.NotBroken node want got) is = ap flaw_verdict is
-  fault_told (flaws.NoPlan node want got) is = ap flaw_verdict is
-  fault_told flaws.Memory is = tt
+  fault_reported : (e : TreeFault) → Some e ≡ fault → Answers Verdict (Err (flaw_refusal e))
+  fault_reported (flaws.Cost node want got) is = ap flaw_verdict is
+  fault_reported (flaws.Shape node want got) is = ap flaw_verdict is
+  fault_reported (flaws.Bound node want got) is = ap flaw_verdict is
+  fault_reported (flaws.NotBroken node want got) is = ap flaw_verdict is
+  fault_reported (flaws.NoPlan node want got) is = ap flaw_verdict is
+  fault_reported flaws.Memory is = tt
 
   no_memory : (e : TreeFault) → e ≡ flaws.Memory → Answers Verdict (Err (flaw_refusal e))
   no_memory (flaws.Cost node want got) is = cc
@@ -107,7 +107,7 @@ module _ (fault : Option TreeFault) where
 
   pub tree_flawed : (e : TreeFault) → tree.Answers {A = Unit {0}} (Err e) fault → Answers Verdict (Err (flaw_refusal e))
   tree_flawed e (inl memory) = no_memory e (let same : e ≡ flaws.Memory = cc in same)
-  tree_flawed e (inr is) = fault_told e is
+  tree_flawed e (inr is) = fault_reported e is
 
   pub tree_fine : tree.Answers {A = Unit {0}} (Ok tt) fault → Verdict (Ok tt)
   tree_fine (inl memory) = absurd cc

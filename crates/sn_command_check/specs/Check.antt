@@ -19,9 +19,9 @@ use Rattle.sn_text.specs.Cutting.{tokens_of}
 use Rattle.sn_tree_text.specs.Places.{from_byte}
 use Rattle.sn_prices_grammar.specs.declared.prices.Shown.{Shown}
 use Rattle.sn_prices_text.specs.Announced.{has_prices}
-use Rattle.sn_command_prices.specs.Behind.{PricesBehind}
+use Rattle.sn_command_prices.specs.After.{PricesAfter}
 use Rattle.sn_command_prices.specs.Priced.{PricedFor}
-use Rattle.sn_command_check.specs.PlanTrees.{PlanBefore, TreeBehind}
+use Rattle.sn_command_check.specs.PlanTrees.{PlanBefore, TreeAfter}
 use Rattle.sn_command_check.specs.Shown.{ShownFor}
 
 -- the line on a cost, and on a tree with this many nodes, that show what they say
@@ -40,7 +40,7 @@ Showing read limits training plan tree =
     Adds (yes_line tree.0 (length tree.1)))
 
 -- The cost and the prices are tested for the plan, over the windows of the training capture. Where they show that no plan costs less than the
--- number that is told, the line says so.
+-- number that is reported, the line says so.
 abbrev pub Bounding : Queries → Switch → Training → Plan → Shown → Stage (Unit {0})
 Bounding read limits training plan shown =
     Then (Judges (PricedFor limits read.queries (trained training.numbers training.tuples) plan shown)) (λ _.
@@ -48,16 +48,16 @@ Bounding read limits training plan shown =
 
 -- what stands from this byte on after a plan that fits, as a cost and a tree
 abbrev pub Treed : Queries → Switch → Training → List ℕ → Plan → ℕ → Stage (Unit {0})
-Treed read limits training text plan byte = Then (Judges (TreeBehind text byte)) (λ tree. Showing read limits training plan tree)
+Treed read limits training text plan byte = Then (Judges (TreeAfter text byte)) (λ tree. Showing read limits training plan tree)
 
 -- and as a cost and prices
 abbrev pub Priced : Queries → Switch → Training → List ℕ → Plan → ℕ → Stage (Unit {0})
-Priced read limits training text plan byte = Then (Judges (PricesBehind text byte)) (λ shown. Bounding read limits training plan shown)
+Priced read limits training text plan byte = Then (Judges (PricesAfter text byte)) (λ shown. Bounding read limits training plan shown)
 
 -- Prices stand after the plan, or else a tree.
-abbrev pub Behind : Queries → Switch → Training → List ℕ → Plan → ℕ → Bool → Stage (Unit {0})
-Behind read limits training text plan byte true = Priced read limits training text plan byte
-Behind read limits training text plan byte false = Treed read limits training text plan byte
+abbrev pub After : Queries → Switch → Training → List ℕ → Plan → ℕ → Bool → Stage (Unit {0})
+After read limits training text plan byte true = Priced read limits training text plan byte
+After read limits training text plan byte false = Treed read limits training text plan byte
 
 -- The text of a plan with what is to show that it costs least, or how much more at most: the plan is read and tested, and then its cost and its
 -- tree are, or its cost and its prices where the word `prices` stands after the cost.
@@ -65,7 +65,7 @@ abbrev pub PlanTree : Queries → Switch → Training → List ℕ → Stage (Un
 PlanTree read limits training text =
     Then (Judges (PlanBefore text)) (λ found.
     Then (Fitting read.queries limits found.0) (λ _.
-    Behind read limits training text found.0 found.1 (has_prices (from_byte found.1 (tokens_of text)))))
+    After read limits training text found.0 found.1 (has_prices (from_byte found.1 (tokens_of text)))))
 
 -- `check SWITCH QUERIES TRAIN PLANTREE`: the queries are read, then the switch, then the training capture, and then the plan with its
 -- cost and its tree.

@@ -37,5 +37,5 @@ tree_text_refusal (tree_faults.Expected line) = Refused (tree_at kinds.Expected 
 tree_text_refusal tree_faults.Memory = Memory
 
 -- a cost and the nodes of a tree, from this byte of the text to its end
-abbrev pub TreeBehind : List ℕ → ℕ → Result (ℕ × List Node) Fault → Type 0
-TreeBehind text byte = ReadAs tree_text_fault (trees.IsRead text byte)
+abbrev pub TreeAfter : List ℕ → ℕ → Result (ℕ × List Node) Fault → Type 0
+TreeAfter text byte = ReadAs tree_text_fault (trees.IsRead text byte)

@@ -14,7 +14,7 @@ use crate::yes::{say_bounded, say_yes};
 use sn_command::desk::Desk;
 use sn_command::files::{MOST_TEXT, read_file};
 use sn_command::refusal::Refusal;
-use sn_command_prices::behind::judge_prices;
+use sn_command_prices::following::judge_prices;
 use sn_command_prices::test::test_prices;
 use sn_command_texts::fit::test_fit;
 use sn_command_texts::queries::read_queries;
@@ -53,7 +53,7 @@ fn check_tree<I: Inputs, O: Sink>(
 }
 
 /// Reads a cost and prices from a text after a plan that fits, and says yes where they show that no plan costs less over training windows
-/// than the number that is told.
+/// than the number that is reported.
 fn check_prices<I: Inputs, O: Sink>(
     alloc: Global,
     typed: &Typed,

@@ -1,6 +1,6 @@
 //! A plan with a cost and a tree after it, in one text.
 ghost use Rattle.std.specs.Prelude.{◌≡◌, ◌≤◌, ◌^◌, length};
-ghost use Rattle.sn_command_check.specs.PlanTrees.{PlanBefore, TreeBehind, tree_text_refusal};
+ghost use Rattle.sn_command_check.specs.PlanTrees.{PlanBefore, TreeAfter, tree_text_refusal};
 ghost use Rattle.sn_command.specs.Runs.{Answers};
 
 use sn_command::fault::{Fault, TextFault, TextKind};
@@ -38,7 +38,7 @@ fn tree_refusal(fault: TreeTextFault) -> Refusal
 /// The cost and the tree of a text, from this byte on. Lines are counted from the front of the text.
 pub(crate) fn judge_tree<'a>(text: &'a [u8], from: u64) -> Result<Found<'a>, Refusal>
     requires { length text.now ≤ 2 ^ 30 }
-    ensures { Answers (TreeBehind text.entry.now from) result }
+    ensures { Answers (TreeAfter text.entry.now from) result }
 {
     match parse_tree(text, from) {
         Ok(found) => Ok(found),

@@ -8,7 +8,7 @@ use Rattle.sn_plan_fit.specs.Fits.{AreEntriesOf, IsEntryOf, IsPath}
 use Rattle.sn_plan_fit.specs.Paths.{last_from}
 use Rattle.sn_plan_grammar.specs.declared.plan.Entry.{Entry}
 use Rattle.sn_refine.specs.Steps.{IsPathOf}
-use Rattle.sn_refine_laws.specs.Told.{EndsFinest}
+use Rattle.sn_refine_laws.specs.Reported.{EndsFinest}
 use Rattle.sn_types.specs.declared.typed_query.TypedQuery.{TypedQuery}
 use Rattle.sn_types.specs.Typed.{query_at}
 

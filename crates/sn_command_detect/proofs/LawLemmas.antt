@@ -9,7 +9,7 @@ use Rattle.sn_command_detect.proofs.EntryLemmas.{as_many, entry_at, path_ends, p
 use Rattle.sn_detect.specs.declared.look.Look.{Look}
 use Rattle.sn_detect.specs.Keeping.{InTime, Rise}
 use Rattle.sn_detect.specs.Looks.{holds, look_at, refined_at, unrefined_at}
-use Rattle.sn_detect.specs.Stays.{HeldIn, IsInTime, IsStay, ToldIn}
+use Rattle.sn_detect.specs.Stays.{HeldIn, IsInTime, IsStay, ReportedIn}
 use Rattle.sn_detect.proofs.LookLemmas.{stay_in_time, stays_are}
 use Rattle.sn_detect.proofs.StayLemmas.{same_stays}
 use Rattle.sn_fields.specs.declared.field.Field.{Field}
@@ -19,8 +19,8 @@ use Rattle.sn_refine.specs.Refined.{Windows, column_of, level_rows, refined_rows
 use Rattle.sn_refine.specs.Steps.{windows_of}
 use Rattle.sn_refine.proofs.Levels.{no_rows}
 use Rattle.sn_refine_laws.specs.Monotone.{is_monotone}
-use Rattle.sn_refine_laws.specs.Told.{EndsFinest, is_told}
-use Rattle.sn_refine_laws.proofs.Windows.{told_in_time}
+use Rattle.sn_refine_laws.specs.Reported.{EndsFinest, is_reported}
+use Rattle.sn_refine_laws.proofs.Windows.{reported_in_time}
 use Rattle.sn_types.specs.declared.typed_query.TypedQuery.{TypedQuery}
 use Rattle.sn_types.specs.Typed.{HasWidths, IsTyped, finest_level, query_at}
 use Rattle.sn_windows.specs.Rising.{AreRising, Window}
@@ -74,10 +74,10 @@ module _ (query : TypedQuery) (path : List ℕ) (ws : List Window) where
   abbrev seen : List Look
   seen = looks_in query path ws
 
-  answered_same : (a w : ℕ) → holds (unrefined_at seen w) a ≡ is_told query (level_rows query (finest_level query) (windows_of ws w)) a
+  answered_same : (a w : ℕ) → holds (unrefined_at seen w) a ≡ is_reported query (level_rows query (finest_level query) (windows_of ws w)) a
   answered_same a w = ap (λ (numbers : List ℕ). holds numbers a) (unrefined_same query (windows_of ws) path ws w)
 
-  printed_same : (a w : ℕ) → holds (refined_at seen w) a ≡ is_told query (refined_rows query (windows_of ws) path (length path - 1) w) a
+  printed_same : (a w : ℕ) → holds (refined_at seen w) a ≡ is_reported query (refined_rows query (windows_of ws) path (length path - 1) w) a
   printed_same a w = ap (λ (numbers : List ℕ). holds numbers a) (refined_found query (windows_of ws) path ws w ∙ printed_found query (windows_of ws) path w (windows_of ws w) refl)
 
   module _ (rises : AreRising None ws) where
@@ -86,7 +86,7 @@ module _ (query : TypedQuery) (path : List ℕ) (ws : List Window) where
 
     pub exact : AreExact query path ws
     exact =
-        same_stays (HeldIn seen) (AnsweredIn query ws) (ToldIn seen) (PrintedIn query path ws)
+        same_stays (HeldIn seen) (AnsweredIn query ws) (ReportedIn seen) (PrintedIn query path ws)
         (λ a w is. sym (answered_same a w) ∙ is) (λ a w is. answered_same a w ∙ is)
         (λ a w is. sym (printed_same a w) ∙ is) (λ a w is. printed_same a w ∙ is)
         (stays_in query path ws) (stays_are seen rising)
@@ -111,12 +111,12 @@ module _ (window q : ℕ) (queries : List TypedQuery) (field : Field) (t : IsTyp
   looks_in_time mono last w a long on =
       let at : length path - 1 ≡ last = omega (arith, long) in
       printed_same its path ws a (w + last)
-      ∙ ap (λ (m : ℕ). is_told its (refined_rows its (windows_of ws) path m (w + last)) a) at
-      ∙ told_in_time window q queries field t lt is_field mono a (windows_of ws) path w last long (ends.finest last long) ends.known (widths_at ws widths) (λ i le. sym (answered_same its path ws a (w + i)) ∙ on i le)
+      ∙ ap (λ (m : ℕ). is_reported its (refined_rows its (windows_of ws) path m (w + last)) a) at
+      ∙ reported_in_time window q queries field t lt is_field mono a (windows_of ws) path w last long (ends.finest last long) ends.known (widths_at ws widths) (λ i le. sym (answered_same its path ws a (w + i)) ∙ on i le)
 
   one_in_time : AreInTime queries ws (q, path)
   one_in_time mono =
-      all_weaker (IsStay (HeldIn (looks_in its path ws)) (ToldIn (looks_in its path ws))) (IsInTime (length path))
+      all_weaker (IsStay (HeldIn (looks_in its path ws)) (ReportedIn (looks_in its path ws))) (IsInTime (length path))
       (λ s stay. stay_in_time (looks_in its path ws) path s some (looks_in_time mono) stay)
       (stays_in its path ws) (stays_are (looks_in its path ws) (rising its path ws rises)).each
 

@@ -15,7 +15,7 @@ use Rattle.sn_plan_grammar.specs.declared.plan.Entry.{Entry}
 use Rattle.sn_refine.specs.Refined.{Windows, column_of, level_rows, refined_rows}
 use Rattle.sn_refine.specs.Steps.{windows_of}
 use Rattle.sn_refine_laws.specs.Monotone.{is_monotone}
-use Rattle.sn_refine_laws.specs.Told.{is_told, unrefined_rows}
+use Rattle.sn_refine_laws.specs.Reported.{is_reported, unrefined_rows}
 use Rattle.sn_types.specs.declared.typed_query.TypedQuery.{TypedQuery}
 use Rattle.sn_types.specs.Typed.{final_columns, finest_level, query_at}
 use Rattle.sn_windows.specs.Rising.{Window}
@@ -44,10 +44,10 @@ looks_in query path windows = map (look_in query (windows_of windows) path) wind
 
 -- of an address and a window: the unrefined answers hold it, those refined along the path do
 abbrev pub AnsweredIn : TypedQuery → List Window → ℕ → ℕ → Type 0
-AnsweredIn query windows a w = is_told query (unrefined_rows query (windows_of windows) w) a ≡ true
+AnsweredIn query windows a w = is_reported query (unrefined_rows query (windows_of windows) w) a ≡ true
 
 abbrev pub PrintedIn : TypedQuery → List ℕ → List Window → ℕ → ℕ → Type 0
-PrintedIn query path windows a w = is_told query (refined_rows query (windows_of windows) path (length path - 1) w) a ≡ true
+PrintedIn query path windows a w = is_reported query (refined_rows query (windows_of windows) path (length path - 1) w) a ≡ true
 
 -- the stays of a query's addresses over these windows
 abbrev pub stays_in : TypedQuery → List ℕ → List Window → List Stay

@@ -59,8 +59,8 @@ module _ (queries : List TypedQuery) (windows : List Window) (es : List Entry) (
           let here : place_in is.entry.levels x.piece.level ≡ suc j = ap (λ path. place_in path x.piece.level) is.path ∙ e in
           omega (arith, place, here)
 
-  pub lets_in_kept : kept_now queries last w x ≡ kept_of queries windows w x
-  lets_in_kept = by_place (place_in x.path x.piece.level) refl
+  pub admits_kept : kept_now queries last w x ≡ kept_of queries windows w x
+  admits_kept = by_place (place_in x.path x.piece.level) refl
 
 -- ---- the last answers
 
@@ -83,10 +83,10 @@ module _ (p : Planned) (windows : Windows) (h : AreEntriesOf p.queries p.entries
       last_right (Some now) closed number tuples rises.1 (λ v lt. agrees v (above_last (window_of last) c.0 v rises.0 lt) ∙ later c rest v lt) (ap (λ (a : Answers). a.parts) e)
 
 -- the lanes admit the prefixes that were answered along the plan
-pub all_let_in : (p : Planned) (closed : List Window) (number : ℕ) (tuples : List (List ℕ)) → AreEntriesOf p.queries p.entries → AreRising None (closed ++ (number, tuples) ∷ [])
+pub all_admitted : (p : Planned) (closed : List Window) (number : ℕ) (tuples : List (List ℕ)) → AreEntriesOf p.queries p.entries → AreRising None (closed ++ (number, tuples) ∷ [])
     → AllByRecursion (λ (x : Placed). kept_now p.queries (last_of p closed) number x ≡ kept_of p.queries (closed ++ (number, tuples) ∷ []) number x) (pieces_from 0 p.entries)
-all_let_in p closed number tuples h rising =
+all_admitted p closed number tuples h rising =
     let windows : List Window = closed ++ (number, tuples) ∷ [] in
     let last = last_right p (windows_of windows) h None closed number tuples rising (λ v above. refl) tt in
     all_weaker (IsPieceOf p.entries) (λ (x : Placed). kept_now p.queries (last_of p closed) number x ≡ kept_of p.queries windows number x)
-    (λ x is. lets_in_kept p.queries windows p.entries (last_of p closed) number last.follows last.remembers x is) (pieces_from 0 p.entries) (all_pieces p.queries p.entries h)
+    (λ x is. admits_kept p.queries windows p.entries (last_of p closed) number last.follows last.remembers x is) (pieces_from 0 p.entries) (all_pieces p.queries p.entries h)

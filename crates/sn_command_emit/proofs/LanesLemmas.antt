@@ -16,7 +16,7 @@ use Rattle.sn_refine.specs.Steps.{Set}
 use Rattle.sn_report.specs.Items.{Frame}
 use Rattle.sn_types.specs.declared.typed_query.TypedQuery.{TypedQuery}
 use Rattle.sn_types.specs.Typed.{HasWidths, IsTyped}
-use Rattle.sn_command_emit.specs.Sent.{frames_at, frames_behind}
+use Rattle.sn_command_emit.specs.Sent.{frames_at, frames_after}
 use Rattle.sn_command_emit.proofs.PieceLemmas.{lane_reads, lane_sends}
 use Rattle.sn_base.proofs.Lists.{index_within as within}
 
@@ -46,8 +46,8 @@ module _ (typed_for : ℕ) (tables : Tables) (queries : List TypedQuery) (pieces
 
   -- what is left of all after the last one
   pub all_read : (number : ℕ) → AllByRecursion HasWidths tuples
-      → flat_map (λ s. frames_left s number) senders ≡ flat_map (frames_behind queries tables (λ x. kept (source_of x)) tuples number) pieces
+      → flat_map (λ s. frames_left s number) senders ≡ flat_map (frames_after queries tables (λ x. kept (source_of x)) tuples number) pieces
   all_read number widths =
-      flat_beside (λ s. frames_left s number) (frames_behind queries tables (λ x. kept (source_of x)) tuples number) senders pieces work.given
+      flat_beside (λ s. frames_left s number) (frames_after queries tables (λ x. kept (source_of x)) tuples number) senders pieces work.given
       (λ j x s p q. let w = (lane_work j x s p q).1 in
       ap (λ r. frames_left r number) w.sender ∙ lane_reads typed_for queries tables x w.base (kept (source_of x)) typed (all_get (CanMake queries) pieces j x can p) w.lane number tuples widths)

@@ -15,10 +15,10 @@ use Rattle.sn_emit.specs.Making.{CanMake}
 use Rattle.sn_emit.specs.Plans.{IsLaneOf, IsNewPipeOf, Placed}
 use Rattle.sn_emit.specs.Senders.{frames_left, row_frame, sender_after, sender_next, sender_start}
 use Rattle.sn_pipe_items.specs.Items.{at_packet, numbered, read_from, sent_from}
-use Rattle.sn_pipe_items.proofs.Cuts.{IsCut, IsCutBehindDistinct, OnlyFilters}
+use Rattle.sn_pipe_items.proofs.Cuts.{IsCut, IsCutAfterDistinct, OnlyFilters}
 use Rattle.sn_pipe.specs.AnyStage.{Stage}
 use Rattle.sn_pipe.specs.declared.stage.Stage.TheVariants.{Filter, Map, Distinct, Reduce}
-use Rattle.sn_pipe.specs.Pipes.{PipeState, after_packets, at_start, is_let_in, item_of, row_in}
+use Rattle.sn_pipe.specs.Pipes.{PipeState, after_packets, at_start, is_admitted, item_of, row_in}
 use Rattle.sn_pipe.specs.Prefixes.{left_in}
 use Rattle.sn_pipe.specs.Stages.{cleared, ops_of as acting, top_of}
 use Rattle.sn_pipe.specs.Windows.{AreFilters, HasRegisters, HaveSizes, IsPrefix}
@@ -62,18 +62,18 @@ only_filters level (Map exprs ∷ ss) h = h
 only_filters level (Distinct chain spilled ∷ ss) h = h
 only_filters level (Reduce r chain ∷ ss) h = h
 
-behind_prefix : (level : ℕ) (ss : List Stage) → IsCutBehindDistinct (acting level ss) → IsPrefix ss
-behind_prefix level [] h = tt
-behind_prefix level (Filter conds ∷ ss) h = behind_prefix level ss h
-behind_prefix level (Map exprs ∷ ss) h = behind_prefix level ss h
-behind_prefix level (Distinct chain spilled ∷ ss) h = absurd h
-behind_prefix level (Reduce r chain ∷ ss) h = only_filters level ss h
+after_prefix : (level : ℕ) (ss : List Stage) → IsCutAfterDistinct (acting level ss) → IsPrefix ss
+after_prefix level [] h = tt
+after_prefix level (Filter conds ∷ ss) h = after_prefix level ss h
+after_prefix level (Map exprs ∷ ss) h = after_prefix level ss h
+after_prefix level (Distinct chain spilled ∷ ss) h = absurd h
+after_prefix level (Reduce r chain ∷ ss) h = only_filters level ss h
 
 cut_prefix : (level : ℕ) (ss : List Stage) → IsCut (acting level ss) → IsPrefix ss
 cut_prefix level [] h = tt
 cut_prefix level (Filter conds ∷ ss) h = cut_prefix level ss h
 cut_prefix level (Map exprs ∷ ss) h = cut_prefix level ss h
-cut_prefix level (Distinct chain spilled ∷ ss) h = behind_prefix level ss h
+cut_prefix level (Distinct chain spilled ∷ ss) h = after_prefix level ss h
 cut_prefix level (Reduce r chain ∷ ss) h = only_filters level ss h
 
 -- ---- the pipe of a piece
@@ -131,7 +131,7 @@ module _ (window : ℕ) (queries : List TypedQuery) (tables : Tables) (x : Place
   flow_is : (tuples : List (List ℕ)) → flow start 0 tuples ≡ flow_of queries tables x kept tuples
   flow_is tuples =
       let made : TypedQuery → ℕ → ℕ → Option Gate → Flow =
-      λ q b l o. map (λ z. (z.0, packet_row q.field l (branch_of q b).fields z.1)) (filter (λ z. is_let_in q.field o kept z.1) (numbered 0 tuples)) in
+      λ q b l o. map (λ z. (z.0, packet_row q.field l (branch_of q b).fields z.1)) (filter (λ z. is_admitted q.field o kept z.1) (numbered 0 tuples)) in
       ap (λ q. made q pipe.branch level pipe.coarser) new.same_query
       ∙ ap (λ n. made query n level pipe.coarser) new.same_branch
       ∙ ap (λ n. made query x.piece.branch n pipe.coarser) new.same_level

@@ -20,7 +20,7 @@ use Rattle.sn_engine_lockstep.specs.Windows.{parts_from}
 use Rattle.sn_engine_lockstep.specs.Work.{AreAtWork, AreIdle, AreUnread, Recalls, frames_given}
 use Rattle.sn_engine_lockstep.proofs.Laws.{new_idle, plan_made}
 use Rattle.sn_engine_lockstep.proofs.Recalling.{recalls_none}
-use Rattle.sn_engine_lockstep.proofs.Sending.{one_behind}
+use Rattle.sn_engine_lockstep.proofs.Sending.{one_after}
 use Rattle.sn_command_run.specs.Along.{last_of}
 use Rattle.sn_emit.specs.declared.sender.Sender.{Sender}
 use Rattle.sn_emit.specs.Plans.{AreLanesOf, AreNewLanes, Placed, pieces_from, tables_of}
@@ -44,8 +44,8 @@ use Rattle.sn_types.specs.Typed.{HasWidths}
 use Rattle.sn_command_emit.specs.declared.reporter.Reporter.{Reporter}
 use Rattle.sn_command_emit.specs.Causal.{same_frames}
 use Rattle.sn_command_emit.specs.Reporting.{AdmitAlike, AreBytesOf, IsAtHand, IsDriverOf, IsIdle, RecallsPlan, kept_now, plan_of}
-use Rattle.sn_command_emit.specs.Sent.{frames_behind, frames_block, kept_of, packet_frames}
-use Rattle.sn_command_emit.proofs.KeptLemmas.{all_let_in}
+use Rattle.sn_command_emit.specs.Sent.{frames_after, frames_block, kept_of, packet_frames}
+use Rattle.sn_command_emit.proofs.KeptLemmas.{all_admitted}
 use Rattle.sn_command_emit.proofs.LanesLemmas.{all_read, all_send}
 
 abbrev pub with_sent : Reporter → Driver → Vec ℕ Global → Reporter
@@ -87,7 +87,7 @@ module _ (a : Reporter) (closed : List Window) (number : ℕ) (tuples : List (Li
       sent
       ∙ ap (λ bs. bs ++ flat_map (spelling 2) (flat_map (frames_given tuple) a.driver.emitter)) (h.sent (tuple ∷ more) (width, widths))
       ∙ ap (λ fs. flat_map (spelling 2) (flat_map frames (range_with_len 0 (length tuples))) ++ flat_map (spelling 2) fs) given
-      ∙ sym (one_behind (spelling 2) frames (range_with_len 0 (length tuples)) (length tuples))
+      ∙ sym (one_after (spelling 2) frames (range_with_len 0 (length tuples)) (length tuples))
       ∙ ap (λ ns. flat_map (spelling 2) (flat_map frames ns)) (ap (λ m. range_with_len 0 (length tuples) ++ m ∷ []) (from (length tuples)) ∙ sym (range_more 0 (length tuples)))
       ∙ ap (λ n. flat_map (spelling 2) (flat_map frames (range_with_len 0 n))) count
       ∙ ap (λ ts. flat_map (spelling 2) (flat_map (packet_frames p kept ts) (range_with_len 0 (length (tuples ++ tuple ∷ []))))) (sym (append_assoc tuples (tuple ∷ []) more))
@@ -103,17 +103,17 @@ module _ (a : Reporter) (closed : List Window) (number : ℕ) (tuples : List (Li
   block_is bytes sent =
       let windows : List Window = closed ++ (number, tuples) ∷ [] in
       let numbers : List ℕ = range_with_len 0 (length tuples) in
-      let behind : List Frame = flat_map (frames_behind p.queries p.tables kept tuples number) (pieces_from 0 p.entries) in
+      let following : List Frame = flat_map (frames_after p.queries p.tables kept tuples number) (pieces_from 0 p.entries) in
       sent
       ∙ ap (λ bs. bs ++ flat_map (spelling 2) (flat_map (λ s. frames_left s number) a.driver.emitter))
       (h.sent [] tt ∙ ap (λ ts. flat_map (spelling 2) (flat_map (packet_frames p kept ts) numbers)) (append-nil tuples))
       ∙ ap (λ fs. flat_map (spelling 2) (flat_map (packet_frames p kept tuples) numbers) ++ flat_map (spelling 2) fs)
       (all_read h.driver.typed_for p.tables p.queries (pieces_from 0 p.entries) (kept_in p.queries (last_of p closed) number) tuples a.driver.emitter h.work.whole h.driver.typed h.driver.can h.work.is number h.widths)
-      ∙ sym (flat_map-append (spelling 2) (flat_map (packet_frames p kept tuples) numbers) behind)
+      ∙ sym (flat_map-append (spelling 2) (flat_map (packet_frames p kept tuples) numbers) following)
       ∙ ap (flat_map (spelling 2)) (same_frames p number tuples kept (kept_of p.queries windows number) same)
     where
       same : AllByRecursion (λ (x : Placed). kept x ≡ kept_of p.queries (closed ++ (number, tuples) ∷ []) number x) (pieces_from 0 p.entries)
-      same = all_let_in p closed number tuples h.driver.entries rising
+      same = all_admitted p closed number tuples h.driver.entries rising
 
   -- ---- the window is closed
 

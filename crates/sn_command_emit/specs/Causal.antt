@@ -20,7 +20,7 @@ use Rattle.sn_report.specs.Frames.{spelling}
 use Rattle.sn_command_run.specs.Planned.{Planned}
 use Rattle.sn_types.specs.declared.typed_query.TypedQuery.{TypedQuery}
 use Rattle.sn_types.specs.Typed.{query_at}
-use Rattle.sn_command_emit.specs.Sent.{frames_at, frames_behind, frames_wording, kept_of, packet_frames, prefixes_for, reads_out, sends_at}
+use Rattle.sn_command_emit.specs.Sent.{frames_at, frames_after, frames_wording, kept_of, packet_frames, prefixes_for, reads_out, sends_at}
 use Rattle.sn_windows.specs.Rising.{AreRising, Window}
 
 flat_same : {X Y : Type 0} (f g : X → List Y) (xs : List X) → AllByRecursion (λ x. f x ≡ g x) xs → flat_map f xs ≡ flat_map g xs
@@ -87,24 +87,24 @@ module _ (p : Planned) (number : ℕ) (tuples : List (List ℕ)) (kept other : P
       (all_weaker (λ (x : Placed). kept x ≡ other x) (λ (x : Placed). f x ≡ g x)
       (λ x e. ap (λ (k : Set). map (row_frame (name_of x)) (sends_at p.queries p.tables x k tuples n)) e) pieces same)
 
-  same_behind : flat_map (frames_behind p.queries p.tables kept tuples number) pieces ≡ flat_map (frames_behind p.queries p.tables other tuples number) pieces
-  same_behind =
-      let f = frames_behind p.queries p.tables kept tuples number in
-      let g = frames_behind p.queries p.tables other tuples number in
+  same_after : flat_map (frames_after p.queries p.tables kept tuples number) pieces ≡ flat_map (frames_after p.queries p.tables other tuples number) pieces
+  same_after =
+      let f = frames_after p.queries p.tables kept tuples number in
+      let g = frames_after p.queries p.tables other tuples number in
       flat_same f g pieces
       (all_weaker (λ (x : Placed). kept x ≡ other x) (λ (x : Placed). f x ≡ g x)
       (λ x e. ap (λ (k : Set). map (row_frame (name_of x)) (reads_out p.queries p.tables x k tuples) ++ End (name_of x) number ∷ []) e) pieces same)
 
   -- lanes that admit the same send the same
   pub same_frames : flat_map (packet_frames p kept tuples) (range_with_len 0 (length tuples)) ++ flat_map
-      (frames_behind p.queries p.tables kept tuples number) pieces
-      ≡ flat_map (packet_frames p other tuples) (range_with_len 0 (length tuples)) ++ flat_map (frames_behind p.queries p.tables other tuples number) pieces
+      (frames_after p.queries p.tables kept tuples number) pieces
+      ≡ flat_map (packet_frames p other tuples) (range_with_len 0 (length tuples)) ++ flat_map (frames_after p.queries p.tables other tuples number) pieces
   same_frames =
       let numbers : List ℕ = range_with_len 0 (length tuples) in
-      ap (λ (fs : List Frame). fs ++ flat_map (frames_behind p.queries p.tables kept tuples number) pieces)
+      ap (λ (fs : List Frame). fs ++ flat_map (frames_after p.queries p.tables kept tuples number) pieces)
       (flat_same (packet_frames p kept tuples) (packet_frames p other tuples) numbers
       (all_each (λ (n : ℕ). packet_frames p kept tuples n ≡ packet_frames p other tuples n) same_packet numbers))
-      ∙ ap (λ (fs : List Frame). flat_map (packet_frames p other tuples) numbers ++ fs) same_behind
+      ∙ ap (λ (fs : List Frame). flat_map (packet_frames p other tuples) numbers ++ fs) same_after
 
 same_prefixes : (query : TypedQuery) (windows others : List Window) (path : List ℕ) (w : ℕ) → AgreeBelow (windows_of windows) (windows_of others) w
     → (place : ℕ) → prefixes_for query windows path w place ≡ prefixes_for query others path w place

@@ -13,7 +13,7 @@ use Rattle.sn_emit.specs.declared.tables.Tables.{Tables}
 use Rattle.sn_plan_fit.specs.Paths.{place_in}
 use Rattle.sn_pipe_items.specs.Items.{at_packet, numbered, read_from, sent_from}
 use Rattle.sn_pcap.specs.declared.packet.Ending.{Ending}
-use Rattle.sn_pipe.specs.Pipes.{is_let_in}
+use Rattle.sn_pipe.specs.Pipes.{is_admitted}
 use Rattle.sn_refine.specs.Refined.{before, refined_rows}
 use Rattle.sn_refine.specs.Steps.{Set, prefixes_of, windows_of}
 use Rattle.sn_report.specs.Items.{Frame}
@@ -46,7 +46,7 @@ row_beside queries x p = (p.0, packet_row (query_at queries x.query).field x.pie
 -- the rows of the tuples of a window that the lane of a piece admits, each beside the number of its packet in the window
 abbrev pub flow_of : List TypedQuery → Tables → Placed → Set → List (List ℕ) → List (ℕ × Row)
 flow_of queries tables x kept tuples =
-    map (row_beside queries x) (filter (λ p. is_let_in (query_at queries x.query).field (gate_before tables.entries x.path x.piece.level) kept p.1)
+    map (row_beside queries x) (filter (λ p. is_admitted (query_at queries x.query).field (gate_before tables.entries x.path x.piece.level) kept p.1)
     (numbered 0 tuples))
 
 -- ---- the items of a lane
@@ -74,8 +74,8 @@ abbrev pub frames_at : List TypedQuery → Tables → (Placed → Set) → List 
 frames_at queries tables kept tuples n x = map (row_frame (name_of x)) (sends_at queries tables x (kept x) tuples n)
 
 -- the frames of a lane after the last packet: the rows that are read out, and the End with the window's number
-abbrev pub frames_behind : List TypedQuery → Tables → (Placed → Set) → List (List ℕ) → ℕ → Placed → List Frame
-frames_behind queries tables kept tuples w x = map (row_frame (name_of x)) (reads_out queries tables x (kept x) tuples) ++ End (name_of x) w ∷ []
+abbrev pub frames_after : List TypedQuery → Tables → (Placed → Set) → List (List ℕ) → ℕ → Placed → List Frame
+frames_after queries tables kept tuples w x = map (row_frame (name_of x)) (reads_out queries tables x (kept x) tuples) ++ End (name_of x) w ∷ []
 
 -- the frames of all lanes at a packet, in the plan's order
 abbrev pub packet_frames : Planned → (Placed → Set) → List (List ℕ) → ℕ → List Frame
@@ -85,7 +85,7 @@ packet_frames p kept tuples n = flat_map (frames_at p.queries p.tables kept tupl
 abbrev pub window_frames : Planned → List Window → ℕ → List (List ℕ) → List Frame
 window_frames p windows w tuples =
     flat_map (packet_frames p (kept_of p.queries windows w) tuples) (range_with_len 0 (length tuples))
-    ++ flat_map (frames_behind p.queries p.tables (kept_of p.queries windows w) tuples w) (pieces_from 0 p.entries)
+    ++ flat_map (frames_after p.queries p.tables (kept_of p.queries windows w) tuples w) (pieces_from 0 p.entries)
 
 -- ---- what is written
 

@@ -165,11 +165,11 @@ lanes_after us f lanes names =
 
 pub data IsIn {A : Type 0} (x : A) : List A → Type 0 where
   first : (xs : List A) → IsIn x (x ∷ xs)
-  behind : (y : A) (xs : List A) → IsIn x xs → IsIn x (y ∷ xs)
+  following : (y : A) (xs : List A) → IsIn x xs → IsIn x (y ∷ xs)
 
 all_in : {A : Type 0} (P : A → Type 0) (x : A) (xs : List A) → IsIn x xs → AllByRecursion P xs → P x
 all_in P x _ (first xs) h = h.0
-all_in P x _ (behind y xs i) h = all_in P x xs i h.1
+all_in P x _ (following y xs i) h = all_in P x xs i h.1
 
 pub record FoundLane (lanes : List Intake) (lane : Lane) (g : Intake → Intake) : Type 0 where
   pub x : Intake
@@ -183,7 +183,7 @@ lane_found (x ∷ xs) lane g keeps known =
     by_test (is_lane lane x)
     (λ is. record { x = x; named = is; found = ap (λ b. cond b (Some (g x)) (find (is_lane lane) (map g xs))) (keeps x ∙ is); there = first xs })
     (λ isnt. let rest = lane_found xs lane g keeps (sym (ap (λ b. b || list_any (is_lane lane) xs) isnt) ∙ known) in
-    record { x = rest.x; named = rest.named; found = ap (λ b. cond b (Some (g x)) (find (is_lane lane) (map g xs))) (keeps x ∙ isnt) ∙ rest.found; there = behind x xs rest.there })
+    record { x = rest.x; named = rest.named; found = ap (λ b. cond b (Some (g x)) (find (is_lane lane) (map g xs))) (keeps x ∙ isnt) ∙ rest.found; there = following x xs rest.there })
 
 -- its own frames, when this one is next
 own_next : (us vs : List Frame) (f : Frame) (x : Intake) → is_lane (lane_of f) x ≡ true → frames_of x (us ++ f ∷ vs) ≡ frames_of x us ++ f ∷ frames_of x vs

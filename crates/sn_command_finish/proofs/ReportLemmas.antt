@@ -104,5 +104,5 @@ module _ (queries : List TypedQuery) (at size : ℕ) (rest : List ℕ) (s : Stan
       ∙ ap (λ (l : Decoded). end_at (at + 0) size l s) e.1 ∙ ap (λ (k : ℕ). end_at k size d s) here
 
 -- the bytes after a frame
-pub rest_behind : (bytes : List ℕ) (at len : ℕ) → drop len (drop at bytes) ≡ drop (at + len) bytes
-rest_behind bytes at len = drop-drop len at bytes ∙ ap (λ n. drop n bytes) (omega arith)
+pub rest_after : (bytes : List ℕ) (at len : ℕ) → drop len (drop at bytes) ≡ drop (at + len) bytes
+rest_after bytes at len = drop-drop len at bytes ∙ ap (λ n. drop n bytes) (omega arith)

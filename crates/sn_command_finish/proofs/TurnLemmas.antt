@@ -4,10 +4,10 @@ use Rattle.std.specs.FinMap.{get}
 use Rattle.std.proofs.lemmas.Bool.{true≢false, eq-eqb, ne_eqb, le-ltb, lt-ltb}
 use Rattle.std.proofs.lemmas.List.{drop_all, length-take}
 use Rattle.sn_io.specs.Counts.{ByName, OnlyRises, RoseAt}
-use Rattle.sn_io.specs.Inputs.{told_file}
+use Rattle.sn_io.specs.Inputs.{stated_file}
 use Rattle.sn_io.specs.declared.inputs.ReadError.{ReadError}
 use Rattle.sn_io.specs.declared.inputs.ReadError.TheVariants as errors
-use Rattle.sn_pcap.proofs.ToldLemmas.{at_told}
+use Rattle.sn_pcap.proofs.ReportedLemmas.{at_reported}
 use Rattle.sn_report.specs.declared.decode.Decoded.TheVariants.{More, Bad}
 use Rattle.sn_report.specs.Decoding.{Stands}
 use Rattle.sn_report.specs.Items.{Frame}
@@ -36,7 +36,7 @@ use Rattle.sn_plan_grammar.specs.declared.plan.Entry.{Entry}
 use Rattle.sn_refine.specs.Steps.{Set}
 use Rattle.sn_types.specs.declared.typed_query.TypedQuery.{TypedQuery}
 use Rattle.sn_command_finish.specs.Taken.{Standing, begun, end_at, ended, fault_at, refused_at, take_frame}
-use Rattle.sn_command_finish.proofs.ReportLemmas.{LeftOver, rest_behind, splits, stops_here}
+use Rattle.sn_command_finish.proofs.ReportLemmas.{LeftOver, rest_after, splits, stops_here}
 
 -- ---- stages over a known file
 
@@ -80,20 +80,20 @@ record IsHere (queries : List TypedQuery) (name : List ℕ) (before now : Reader
   step : IsStep file before answer now
   left : LeftOver queries before.offset (length file) (rest_of file before) s files outcome
 
-module _ (queries : List TypedQuery) (name : List ℕ) (before now : ReaderState) (s : Standing) (told : Option (ByName (List ℕ))) (counts : ByName ℕ) (files : ByName (List ℕ)) (outcome : Outcome (Unit {0})) (same : told ≡ Some files) (law : is_some (get files name) ≡ is_some (get counts name)) (known : get counts name ≡ None → ⊥)
+module _ (queries : List TypedQuery) (name : List ℕ) (before now : ReaderState) (s : Standing) (reported : Option (ByName (List ℕ))) (counts : ByName ℕ) (files : ByName (List ℕ)) (outcome : Outcome (Unit {0})) (same : reported ≡ Some files) (law : is_some (get files name) ≡ is_some (get counts name)) (known : get counts name ≡ None → ⊥)
     (t : LeftIn queries name before.offset s files outcome) where
-  here : (answer : Result Next ReadError) → IfSome (told_file told name) (λ file. IsStep file before answer now) → IsHere queries name before now s answer files outcome
+  here : (answer : Result Next ReadError) → IfSome (stated_file reported name) (λ file. IsStep file before answer now) → IsHere queries name before now s answer files outcome
   here answer step =
       let found = file_known files counts name law (some_if (get counts name) known) in
       record {
         file = found.0;
         held = found.1;
-        step = at_told (λ file. IsStep file before answer now) (told_file told name) found.0 (ap (λ (o : Option (ByName (List ℕ))). told_file o name) same ∙ found.1) step;
+        step = at_reported (λ file. IsStep file before answer now) (stated_file reported name) found.0 (ap (λ (o : Option (ByName (List ℕ))). stated_file o name) same ∙ found.1) step;
         left = in_file (λ file. LeftOver queries before.offset (length file) (drop before.offset (within file)) s) files name found.0 outcome found.1 t;
       }
 
   -- a frame is taken, and the reports go on after it
-  frame_left : (frame : Frame) → IfSome (told_file told name) (λ file. IsStep file before (Ok (next.Frame frame)) now) → Then (Does (take_frame queries before.offset frame s)) (λ later. LeftIn queries name now.offset later) files outcome
+  frame_left : (frame : Frame) → IfSome (stated_file reported name) (λ file. IsStep file before (Ok (next.Frame frame)) now) → Then (Does (take_frame queries before.offset frame s)) (λ later. LeftIn queries name now.offset later) files outcome
   frame_left frame step = of (here (Ok (next.Frame frame)) step)
     where
       of : IsHere queries name before now s (Ok (next.Frame frame)) files outcome → Then (Does (take_frame queries before.offset frame s)) (λ later. LeftIn queries name now.offset later) files outcome
@@ -103,11 +103,11 @@ module _ (queries : List TypedQuery) (name : List ℕ) (before now : ReaderState
           then_weaker (Does (take_frame queries before.offset frame s)) (λ later. LeftOver queries (before.offset + len) (length file) (drop len (rest_of file before)) later) (λ later. LeftIn queries name now.offset later) files outcome
           (λ later o left. of_file (λ f. LeftOver queries now.offset (length f) (drop now.offset (within f)) later) files name file o h.held
           (subst (λ (n : ℕ). LeftOver queries n (length file) (drop n (within file)) later files o) (sym h.step.2)
-          (subst (λ (rest : List ℕ). LeftOver queries (before.offset + len) (length file) rest later files o) (rest_behind (within file) before.offset len) left)))
+          (subst (λ (rest : List ℕ). LeftOver queries (before.offset + len) (length file) rest later files o) (rest_after (within file) before.offset len) left)))
           (splits queries before.offset (length file) (rest_of file before) s frame len h.step.1 files outcome h.left)
 
   -- no frame has this byte
-  bad_left : (at : ℕ) → IfSome (told_file told name) (λ file. IsStep file before (Ok (next.Bad at)) now) → outcome ≡ refused_at kinds.Bad at
+  bad_left : (at : ℕ) → IfSome (stated_file reported name) (λ file. IsStep file before (Ok (next.Bad at)) now) → outcome ≡ refused_at kinds.Bad at
   bad_left at step = of (here (Ok (next.Bad at)) step)
     where
       of : IsHere queries name before now s (Ok (next.Bad at)) files outcome → outcome ≡ refused_at kinds.Bad at
@@ -117,7 +117,7 @@ module _ (queries : List TypedQuery) (name : List ℕ) (before now : ReaderState
   few_end at size few = ap (λ b. cond b (silent (Err (Refused TooLarge))) (cond (nat_eq at size) (ended size s) (refused_at kinds.Cut at))) (le-ltb most_text size few)
 
   -- the file ends in a frame that goes on
-  cut_left : IfSome (told_file told name) (λ file. IsStep file before (Ok next.Cut) now) → outcome ≡ refused_at kinds.Cut before.offset
+  cut_left : IfSome (stated_file reported name) (λ file. IsStep file before (Ok next.Cut) now) → outcome ≡ refused_at kinds.Cut before.offset
   cut_left step = of (here (Ok next.Cut) step)
     where
       of : IsHere queries name before now s (Ok next.Cut) files outcome → outcome ≡ refused_at kinds.Cut before.offset
@@ -128,7 +128,7 @@ module _ (queries : List TypedQuery) (name : List ℕ) (before now : ReaderState
           ∙ ap (λ b. cond b (ended (length h.file) s) (refused_at kinds.Cut before.offset)) (ne_eqb before.offset (length h.file) (λ e. omega (arith, within_file, e)))
 
   -- it ends after a frame
-  end_left : IfSome (told_file told name) (λ file. IsStep file before (Ok next.End) now) → outcome ≡ ended before.offset s
+  end_left : IfSome (stated_file reported name) (λ file. IsStep file before (Ok next.End) now) → outcome ≡ ended before.offset s
   end_left step = of (here (Ok next.End) step)
     where
       of : IsHere queries name before now s (Ok next.End) files outcome → outcome ≡ ended before.offset s
@@ -141,7 +141,7 @@ module _ (queries : List TypedQuery) (name : List ℕ) (before now : ReaderState
           ∙ ap (λ (n : ℕ). ended n s) (sym at)
 
   -- it goes on past the bytes that are read
-  large_left : IfSome (told_file told name) (λ file. IsStep file before (Err errors.TooLarge) now) → outcome ≡ silent (Err (Refused TooLarge))
+  large_left : IfSome (stated_file reported name) (λ file. IsStep file before (Err errors.TooLarge) now) → outcome ≡ silent (Err (Refused TooLarge))
   large_left step = of (here (Err errors.TooLarge) step)
     where
       of : IsHere queries name before now s (Err errors.TooLarge) files outcome → outcome ≡ silent (Err (Refused TooLarge))
@@ -159,10 +159,10 @@ pub begun_is : (entries : List Entry) (lanes : List Intake) (closed : Option ℕ
 begun_is entries lanes closed kept are none empty = rw (are, none, empty) refl
 
 -- a reader that was made follows every file
-pub follows_first : (told : Option (List ℕ)) (reader : ReaderState) → reader ≡ made → IfSome told (λ file. ReaderFollows file reader)
-follows_first told reader is = rw is (of told)
+pub follows_first : (reported : Option (List ℕ)) (reader : ReaderState) → reader ≡ made → IfSome reported (λ file. ReaderFollows file reader)
+follows_first reported reader is = rw is (of reported)
   where
-    of : (told : Option (List ℕ)) → IfSome told (λ file. ReaderFollows file made)
+    of : (reported : Option (List ℕ)) → IfSome reported (λ file. ReaderFollows file made)
     of None = tt
     of (Some file) = record { within_file = omega arith; held = refl }
 
@@ -175,16 +175,16 @@ unknown_there (Some file) count law none = absurd (true≢false (law ∙ ap is_s
 pub leads_first : {names : List (List ℕ)} {whole : Stage (Unit {0})} (w : World) → Leads names whole whole w w
 leads_first w = λ answer later r. r
 
-module _ (queries : List TypedQuery) (name : List ℕ) (before now : ReaderState) (s : Standing) (whole : Stage (Unit {0})) (first last : World) (files : Files) (told : files.told ≡ last.files.told) (rises : OnlyRises name last.files.faults files.faults)
-    (law : (held : ByName (List ℕ)) (other : List ℕ) → last.files.told ≡ Some held → is_some (get held other) ≡ is_some (get last.files.faults other)) (leads : Leads (name ∷ []) (LeftIn queries name before.offset s) whole first last) where
+module _ (queries : List TypedQuery) (name : List ℕ) (before now : ReaderState) (s : Standing) (whole : Stage (Unit {0})) (first last : World) (files : Files) (reported : files.reported ≡ last.files.reported) (rises : OnlyRises name last.files.faults files.faults)
+    (law : (held : ByName (List ℕ)) (other : List ℕ) → last.files.reported ≡ Some held → is_some (get held other) ≡ is_some (get last.files.faults other)) (leads : Leads (name ∷ []) (LeftIn queries name before.offset s) whole first last) where
   abbrev StepHere : Result Next ReadError → Type 0
-  StepHere answer = IfSome (told_file last.files.told name) (λ file. IsStep file before answer now)
+  StepHere answer = IfSome (stated_file last.files.reported name) (λ file. IsStep file before answer now)
 
   abbrev Known : Type 0
   Known = get last.files.faults name ≡ None → ⊥
 
   follows : Follows last (read_on last files)
-  follows = read_follows name last (read_on last files) told rises refl refl
+  follows = read_follows name last (read_on last files) reported rises refl refl
 
   spares : Spares (name ∷ []) last.files files
   spares = none_other name last.files.faults files.faults rises
@@ -192,31 +192,31 @@ module _ (queries : List TypedQuery) (name : List ℕ) (before now : ReaderState
   -- a frame is taken, and the reports go on
   pub frame_goes : (frame : Frame) (later : Standing) (end : World) → Known → StepHere (Ok (next.Frame frame)) → Runs [] (Does (take_frame queries before.offset frame s)) (read_on last files) (Ok later) end → Leads (name ∷ []) (LeftIn queries name now.offset later) whole first end
   frame_goes frame later end known step r =
-      turn_goes follows spares refl (λ held same outcome t. frame_left queries name before now s last.files.told last.files.faults held outcome same (law held name same) known t frame step) leads r
+      turn_goes follows spares refl (λ held same outcome t. frame_left queries name before now s last.files.reported last.files.faults held outcome same (law held name same) known t frame step) leads r
 
   -- a frame is refused, or its window isn't written
   pub frame_stops : (frame : Frame) (refusal : Refusal) (end : World) → Known → StepHere (Ok (next.Frame frame)) → Runs [] (Does (take_frame queries before.offset frame s)) (read_on last files) (Err refusal) end → Runs (name ∷ []) whole first (Err refusal) end
   frame_stops frame refusal end known step r =
-      turn_stops follows spares refl (λ held same outcome t. frame_left queries name before now s last.files.told last.files.faults held outcome same (law held name same) known t frame step) leads r
+      turn_stops follows spares refl (λ held same outcome t. frame_left queries name before now s last.files.reported last.files.faults held outcome same (law held name same) known t frame step) leads r
 
   -- no frame has this byte
   pub bad_stops : (at : ℕ) → Known → StepHere (Ok (next.Bad at)) → Runs (name ∷ []) whole first (Err (Refused (fault_at kinds.Bad at))) (read_on last files)
   bad_stops at known step =
-      turn_ends {due = refused_at kinds.Bad at} follows spares refl (λ held same outcome t. bad_left queries name before now s last.files.told last.files.faults held outcome same (law held name same) known t at step) leads
+      turn_ends {due = refused_at kinds.Bad at} follows spares refl (λ held same outcome t. bad_left queries name before now s last.files.reported last.files.faults held outcome same (law held name same) known t at step) leads
       (runs_gives (Err (fault_at kinds.Bad at)) (read_on last files) tt)
 
   -- the file ends in a frame that goes on
   pub cut_stops : Known → StepHere (Ok next.Cut) → Runs (name ∷ []) whole first (Err (Refused (fault_at kinds.Cut before.offset))) (read_on last files)
   cut_stops known step =
-      turn_ends {due = refused_at kinds.Cut before.offset} follows spares refl (λ held same outcome t. cut_left queries name before now s last.files.told last.files.faults held outcome same (law held name same) known t step) leads
+      turn_ends {due = refused_at kinds.Cut before.offset} follows spares refl (λ held same outcome t. cut_left queries name before now s last.files.reported last.files.faults held outcome same (law held name same) known t step) leads
       (runs_gives (Err (fault_at kinds.Cut before.offset)) (read_on last files) tt)
 
   -- it ends after a frame
   pub end_goes : (answer : Result (Unit {0}) Refusal) (end : World) → Known → StepHere (Ok next.End) → Runs [] (Does (ended before.offset s)) (read_on last files) answer end → Runs (name ∷ []) whole first answer end
   end_goes answer end known step r =
-      turn_ends {due = ended before.offset s} follows spares refl (λ held same outcome t. end_left queries name before now s last.files.told last.files.faults held outcome same (law held name same) known t step) leads r
+      turn_ends {due = ended before.offset s} follows spares refl (λ held same outcome t. end_left queries name before now s last.files.reported last.files.faults held outcome same (law held name same) known t step) leads r
 
-  missing_left : get last.files.faults name ≡ None → (held : ByName (List ℕ)) → last.files.told ≡ Some held → (outcome : Outcome (Unit {0})) → LeftIn queries name before.offset s held outcome → outcome ≡ silent (Err Missing)
+  missing_left : get last.files.faults name ≡ None → (held : ByName (List ℕ)) → last.files.reported ≡ Some held → (outcome : Outcome (Unit {0})) → LeftIn queries name before.offset s held outcome → outcome ≡ silent (Err Missing)
   missing_left none held same outcome t =
       no_file (λ file. LeftOver queries before.offset (length file) (drop before.offset (within file)) s) held name outcome (unknown_there (get held name) (get last.files.faults name) (law held name same) none) t
 
@@ -231,6 +231,6 @@ module _ (queries : List TypedQuery) (name : List ℕ) (before now : ReaderState
   error_stops errors.Missing missing unknown fault step = missing_stops (missing refl)
   error_stops errors.ReadFault missing unknown fault step = leads (Err _) (read_on last files) (runs_read_fault follows spares refl (inl (fault refl)))
   error_stops errors.TooLarge missing unknown fault step =
-      turn_ends {due = silent (Err (Refused TooLarge))} follows spares refl (λ held same outcome t. large_left queries name before now s last.files.told last.files.faults held outcome same (law held name same) (λ none. let no = unknown none in absurd cc) t step) leads
+      turn_ends {due = silent (Err (Refused TooLarge))} follows spares refl (λ held same outcome t. large_left queries name before now s last.files.reported last.files.faults held outcome same (law held name same) (λ none. let no = unknown none in absurd cc) t step) leads
       (runs_gives (Err TooLarge) (read_on last files) tt)
   error_stops errors.Memory missing unknown fault step = leads (Err _) (read_on last files) (runs_earlier follows spares refl (runs_memory (name ∷ []) (LeftIn queries name before.offset s) (read_on last files)))

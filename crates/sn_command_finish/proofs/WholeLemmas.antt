@@ -96,8 +96,8 @@ module _ (queries : List TypedQuery) (lanes : List Intake) (names : HaveNames la
   answers_at s sent = answers_to queries (kept_for s.closed s.kept sent.window) lanes sent
 
   -- after a window
-  abbrev behind : Standing → Sent → Standing
-  behind s sent = record {
+  abbrev following : Standing → Sent → Standing
+  following s sent = record {
     lanes = lanes;
     closed = Some sent.window;
     kept = gathered queries (answers_at s sent).parts lanes;
@@ -106,7 +106,7 @@ module _ (queries : List TypedQuery) (lanes : List Intake) (names : HaveNames la
   }
 
   abbrev closed_window : Standing → Sent → Outcome Standing
-  closed_window s sent = record { text = block_text queries (answers_at s sent) true; end = Ok (behind s sent) }
+  closed_window s sent = record { text = block_text queries (answers_at s sent) true; end = Ok (following s sent) }
 
   gathered_filled : (sent : Sent) (parts : List Part) (xs : List Intake) → gathered queries parts (map (filled sent) xs) ≡ gathered queries parts xs
   gathered_filled sent parts [] = refl
@@ -148,7 +148,7 @@ module _ (queries : List TypedQuery) (lanes : List Intake) (names : HaveNames la
         let f : Frame = w.frame in
         ap (λ (o : Outcome Standing). followed o (λ next. silent (Ok next)))
         (one_frame at us f [] whole ∙ ap (λ (fs : List Frame). close_ended queries (with_lanes (map (after fs) lanes) s)) whole ∙ ap (λ (ls : List Intake). close_ended queries (with_lanes ls s)) (lanes_filled queries lanes sent names idle window) ∙ last_frame)
-        ∙ ap (λ (t : List ℕ). record { text = t; end = Ok (behind s sent) }) (append-nil (block_text queries (answers_at s sent) true))
+        ∙ ap (λ (t : List ℕ). record { text = t; end = Ok (following s sent) }) (append-nil (block_text queries (answers_at s sent) true))
     window_goes at us w (v ∷ vs) whole =
         let f : Frame = w.frame in
         let next : (us ++ f ∷ []) ++ v.frame ∷ map frame_of vs ≡ sent.frames = append_assoc us (f ∷ []) (v.frame ∷ map frame_of vs) ∙ whole in
@@ -172,12 +172,12 @@ module _ (queries : List TypedQuery) (lanes : List Intake) (names : HaveNames la
 
   -- ---- all windows
 
-  abbrev behind_all : Standing → List Sent → Standing
-  behind_all s [] = s
-  behind_all s (sent ∷ later) = behind_all (behind s sent) later
+  abbrev after_all : Standing → List Sent → Standing
+  after_all s [] = s
+  after_all s (sent ∷ later) = after_all (following s sent) later
 
   all_windows : (at : ℕ) (windows : List Sent) (written : List Written) (s : Standing) → map frame_of written ≡ frames_in windows → s.lanes ≡ lanes → Rise s.closed windows → AllByRecursion (IsWindow queries lanes) windows
-      → take_frames queries at written s ≡ record { text = blocks_of queries (answers_from queries lanes s.closed s.kept windows); end = Ok (behind_all s windows) }
+      → take_frames queries at written s ≡ record { text = blocks_of queries (answers_from queries lanes s.closed s.kept windows); end = Ok (after_all s windows) }
   all_windows at [] [] s is same rise each = refl
   all_windows at [] (w ∷ ws) s is same rise each = absurd (let none = ap length is in omega (arith, none))
   all_windows at (sent ∷ later) written s is same rise each =
@@ -186,23 +186,23 @@ module _ (queries : List TypedQuery) (lanes : List Intake) (names : HaveNames la
       ap (λ (ws : List Written). take_frames queries at ws s) p.whole
       ∙ frames_then queries at p.first p.second s
       ∙ ap (λ (o : Outcome Standing). followed o (λ last. take_frames queries next p.second last)) (whole_window sent each.0 s rise.0 at p.first p.of_first same)
-      ∙ ap (λ (o : Outcome Standing). record { text = block_text queries (answers_at s sent) true ++ o.text; end = o.end }) (all_windows next later p.second (behind s sent) p.of_second refl rise.1 each.1)
+      ∙ ap (λ (o : Outcome Standing). record { text = block_text queries (answers_at s sent) true ++ o.text; end = o.end }) (all_windows next later p.second (following s sent) p.of_second refl rise.1 each.1)
 
-  record IsBehind (s : Standing) (windows : List Sent) : Type 0 where
-    lanes_are : (behind_all s windows).lanes ≡ lanes
-    count : (behind_all s windows).windows ≡ s.windows + length windows
-    emitted : (behind_all s windows).emitted ≡ s.emitted + sum_by (λ (a : Answers). a.emitted) (answers_from queries lanes s.closed s.kept windows)
+  record IsAfter (s : Standing) (windows : List Sent) : Type 0 where
+    lanes_are : (after_all s windows).lanes ≡ lanes
+    count : (after_all s windows).windows ≡ s.windows + length windows
+    emitted : (after_all s windows).emitted ≡ s.emitted + sum_by (λ (a : Answers). a.emitted) (answers_from queries lanes s.closed s.kept windows)
 
-  is_behind : (windows : List Sent) (s : Standing) → s.lanes ≡ lanes → IsBehind s windows
-  is_behind [] s same = record { lanes_are = same; count = omega arith; emitted = omega arith }
-  is_behind (sent ∷ later) s same =
-      let rest = is_behind later (behind s sent) refl in
+  is_after : (windows : List Sent) (s : Standing) → s.lanes ≡ lanes → IsAfter s windows
+  is_after [] s same = record { lanes_are = same; count = omega arith; emitted = omega arith }
+  is_after (sent ∷ later) s same =
+      let rest = is_after later (following s sent) refl in
       let count = rest.count in
       let emitted = rest.emitted in
       record {
         lanes_are = rest.lanes_are;
         count = omega (arith, count);
-        emitted = omega (arith, emitted, sum_cons (λ (a : Answers). a.emitted) (answers_at s sent) (answers_from queries lanes (behind s sent).closed (behind s sent).kept later));
+        emitted = omega (arith, emitted, sum_cons (λ (a : Answers). a.emitted) (answers_at s sent) (answers_from queries lanes (following s sent).closed (following s sent).kept later));
       }
 
   abbrev all_reported : Standing → List Sent → Outcome (Unit {0})
@@ -214,10 +214,10 @@ module _ (queries : List TypedQuery) (lanes : List Intake) (names : HaveNames la
       → reported_from queries 0 (length (bytes_of written)) (record { frames = written; left = More }) s ≡ all_reported s windows
   whole_reports windows written s frames few same none zero rise each =
       let size : ℕ = length (bytes_of written) in
-      let last : Standing = behind_all s windows in
+      let last : Standing = after_all s windows in
       let found : List Answers = answers_from queries lanes s.closed s.kept windows in
       let blocks : List ℕ = blocks_of queries found in
-      let is = is_behind windows s same in
+      let is = is_after windows s same in
       let at_end : (0 + size == size) ≡ true = eq-eqb (0 + size) size (omega arith) in
       let closed : list_any has_started last.lanes ≡ false = ap (list_any has_started) is.lanes_are ∙ none_started lanes idle in
       let counted : last.windows ≡ length windows = (let c = is.count in omega (arith, c, none)) in

@@ -16,16 +16,16 @@ use Rattle.sn_command.proofs.OneLemmas.{one_judges, one_text, one_then}
 use Rattle.sn_command_training.proofs.TrainingLemmas.{one_training}
 use Rattle.sn_command_training.specs.Training.{TrainingIn}
 
-one_summed : (told : Telling) (number : ℕ) → HasOne (Summed told number)
-one_summed told number =
+one_summed : (reported : Telling) (number : ℕ) → HasOne (Summed reported number)
+one_summed reported number =
     one_then (one_text (codes "queries") QueriesIn one_queries) (λ read. one_then (one_text (codes "switch") SwitchIn one_switch) (λ limits.
     one_then (one_text (codes "training") (TrainingIn (window_ns read)) (one_training (window_ns read))) (λ training.
     one_then (one_judges (one_search limits read.queries (trained training.numbers training.tuples) 100000)) (λ found.
-    one_answered (summary_wording told number found.cost (length found.tree) (planned read limits found.plan)) (window_ns read) (codes "capture")))))
+    one_answered (summary_wording reported number found.cost (length found.tree) (planned read limits found.plan)) (window_ns read) (codes "capture")))))
 
-pub one_job : (told : Telling) (number : ℕ) → HasOne (Job told number)
-one_job told number =
-    let one = one_summed told number in
+pub one_job : (reported : Telling) (number : ℕ) → HasOne (Job reported number)
+one_job reported number =
+    let one = one_summed reported number in
     record {
       some = λ files. let has = one.some (job_files number) in record { outcome = has.outcome; is = has.is };
       once = λ files first second a b. one.once (job_files number) first second a b;

@@ -44,16 +44,16 @@ none_failed (name ∷ more) before now first last e f (inr rose) = none_failed m
 
 -- A run of the stages of a job over its made files is a run of the job, whatever files there are.
 pub works_over : (telling : Telling) (number : ℕ) (files later : List FileState) → held_by files ≡ job_files number → (before now inner after : World) (answer : Result (Unit {0}) Refusal)
-    → inner.files.told ≡ Some (held_by files) → inner.files.faults ≡ no_faults files → after.files.faults ≡ no_faults later
+    → inner.files.reported ≡ Some (held_by files) → inner.files.faults ≡ no_faults files → after.files.faults ≡ no_faults later
     → inner.out ≡ before.out → after.out ≡ now.out → now.files ≡ before.files → now.places ≡ before.places
     → WorksFrom 2 (codes "queries" ∷ codes "switch" ∷ codes "training" ∷ codes "capture" ∷ []) (Summed telling number) inner answer after → WorksFrom 2 [] (Job telling number) before answer now
-works_over telling number files later are before now inner after answer told_is faults_is later_is first last same places w =
+works_over telling number files later are before now inner after answer reported_is faults_is later_is first last same places w =
     let r = w.runs in
-    let told : inner.files.told ≡ Some (job_files number) = told_is ∙ ap Some are in
+    let reported : inner.files.reported ≡ Some (job_files number) = reported_is ∙ ap Some are in
     works_alone (record {
       keeps = λ others known outcome is.
           subst (λ (o : Sunk). Keeps outcome answer o.written now.out.written) first
-          (subst (λ (o : Sunk). Keeps outcome answer inner.out.written o.written) last (r.keeps (job_files number) told outcome is));
+          (subst (λ (o : Sunk). Keeps outcome answer inner.out.written o.written) last (r.keeps (job_files number) reported outcome is));
       missing = λ e. absurd (none_unknown number files are inner.files faults_is (r.missing e));
       read_fault = λ e. absurd (none_failed (names number files are) files later inner.files after.files faults_is later_is (r.read_fault e));
       write_fault = λ e. subst (λ (o : Sunk). OutRose o now.out) first (subst (λ (o : Sunk). OutRose inner.out o) last (r.write_fault e));
@@ -62,7 +62,7 @@ works_over telling number files later are before now inner after answer told_is 
       queries = λ fault e. ((r.queries fault e).0, λ other none. ap (λ (f : Files). get f.faults other) same);
       switch = λ fault e. ((r.switch fault e).0, λ other none. ap (λ (f : Files). get f.faults other) same);
       follows = record {
-        told = ap (λ (f : Files). f.told) same;
+        reported = ap (λ (f : Files). f.reported) same;
         known = λ name. ap (λ (f : Files). is_some (get f.faults name)) same;
         faults = λ name. let e = ap (λ (f : Files). count_of f.faults name) same in omega arith;
         write_faults = let e = ap (λ (o : Sunk). o.faults) first in let f = ap (λ (o : Sunk). o.faults) last in let k = r.follows.write_faults in omega arith;

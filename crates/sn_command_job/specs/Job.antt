@@ -34,12 +34,12 @@ job_files number = from_entries (job_entries number)
 -- switch, then the training capture; the plan that costs least on it is searched for; and then the other capture is read and answered along
 -- that plan, as a machine reports the answers.
 abbrev pub Summed : Telling → ℕ → Stage (Unit {0})
-Summed told number =
+Summed reported number =
     Then (Text (codes "queries") QueriesIn) (λ read.
     Then (Text (codes "switch") SwitchIn) (λ limits.
     Then (Text (codes "training") (TrainingIn (window_ns read))) (λ training.
     Then (Judges (SearchedIn limits read.queries (trained training.numbers training.tuples) 100000)) (λ found.
-    Answered (summary_wording told number found.cost (length found.tree) (planned read limits found.plan)) (window_ns read) (codes "capture")))))
+    Answered (summary_wording reported number found.cost (length found.tree) (planned read limits found.plan)) (window_ns read) (codes "capture")))))
 
 -- a stage over these files, whatever files there are
 abbrev pub Over : {A : Type 0} → ByName (List ℕ) → Stage A → Stage A
@@ -47,4 +47,4 @@ Over made stage files outcome = stage made outcome
 
 -- `job NUMBER`
 abbrev pub Job : Telling → ℕ → Stage (Unit {0})
-Job told number = Over (job_files number) (Summed told number)
+Job reported number = Over (job_files number) (Summed reported number)

@@ -4,7 +4,7 @@ use Rattle.std.specs.Prelude.{◌≡◌, ℕ, List, [], ◌∷◌, map, Some, is
 use Rattle.std.specs.FinMap.{from_entries, get}
 use Rattle.std.proofs.Common.{refl, ap, ◌∙◌}
 use Rattle.sn_io.specs.Counts.{ByName}
-use Rattle.sn_io.specs.MemInputs.{FileState, faults_of, held_by, named_bytes, told_known}
+use Rattle.sn_io.specs.MemInputs.{FileState, faults_of, held_by, named_bytes, reported_known}
 
 -- files as they stand where none of their reads failed
 abbrev pub unfailed_file : FileState → FileState
@@ -27,4 +27,4 @@ held_unfailed files = ap from_entries (same_bytes files)
 -- the names held are the names known
 pub made_known : (files : List FileState) (held : ByName (List ℕ)) (name : List ℕ) → Some (held_by files) ≡ Some held
     → is_some (get held name) ≡ is_some (get (no_faults files) name)
-made_known files held name told = told_known (record { files = unfailed files; refused = []; reads = 0 }) held name (ap Some (held_unfailed files) ∙ told)
+made_known files held name reported = reported_known (record { files = unfailed files; refused = []; reads = 0 }) held name (ap Some (held_unfailed files) ∙ reported)

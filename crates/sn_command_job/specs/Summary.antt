@@ -6,7 +6,7 @@ use Rattle.std.specs.List.{flat_map}
 use Rattle.sn_command_capture.specs.Wording.{Wording}
 use Rattle.sn_gen.specs.Generated.{packet_count}
 use Rattle.sn_out.specs.Text.{row_line}
-use Rattle.sn_command_run.specs.Planned.{Planned, Telling, told_at, told_emitted_in}
+use Rattle.sn_command_run.specs.Planned.{Planned, Telling, reported_at, reported_emitted_in}
 use Rattle.sn_types.specs.declared.answers.Answers.{Answers}
 use Rattle.sn_types.specs.declared.answers.Part.{Part}
 use Rattle.sn_types.specs.declared.typed_query.TypedQuery.{TypedQuery}
@@ -35,10 +35,10 @@ shown queries answers = if answers.window == 3 then flat_map (shown_part queries
 
 -- of the windows of a capture that is answered along a plan, where this is reported of their answers
 abbrev pub shown_at : Telling → Planned → List Window → Window → List ℕ
-shown_at told p windows w = shown p.queries (told_at told p windows w.0)
+shown_at reported p windows w = shown p.queries (reported_at reported p windows w.0)
 
 abbrev pub shown_in : Telling → Planned → List Window → List ℕ
-shown_in told p windows = flat_map (shown_at told p windows) windows
+shown_in reported p windows = flat_map (shown_at reported p windows) windows
 
 -- The lines of a summary: what the plan costs on the first capture, how many items it sends of the windows that are answered, how many
 -- nodes its tree has, and the rows that are shown.
@@ -48,15 +48,15 @@ summary_text number cost nodes windows emitted rows =
 
 -- the summary of a job, whose plan answers these windows, as it is printed
 abbrev pub summary : Telling → ℕ → ℕ → ℕ → Planned → List Window → List ℕ
-summary told number cost nodes p windows = summary_text number cost nodes (length windows) (told_emitted_in told p windows) (shown_in told p windows)
+summary reported number cost nodes p windows = summary_text number cost nodes (length windows) (reported_emitted_in reported p windows) (shown_in reported p windows)
 
 -- the summary is all that is written
 abbrev pub summary_wording : Telling → ℕ → ℕ → ℕ → Planned → Wording
-summary_wording told number cost nodes p =
+summary_wording reported number cost nodes p =
     record {
       first = [];
       block = λ windows w tuples. [];
       stops = λ windows number tuples. None;
       unfinished = λ closed number tuples. [];
-      last = λ windows ending. summary told number cost nodes p windows;
+      last = λ windows ending. summary reported number cost nodes p windows;
     }

@@ -31,7 +31,7 @@ fn sum_up<M: Machine, I: Inputs, O: Sink>(
     number: u32,
     desk: &mut Desk<'_, I, O>,
 ) -> Result<(), Refusal>
-    ensures { WorksFrom 2 (codes "queries" ∷ codes "switch" ∷ codes "training" ∷ codes "capture" ∷ []) (Summed M.told number)
+    ensures { WorksFrom 2 (codes "queries" ∷ codes "switch" ∷ codes "training" ∷ codes "capture" ∷ []) (Summed M.reported number)
         (world I.Inputs O.Sink desk.old) result (world I.Inputs O.Sink desk.new) }
 {
     let typed = read_queries(alloc, desk, "queries")?;
@@ -58,7 +58,7 @@ pub fn job<M: Machine, I: Inputs, O: Sink>(
     number: u32,
     desk: &mut Desk<'_, I, O>,
 ) -> Result<(), Refusal>
-    ensures { WorksFrom 2 [] (Job M.told number) (world I.Inputs O.Sink desk.old) result (world I.Inputs O.Sink desk.new) }
+    ensures { WorksFrom 2 [] (Job M.reported number) (world I.Inputs O.Sink desk.old) result (world I.Inputs O.Sink desk.new) }
 {
     let mut files = job_files(alloc, number)?;
     let mut made = Desk {

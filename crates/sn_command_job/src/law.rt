@@ -13,5 +13,5 @@ pub fn gen_has_one_outcome()
 
 /// `job` has exactly one outcome, whatever files there are.
 pub fn job_has_one_outcome()
-    ensures { (told : Telling) (number : ℕ) → HasOne (Job told number) }
+    ensures { (reported : Telling) (number : ℕ) → HasOne (Job reported number) }
 {}

@@ -49,7 +49,7 @@ impl Inputs for MadeFiles {
     ghost use Rattle.sn_io.specs.MemInputs.{held_by};
     ghost use Rattle.sn_command_job.specs.Made.{made_known, no_faults};
 
-    ghost told = { λ s. Some (held_by s) };
+    ghost reported = { λ s. Some (held_by s) };
 
     ghost faults = { λ s. no_faults s };
 

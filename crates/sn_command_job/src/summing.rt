@@ -31,7 +31,7 @@ impl<M: Machine> Answering for Summing<M> {
     ghost use Rattle.sn_command_job.specs.Summing.{IsAtWork, IsIdle};
     ghost use Rattle.sn_command_run.specs.Along.{plan_of};
 
-    ghost wording = { λ a. summary_wording M.told a.number a.cost a.nodes (plan_of a.along) };
+    ghost wording = { λ a. summary_wording M.reported a.number a.cost a.nodes (plan_of a.along) };
 
     ghost idle = { λ a closed. IsIdle M.Machine a closed };
 
@@ -67,5 +67,5 @@ impl<M: Machine> Answering for Summing<M> {
 
     ghost causal = { λ a closed number tuples more rising. refl };
 
-    ghost in_time = { λ a. never_stopped (summary_wording M.told a.number a.cost a.nodes (plan_of a.along)) (λ windows number tuples. refl) };
+    ghost in_time = { λ a. never_stopped (summary_wording M.reported a.number a.cost a.nodes (plan_of a.along)) (λ windows number tuples. refl) };
 }

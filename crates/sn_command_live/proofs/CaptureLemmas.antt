@@ -233,8 +233,8 @@ module _ (capture : List ℕ) (files : ByName (List ℕ)) where
   same_file : (a b : List ℕ) → get files capture ≡ Some a → get files capture ≡ Some b → a ≡ b
   same_file a b e f = let same : ◌≡◌ {A = Option (List ℕ)} (Some a) (Some b) = sym e ∙ f in cc
 
-  abbrev behind_first : Wording → ℕ → Header → Unit {0} → Stage (Unit {0})
-  behind_first wording window header u = Then (WindowsOf wording window capture header) (λ closed. LastLines wording closed.0 closed.1)
+  abbrev after_first : Wording → ℕ → Header → Unit {0} → Stage (Unit {0})
+  after_first wording window header u = Then (WindowsOf wording window capture header) (λ closed. LastLines wording closed.0 closed.1)
 
   first_text : (wording : Wording) (begun : Outcome (Unit {0})) → Adds wording.first files begun → begun.text ≡ wording.first
   first_text wording begun is = ap (λ (o : Outcome (Unit {0})). o.text) is
@@ -244,7 +244,7 @@ module _ (capture : List ℕ) (files : ByName (List ℕ)) where
       let p = passed (Head capture) (AfterHead wording window capture) files never_head o t ends in
       let header = p.value in
       let h = head_so p.begun header p.begins p.ok in
-      let f = passed (Adds wording.first) (behind_first wording window header) files (never_does tt wording.first files) p.rest p.goes_on (λ r e. ends r (p.end ∙ e)) in
+      let f = passed (Adds wording.first) (after_first wording window header) files (never_does tt wording.first files) p.rest p.goes_on (λ r e. ends r (p.end ∙ e)) in
       let q = passed (WindowsOf wording window capture header) (λ closed. LastLines wording closed.0 closed.1) files (never_windows wording never window header) f.rest f.goes_on (λ r e. ends r (p.end ∙ f.end ∙ e)) in
       let closed = q.value in
       let w = windows_so wording never window header q.begun closed q.begins q.ok in

@@ -5,7 +5,7 @@ use Rattle.sn_command_search.proofs.Verdicts.{one_search}
 use Rattle.sn_command_texts.proofs.Verdicts.{one_queries, one_switch}
 use Rattle.sn_command_texts.specs.Queries.{QueriesIn}
 use Rattle.sn_command_texts.specs.Texts.{SwitchIn}
-use Rattle.sn_command_run.specs.Planned.{Telling, told_wording}
+use Rattle.sn_command_run.specs.Planned.{Telling, reported_wording}
 use Rattle.sn_command_run.specs.Run.{planned, window_ns}
 use Rattle.sn_command.specs.Outcomes.{HasOne}
 use Rattle.sn_command.proofs.OneLemmas.{one_does, one_judges, one_text, one_then}
@@ -24,10 +24,10 @@ one_certifies before switch queries train nodes =
 pub one_plan_run : (switch queries train : List ℕ) (nodes : ℕ) → HasOne (Plan switch queries train nodes)
 one_plan_run switch queries train nodes = one_then (one_certifies [] switch queries train nodes) (λ found. one_does _)
 
-pub one_live_run : (told : Telling) (switch queries train capture : List ℕ) (nodes : ℕ) → HasOne (Live told switch queries train capture nodes)
-one_live_run told switch queries train capture nodes =
-    one_then (one_certifies [] switch queries train nodes) (λ found. one_answered (told_wording told (planned found.read found.limits found.certificate.plan)) (window_ns found.read) capture)
+pub one_live_run : (reported : Telling) (switch queries train capture : List ℕ) (nodes : ℕ) → HasOne (Live reported switch queries train capture nodes)
+one_live_run reported switch queries train capture nodes =
+    one_then (one_certifies [] switch queries train nodes) (λ found. one_answered (reported_wording reported (planned found.read found.limits found.certificate.plan)) (window_ns found.read) capture)
 
-pub one_traced_run : (schedule : ℕ) (told : Telling) (switch queries train capture : List ℕ) (nodes : ℕ) → HasOne (TracedLive schedule told switch queries train capture nodes)
-one_traced_run schedule told switch queries train capture nodes =
-    one_then (one_certifies [] switch queries train nodes) (λ found. one_answered (traced_wording schedule (planned found.read found.limits found.certificate.plan) told) (window_ns found.read) capture)
+pub one_traced_run : (schedule : ℕ) (reported : Telling) (switch queries train capture : List ℕ) (nodes : ℕ) → HasOne (TracedLive schedule reported switch queries train capture nodes)
+one_traced_run schedule reported switch queries train capture nodes =
+    one_then (one_certifies [] switch queries train nodes) (λ found. one_answered (traced_wording schedule (planned found.read found.limits found.certificate.plan) reported) (window_ns found.read) capture)

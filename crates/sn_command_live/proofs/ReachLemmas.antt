@@ -150,8 +150,8 @@ module _ {switch queries train capture : List ℕ} {files : ByName (List ℕ)} {
   along = planned given.read given.limits certificate.plan
 
   -- what is written after the certificate
-  abbrev pub behind : List ℕ
-  behind = flat_map (window_block along given.second) given.second ++ plan_lines along given.second ending
+  abbrev pub following : List ℕ
+  following = flat_map (window_block along given.second) given.second ++ plan_lines along given.second ending
 
   certified_given : Certifies switch queries train nodes files (record { text = certificate_text certificate; end = Ok (record { read = given.read; limits = given.limits; certificate = certificate }) })
   certified_given =
@@ -165,16 +165,16 @@ module _ {switch queries train capture : List ℕ} {files : ByName (List ℕ)} {
       (then_given [] trained added
       (text_given train (TrainingIn window) files given.first_file trained given.has_first (training_given window given.first_file given.has_first.few given.first given.first_ending given.is_first keeps.few_records)) searched))
 
-  pub live_given : Live as_they_are switch queries train capture nodes files (record { text = certificate_text certificate ++ behind; end = refusing (ending_verdict ending) })
+  pub live_given : Live as_they_are switch queries train capture nodes files (record { text = certificate_text certificate ++ following; end = refusing (ending_verdict ending) })
   live_given =
       let found : Searched = record { read = given.read; limits = given.limits; certificate = certificate } in
-      then_given (certificate_text certificate) found (record { text = behind; end = refusing (ending_verdict ending) }) certified_given
+      then_given (certificate_text certificate) found (record { text = following; end = refusing (ending_verdict ending) }) certified_given
       (answered_given (plan_wording along) (λ windows number tuples. refl) window capture files given.second_file given.second ending given.has_second given.is_second keeps.few_each keeps.within_bytes)
 
   module _ (show : Shows) (costs : Costs) where
     pub reached : (o : Outcome (Unit {0})) → Live as_they_are switch queries train capture nodes files o → (o.end ≡ refusing (ending_verdict ending)) × Headline given o.text
     reached o is =
-        let same : record { text = certificate_text certificate ++ behind; end = refusing (ending_verdict ending) } ≡ o = (one_live_run as_they_are switch queries train capture nodes).once files (record { text = certificate_text certificate ++ behind; end = refusing (ending_verdict ending) }) o live_given is in (
+        let same : record { text = certificate_text certificate ++ following; end = refusing (ending_verdict ending) } ≡ o = (one_live_run as_they_are switch queries train capture nodes).once files (record { text = certificate_text certificate ++ following; end = refusing (ending_verdict ending) }) o live_given is in (
           sym (ap (λ (x : Outcome (Unit {0})). x.end) same),
           headline_of show costs switch queries train capture files ending given nodes certificate some_certificate.1 o.text (sym (ap (λ (x : Outcome (Unit {0})). x.text) same)),
         )

@@ -16,7 +16,7 @@ use Rattle.sn_pcap.specs.declared.packet.Packet.{Packet}
 use Rattle.sn_command.specs.declared.fault.Fault.{Fault}
 use Rattle.sn_command.specs.declared.fault.Fault.TheVariants as faults
 use Rattle.sn_cost_training.specs.Trained.{Training}
-use Rattle.sn_command_training.specs.Training.{JudgedAs, JudgedBehind, TrainingIn, judged_records, training_of}
+use Rattle.sn_command_training.specs.Training.{JudgedAs, JudgedAfter, TrainingIn, judged_records, training_of}
 use Rattle.sn_windows.specs.Numbering.{begun}
 use Rattle.sn_windows.proofs.NumberLemmas.{numbered_is, records_are}
 use Rattle.sn_windows.specs.Windows.{in_window, number_at, numbered, record_at, windows_of}
@@ -79,8 +79,8 @@ module _ (window : ℕ) (file : List ℕ) (few : length file ≤ 2 ^ 30) where
       (λ is. absurd (let no = sym (ap (λ b. cond b (Err faults.TooLarge) (Ok (training_of window header.link file packets))) is) ∙ e in cc))
       (λ isnt. let same : ◌≡◌ {A = Result Training Fault} (Ok (training_of window header.link file packets)) (Ok training) = sym (ap (λ b. cond b (Err faults.TooLarge) (Ok (training_of window header.link file packets))) isnt) ∙ e in cc)
 
-  behind_so : (header : Header) (training : Training) → head_of file ≡ Ok header → JudgedBehind window header file (Ok training) → TrainedSo training
-  behind_so header training head j =
+  after_so : (header : Header) (training : Training) → head_of file ≡ Ok header → JudgedAfter window header file (Ok training) → TrainedSo training
+  after_so header training head j =
       let ps = numbered time_of window j.packets in
       let same = records_so header j.packets training (sym j.same) in
       let all : map record_at ps ≡ j.packets = ap (map record_at) (sym (numbered_is time_of window j.packets)) ∙ records_are time_of (begun window) j.packets in
@@ -105,7 +105,7 @@ module _ (window : ℕ) (file : List ℕ) (few : length file ≤ 2 ^ 30) where
   training_so training is = by_head (head_of file) refl is
     where
       by_head : (head : Result Header HeadFault) → head_of file ≡ head → JudgedAs window file head (Ok training) → TrainedSo training
-      by_head (Ok header) e j = behind_so header training e j
+      by_head (Ok header) e j = after_so header training e j
       by_head (Err fault) e j = absurd (let no = j in cc)
 
 -- a training capture isn't refused for a damaged record

@@ -25,8 +25,8 @@ module _ {A : Type 0} (text : List ℕ) (value : A) where
   -- a text was added, and a value is given
   pub adds_value : {before now : World} (answer : Result (Unit {0}) Refusal) → Runs [] (Adds text) before answer now → Runs [] (Does (record { text = text; end = Ok value })) before (seen_as (λ _. value) answer) now
   adds_value {before} {now} answer r = record {
-    keeps = λ files told outcome is.
-        subst (λ (o : Outcome A). Keeps o (seen_as (λ _. value) answer) before.out.written now.out.written) (sym is) (keeps_value answer before.out.written now.out.written (r.keeps files told (record { text = text; end = Ok tt }) refl));
+    keeps = λ files reported outcome is.
+        subst (λ (o : Outcome A). Keeps o (seen_as (λ _. value) answer) before.out.written now.out.written) (sym is) (keeps_value answer before.out.written now.out.written (r.keeps files reported (record { text = text; end = Ok tt }) refl));
     missing = λ e. r.missing (seen_err answer e);
     read_fault = λ e. r.read_fault (seen_err answer e);
     write_fault = λ e. r.write_fault (seen_err answer e);

@@ -59,10 +59,10 @@ Plan switch queries train nodes = Then (Certifies switch queries train nodes) (�
 -- `live SWITCH QUERIES TRAIN CAPTURE --nodes NODES`: then the capture is read and answered along that plan; the answers are given as a
 -- machine reports them.
 abbrev pub Live : Telling → List ℕ → List ℕ → List ℕ → List ℕ → ℕ → Stage (Unit {0})
-Live told switch queries train capture nodes =
-    Then (Certifies switch queries train nodes) (λ found. AlongPlan told capture found.read found.limits found.certificate.plan)
+Live reported switch queries train capture nodes =
+    Then (Certifies switch queries train nodes) (λ found. AlongPlan reported capture found.read found.limits found.certificate.plan)
 
 -- The same with `--schedule SCHEDULE --trace`: with the lines of what happens in a machine that is driven by draws that follow this number.
 abbrev pub TracedLive : ℕ → Telling → List ℕ → List ℕ → List ℕ → List ℕ → ℕ → Stage (Unit {0})
-TracedLive schedule told switch queries train capture nodes =
-    Then (Certifies switch queries train nodes) (λ found. TracedAlong schedule told capture found.read found.limits found.certificate.plan)
+TracedLive schedule reported switch queries train capture nodes =
+    Then (Certifies switch queries train nodes) (λ found. TracedAlong schedule reported capture found.read found.limits found.certificate.plan)

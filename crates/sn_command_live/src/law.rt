@@ -26,14 +26,14 @@ pub fn plan_has_one_outcome()
 /// Over each set of files `live` has exactly one outcome, whatever is reported of answers.
 #[tactic(auto, using(crate::proofs::LiveLemmas::one_live_run))]
 pub fn live_has_one_outcome()
-    ensures { (told : Telling) (switch queries train capture : List ℕ) (nodes : ℕ) → HasOne (Live told switch queries train capture nodes) }
+    ensures { (reported : Telling) (switch queries train capture : List ℕ) (nodes : ℕ) → HasOne (Live reported switch queries train capture nodes) }
 {}
 
 /// Over each set of files `live` with a trace has exactly one outcome, by each schedule.
 #[tactic(auto, using(crate::proofs::LiveLemmas::one_traced_run))]
 pub fn traced_live_has_one_outcome()
-    ensures { (schedule : ℕ) (told : Telling) (switch queries train capture : List ℕ) (nodes : ℕ) →
-        HasOne (TracedLive schedule told switch queries train capture nodes) }
+    ensures { (schedule : ℕ) (reported : Telling) (switch queries train capture : List ℕ) (nodes : ℕ) →
+        HasOne (TracedLive schedule reported switch queries train capture nodes) }
 {}
 
 /// Of accepted queries, an accepted switch and two captures `live` prints a plan that fits, a tree that shows that no plan that fits costs less on the

@@ -26,7 +26,7 @@ pub fn live<M: Machine, I: Inputs, O: Sink>(
     nodes: u32,
     desk: &mut Desk<'_, I, O>,
 ) -> Result<(), Refusal>
-    ensures { WorksFrom 2 (queries.now ∷ switch.now ∷ train.now ∷ capture.now ∷ []) (Live M.told switch.now queries.now train.now capture.now nodes)
+    ensures { WorksFrom 2 (queries.now ∷ switch.now ∷ train.now ∷ capture.now ∷ []) (Live M.reported switch.now queries.now train.now capture.now nodes)
         (world I.Inputs O.Sink desk.old) result (world I.Inputs O.Sink desk.new) }
 {
     let certified = certify(alloc, switch, queries, train, nodes, desk)?;

@@ -27,7 +27,7 @@ pub fn live_traced<M: Machine, I: Inputs, O: Sink>(
     desk: &mut Desk<'_, I, O>,
 ) -> Result<(), Refusal>
     ensures { WorksFrom 2 (queries.now ∷ switch.now ∷ train.now ∷ capture.now ∷ [])
-        (TracedLive schedule M.told switch.now queries.now train.now capture.now nodes) (world I.Inputs O.Sink desk.old) result
+        (TracedLive schedule M.reported switch.now queries.now train.now capture.now nodes) (world I.Inputs O.Sink desk.old) result
         (world I.Inputs O.Sink desk.new) }
 {
     let certified = certify(alloc, switch, queries, train, nodes, desk)?;

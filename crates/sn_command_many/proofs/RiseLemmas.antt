@@ -58,7 +58,7 @@ windows_each shares =
 
 below : (n : ℕ) (done : List Shared) (w : Shared) (rest : List Shared) → AreRising (Some n) (map in_one (done ++ w ∷ rest)) → (v : ℕ) → IsAbove (last_number (Some n) done) v → n < v
 below n [] w rest rises v above = above
-below n (d ∷ done) w rest rises v above = let first : n < d.0 = rises.0 in let behind : d.0 < v = below d.0 done w rest rises.1 v above in omega (arith, first, behind)
+below n (d ∷ done) w rest rises v above = let first : n < d.0 = rises.0 in let following : d.0 < v = below d.0 done w rest rises.1 v above in omega (arith, first, following)
 
 -- it is above those that were answered, and none between them holds a record
 pub record IsNext (before : Option ℕ) (done : List Shared) (w : Shared) (rest : List Shared) : Type 0 where

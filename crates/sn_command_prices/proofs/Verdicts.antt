@@ -18,12 +18,12 @@ use Rattle.sn_prices_text.specs.declared.fault.PricesFault.TheVariants as prices
 use Rattle.sn_switch.specs.declared.switch.Switch.{Switch}
 use Rattle.sn_types.specs.declared.typed_query.TypedQuery.{TypedQuery}
 use Rattle.sn_windows.specs.Rising.{Window}
-use Rattle.sn_command_prices.specs.Behind.{PricesBehind, prices_text_fault, prices_text_refusal}
+use Rattle.sn_command_prices.specs.After.{PricesAfter, prices_text_fault, prices_text_refusal}
 use Rattle.sn_command_prices.specs.Priced.{PricedFor, price_flaw, priced_cost, priced_least}
 
 -- ---- the text
 
-pub prices_once : (text : List ℕ) (byte : ℕ) (first second : Result Shown Fault) → PricesBehind text byte first → PricesBehind text byte second → first ≡ second
+pub prices_once : (text : List ℕ) (byte : ℕ) (first second : Result Shown Fault) → PricesAfter text byte first → PricesAfter text byte second → first ≡ second
 prices_once text byte = read_once prices_text_fault (prices.IsRead text byte) (readings.reading_once text byte)
 
 -- the faults of a text of prices may come where the queries and the switch were read before
@@ -32,24 +32,24 @@ prices_may A (prices_faults.Lex line) = tt
 prices_may A (prices_faults.Expected line) = tt
 prices_may A prices_faults.Memory = tt
 
-pub one_prices_behind : (text : List ℕ) (byte : ℕ) → HasVerdict (PricesBehind text byte)
-one_prices_behind text byte =
+pub one_prices_after : (text : List ℕ) (byte : ℕ) → HasVerdict (PricesAfter text byte)
+one_prices_after text byte =
     one_reading prices_text_fault (prices.IsRead text byte) (readings.reading_once text byte) (readings.reading_some text byte).reading (readings.reading_some text byte).is
 
-pub prices_refused : (text : List ℕ) (byte : ℕ) (e : PricesFault) → prices.IsFault (from_byte byte (tokens_of text)) e → Answers {A = Shown} (PricesBehind text byte) (Err (prices_text_refusal e))
+pub prices_refused : (text : List ℕ) (byte : ℕ) (e : PricesFault) → prices.IsFault (from_byte byte (tokens_of text)) e → Answers {A = Shown} (PricesAfter text byte) (Err (prices_text_refusal e))
 prices_refused text byte (prices_faults.Lex line) h = record { found = Err (prices_faults.Lex line); is = (h, λ e. cc); same = refl }
 prices_refused text byte (prices_faults.Expected line) h = record { found = Err (prices_faults.Expected line); is = (h, λ e. cc); same = refl }
 prices_refused text byte prices_faults.Memory h = tt
 
 -- ---- what they show
 
-may_least : (least told : ℕ) (b : Bool) → MayCome {A = Unit {0}} 0 (cond b (Err (price_flaw kinds.Bound least told)) (Ok tt))
-may_least least told true = tt
-may_least least told false = tt
+may_least : (least reported : ℕ) (b : Bool) → MayCome {A = Unit {0}} 0 (cond b (Err (price_flaw kinds.Bound least reported)) (Ok tt))
+may_least least reported true = tt
+may_least least reported false = tt
 
-may_cost : (cost told least given : ℕ) (b : Bool) → MayCome {A = Unit {0}} 0 (cond b (cond (nat_lt least given) (Err (price_flaw kinds.Bound least given)) (Ok tt)) (Err (price_flaw kinds.Cost cost told)))
-may_cost cost told least given true = may_least least given (nat_lt least given)
-may_cost cost told least given false = tt
+may_cost : (cost reported least given : ℕ) (b : Bool) → MayCome {A = Unit {0}} 0 (cond b (cond (nat_lt least given) (Err (price_flaw kinds.Bound least given)) (Ok tt)) (Err (price_flaw kinds.Cost cost reported)))
+may_cost cost reported least given true = may_least least given (nat_lt least given)
+may_cost cost reported least given false = tt
 
 module _ (s : Switch) (queries : List TypedQuery) (given : List Window) (plan : Plan) (x : Shown) where
   pub priced_once : (first second : Result (Unit {0}) Fault) → PricedFor s queries given plan x first → PricedFor s queries given plan x second → first ≡ second

@@ -15,15 +15,15 @@ use Rattle.sn_switch.specs.declared.switch.Switch.{Switch}
 use Rattle.sn_types.specs.declared.typed_query.TypedQuery.{TypedQuery}
 use Rattle.sn_windows.specs.Rising.{Window}
 
--- The fault of prices: another number is wanted than the one that stands there. It is told as that of a tree at its root, node 0.
+-- The fault of prices: another number is wanted than the one that stands there. It is reported as that of a tree at its root, node 0.
 abbrev pub price_flaw : TreeKind → ℕ → ℕ → Fault
 price_flaw kind want got = faults.Unshown (record { kind = kind; node = 0; want = want; got = got })
 
 -- The cost that stands in a text is to be the plan's, and the number that no plan is said to cost less than at most what the prices show.
 abbrev pub price_verdict : ℕ → ℕ → ℕ → ℕ → Result (Unit {0}) Fault
-price_verdict cost least told_cost told_least =
-    if told_cost == cost then (if nat_lt least told_least then Err (price_flaw kinds.Bound least told_least) else Ok tt)
-    else Err (price_flaw kinds.Cost cost told_cost)
+price_verdict cost least reported_cost reported_least =
+    if reported_cost == cost then (if nat_lt least reported_least then Err (price_flaw kinds.Bound least reported_least) else Ok tt)
+    else Err (price_flaw kinds.Cost cost reported_cost)
 
 module _ (s : Switch) (queries : List TypedQuery) (given : List Window) where
   -- what a plan costs over training windows

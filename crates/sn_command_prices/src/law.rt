@@ -15,7 +15,7 @@ use sn_cost_laws::sent::costs_are_items_sent;
 use sn_prices::laws::prices_bound_costs;
 
 /// Where a cost and prices are found without a fault for a plan that fits, the cost is the plan's over the training windows, and no plan that
-/// fits costs less than the number that is told, whoever made the prices.
+/// fits costs less than the number that is reported, whoever made the prices.
 pub fn prices_without_fault_bound_costs()
     ensures cost { (s : Switch) (queries : List TypedQuery) (given : List Window) (plan : Plan) (x : Shown) → HaveRisingNumbers s queries →
         Fits queries s plan.entries → PricedFor s queries given plan x (Ok tt) → x.cost ≡ cost_over s queries plan.entries given }

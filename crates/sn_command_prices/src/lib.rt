@@ -1,7 +1,7 @@
 //! Prices over training windows, as commands read, test, make and write them.
 #![tactic(auto)]
 
-pub mod behind;
+pub mod following;
 pub mod law;
 pub mod make;
 pub mod shown;

@@ -5,7 +5,7 @@ ghost use Rattle.sn_cost.specs.Entries.{trained};
 ghost use Rattle.sn_cost_laws.specs.Priced.{AreCounted};
 ghost use Rattle.sn_plan_choices.specs.Costs.{HasPlaces, entry_in};
 ghost use Rattle.sn_plan_fit.specs.Fits.{Fits};
-ghost use Rattle.sn_prices_search.specs.Told.{AreTold};
+ghost use Rattle.sn_prices_search.specs.Reported.{AreWritable};
 ghost use Rattle.sn_switch.specs.Texts.{IsSwitch};
 ghost use Rattle.sn_windows.specs.Blocks.{most_records};
 ghost use Rattle.sn_windows.specs.Rising.{Window};
@@ -57,7 +57,7 @@ fn priced(
 ) -> Result<PricedPlan, Memory>
     requires switch { IsSwitch s.now }
     requires places { HasPlaces c.now (length t.now.queries) }
-    requires told { AreTold prices }
+    requires reported { AreWritable prices }
     requires fits { Fits t.now.queries s.now plan.entries }
     ensures { IfOk result (λ p. (given : List Window) → AreCounted s.now t.now.queries given (entry_in c.now) → IsPricedPlan s.now t.now.queries given p) }
 {

@@ -19,13 +19,13 @@ use sn_switch::switch::Switch;
 use sn_types::typed::Typed;
 
 /// Compares what a text says with what is so: the cost, and then the number that no plan costs less than.
-fn compare(cost: u64, least: u64, told_cost: u64, told_least: u64) -> Result<(), Refusal>
-    ensures { result ≡ refusing (price_verdict cost least told_cost told_least) }
+fn compare(cost: u64, least: u64, reported_cost: u64, reported_least: u64) -> Result<(), Refusal>
+    ensures { result ≡ refusing (price_verdict cost least reported_cost reported_least) }
 {
-    let (kind, want, got) = if told_cost != cost {
-        (TreeKind::Cost, cost, told_cost)
-    } else if told_least > least {
-        (TreeKind::Bound, least, told_least)
+    let (kind, want, got) = if reported_cost != cost {
+        (TreeKind::Cost, cost, reported_cost)
+    } else if reported_least > least {
+        (TreeKind::Bound, least, reported_least)
     } else {
         return Ok(());
     };

@@ -14,6 +14,6 @@ first_text = codes "epoch 0\n"
 first_line : first_text ≡ epoch_line 0
 first_line = sym (ap (λ (digits : List ℕ). codes "epoch " ++ digits ++ 10 ∷ []) (decimal_digit 0 (omega arith)))
 
-pub behind_line : {names : List (List ℕ)} {before now : World} (switch queries train : List ℕ) (nodes : ℕ) (answer : Result Searched Refusal) → WorksFrom 2 names (CertifiesAfter first_text switch queries train nodes) before answer now
+pub after_line : {names : List (List ℕ)} {before now : World} (switch queries train : List ℕ) (nodes : ℕ) (answer : Result Searched Refusal) → WorksFrom 2 names (CertifiesAfter first_text switch queries train nodes) before answer now
     → WorksFrom 2 names (CertifiesAfter (epoch_line 0) switch queries train nodes) before answer now
-behind_line {names} {before} {now} switch queries train nodes answer w = subst (λ (line : List ℕ). WorksFrom 2 names (CertifiesAfter line switch queries train nodes) before answer now) first_line w
+after_line {names} {before} {now} switch queries train nodes answer w = subst (λ (line : List ℕ). WorksFrom 2 names (CertifiesAfter line switch queries train nodes) before answer now) first_line w

@@ -9,15 +9,15 @@ use Rattle.sn_command_replan.specs.Late.{epochs_late}
 use Rattle.sn_command_replan.specs.Replan.{Followed, epochs_of, last_block, replan_wording}
 use Rattle.sn_windows.specs.Rising.{AreRising, Window}
 
-none_behind : (last : Option ℕ) (closed : List Window) (number : ℕ) (tuples : List (List ℕ)) (more : List Window)
+none_after : (last : Option ℕ) (closed : List Window) (number : ℕ) (tuples : List (List ℕ)) (more : List Window)
     → AreRising last (closed ++ (number, tuples) ∷ more) → AreRising last (closed ++ (number, tuples) ∷ [])
-none_behind last [] number tuples more r = (r.0, tt)
-none_behind last (w ∷ closed) number tuples more r = (r.0, none_behind (Some w.0) closed number tuples more r.1)
+none_after last [] number tuples more r = (r.0, tt)
+none_after last (w ∷ closed) number tuples more r = (r.0, none_after (Some w.0) closed number tuples more r.1)
 
 up_to_same : (closed : List Window) (number : ℕ) (tuples : List (List ℕ)) (more : List Window) → AreRising None (closed ++ (number, tuples) ∷ more)
     → up_to number (closed ++ (number, tuples) ∷ more) ≡ up_to number (closed ++ (number, tuples) ∷ [])
 up_to_same closed number tuples more rising =
-    up_to_front None closed number tuples more rising ∙ sym (up_to_front None closed number tuples [] (none_behind None closed number tuples more rising))
+    up_to_front None closed number tuples more rising ∙ sym (up_to_front None closed number tuples [] (none_after None closed number tuples more rising))
 
 pub replan_is_causal : (f : Followed) → IsCausal (replan_wording f)
 replan_is_causal f closed number tuples more rising =

@@ -83,7 +83,7 @@ replan_wording f = record {
   last = λ windows ending. damage_line ending ++ total_line (length windows) (Some (sent_in f (epochs_of f windows).spans));
 }
 
--- `replan SWITCH QUERIES TRAIN CAPTURE MOST --nodes NODES`: does what `plan` does behind the line of the first epoch, and then reads the
+-- `replan SWITCH QUERIES TRAIN CAPTURE MOST --nodes NODES`: does what `plan` does after the line of the first epoch, and then reads the
 -- capture and answers it along the plans of its epochs.
 abbrev pub Replans : List ℕ → List ℕ → List ℕ → List ℕ → ℕ → ℕ → Stage (Unit {0})
 Replans switch queries train capture most nodes =

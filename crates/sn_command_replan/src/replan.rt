@@ -13,7 +13,7 @@ use sn_io::inputs::Inputs;
 use sn_io::sink::Sink;
 use std::alloc::Global;
 
-/// `replan SWITCH QUERIES TRAIN CAPTURE MOST --nodes NODES`: does what `plan` does behind the line of the first epoch, and then reads the capture
+/// `replan SWITCH QUERIES TRAIN CAPTURE MOST --nodes NODES`: does what `plan` does after the line of the first epoch, and then reads the capture
 /// and answers it, window by window. After a window of which more than `most` items left the switch before their cut, the next plan is searched
 /// for on that window alone.
 pub fn replan<I: Inputs, O: Sink>(

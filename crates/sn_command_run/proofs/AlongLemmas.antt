@@ -11,8 +11,8 @@ use Rattle.sn_engine_lockstep.proofs.Driving.{one_more}
 use Rattle.sn_engine_lockstep.proofs.Laws.{all_windows}
 use Rattle.sn_plan_fit.specs.Fits.{AreEntriesOf}
 use Rattle.sn_types.specs.declared.answers.Answers.{Answers}
-use Rattle.sn_command_run.specs.Along.{answers_of, last_of, sent_in, told_of}
-use Rattle.sn_command_run.specs.Planned.{Planned, Telling, answers_at, told_at, told_emitted_in}
+use Rattle.sn_command_run.specs.Along.{answers_of, last_of, sent_in, reported_of}
+use Rattle.sn_command_run.specs.Planned.{Planned, Telling, answers_at, reported_at, reported_emitted_in}
 
 pub rising_front : (before : Option ℕ) (closed more : List Window) → AreRising before (closed ++ more) → AreRising before closed
 rising_front before [] more r = tt
@@ -39,21 +39,21 @@ module _ (p : Planned) where
   last_more closed number tuples = driving.last_more p.queries p.tables p.entries closed number tuples
 
   -- what is reported of them
-  pub told_more : (told : Telling) (closed : List Window) (number : ℕ) (tuples : List (List ℕ)) → told_of told p (closed ++ (number, tuples) ∷ []) ≡ told_of told p closed ++ told (next_answers closed number tuples) ∷ []
-  told_more told closed number tuples = ap (map told) (one_more p.queries p.tables p.entries None closed number tuples) ∙ map-append told (answers_of p closed) (next_answers closed number tuples ∷ [])
+  pub reported_more : (reported : Telling) (closed : List Window) (number : ℕ) (tuples : List (List ℕ)) → reported_of reported p (closed ++ (number, tuples) ∷ []) ≡ reported_of reported p closed ++ reported (next_answers closed number tuples) ∷ []
+  reported_more reported closed number tuples = ap (map reported) (one_more p.queries p.tables p.entries None closed number tuples) ∙ map-append reported (answers_of p closed) (next_answers closed number tuples ∷ [])
 
-  pub sent_more : (told : Telling) (closed : List Window) (number : ℕ) (tuples : List (List ℕ)) → sent_in told p (closed ++ (number, tuples) ∷ []) ≡ sent_in told p closed + (told (next_answers closed number tuples)).emitted
-  sent_more told closed number tuples = ap (λ (xs : List Answers). sum (map (λ (a : Answers). a.emitted) xs)) (told_more told closed number tuples) ∙ sum_end (told_of told p closed) (told (next_answers closed number tuples))
+  pub sent_more : (reported : Telling) (closed : List Window) (number : ℕ) (tuples : List (List ℕ)) → sent_in reported p (closed ++ (number, tuples) ∷ []) ≡ sent_in reported p closed + (reported (next_answers closed number tuples)).emitted
+  sent_more reported closed number tuples = ap (λ (xs : List Answers). sum (map (λ (a : Answers). a.emitted) xs)) (reported_more reported closed number tuples) ∙ sum_end (reported_of reported p closed) (reported (next_answers closed number tuples))
 
   -- they are the answers along the plan
   pub next_right : (closed : List Window) (number : ℕ) (tuples : List (List ℕ)) → AreEntriesOf p.queries p.entries → AreRising None (closed ++ (number, tuples) ∷ [])
       → next_answers closed number tuples ≡ answers_at p (closed ++ (number, tuples) ∷ []) number
   next_right closed number tuples h rising = driving.next_right p.queries p.tables p.entries closed number tuples h rising
 
-  pub told_right : (told : Telling) (closed : List Window) → AreEntriesOf p.queries p.entries → AreRising None closed → told_of told p closed ≡ map (λ (w : Window). told_at told p closed w.0) closed
-  told_right told closed h rising = ap (map told) (all_windows p.queries p.tables p.entries closed h rising) ∙ map_both (λ (w : Window). answers_at p closed w.0) told closed
+  pub reported_right : (reported : Telling) (closed : List Window) → AreEntriesOf p.queries p.entries → AreRising None closed → reported_of reported p closed ≡ map (λ (w : Window). reported_at reported p closed w.0) closed
+  reported_right reported closed h rising = ap (map reported) (all_windows p.queries p.tables p.entries closed h rising) ∙ map_both (λ (w : Window). answers_at p closed w.0) reported closed
 
-  pub sent_right : (told : Telling) (closed : List Window) → AreEntriesOf p.queries p.entries → AreRising None closed → sent_in told p closed ≡ told_emitted_in told p closed
-  sent_right told closed h rising =
-      ap (λ (xs : List Answers). sum (map (λ (a : Answers). a.emitted) xs)) (told_right told closed h rising)
-      ∙ ap sum (map_both (λ (w : Window). told_at told p closed w.0) (λ (a : Answers). a.emitted) closed)
+  pub sent_right : (reported : Telling) (closed : List Window) → AreEntriesOf p.queries p.entries → AreRising None closed → sent_in reported p closed ≡ reported_emitted_in reported p closed
+  sent_right reported closed h rising =
+      ap (λ (xs : List Answers). sum (map (λ (a : Answers). a.emitted) xs)) (reported_right reported closed h rising)
+      ∙ ap sum (map_both (λ (w : Window). reported_at reported p closed w.0) (λ (a : Answers). a.emitted) closed)

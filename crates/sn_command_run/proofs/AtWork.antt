@@ -20,7 +20,7 @@ use Rattle.sn_core_drive.specs.declared.note.Note.{Note}
 use Rattle.sn_core_net.specs.States.{State, Works}
 use Rattle.sn_core_net.proofs.Lawful.{lawful}
 use Rattle.sn_command_run.specs.Along.{IsUsed, plan_of}
-use Rattle.sn_command_run.specs.Planned.{Planned, told_emitted_in}
+use Rattle.sn_command_run.specs.Planned.{Planned, reported_emitted_in}
 use Rattle.sn_command_run.proofs.AlongLemmas.{rising_again}
 use Rattle.sn_command_run.proofs.HandLemmas.{all_emitted, used_earlier, used_end}
 use Rattle.sn_core_drive.specs.Lines.{lines_of}
@@ -28,9 +28,9 @@ use Rattle.sn_core_drive.specs.Plain.{plain_state}
 use Rattle.sn_core_drive.specs.Turns.{Turns, Watch, events_in, no_turn, parted, turns_on, up_to_close, watch_on, watched_on}
 use Rattle.sn_types.specs.declared.answers.Answers.{Answers}
 use Rattle.sn_command_run.specs.TraceWatching.{IsAtWork, IsIdle, IsWatched}
-use Rattle.sn_command_run.specs.TraceWording.{behind_windows, lines_before, lines_behind, works_of}
+use Rattle.sn_command_run.specs.TraceWording.{after_windows, lines_before, lines_after, works_of}
 use Rattle.sn_command_run.specs.declared.traced.Traced.{Traced}
-use Rattle.sn_command_run.proofs.WatchLemmas.{all_of_some, before_last, behind_more, front_is, ran}
+use Rattle.sn_command_run.proofs.WatchLemmas.{all_of_some, before_last, after_more, front_is, ran}
 use Rattle.sn_windows.specs.Rising.{AreRising, Window}
 use Rattle.sn_core_drive.proofs.TurnLemmas.{still_turns}
 
@@ -50,7 +50,7 @@ module _ {M : Type 0} (machine : MachineOf M) (a : Traced M) (closed : List Wind
   s = machine.state a.along.machine
 
   abbrev watch : Watch
-  watch = behind_windows a.schedule p (all_of number closed tuples)
+  watch = after_windows a.schedule p (all_of number closed tuples)
 
   stands : (next : Supply (List ℕ)) → IsNoEarlier next s.window → IsNet (works_of p) (given s next)
   stands next rises =
@@ -58,7 +58,7 @@ module _ {M : Type 0} (machine : MachineOf M) (a : Traced M) (closed : List Wind
 
   -- what came of one supply more: these notes were taken, and these lines are apart and kept
   pub record Came (next : Supply (List ℕ)) (m : M) (drawn : ℕ) (kept front : List ℕ) (notes : List Note) : Type 0 where
-    pub run : IsRun (machine.works a.along.machine) machine.told a.along.draws.number (given s next) notes drawn (machine.state m)
+    pub run : IsRun (machine.works a.along.machine) machine.reported a.along.draws.number (given s next) notes drawn (machine.state m)
     pub seen : List Note
     pub same : seen ≡ notes
     pub lines : (since : List Event) → a.lines.items ≡ lines_of since → (front ≡ lines_of (parted since (events_in seen)).0) × (kept ≡ lines_of (parted since (events_in seen)).1)
@@ -66,9 +66,9 @@ module _ {M : Type 0} (machine : MachineOf M) (a : Traced M) (closed : List Wind
   module _ (next : Supply (List ℕ)) (m : M) (drawn : ℕ) (kept front : List ℕ) (notes : List Note) (came : Came next m drawn kept front notes) (rises : IsNoEarlier next s.window) where
     turned : watched_on (works_of p) watch next ≡ record { events = events_in came.seen; number = drawn; state = plain_state (machine.state m) }
     turned =
-        ran p machine.told watch a.along.draws.number s h.watched.number_is h.watched.state_is next came.seen drawn (machine.state m) h.along.fed.taken (stands next rises)
-        (subst (λ (w : Works). IsRun w machine.told a.along.draws.number (given s next) came.seen drawn (machine.state m)) h.works
-        (subst (λ (ns : List Note). IsRun (machine.works a.along.machine) machine.told a.along.draws.number (given s next) ns drawn (machine.state m)) (sym came.same) came.run))
+        ran p machine.reported watch a.along.draws.number s h.watched.number_is h.watched.state_is next came.seen drawn (machine.state m) h.along.fed.taken (stands next rises)
+        (subst (λ (w : Works). IsRun w machine.reported a.along.draws.number (given s next) came.seen drawn (machine.state m)) h.works
+        (subst (λ (ns : List Note). IsRun (machine.works a.along.machine) machine.reported a.along.draws.number (given s next) ns drawn (machine.state m)) (sym came.same) came.run))
 
     front_came : front ≡ lines_of (up_to_close (works_of p) watch next)
     front_came = (came.lines watch.since h.watched.lines_are).0 ∙ sym (ap (λ (r : Turns). lines_of (parted watch.since r.events).0) turned)
@@ -80,9 +80,9 @@ module _ {M : Type 0} (machine : MachineOf M) (a : Traced M) (closed : List Wind
     watched_came = record { lines_are = kept_came; number_is = ap (λ (r : Turns). r.number) turned; state_is = ap (λ (r : Turns). r.state) turned }
 
   -- one more tuple of the current window
-  pub took : (tuple : List ℕ) (m : M) (drawn : ℕ) (kept front : List ℕ) (notes : List Note) → Came (Numbered number tuple) m drawn kept front notes → IsWatched machine m drawn kept (behind_windows a.schedule p (all_of number closed (tuples ++ tuple ∷ [])))
+  pub took : (tuple : List ℕ) (m : M) (drawn : ℕ) (kept front : List ℕ) (notes : List Note) → Came (Numbered number tuple) m drawn kept front notes → IsWatched machine m drawn kept (after_windows a.schedule p (all_of number closed (tuples ++ tuple ∷ [])))
   took tuple m drawn kept front notes came =
-      subst (IsWatched machine m drawn kept) (sym (behind_more a.schedule p closed number tuples tuple))
+      subst (IsWatched machine m drawn kept) (sym (after_more a.schedule p closed number tuples tuple))
       (watched_came (Numbered number tuple) m drawn kept front notes came (used_earlier number number tuples tuple s (omega arith) h.along.used))
 
   module _ (some : 0 < length tuples) where
@@ -103,12 +103,12 @@ module _ {M : Type 0} (machine : MachineOf M) (a : Traced M) (closed : List Wind
       pub passed_front : front ≡ lines_before a.schedule p whole number
       passed_front =
           front_came (Numbered later tuple) m drawn kept front notes came rises
-          ∙ ap lines_of (front_is p machine.told watch a.along.draws.number s h.watched.number_is h.watched.state_is (Numbered later tuple) number (used_window number tuples s some h.along.used) (lt-ltb number later above) (stands (Numbered later tuple) rises) (stands End end_rises))
+          ∙ ap lines_of (front_is p machine.reported watch a.along.draws.number s h.watched.number_is h.watched.state_is (Numbered later tuple) number (used_window number tuples s some h.along.used) (lt-ltb number later above) (stands (Numbered later tuple) rises) (stands End end_rises))
           ∙ sym (before_last a.schedule p closed number tuples some rising)
 
-      pub passed : IsWatched machine m drawn kept (behind_windows a.schedule p (all_of later whole (tuple ∷ [])))
+      pub passed : IsWatched machine m drawn kept (after_windows a.schedule p (all_of later whole (tuple ∷ [])))
       passed =
-          subst (IsWatched machine m drawn kept) (ap (λ (windows : List Window). watch_on (works_of p) (behind_windows a.schedule p windows) (Numbered later tuple)) (all_of_some number closed tuples some) ∙ sym (behind_more a.schedule p whole later [] tuple))
+          subst (IsWatched machine m drawn kept) (ap (λ (windows : List Window). watch_on (works_of p) (after_windows a.schedule p windows) (Numbered later tuple)) (all_of_some number closed tuples some) ∙ sym (after_more a.schedule p whole later [] tuple))
           (watched_came (Numbered later tuple) m drawn kept front notes came rises)
 
     -- the end
@@ -116,10 +116,10 @@ module _ {M : Type 0} (machine : MachineOf M) (a : Traced M) (closed : List Wind
       pub ended_front : front ≡ lines_before a.schedule p whole number
       ended_front = front_came End m drawn kept front notes came end_rises ∙ sym (before_last a.schedule p closed number tuples some rising)
 
-      pub ended : kept ≡ lines_behind a.schedule p whole
+      pub ended : kept ≡ lines_after a.schedule p whole
       ended =
           kept_came End m drawn kept front notes came end_rises
-          ∙ ap (λ (windows : List Window). lines_of (watch_on (works_of p) (behind_windows a.schedule p windows) End).since) (all_of_some number closed tuples some)
+          ∙ ap (λ (windows : List Window). lines_of (watch_on (works_of p) (after_windows a.schedule p windows) End).since) (all_of_some number closed tuples some)
 
 -- ---- where the records end
 
@@ -130,19 +130,19 @@ idle_end w x s window waiting =
     (ap (λ (at : At). is_idle (window_from {Tuple = List ℕ} at End) && is_none s.waiting) window ∙ ap (λ (o : Option Answers). is_none o) waiting)
 
 module _ {M : Type 0} (machine : MachineOf M) (a : Traced M) (closed : List Window) where
-  none_more : (number : ℕ) → IsAtWork machine a closed number [] → a.lines.items ≡ lines_behind a.schedule (plan_of a.along) closed
+  none_more : (number : ℕ) → IsAtWork machine a closed number [] → a.lines.items ≡ lines_after a.schedule (plan_of a.along) closed
   none_more number h =
       let w : Works = works_of (plan_of a.along) in
-      let watch : Watch = behind_windows a.schedule (plan_of a.along) closed in
+      let watch : Watch = after_windows a.schedule (plan_of a.along) closed in
       let idle = h.along.used in
       h.watched.lines_are
       ∙ sym (ap (λ (r : Turns). lines_of (parted watch.since r.events).1)
       (idle_end w watch.number watch.state (ap (λ (s : State). s.window) h.watched.state_is ∙ idle.1) (ap (λ (s : State). s.waiting) h.watched.state_is ∙ h.along.fed.taken)))
 
-  pub last_lines_are : Closed (IsIdle machine a) (IsAtWork machine a) closed → a.lines.items ≡ lines_behind a.schedule (plan_of a.along) closed
+  pub last_lines_are : Closed (IsIdle machine a) (IsAtWork machine a) closed → a.lines.items ≡ lines_after a.schedule (plan_of a.along) closed
   last_lines_are (inl idle) = idle.lines
   last_lines_are (inr at) = none_more at.0 at.1
 
-  pub all_sent : Closed (IsIdle machine a) (IsAtWork machine a) closed → a.along.emitted ≡ told_emitted_in machine.told (plan_of a.along) closed
+  pub all_sent : Closed (IsIdle machine a) (IsAtWork machine a) closed → a.along.emitted ≡ reported_emitted_in machine.reported (plan_of a.along) closed
   all_sent (inl idle) = all_emitted machine a.along closed (inl idle.along)
   all_sent (inr at) = all_emitted machine a.along closed (inr (at.0, (at.1).along))

@@ -25,10 +25,10 @@ use Rattle.sn_types.specs.Typed.{HasWidths}
 use Rattle.sn_engine_lockstep.specs.Sources.{kept_in}
 use Rattle.sn_command_run.specs.declared.along.Along.{Along}
 use Rattle.sn_engine_lockstep.specs.Known.{last_from}
-use Rattle.sn_command_run.specs.Along.{IsAtHand, IsFed, IsIdle, IsSound, IsUsed, Owes, last_of, plan_of, sent_in, supplies_of, told_of}
-use Rattle.sn_command_run.specs.Planned.{Planned, Telling, told_at, told_emitted_in}
+use Rattle.sn_command_run.specs.Along.{IsAtHand, IsFed, IsIdle, IsSound, IsUsed, Owes, last_of, plan_of, sent_in, supplies_of, reported_of}
+use Rattle.sn_command_run.specs.Planned.{Planned, Telling, reported_at, reported_emitted_in}
 use Rattle.sn_command_run.proofs.AlongLemmas.{next_answers, next_right, rising_again, rising_front, sent_more, sent_right}
-use Rattle.sn_command_run.proofs.MachineLemmas.{end_told, found_is, tuple_owes, tuple_told}
+use Rattle.sn_command_run.proofs.MachineLemmas.{end_reported, found_is, tuple_owes, tuple_reported}
 use Rattle.sn_command_run.proofs.PartLemmas.{parts_fit}
 use Rattle.sn_windows.specs.Rising.{AreRising, Window}
 
@@ -72,14 +72,14 @@ last_sound (w ∷ ws) number tuples h = last_sound ws number tuples h.1
 
 -- ---- answers
 
-pub one_told : (a b : Answers) (o : Option Answers) (found : List Answers) → o ≡ last_from None found → o ≡ Some a → found ≡ b ∷ [] → a ≡ b
-one_told a b o found is some one = some_is a b (sym some ∙ is ∙ ap (last_from None) one)
+pub one_reported : (a b : Answers) (o : Option Answers) (found : List Answers) → o ≡ last_from None found → o ≡ Some a → found ≡ b ∷ [] → a ≡ b
+one_reported a b o found is some one = some_is a b (sym some ∙ is ∙ ap (last_from None) one)
   where
     some_is : (x y : Answers) → Some x ≡ Some y → x ≡ y
     some_is x y e = cc
 
-pub none_told : (b : Answers) (o : Option Answers) (found : List Answers) → o ≡ last_from None found → o ≡ None → found ≡ b ∷ [] → ⊥
-none_told b o found is none one = no b (sym none ∙ is ∙ ap (last_from None) one)
+pub none_reported : (b : Answers) (o : Option Answers) (found : List Answers) → o ≡ last_from None found → o ≡ None → found ≡ b ∷ [] → ⊥
+none_reported b o found is none one = no b (sym none ∙ is ∙ ap (last_from None) one)
   where
     no : (x : Answers) → None ≡ Some x → ⊥
     no x e = cc
@@ -88,8 +88,8 @@ module _ {M : Type 0} (machine : MachineOf M) (a : Along M) where
   abbrev p : Planned
   p = plan_of a
 
-  abbrev told : Telling
-  told = machine.told
+  abbrev reported : Telling
+  reported = machine.reported
 
   abbrev s : State
   s = machine.state a.machine
@@ -102,10 +102,10 @@ module _ {M : Type 0} (machine : MachineOf M) (a : Along M) where
     pub works : machine.works m ≡ machine.works a.machine
     pub stands : IsNet (machine.works a.machine) (machine.state m)
     pub taken : (machine.state m).waiting ≡ None
-    pub moves : (following : List (Supply (List ℕ))) → map told (due (machine.works a.machine) s (next ∷ following)) ≡ found ++ map told (due (machine.works a.machine) (machine.state m) following)
+    pub moves : (following : List (Supply (List ℕ))) → map reported (due (machine.works a.machine) s (next ∷ following)) ≡ found ++ map reported (due (machine.works a.machine) (machine.state m) following)
 
   fed_more : {given closed : List Window} (before taken : List Window) → IsFed machine a before taken → (m : M) (d : Draws) (emitted : ℕ) {next : Supply (List ℕ)} {found : List Answers} → Found next found m
-      → AllByRecursion IsSound given → Owes (machine.works a.machine) told p (supplies_of given) (told_of told p closed) (machine.state m) → emitted ≡ sent_in told p closed → IsFed machine (with_machine m d emitted) given closed
+      → AllByRecursion IsSound given → Owes (machine.works a.machine) reported p (supplies_of given) (reported_of reported p closed) (machine.state m) → emitted ≡ sent_in reported p closed → IsFed machine (with_machine m d emitted) given closed
   fed_more {given} {closed} before taken h m d emitted f sound owes sent = record {
     typed_for = h.typed_for;
     typed = h.typed;
@@ -113,7 +113,7 @@ module _ {M : Type 0} (machine : MachineOf M) (a : Along M) where
     stands = subst (λ (w : Works). IsNet w (machine.state m)) (sym f.works) f.stands;
     taken = f.taken;
     sound = sound;
-    owes = subst (λ (w : Works). Owes w told p (supplies_of given) (told_of told p closed) (machine.state m)) (sym f.works) owes;
+    owes = subst (λ (w : Works). Owes w reported p (supplies_of given) (reported_of reported p closed) (machine.state m)) (sym f.works) owes;
     emitted = sent;
   }
 
@@ -123,7 +123,7 @@ module _ {M : Type 0} (machine : MachineOf M) (a : Along M) where
   given_hand closed number tuples tuple found m d h width f used =
       let now : List Window = closed ++ (number, tuples ++ tuple ∷ []) ∷ [] in
       let sound : AllByRecursion IsSound now = sound_more closed number tuples tuple h.fed.sound width in
-      let owes = tuple_owes (machine.works a.machine) told p closed number tuples tuple (told_of told p closed) found s (machine.state m) h.fed.entries (rising_again None closed number [] (tuples ++ tuple ∷ []) h.rising) sound
+      let owes = tuple_owes (machine.works a.machine) reported p closed number tuples tuple (reported_of reported p closed) found s (machine.state m) h.fed.entries (rising_again None closed number [] (tuples ++ tuple ∷ []) h.rising) sound
       h.fed.owes f.moves used.0 used.1 f.taken in
       record {
         fed = subst (λ (given : List Window). IsFed machine (with_machine m d a.emitted) given closed) (sym (all_of_more number closed tuples tuple)) (fed_more (all_of number closed tuples) closed h.fed m d a.emitted f sound owes h.fed.emitted);
@@ -144,20 +144,20 @@ module _ {M : Type 0} (machine : MachineOf M) (a : Along M) where
     sound : AllByRecursion IsSound whole
     sound = subst (AllByRecursion IsSound) (all_of_some at_hand closed tuples some) h.fed.sound
 
-    owes : Owes (machine.works a.machine) told p (supplies_of whole) (told_of told p closed) s
-    owes = subst (λ (given : List Window). Owes (machine.works a.machine) told p (supplies_of given) (told_of told p closed) s) (all_of_some at_hand closed tuples some) h.fed.owes
+    owes : Owes (machine.works a.machine) reported p (supplies_of whole) (reported_of reported p closed) s
+    owes = subst (λ (given : List Window). Owes (machine.works a.machine) reported p (supplies_of given) (reported_of reported p closed) s) (all_of_some at_hand closed tuples some) h.fed.owes
 
     -- the answers of the current window
-    pub answers_right : told next ≡ told_at told p whole at_hand
-    answers_right = ap told (next_right p closed at_hand tuples h.fed.entries rising)
+    pub answers_right : reported next ≡ reported_at reported p whole at_hand
+    answers_right = ap reported (next_right p closed at_hand tuples h.fed.entries rising)
 
-    pub answers_fit : ((queries : List TypedQuery) (answers : Answers) → Tells queries answers (told answers)) → AllByRecursion (IsPartOf a.typed.queries) (told next).parts
+    pub answers_fit : ((queries : List TypedQuery) (answers : Answers) → Tells queries answers (reported answers)) → AllByRecursion (IsPartOf a.typed.queries) (reported next).parts
     answers_fit tells =
-        all_weaker (IsSortedPart a.typed.queries) (IsPartOf a.typed.queries) (λ (x : Part) (part : IsSortedPart a.typed.queries x). part.part) (told next).parts
+        all_weaker (IsSortedPart a.typed.queries) (IsPartOf a.typed.queries) (λ (x : Part) (part : IsSortedPart a.typed.queries x). part.part) (reported next).parts
         ((tells a.typed.queries next).rows (parts_fit h.fed.typed_for a.typed.queries h.fed.typed tuples (last_sound closed at_hand tuples sound) (kept_in a.typed.queries (last_of p closed) at_hand) a.plan.entries h.fed.entries))
 
-    sent : (emitted : ℕ) → emitted ≡ a.emitted + (told next).emitted → emitted ≡ sent_in told p whole
-    sent emitted is = is ∙ ap (λ (n : ℕ). n + (told next).emitted) h.fed.emitted ∙ sym (sent_more p told closed at_hand tuples)
+    sent : (emitted : ℕ) → emitted ≡ a.emitted + (reported next).emitted → emitted ≡ sent_in reported p whole
+    sent emitted is = is ∙ ap (λ (n : ℕ). n + (reported next).emitted) h.fed.emitted ∙ sym (sent_more p reported closed at_hand tuples)
 
     -- a tuple of a later window was given
     module _ (number : ℕ) (tuple : List ℕ) (above : at_hand < number) (width : HasWidths tuple) (found : List Answers) (m : M) (f : Found (Numbered number tuple) found m) (used : ((machine.state m).held ≡ None) × ((machine.state m).window ≡ Begun number)) where
@@ -170,30 +170,30 @@ module _ {M : Type 0} (machine : MachineOf M) (a : Along M) where
       more : AllByRecursion IsSound (whole ++ (number, tuple ∷ []) ∷ [])
       more = sound_more whole number [] tuple sound width
 
-      pub pass_found : found ≡ told next ∷ []
+      pub pass_found : found ≡ reported next ∷ []
       pass_found =
-          found_is (machine.works a.machine) told p closed at_hand tuples found
-          (tuple_told (machine.works a.machine) told p whole number [] tuple (told_of told p closed) found s (machine.state m) h.fed.entries starts more owes f.moves used.0 used.1 f.taken)
+          found_is (machine.works a.machine) reported p closed at_hand tuples found
+          (tuple_reported (machine.works a.machine) reported p whole number [] tuple (reported_of reported p closed) found s (machine.state m) h.fed.entries starts more owes f.moves used.0 used.1 f.taken)
 
-      pub pass_hand : (d : Draws) (emitted : ℕ) → emitted ≡ a.emitted + (told next).emitted → IsAtHand machine (with_machine m d emitted) whole number (tuple ∷ [])
+      pub pass_hand : (d : Draws) (emitted : ℕ) → emitted ≡ a.emitted + (reported next).emitted → IsAtHand machine (with_machine m d emitted) whole number (tuple ∷ [])
       pass_hand d emitted is = record {
         fed = fed_more (all_of at_hand closed tuples) closed h.fed m d emitted f more
-            (tuple_owes (machine.works a.machine) told p whole number [] tuple (told_of told p closed) found s (machine.state m) h.fed.entries starts more owes f.moves used.0 used.1 f.taken) (sent emitted is);
+            (tuple_owes (machine.works a.machine) reported p whole number [] tuple (reported_of reported p closed) found s (machine.state m) h.fed.entries starts more owes f.moves used.0 used.1 f.taken) (sent emitted is);
         used = used;
         rising = begins;
       }
 
     -- the end was given
     module _ (law : AreLawful (machine.works a.machine)) (found : List Answers) (m : M) (f : Found End found m) (done : is_done (machine.state m) ≡ true) where
-      pub end_found : found ≡ told next ∷ []
+      pub end_found : found ≡ reported next ∷ []
       end_found =
-          found_is (machine.works a.machine) told p closed at_hand tuples found
-          (end_told (machine.works a.machine) told p law whole (told_of told p closed) found s (machine.state m) h.fed.entries rising sound owes f.moves done)
+          found_is (machine.works a.machine) reported p closed at_hand tuples found
+          (end_reported (machine.works a.machine) reported p law whole (reported_of reported p closed) found s (machine.state m) h.fed.entries rising sound owes f.moves done)
 
-      pub end_idle : (d : Draws) (emitted : ℕ) → emitted ≡ a.emitted + (told next).emitted → IsIdle machine (with_machine m d emitted) whole
+      pub end_idle : (d : Draws) (emitted : ℕ) → emitted ≡ a.emitted + (reported next).emitted → IsIdle machine (with_machine m d emitted) whole
       end_idle d emitted is = record { entries = h.fed.entries; emitted = sent emitted is; rising = rising }
 
   -- the items of all windows
-  pub all_emitted : (closed : List Window) → Closed (IsIdle machine a) (IsAtHand machine a) closed → a.emitted ≡ told_emitted_in told p closed
-  all_emitted closed (inl idle) = idle.emitted ∙ sent_right p told closed idle.entries idle.rising
-  all_emitted closed (inr at) = let h = at.1 in h.fed.emitted ∙ sent_right p told closed h.fed.entries (rising_front None closed ((at.0, []) ∷ []) h.rising)
+  pub all_emitted : (closed : List Window) → Closed (IsIdle machine a) (IsAtHand machine a) closed → a.emitted ≡ reported_emitted_in reported p closed
+  all_emitted closed (inl idle) = idle.emitted ∙ sent_right p reported closed idle.entries idle.rising
+  all_emitted closed (inr at) = let h = at.1 in h.fed.emitted ∙ sent_right p reported closed h.fed.entries (rising_front None closed ((at.0, []) ∷ []) h.rising)

@@ -6,7 +6,7 @@ use Rattle.std.specs.Ordering.{nat_cmp, is_gt}
 use Rattle.std.specs.Cmp.Lexicographic.{slice_cmp}
 use Rattle.std.proofs.lemmas.Bool.{eqb-true, eqb-false}
 use Rattle.sn_base.specs.Bags.{SameBag}
-use Rattle.sn_base.specs.Bags.SameBag.{stays, behind, turned, joined}
+use Rattle.sn_base.specs.Bags.SameBag.{stays, following, turned, joined}
 use Rattle.sn_base.specs.Groups.{Row}
 use Rattle.sn_base.specs.Operators.{through}
 use Rattle.sn_base.specs.Sorted.{put_row, sorted_rows}
@@ -46,12 +46,12 @@ put_bag : (x : Row) (ys : List Row) → SameBag (put_row x ys) (x ∷ ys)
 put_bag x [] = stays (x ∷ [])
 put_bag x (y ∷ ys) =
     by_test (is_gt (slice_cmp nat_cmp x y))
-    (λ is. subst (λ b. SameBag (cond b (y ∷ put_row x ys) (x ∷ y ∷ ys)) (x ∷ y ∷ ys)) (sym is) (joined (y ∷ put_row x ys) (y ∷ x ∷ ys) (x ∷ y ∷ ys) (behind y (put_row x ys) (x ∷ ys) (put_bag x ys)) (turned y x ys)))
+    (λ is. subst (λ b. SameBag (cond b (y ∷ put_row x ys) (x ∷ y ∷ ys)) (x ∷ y ∷ ys)) (sym is) (joined (y ∷ put_row x ys) (y ∷ x ∷ ys) (x ∷ y ∷ ys) (following y (put_row x ys) (x ∷ ys) (put_bag x ys)) (turned y x ys)))
     (λ isnt. subst (λ b. SameBag (cond b (y ∷ put_row x ys) (x ∷ y ∷ ys)) (x ∷ y ∷ ys)) (sym isnt) (stays (x ∷ y ∷ ys)))
 
 sorted_bag : (xs : List Row) → SameBag (sorted_rows xs) xs
 sorted_bag [] = stays []
-sorted_bag (x ∷ xs) = joined (put_row x (sorted_rows xs)) (x ∷ sorted_rows xs) (x ∷ xs) (put_bag x (sorted_rows xs)) (behind x (sorted_rows xs) xs (sorted_bag xs))
+sorted_bag (x ∷ xs) = joined (put_row x (sorted_rows xs)) (x ∷ sorted_rows xs) (x ∷ xs) (put_bag x (sorted_rows xs)) (following x (sorted_rows xs) xs (sorted_bag xs))
 
 sorted_twice : (xs : List Row) → sorted_rows (sorted_rows xs) ≡ sorted_rows xs
 sorted_twice xs = sort_bag (sorted_rows xs) xs (sorted_bag xs)

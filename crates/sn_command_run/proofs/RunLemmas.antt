@@ -17,6 +17,6 @@ use Rattle.sn_command_run.specs.Run.{Run, planned, window_ns}
 pub window_some : (window : ℕ) (queries : List TypedQuery) → ∥ IsTyped window queries ∥₁ → 1 ≤ window
 window_some window queries t = ∥∥₁_elim t le_prop (λ t. let some = t.1.limits.window.from_least in let same = t.1.same_window in omega arith)
 
-pub one_run : (told : Telling) (csv : Bool) (switch queries plan capture : List ℕ) → HasOne (Run told csv switch queries plan capture)
-one_run told csv switch queries plan capture =
-    one_then (one_text queries QueriesIn one_queries) (λ read. one_then (one_text switch SwitchIn one_switch) (λ limits. one_then (one_text plan PlanIn one_plan) (λ entries. one_then (one_does _) (λ _. one_answered (wording_in (form_of csv) told (planned read limits entries)) (window_ns read) capture))))
+pub one_run : (reported : Telling) (csv : Bool) (switch queries plan capture : List ℕ) → HasOne (Run reported csv switch queries plan capture)
+one_run reported csv switch queries plan capture =
+    one_then (one_text queries QueriesIn one_queries) (λ read. one_then (one_text switch SwitchIn one_switch) (λ limits. one_then (one_text plan PlanIn one_plan) (λ entries. one_then (one_does _) (λ _. one_answered (wording_in (form_of csv) reported (planned read limits entries)) (window_ns read) capture))))

@@ -26,7 +26,7 @@ use Rattle.sn_core_drive.proofs.CloseLemmas.{same_front}
 use Rattle.sn_core_drive.proofs.StateLemmas.{turns_on_same}
 use Rattle.sn_core_drive.proofs.TurnLemmas.{run_turns_on}
 use Rattle.sn_command_run.specs.TraceCausal.{up_to_front}
-use Rattle.sn_command_run.specs.TraceWording.{at_first, behind_windows, lines_before, works_of}
+use Rattle.sn_command_run.specs.TraceWording.{at_first, after_windows, lines_before, works_of}
 
 -- ---- supplies
 
@@ -44,22 +44,22 @@ all_of_more number closed (t ∷ ts) tuple = refl
 
 module _ (schedule : ℕ) (p : Planned) where
   -- after one tuple more
-  pub behind_more : (closed : List Window) (number : ℕ) (tuples : List (List ℕ)) (tuple : List ℕ)
-      → behind_windows schedule p (all_of number closed (tuples ++ tuple ∷ [])) ≡ watch_on (works_of p) (behind_windows schedule p (all_of number closed tuples)) (Numbered number tuple)
-  behind_more closed number tuples tuple =
-      ap (behind_windows schedule p) (all_of_more number closed tuples tuple)
+  pub after_more : (closed : List Window) (number : ℕ) (tuples : List (List ℕ)) (tuple : List ℕ)
+      → after_windows schedule p (all_of number closed (tuples ++ tuple ∷ [])) ≡ watch_on (works_of p) (after_windows schedule p (all_of number closed tuples)) (Numbered number tuple)
+  after_more closed number tuples tuple =
+      ap (after_windows schedule p) (all_of_more number closed tuples tuple)
       ∙ ap (watch_over (works_of p) (at_first schedule p)) (one_supply closed number tuples tuple)
       ∙ over_both (works_of p) (at_first schedule p) (supplies_of (all_of number closed tuples)) (Numbered number tuple ∷ [])
 
   -- the lines before the block of the last window
   pub before_last : (closed : List Window) (number : ℕ) (tuples : List (List ℕ)) → 0 < length tuples → AreRising None (closed ++ (number, tuples) ∷ [])
-      → lines_before schedule p (closed ++ (number, tuples) ∷ []) number ≡ lines_of (up_to_close (works_of p) (behind_windows schedule p (all_of number closed tuples)) End)
+      → lines_before schedule p (closed ++ (number, tuples) ∷ []) number ≡ lines_of (up_to_close (works_of p) (after_windows schedule p (all_of number closed tuples)) End)
   before_last closed number tuples some rising =
-      ap (λ (windows : List Window). lines_of (up_to_close (works_of p) (behind_windows schedule p windows) End)) (up_to_front None closed number tuples [] rising ∙ sym (all_of_some number closed tuples some))
+      ap (λ (windows : List Window). lines_of (up_to_close (works_of p) (after_windows schedule p windows) End)) (up_to_front None closed number tuples [] rising ∙ sym (all_of_some number closed tuples some))
 
 -- ---- one supply more
 
-module _ (p : Planned) (told : Telling) (watch : Watch) (x : ℕ) (s : State) (number_is : watch.number ≡ x) (state_is : watch.state ≡ plain_state s) where
+module _ (p : Planned) (reported : Telling) (watch : Watch) (x : ℕ) (s : State) (number_is : watch.number ≡ x) (state_is : watch.state ≡ plain_state s) where
   abbrev turned : (Supply (List ℕ)) → Turns
   turned next = turns_on (works_of p) x s next
 
@@ -69,9 +69,9 @@ module _ (p : Planned) (told : Telling) (watch : Watch) (x : ℕ) (s : State) (n
       ∙ turns_on_same p.queries (map intake_of (pieces_from 0 p.entries)) (map source_of (pieces_from 0 p.entries)) x s next
 
   -- what is known after a run
-  pub ran : (next : Supply (List ℕ)) (notes : List Note) (y : ℕ) (t : State) → s.waiting ≡ None → IsNet (works_of p) (given s next) → IsRun (works_of p) told x (given s next) notes y t
+  pub ran : (next : Supply (List ℕ)) (notes : List Note) (y : ℕ) (t : State) → s.waiting ≡ None → IsNet (works_of p) (given s next) → IsRun (works_of p) reported x (given s next) notes y t
       → watched_on (works_of p) watch next ≡ record { events = events_in notes; number = y; state = plain_state t }
-  ran next notes y t taken net run = watched_is next ∙ ap plain_turns (run_turns_on (works_of p) (lawful p.queries p.entries) told x s next notes y t taken net run)
+  ran next notes y t taken net run = watched_is next ∙ ap plain_turns (run_turns_on (works_of p) (lawful p.queries p.entries) reported x s next notes y t taken net run)
 
   -- the lines up to the close of a window are the same, whichever later tuple comes
   pub front_is : (next : Supply (List ℕ)) (number : ℕ) → s.window ≡ Begun number → is_over number (Some next) ≡ true → IsNet (works_of p) (given s next) → IsNet (works_of p) (given s End)

@@ -35,11 +35,11 @@ abbrev pub last_of : Planned → List Window → Option Answers
 last_of p closed = last_from None (answers_of p closed)
 
 -- what is reported of it, and how many items were reported as sent
-abbrev pub told_of : Telling → Planned → List Window → List Answers
-told_of told p closed = map told (answers_of p closed)
+abbrev pub reported_of : Telling → Planned → List Window → List Answers
+reported_of reported p closed = map reported (answers_of p closed)
 
 abbrev pub sent_in : Telling → Planned → List Window → ℕ
-sent_in told p closed = sum (map (λ (a : Answers). a.emitted) (told_of told p closed))
+sent_in reported p closed = sum (map (λ (a : Answers). a.emitted) (reported_of reported p closed))
 
 -- ---- what a machine is given
 
@@ -57,8 +57,8 @@ answers_for p supplies =
 
 -- Whatever follows what was given: what was reported, and then what is reported of what is due, is what is reported of all answers along the plan.
 abbrev pub Owes : Works → Telling → Planned → List (Supply (List ℕ)) → List Answers → State → Type 0
-Owes w told p given taken s = (following : List (Supply (List ℕ))) → DontFall 0 (given ++ following) → HaveWidths (core.windows_of (given ++ following))
-    → taken ++ map told (due w s following) ≡ map told (answers_for p (given ++ following))
+Owes w reported p given taken s = (following : List (Supply (List ℕ))) → DontFall 0 (given ++ following) → HaveWidths (core.windows_of (given ++ following))
+    → taken ++ map reported (due w s following) ≡ map reported (answers_for p (given ++ following))
 
 -- a window holds tuples, whose numbers have the widths of their fields
 pub record IsSound (w : Window) : Type 0 where
@@ -74,8 +74,8 @@ pub record IsFed {M : Type 0} (machine : MachineOf M) (a : Along M) (given close
   pub stands : IsNet (machine.works a.machine) (machine.state a.machine)
   pub taken : (machine.state a.machine).waiting ≡ None
   pub sound : AllByRecursion IsSound given
-  pub owes : Owes (machine.works a.machine) machine.told (plan_of a) (supplies_of given) (told_of machine.told (plan_of a) closed) (machine.state a.machine)
-  pub emitted : a.emitted ≡ sent_in machine.told (plan_of a) closed
+  pub owes : Owes (machine.works a.machine) machine.reported (plan_of a) (supplies_of given) (reported_of machine.reported (plan_of a) closed) (machine.state a.machine)
+  pub emitted : a.emitted ≡ sent_in machine.reported (plan_of a) closed
 
 -- of the window with this number these tuples were given, all of which are used up
 abbrev pub IsUsed : ℕ → List (List ℕ) → State → Type 0
@@ -91,5 +91,5 @@ pub record IsAtHand {M : Type 0} (machine : MachineOf M) (a : Along M) (closed :
 -- these windows were closed, and no other comes
 pub record IsIdle {M : Type 0} (machine : MachineOf M) (a : Along M) (closed : List Window) : Type 0 where
   pub entries : AreEntriesOf a.typed.queries a.plan.entries
-  pub emitted : a.emitted ≡ sent_in machine.told (plan_of a) closed
+  pub emitted : a.emitted ≡ sent_in machine.reported (plan_of a) closed
   pub rising : AreRising None closed

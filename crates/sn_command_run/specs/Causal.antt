@@ -123,13 +123,13 @@ answers_stand p closed number tuples more rising =
     same_answers (windows_of (closed ++ (number, tuples) ∷ more)) (windows_of (closed ++ (number, tuples) ∷ [])) p.queries p.tables p.entries number
     (λ v le. up_to None closed number tuples more v rising le)
 
-pub plan_is_causal : (form : Form) (told : Telling) (p : Planned) → IsCausal (wording_in form told p)
-plan_is_causal forms.Blocks told p closed number tuples more rising =
-    ap (λ (a : Answers). block_text p.queries (told a) true) (answers_stand p closed number tuples more rising)
-plan_is_causal forms.Records told p closed number tuples more rising =
-    ap (λ (a : Answers). window_records p.queries (told a)) (answers_stand p closed number tuples more rising)
+pub plan_is_causal : (form : Form) (reported : Telling) (p : Planned) → IsCausal (wording_in form reported p)
+plan_is_causal forms.Blocks reported p closed number tuples more rising =
+    ap (λ (a : Answers). block_text p.queries (reported a) true) (answers_stand p closed number tuples more rising)
+plan_is_causal forms.Records reported p closed number tuples more rising =
+    ap (λ (a : Answers). window_records p.queries (reported a)) (answers_stand p closed number tuples more rising)
 
 -- in neither form a window stops
-pub plan_never_stops : (form : Form) (told : Telling) (p : Planned) → NeverStops (wording_in form told p)
-plan_never_stops forms.Blocks told p windows number tuples = refl
-plan_never_stops forms.Records told p windows number tuples = refl
+pub plan_never_stops : (form : Form) (reported : Telling) (p : Planned) → NeverStops (wording_in form reported p)
+plan_never_stops forms.Blocks reported p windows number tuples = refl
+plan_never_stops forms.Records reported p windows number tuples = refl

@@ -44,15 +44,15 @@ abbrev pub as_they_are : Telling
 as_they_are answers = answers
 
 -- what is reported of the answers in a window
-abbrev pub told_at : Telling → Planned → List Window → ℕ → Answers
-told_at told p windows w = told (answers_at p windows w)
+abbrev pub reported_at : Telling → Planned → List Window → ℕ → Answers
+reported_at reported p windows w = reported (answers_at p windows w)
 
 -- how many items were reported as sent in all windows
-abbrev pub told_emitted_at : Telling → Planned → List Window → Window → ℕ
-told_emitted_at told p windows w = (told_at told p windows w.0).emitted
+abbrev pub reported_emitted_at : Telling → Planned → List Window → Window → ℕ
+reported_emitted_at reported p windows w = (reported_at reported p windows w.0).emitted
 
-abbrev pub told_emitted_in : Telling → Planned → List Window → ℕ
-told_emitted_in told p windows = sum (map (told_emitted_at told p windows) windows)
+abbrev pub reported_emitted_in : Telling → Planned → List Window → ℕ
+reported_emitted_in reported p windows = sum (map (reported_emitted_at reported p windows) windows)
 
 -- ---- in blocks
 
@@ -69,28 +69,28 @@ plan_wording p =
     record { first = []; block = plan_block p; stops = λ windows number tuples. None; unfinished = λ closed number tuples. []; last = plan_lines p }
 
 -- the same, where the answers are reported
-abbrev pub told_block : Telling → Planned → List Window → ℕ → List (List ℕ) → List ℕ
-told_block told p windows w tuples = block_text p.queries (told_at told p windows w) true
+abbrev pub reported_block : Telling → Planned → List Window → ℕ → List (List ℕ) → List ℕ
+reported_block reported p windows w tuples = block_text p.queries (reported_at reported p windows w) true
 
-abbrev pub told_lines : Telling → Planned → List Window → Ending → List ℕ
-told_lines told p windows ending = damage_line ending ++ total_line (length windows) (Some (told_emitted_in told p windows))
+abbrev pub reported_lines : Telling → Planned → List Window → Ending → List ℕ
+reported_lines reported p windows ending = damage_line ending ++ total_line (length windows) (Some (reported_emitted_in reported p windows))
 
-abbrev pub told_wording : Telling → Planned → Wording
-told_wording told p =
-    record { first = []; block = told_block told p; stops = λ windows number tuples. None; unfinished = λ closed number tuples. []; last = told_lines told p }
+abbrev pub reported_wording : Telling → Planned → Wording
+reported_wording reported p =
+    record { first = []; block = reported_block reported p; stops = λ windows number tuples. None; unfinished = λ closed number tuples. []; last = reported_lines reported p }
 
 -- ---- as comma-separated values
 
 -- the records of a window's rows
-abbrev pub told_records : Telling → Planned → List Window → ℕ → List (List ℕ) → List ℕ
-told_records told p windows w tuples = window_records p.queries (told_at told p windows w)
+abbrev pub reported_records : Telling → Planned → List Window → ℕ → List (List ℕ) → List ℕ
+reported_records reported p windows w tuples = window_records p.queries (reported_at reported p windows w)
 
 -- the heading and the records: no window, no damage and no total has a line
 abbrev pub records_wording : Telling → Planned → Wording
-records_wording told p =
+records_wording reported p =
     record {
       first = heading_line;
-      block = told_records told p;
+      block = reported_records reported p;
       stops = λ windows number tuples. None;
       unfinished = λ closed number tuples. [];
       last = λ windows ending. [];
@@ -99,8 +99,8 @@ records_wording told p =
 -- ---- in either form
 
 abbrev pub wording_in : Form → Telling → Planned → Wording
-wording_in forms.Blocks told p = told_wording told p
-wording_in forms.Records told p = records_wording told p
+wording_in forms.Blocks reported p = reported_wording reported p
+wording_in forms.Records reported p = records_wording reported p
 
 -- with `--csv` answers are written as comma-separated values, and else in blocks
 abbrev pub form_of : Bool → Form

@@ -25,17 +25,17 @@ window_ns read = read.window_us * 1000
 
 -- the capture is answered along the plan, in either form, or in blocks; of the answers of each window this is reported
 abbrev pub AlongIn : Form → Telling → List ℕ → Queries → Switch → Plan → Stage (Unit {0})
-AlongIn form told capture read limits plan = Answered (wording_in form told (planned read limits plan)) (window_ns read) capture
+AlongIn form reported capture read limits plan = Answered (wording_in form reported (planned read limits plan)) (window_ns read) capture
 
 abbrev pub AlongPlan : Telling → List ℕ → Queries → Switch → Plan → Stage (Unit {0})
-AlongPlan told capture read limits plan = AlongIn forms.Blocks told capture read limits plan
+AlongPlan reported capture read limits plan = AlongIn forms.Blocks reported capture read limits plan
 
 -- `run SWITCH QUERIES PLAN CAPTURE`: the queries are read, then the switch, then the plan, which is tested, and then the capture
 -- is read and answered along the plan. With `--csv` the answers are comma-separated values. The answers are given as a machine reports them.
 abbrev pub Run : Telling → Bool → List ℕ → List ℕ → List ℕ → List ℕ → Stage (Unit {0})
-Run told csv switch queries plan capture =
+Run reported csv switch queries plan capture =
     Then (Text queries QueriesIn) (λ read.
     Then (Text switch SwitchIn) (λ limits.
     Then (Text plan PlanIn) (λ entries.
     Then (Fitting read.queries limits entries) (λ _.
-    AlongIn (form_of csv) told capture read limits entries))))
+    AlongIn (form_of csv) reported capture read limits entries))))

@@ -10,7 +10,7 @@ use Rattle.sn_command_run.specs.Planned.{Planned, Telling}
 use Rattle.sn_command_run.specs.declared.form.Form.TheVariants as forms
 use Rattle.sn_core_drive.specs.Lines.{lines_of}
 use Rattle.sn_core_drive.specs.Turns.{up_to_close}
-use Rattle.sn_command_run.specs.TraceWording.{behind_windows, traced_wording, up_to, works_of}
+use Rattle.sn_command_run.specs.TraceWording.{after_windows, traced_wording, up_to, works_of}
 use Rattle.sn_windows.specs.Rising.{AreRising, Window}
 
 none_above : (number last : ℕ) (more : List Window) → number ≤ last → AreRising (Some last) more → up_to number more ≡ []
@@ -38,14 +38,14 @@ up_to_front last (w ∷ closed) number tuples more r =
     let own : nat_le w.0 number ≡ true = le-leb w.0 number (omega arith) in
     rw own (ap (λ (rest : List Window). w ∷ rest) (up_to_front (Some w.0) closed number tuples more r.1))
 
-none_behind : (last : Option ℕ) (closed : List Window) (number : ℕ) (tuples : List (List ℕ)) (more : List Window)
+none_after : (last : Option ℕ) (closed : List Window) (number : ℕ) (tuples : List (List ℕ)) (more : List Window)
     → AreRising last (closed ++ (number, tuples) ∷ more) → AreRising last (closed ++ (number, tuples) ∷ [])
-none_behind last [] number tuples more r = (r.0, tt)
-none_behind last (w ∷ closed) number tuples more r = (r.0, none_behind (Some w.0) closed number tuples more r.1)
+none_after last [] number tuples more r = (r.0, tt)
+none_after last (w ∷ closed) number tuples more r = (r.0, none_after (Some w.0) closed number tuples more r.1)
 
-pub trace_is_causal : (schedule : ℕ) (p : Planned) (told : Telling) → IsCausal (traced_wording schedule p told)
-trace_is_causal schedule p told closed number tuples more rising =
+pub trace_is_causal : (schedule : ℕ) (p : Planned) (reported : Telling) → IsCausal (traced_wording schedule p reported)
+trace_is_causal schedule p reported closed number tuples more rising =
     ap₂ (λ (lines block : List ℕ). lines ++ block)
-    (ap (λ (windows : List Window). lines_of (up_to_close (works_of p) (behind_windows schedule p windows) End))
-    (up_to_front None closed number tuples more rising ∙ sym (up_to_front None closed number tuples [] (none_behind None closed number tuples more rising))))
-    (plan_is_causal forms.Blocks told p closed number tuples more rising)
+    (ap (λ (windows : List Window). lines_of (up_to_close (works_of p) (after_windows schedule p windows) End))
+    (up_to_front None closed number tuples more rising ∙ sym (up_to_front None closed number tuples [] (none_after None closed number tuples more rising))))
+    (plan_is_causal forms.Blocks reported p closed number tuples more rising)

@@ -9,7 +9,7 @@ use Rattle.sn_command_run.specs.Along as run
 use Rattle.sn_core_drive.specs.Lines.{lines_of}
 use Rattle.sn_core_drive.specs.Plain.{plain_state}
 use Rattle.sn_core_drive.specs.Turns.{Watch}
-use Rattle.sn_command_run.specs.TraceWording.{behind_windows, lines_behind, works_of}
+use Rattle.sn_command_run.specs.TraceWording.{after_windows, lines_after, works_of}
 use Rattle.sn_command_run.specs.declared.traced.Traced.{Traced}
 
 -- A machine, the number that was drawn last, and these lines are what was watched: the machine but for the folds of a distinct's registers,
@@ -23,9 +23,9 @@ pub record IsWatched {M : Type 0} (machine : MachineOf M) (m : M) (number : ℕ)
 pub record IsAtWork {M : Type 0} (machine : MachineOf M) (a : Traced M) (closed : List Window) (number : ℕ) (tuples : List (List ℕ)) : Type 0 where
   pub along : IsAtHand machine a.along closed number tuples
   pub works : machine.works a.along.machine ≡ works_of (plan_of a.along)
-  pub watched : IsWatched machine a.along.machine a.along.draws.number a.lines.items (behind_windows a.schedule (plan_of a.along) (all_of number closed tuples))
+  pub watched : IsWatched machine a.along.machine a.along.draws.number a.lines.items (after_windows a.schedule (plan_of a.along) (all_of number closed tuples))
 
 -- these windows were closed, and no other comes
 pub record IsIdle {M : Type 0} (machine : MachineOf M) (a : Traced M) (closed : List Window) : Type 0 where
   pub along : run.IsIdle machine a.along closed
-  pub lines : a.lines.items ≡ lines_behind a.schedule (plan_of a.along) closed
+  pub lines : a.lines.items ≡ lines_after a.schedule (plan_of a.along) closed

@@ -10,7 +10,7 @@ use Rattle.sn_core_net.specs.PlanWorkings.{workings}
 use Rattle.sn_plan_grammar.specs.declared.plan.Plan.{Plan}
 use Rattle.sn_types_read.specs.Texts.{Queries}
 use Rattle.sn_command_run.specs.Along.{supplies_of}
-use Rattle.sn_command_run.specs.Planned.{Planned, Telling, told_block, told_lines}
+use Rattle.sn_command_run.specs.Planned.{Planned, Telling, reported_block, reported_lines}
 use Rattle.sn_command_run.specs.Run.{planned, window_ns}
 use Rattle.sn_command.specs.Outcomes.{Stage}
 use Rattle.sn_switch.specs.declared.switch.Switch.{Switch}
@@ -33,31 +33,31 @@ module _ (schedule : ℕ) (p : Planned) where
   at_first = record { since = []; number = schedule; state = new_state 64 p.queries p.tables p.entries }
 
   -- once these windows were given, tuple by tuple
-  abbrev pub behind_windows : List Window → Watch
-  behind_windows windows = watch_over (works_of p) at_first (supplies_of windows)
+  abbrev pub after_windows : List Window → Watch
+  after_windows windows = watch_over (works_of p) at_first (supplies_of windows)
 
   -- Before the block of a window: the lines of what happens from the close of the window before to its own. Nothing more comes of the
   -- window then, and what comes instead doesn't matter, so it may be the end.
   abbrev pub lines_before : List Window → ℕ → List ℕ
-  lines_before windows number = lines_of (up_to_close (works_of p) (behind_windows (up_to number windows)) End)
+  lines_before windows number = lines_of (up_to_close (works_of p) (after_windows (up_to number windows)) End)
 
   -- of a window that isn't finished: the lines of what happens from the close of the window before, until the next tuple is wanted
   abbrev pub lines_so_far : List Window → ℕ → List (List ℕ) → List ℕ
-  lines_so_far closed number tuples = lines_of (behind_windows (all_of number closed tuples)).since
+  lines_so_far closed number tuples = lines_of (after_windows (all_of number closed tuples)).since
 
   -- after the block of the last window: the lines of what happens then
-  abbrev pub lines_behind : List Window → List ℕ
-  lines_behind windows = lines_of (watch_on (works_of p) (behind_windows windows) End).since
+  abbrev pub lines_after : List Window → List ℕ
+  lines_after windows = lines_of (watch_on (works_of p) (after_windows windows) End).since
 
   abbrev pub traced_wording : Telling → Wording
-  traced_wording told = record {
+  traced_wording reported = record {
     first = [];
-    block = λ windows number tuples. lines_before windows number ++ told_block told p windows number tuples;
+    block = λ windows number tuples. lines_before windows number ++ reported_block reported p windows number tuples;
     stops = λ windows number tuples. None;
     unfinished = lines_so_far;
-    last = λ windows ending. lines_behind windows ++ told_lines told p windows ending;
+    last = λ windows ending. lines_after windows ++ reported_lines reported p windows ending;
   }
 
 -- the capture is answered along the plan in blocks, with the lines of what happens in the machine
 abbrev pub TracedAlong : ℕ → Telling → List ℕ → Queries → Switch → Plan → Stage (Unit {0})
-TracedAlong schedule told capture read limits plan = Answered (traced_wording schedule (planned read limits plan) told) (window_ns read) capture
+TracedAlong schedule reported capture read limits plan = Answered (traced_wording schedule (planned read limits plan) reported) (window_ns read) capture

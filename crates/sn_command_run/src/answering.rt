@@ -16,7 +16,7 @@ impl<M: Machine> Answering for Along<M> {
     ghost use Rattle.sn_command_run.specs.Causal.{plan_is_causal, plan_never_stops};
     ghost use Rattle.sn_command_run.specs.Planned.{wording_in};
 
-    ghost wording = { λ a. wording_in a.form M.told (plan_of a) };
+    ghost wording = { λ a. wording_in a.form M.reported (plan_of a) };
 
     ghost idle = { λ a closed. IsIdle M.Machine a closed };
 
@@ -50,7 +50,7 @@ impl<M: Machine> Answering for Along<M> {
         last_text(self.alloc, self.form, ending, windows, self.emitted)
     }
 
-    ghost causal = { λ a. plan_is_causal a.form M.told (plan_of a) };
+    ghost causal = { λ a. plan_is_causal a.form M.reported (plan_of a) };
 
-    ghost in_time = { λ a. never_stopped (wording_in a.form M.told (plan_of a)) (plan_never_stops a.form M.told (plan_of a)) };
+    ghost in_time = { λ a. never_stopped (wording_in a.form M.reported (plan_of a)) (plan_never_stops a.form M.reported (plan_of a)) };
 }

@@ -7,5 +7,5 @@ ghost use Rattle.sn_command.specs.Outcomes.{HasOne};
 /// Over each set of files `run` has exactly one outcome, whatever is reported of answers.
 #[tactic(auto, using(crate::proofs::RunLemmas::one_run))]
 pub fn run_has_one_outcome()
-    ensures { (told : Telling) (csv : Bool) (switch queries plan capture : List ℕ) → HasOne (Run told csv switch queries plan capture) }
+    ensures { (reported : Telling) (csv : Bool) (switch queries plan capture : List ℕ) → HasOne (Run reported csv switch queries plan capture) }
 {}

@@ -27,7 +27,7 @@ pub fn run<M: Machine, I: Inputs, O: Sink>(
     capture: &str,
     desk: &mut Desk<'_, I, O>,
 ) -> Result<(), Refusal>
-    ensures { WorksFrom 2 (queries.now ∷ switch.now ∷ plan.now ∷ capture.now ∷ []) (Run M.told csv switch.now queries.now plan.now capture.now)
+    ensures { WorksFrom 2 (queries.now ∷ switch.now ∷ plan.now ∷ capture.now ∷ []) (Run M.reported csv switch.now queries.now plan.now capture.now)
         (world I.Inputs O.Sink desk.old) result (world I.Inputs O.Sink desk.new) }
 {
     let typed = read_queries(alloc, desk, queries)?;

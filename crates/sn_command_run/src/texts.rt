@@ -3,7 +3,7 @@ ghost use Rattle.std.specs.Prelude.{◌≡◌, ℕ, List, IfOk, length};
 ghost use Rattle.std.specs.List.{AllByRecursion};
 ghost use Rattle.sn_windows.specs.Rising.{Window};
 ghost use Rattle.sn_out.specs.Text.{IsPartOf};
-ghost use Rattle.sn_command_run.specs.Planned.{Planned, Telling, told_at, told_emitted_in, wording_in};
+ghost use Rattle.sn_command_run.specs.Planned.{Planned, Telling, reported_at, reported_emitted_in, wording_in};
 
 use crate::form::Form;
 use sn_base::memory::Memory;
@@ -18,7 +18,7 @@ use std::alloc::Global;
 
 /// What stands before the answers of all windows.
 pub(crate) fn first_text(alloc: Global, form: Form) -> Result<Seq<u8>, Memory>
-    ensures { IfOk result (λ text. (told : Telling) (p : Planned) → text ≡ (wording_in form told p).first) }
+    ensures { IfOk result (λ text. (reported : Telling) (p : Planned) → text ≡ (wording_in form reported p).first) }
 {
     match form {
         Form::Blocks => Ok(Seq::new(alloc)),
@@ -34,9 +34,9 @@ pub(crate) fn window_text(
     answers: &Answers,
 ) -> Result<Seq<u8>, Memory>
     requires { AllByRecursion (IsPartOf t.now.queries) answers.now.parts }
-    ensures { IfOk result (λ text. (told : Telling) (p : Planned) (windows : List Window) (number : ℕ) (tuples : List (List ℕ)) → p.queries ≡ t.now.queries →
-        answers.now ≡ told_at told p windows number →
-        text ≡ (wording_in form told p).block windows number tuples) }
+    ensures { IfOk result (λ text. (reported : Telling) (p : Planned) (windows : List Window) (number : ℕ) (tuples : List (List ℕ)) → p.queries ≡ t.now.queries →
+        answers.now ≡ reported_at reported p windows number →
+        text ≡ (wording_in form reported p).block windows number tuples) }
 {
     match form {
         Form::Blocks => block(alloc, t, answers, true),
@@ -52,8 +52,8 @@ pub(crate) fn last_text(
     windows: u64,
     emitted: u64,
 ) -> Result<Seq<u8>, Memory>
-    ensures { IfOk result (λ text. (told : Telling) (p : Planned) (closed : List Window) → windows ≡ length closed → emitted ≡ told_emitted_in told p closed →
-        text ≡ (wording_in form told p).last closed ending) }
+    ensures { IfOk result (λ text. (reported : Telling) (p : Planned) (closed : List Window) → windows ≡ length closed → emitted ≡ reported_emitted_in reported p closed →
+        text ≡ (wording_in form reported p).last closed ending) }
 {
     match form {
         Form::Blocks => last_lines(alloc, ending, windows, Some(emitted)),

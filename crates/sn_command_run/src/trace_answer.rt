@@ -32,7 +32,7 @@ pub fn answer_traced<M: Machine, I: Inputs, O: Sink>(
 ) -> Result<(), Refusal>
     requires limits { IsSwitch limits.now }
     requires fits { Fits typed.queries limits.now plan.entries }
-    ensures { Runs (capture.now ∷ []) (TracedAlong schedule M.told capture.now (queries_of typed) limits.now plan) (world I.Inputs O.Sink desk.old) result
+    ensures { Runs (capture.now ∷ []) (TracedAlong schedule M.reported capture.now (queries_of typed) limits.now plan) (world I.Inputs O.Sink desk.old) result
         (world I.Inputs O.Sink desk.new) }
 {
     let window_ns = typed.window_ns();

@@ -1,6 +1,6 @@
 //! A plan answers the windows of a capture by a machine that is watched.
 
-use crate::trace_texts::{behind_lines, with_block};
+use crate::trace_texts::{after_lines, with_block};
 use crate::traced::Traced;
 use sn_base::memory::Memory;
 use sn_base::seq::Seq;
@@ -19,7 +19,7 @@ impl<M: Machine> Answering for Traced<M> {
     ghost use Rattle.sn_command_run.specs.TraceWatching.{IsAtWork, IsIdle};
     ghost use Rattle.sn_command_run.specs.TraceWording.{traced_wording};
 
-    ghost wording = { λ a. traced_wording a.schedule (plan_of a.along) M.told };
+    ghost wording = { λ a. traced_wording a.schedule (plan_of a.along) M.reported };
 
     ghost idle = { λ a closed. IsIdle M.Machine a closed };
 
@@ -51,10 +51,10 @@ impl<M: Machine> Answering for Traced<M> {
 
     fn last(&self, windows: u64, ending: Ending) -> Result<Seq<u8>, Memory> {
         let text = last_lines(self.along.alloc, ending, windows, Some(self.along.emitted))?;
-        behind_lines(self.along.alloc, self.lines.as_slice(), text.as_slice())
+        after_lines(self.along.alloc, self.lines.as_slice(), text.as_slice())
     }
 
-    ghost causal = { λ a. trace_is_causal a.schedule (plan_of a.along) M.told };
+    ghost causal = { λ a. trace_is_causal a.schedule (plan_of a.along) M.reported };
 
-    ghost in_time = { λ a. never_stopped (traced_wording a.schedule (plan_of a.along) M.told) (λ windows number tuples. refl) };
+    ghost in_time = { λ a. never_stopped (traced_wording a.schedule (plan_of a.along) M.reported) (λ windows number tuples. refl) };
 }

@@ -12,16 +12,16 @@ use sn_types::typed::Typed;
 use std::alloc::Global;
 
 /// One text after another.
-fn joined(front: Vec<u8>, behind: &[u8]) -> Result<Seq<u8>, Memory>
-    ensures { IfOk result (λ text. text ≡ front.items ++ behind.now) }
+fn joined(front: Vec<u8>, following: &[u8]) -> Result<Seq<u8>, Memory>
+    ensures { IfOk result (λ text. text ≡ front.items ++ following.now) }
 {
     let mut text = front;
-    push_bytes(&mut text, behind)?;
+    push_bytes(&mut text, following)?;
     Ok(Seq::from_vec(text))
 }
 
 /// A text after a copy of lines.
-pub(crate) fn behind_lines(alloc: Global, lines: &[u8], text: &[u8]) -> Result<Seq<u8>, Memory>
+pub(crate) fn after_lines(alloc: Global, lines: &[u8], text: &[u8]) -> Result<Seq<u8>, Memory>
     ensures { IfOk result (λ whole. whole ≡ lines.now ++ text.now) }
 {
     let front = Seq::from_slice(alloc, lines)?;

@@ -5,7 +5,7 @@ ghost use Rattle.sn_command_capture.specs.Wording.{Holds, HoldsSome};
 ghost use Rattle.sn_plan_fit.specs.Fits.{Fits};
 ghost use Rattle.sn_out.specs.Text.{IsPartOf};
 ghost use Rattle.sn_command_run.specs.Along.{plan_of};
-ghost use Rattle.sn_command_run.specs.Planned.{told_at};
+ghost use Rattle.sn_command_run.specs.Planned.{reported_at};
 ghost use Rattle.sn_switch.specs.Texts.{IsSwitch};
 ghost use Rattle.sn_command_run.specs.TraceWatching.{IsAtWork, IsIdle};
 ghost use Rattle.sn_command_run.specs.TraceWording.{lines_before};
@@ -14,7 +14,7 @@ ghost use Rattle.sn_emit.specs.Plans.{tables_of};
 
 use crate::along::Along;
 use crate::form::Form;
-use crate::told::last_told;
+use crate::reported::last_reported;
 use crate::traced::Traced;
 use crate::windows::sum_of;
 use sn_base::memory::Memory;
@@ -90,7 +90,7 @@ impl<M: Machine> Traced<M> {
             found.0.items ≡ lines_before self.old.schedule (plan_of self.old.along) (closed ++ (at_hand, tuples) ∷ []) at_hand) }
         ensures answers { IfOk result (λ found. (closed : List Window) (tuples : List (List ℕ)) → 0 < length tuples →
             IsAtWork M.Machine self.old closed at_hand tuples →
-            found.1 ≡ told_at M.told (plan_of self.old.along) (closed ++ (at_hand, tuples) ∷ []) at_hand) }
+            found.1 ≡ reported_at M.reported (plan_of self.old.along) (closed ++ (at_hand, tuples) ∷ []) at_hand) }
         ensures fit { IfOk result (λ found. AllByRecursion (IsPartOf self.new.along.typed.queries) found.1.parts) }
         ensures begun { OnOk result ((closed : List Window) (tuples : List (List ℕ)) → 0 < length tuples → IsAtWork M.Machine self.old closed at_hand tuples →
             IsAtWork M.Machine self.new (closed ++ (at_hand, tuples) ∷ []) number (tuple.now ∷ [])) }
@@ -107,7 +107,7 @@ impl<M: Machine> Traced<M> {
         )?;
         let all = notes.all()?;
         let lines = follow(self.along.alloc, &mut self.lines, all.as_slice())?;
-        let Some(answers) = last_told(all) else {
+        let Some(answers) = last_reported(all) else {
             unreachable!();
         };
         self.along.emitted = sum_of(self.along.emitted, answers.emitted)?;
@@ -122,7 +122,7 @@ impl<M: Machine> Traced<M> {
             found.0.items ≡ lines_before self.old.schedule (plan_of self.old.along) (closed ++ (number, tuples) ∷ []) number) }
         ensures answers { IfOk result (λ found. (closed : List Window) (tuples : List (List ℕ)) → 0 < length tuples →
             IsAtWork M.Machine self.old closed number tuples →
-            found.1 ≡ told_at M.told (plan_of self.old.along) (closed ++ (number, tuples) ∷ []) number) }
+            found.1 ≡ reported_at M.reported (plan_of self.old.along) (closed ++ (number, tuples) ∷ []) number) }
         ensures fit { IfOk result (λ found. AllByRecursion (IsPartOf self.new.along.typed.queries) found.1.parts) }
         ensures closed { OnOk result ((closed : List Window) (tuples : List (List ℕ)) → 0 < length tuples → IsAtWork M.Machine self.old closed number tuples →
             IsIdle M.Machine self.new (closed ++ (number, tuples) ∷ [])) }
@@ -138,7 +138,7 @@ impl<M: Machine> Traced<M> {
         )?;
         let all = notes.all()?;
         let lines = follow(self.along.alloc, &mut self.lines, all.as_slice())?;
-        let Some(answers) = last_told(all) else {
+        let Some(answers) = last_reported(all) else {
             unreachable!();
         };
         self.along.emitted = sum_of(self.along.emitted, answers.emitted)?;

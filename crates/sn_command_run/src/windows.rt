@@ -8,13 +8,13 @@ ghost use Rattle.sn_plan_fit.specs.Fits.{Fits};
 ghost use Rattle.sn_core_net.specs.PlanWorkings.{AreLanesFor, workings};
 ghost use Rattle.sn_out.specs.Text.{IsPartOf};
 ghost use Rattle.sn_command_run.specs.Along.{IsAtHand, IsIdle, plan_of};
-ghost use Rattle.sn_command_run.specs.Planned.{told_at};
+ghost use Rattle.sn_command_run.specs.Planned.{reported_at};
 ghost use Rattle.sn_switch.specs.Texts.{IsSwitch};
 ghost use Rattle.sn_windows.specs.Rising.{Window};
 
 use crate::along::Along;
 use crate::form::Form;
-use crate::told::last_told;
+use crate::reported::last_reported;
 use sn_base::memory::Memory;
 use sn_core::supply::Supply;
 use sn_core_drive::driving::advance;
@@ -90,7 +90,7 @@ impl<M: Machine> Along<M> {
         requires above { at_hand < number }
         ensures answers { IfOk result (λ answers. (closed : List Window) (tuples : List (List ℕ)) → 0 < length tuples →
             IsAtHand M.Machine self.old closed at_hand tuples →
-            answers ≡ told_at M.told (plan_of self.old) (closed ++ (at_hand, tuples) ∷ []) at_hand) }
+            answers ≡ reported_at M.reported (plan_of self.old) (closed ++ (at_hand, tuples) ∷ []) at_hand) }
         ensures fit { IfOk result (λ answers. AllByRecursion (IsPartOf self.new.typed.queries) answers.parts) }
         ensures begun { OnOk result ((closed : List Window) (tuples : List (List ℕ)) → 0 < length tuples → IsAtHand M.Machine self.old closed at_hand tuples →
             IsAtHand M.Machine self.new (closed ++ (at_hand, tuples) ∷ []) number (tuple.now ∷ [])) }
@@ -100,7 +100,7 @@ impl<M: Machine> Along<M> {
         tuple.widths();
         let first = Supply::Numbered(number, *tuple);
         let notes = advance(self.alloc, &mut self.machine, &mut self.draws, first)?;
-        let Some(answers) = last_told(notes.up_to_answers()) else {
+        let Some(answers) = last_reported(notes.up_to_answers()) else {
             unreachable!();
         };
         self.emitted = sum_of(self.emitted, answers.emitted)?;
@@ -112,7 +112,7 @@ impl<M: Machine> Along<M> {
         requires { HoldsSome (IsAtHand M.Machine self.old) number }
         ensures answers { IfOk result (λ answers. (closed : List Window) (tuples : List (List ℕ)) → 0 < length tuples →
             IsAtHand M.Machine self.old closed number tuples →
-            answers ≡ told_at M.told (plan_of self.old) (closed ++ (number, tuples) ∷ []) number) }
+            answers ≡ reported_at M.reported (plan_of self.old) (closed ++ (number, tuples) ∷ []) number) }
         ensures fit { IfOk result (λ answers. AllByRecursion (IsPartOf self.new.typed.queries) answers.parts) }
         ensures closed { OnOk result ((closed : List Window) (tuples : List (List ℕ)) → 0 < length tuples → IsAtHand M.Machine self.old closed number tuples →
             IsIdle M.Machine self.new (closed ++ (number, tuples) ∷ [])) }
@@ -121,7 +121,7 @@ impl<M: Machine> Along<M> {
     {
         let end = Supply::End;
         let notes = advance(self.alloc, &mut self.machine, &mut self.draws, end)?;
-        let Some(answers) = last_told(notes.up_to_answers()) else {
+        let Some(answers) = last_reported(notes.up_to_answers()) else {
             unreachable!();
         };
         self.emitted = sum_of(self.emitted, answers.emitted)?;

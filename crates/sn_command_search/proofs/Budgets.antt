@@ -15,7 +15,7 @@ use Rattle.sn_tree_space.specs.Space.{Space, SpaceLaws, IsOneOf, with_choice, ch
 use Rattle.sn_tree_space.specs.Trees.{node_at, tree_of, expands, count_expands}
 use Rattle.sn_tree_space.specs.Searches.{IsBudgetBound, any_bound, weight}
 use Rattle.sn_tree_space.proofs.Existence.{some_first_least}
-use Rattle.sn_tree_space.proofs.Order.{not_behind}
+use Rattle.sn_tree_space.proofs.Order.{not_after}
 use Rattle.sn_tree_space.proofs.Partials.{child_partial, children_complete}
 use Rattle.sn_tree_space.proofs.PlanTree.{node_case, NodeCase, is_broken, is_plan, is_bound, is_expand}
 use Rattle.sn_tree_space.proofs.Weights.{weight_is}
@@ -32,7 +32,7 @@ first_once s p q P Q =
     let up = P.least q Q.plan in
     let down = Q.least p P.plan in
     let level : s.lower q ≡ s.lower p = omega arith in
-    sym (neither q p (slice_cmp nat_cmp q p) refl (P.first q Q.plan level) (not_behind q p (Q.first p P.plan (sym level))))
+    sym (neither q p (slice_cmp nat_cmp q p) refl (P.first q Q.plan level) (not_after q p (Q.first p P.plan (sym level))))
 
 -- ---- counts by two tests
 

@@ -4,7 +4,7 @@ use Rattle.std.specs.FinMap.{get}
 use Rattle.std.proofs.lemmas.Bool.{le-ltb}
 use Rattle.sn_base.proofs.Lists.{by_test}
 use Rattle.sn_io.specs.Counts.{ByName, OnlyRises, RoseAt}
-use Rattle.sn_io.specs.Inputs.{Reads, told_file}
+use Rattle.sn_io.specs.Inputs.{Reads, stated_file}
 use Rattle.sn_io.specs.declared.inputs.ReadError.{ReadError}
 use Rattle.sn_command.specs.declared.fault.Fault.{Fault}
 use Rattle.sn_command.specs.declared.fault.Fault.TheVariants as faults
@@ -18,7 +18,7 @@ use Rattle.sn_command.specs.Worlds.{Sunk, World}
 use Rattle.sn_command.proofs.FileLemmas.{known_file, none_other, some_if}
 use Rattle.sn_command.proofs.OutcomeLemmas.{chance_keeps, silent_keeps}
 use Rattle.sn_command.proofs.StageLemmas.{MayCome}
-use Rattle.sn_pcap.proofs.ToldLemmas.{at_told}
+use Rattle.sn_pcap.proofs.ReportedLemmas.{at_reported}
 use Rattle.sn_command_capture.proofs.StreamLemmas.{read_follows}
 use Rattle.sn_cost_training.specs.Trained.{Training}
 use Rattle.sn_command_training.specs.Taking.{IsOfTraining}
@@ -60,11 +60,11 @@ keeps_as (Err refusal) outcome written due =
     by_test (is_chance refusal) (λ chance. chance_keeps outcome refusal written chance)
     (λ sure. subst (λ (o : Outcome _). Keeps o (Err refusal) written written) (sym (due sure)) (silent_keeps (Err refusal) written))
 
-module _ {A : Type 0} (name : List ℕ) (stage : Stage A) (answer : Result A Refusal) (before now : World) (told : now.files.told ≡ before.files.told) (rises : OnlyRises name before.files.faults now.files.faults)
+module _ {A : Type 0} (name : List ℕ) (stage : Stage A) (answer : Result A Refusal) (before now : World) (reported : now.files.reported ≡ before.files.reported) (rises : OnlyRises name before.files.faults now.files.faults)
     (out : now.out ≡ before.out) (places : now.places ≡ before.places) (unknown : get before.files.faults name ≡ None → answer ≡ Err Missing) (missing : answer ≡ Err Missing → get before.files.faults name ≡ None)
     (fault : answer ≡ Err ReadFault → RoseAt name before.files.faults now.files.faults) (no_usage : answer ≡ Err Usage → ⊥) (no_write : answer ≡ Err WriteFault → ⊥)
     (late : (fault : Fault) → answer ≡ Err (Refused fault) → MayCome {A = A} 0 (Err fault)) where
-  pub works_streamed : ((files : ByName (List ℕ)) → before.files.told ≡ Some files → (outcome : Outcome A) → stage files outcome → by_chance answer ≡ false → outcome ≡ silent answer) → Works (name ∷ []) stage before answer now
+  pub works_streamed : ((files : ByName (List ℕ)) → before.files.reported ≡ Some files → (outcome : Outcome A) → stage files outcome → by_chance answer ≡ false → outcome ≡ silent answer) → Works (name ∷ []) stage before answer now
   works_streamed due = record {
     runs = record {
       keeps = λ files same outcome is. subst (λ (o : Sunk). Keeps outcome answer before.out.written o.written) (sym out) (keeps_as answer outcome before.out.written (due files same outcome is));
@@ -75,7 +75,7 @@ module _ {A : Type 0} (name : List ℕ) (stage : Stage A) (answer : Result A Ref
       others = none_other name before.files.faults now.files.faults rises;
       queries = λ fault e. absurd (let wrong : 0 ≡ 2 = late (faults.Queries fault) e in omega arith);
       switch = λ fault e. absurd (let wrong : 1 ≤ 0 = late (faults.Switch fault) e in omega arith);
-      follows = read_follows name before now told rises out places;
+      follows = read_follows name before now reported rises out places;
     };
     unknown = unknown;
   }
@@ -95,14 +95,14 @@ pub never_so : (answer : Result Training Refusal) (refusal : Refusal) → IsOfTr
 never_so answer refusal of never e = never (subst IsOfTraining e of)
 
 -- over a known file that has no more bytes than may be, the answer is what it is judged to be
-pub judged_due : {A : Type 0} (told : Option (ByName (List ℕ))) (counts : ByName ℕ) (name : List ℕ) (judgement : List ℕ → Result A Fault → Type 0) (answer : Result A Refusal) → (get counts name ≡ None → ⊥)
-    → ((held : ByName (List ℕ)) (other : List ℕ) → told ≡ Some held → is_some (get held other) ≡ is_some (get counts other)) → ((file : List ℕ) (first second : Result A Fault) → judgement file first → judgement file second → first ≡ second)
-    → IfSome (told_file told name) (λ file. length file ≤ 2 ^ 30) → IfSome (told_file told name) (λ file. Answers (judgement file) answer)
-    → (files : ByName (List ℕ)) → told ≡ Some files → (outcome : Outcome A) → Text name judgement files outcome → by_chance answer ≡ false → outcome ≡ silent answer
-judged_due told counts name judgement answer known law once few judged files same outcome is sure =
+pub judged_due : {A : Type 0} (reported : Option (ByName (List ℕ))) (counts : ByName ℕ) (name : List ℕ) (judgement : List ℕ → Result A Fault → Type 0) (answer : Result A Refusal) → (get counts name ≡ None → ⊥)
+    → ((held : ByName (List ℕ)) (other : List ℕ) → reported ≡ Some held → is_some (get held other) ≡ is_some (get counts other)) → ((file : List ℕ) (first second : Result A Fault) → judgement file first → judgement file second → first ≡ second)
+    → IfSome (stated_file reported name) (λ file. length file ≤ 2 ^ 30) → IfSome (stated_file reported name) (λ file. Answers (judgement file) answer)
+    → (files : ByName (List ℕ)) → reported ≡ Some files → (outcome : Outcome A) → Text name judgement files outcome → by_chance answer ≡ false → outcome ≡ silent answer
+judged_due reported counts name judgement answer known law once few judged files same outcome is sure =
     let stands : is_some (get files name) ≡ true = law files name same ∙ some_if (get counts name) known in
-    let found = known_file files told name (λ (file : List ℕ). length file ≤ 2 ^ 30) same stands few in
-    let also = known_file files told name (λ (file : List ℕ). Answers (judgement file) answer) same stands judged in
+    let found = known_file files reported name (λ (file : List ℕ). length file ≤ 2 ^ 30) same stands few in
+    let also = known_file files reported name (λ (file : List ℕ). Answers (judgement file) answer) same stands judged in
     let one : also.0 ≡ found.0 = let e : ◌≡◌ {A = Option (List ℕ)} (Some also.0) (Some found.0) = sym also.1 ∙ found.1 in cc in
     answer_due (judgement found.0) answer outcome (λ verdict here. text_due name judgement files outcome is found.0 verdict found.1 found.2 (once found.0) here)
     (subst (λ (file : List ℕ). Answers (judgement file) answer) one also.2) sure
@@ -112,11 +112,11 @@ pub same_error : {A B : Type 0} {error other : ReadError} → IsErrOf {T = A} (E
 same_error {error = error} {other = other} e = let same : error ≡ other = cc in ap (λ (x : ReadError). Err x) same
 
 -- at the end of a file all of it was taken
-pub all_taken : (told now : Option (List ℕ)) (P : List ℕ → ℕ → Type 0) (place count : ℕ) (piece new : List ℕ) → now ≡ told → count ≡ 0 → (length piece ≡ 0 → ⊥) → IfSome told (λ file. P file place × (place ≤ length file))
-    → IfSome now (λ file. Reads file place count piece new) → IfSome told (λ file. P file (length file))
+pub all_taken : (reported now : Option (List ℕ)) (P : List ℕ → ℕ → Type 0) (place count : ℕ) (piece new : List ℕ) → now ≡ reported → count ≡ 0 → (length piece ≡ 0 → ⊥) → IfSome reported (λ file. P file place × (place ≤ length file))
+    → IfSome now (λ file. Reads file place count piece new) → IfSome reported (λ file. P file (length file))
 all_taken None now P place count piece new same none some taken reads = tt
 all_taken (Some file) now P place count piece new same none some taken reads =
-    let read : Reads file place count piece new = at_told (λ (f : List ℕ). Reads f place count piece new) now file same reads in
+    let read : Reads file place count piece new = at_reported (λ (f : List ℕ). Reads f place count piece new) now file same reads in
     let ended : length file ≤ place = either (length file ≤ place) (length piece ≡ 0) some (read.none.0 none) in
     let end : place ≡ length file = let within = taken.1 in omega (arith, ended, within) in
     subst (λ (n : ℕ). P file n) end taken.0

@@ -27,14 +27,14 @@ abbrev pub judged_records : ℕ → Link → List ℕ → List Packet → Result
 judged_records window link file packets = if nat_lt most_records (length packets) then Err faults.TooLarge else Ok (training_of window link file packets)
 
 -- after a header: the whole records count, however they end
-pub record JudgedBehind (window : ℕ) (header : Header) (file : List ℕ) (verdict : Result Training Fault) : Type 0 where
+pub record JudgedAfter (window : ℕ) (header : Header) (file : List ℕ) (verdict : Result Training Fault) : Type 0 where
   pub packets : List Packet
   pub ending : Ending
   pub are : Records header file 24 packets ending
   pub same : verdict ≡ judged_records window header.link file packets
 
 abbrev pub JudgedAs : ℕ → List ℕ → Result Header HeadFault → Result Training Fault → Type 0
-JudgedAs window file (Ok header) verdict = JudgedBehind window header file verdict
+JudgedAs window file (Ok header) verdict = JudgedAfter window header file verdict
 JudgedAs window file (Err fault) verdict = verdict ≡ Err (faults.Head fault)
 
 -- A training capture is refused for its header, and else for too many records.

@@ -92,7 +92,7 @@ impl Collected {
         Ok(Ok(()))
     }
 
-    /// Lets go of all tuples.
+    /// Forgets all tuples.
     pub(crate) fn clear(&mut self)
         ensures over { self.new.over ≡ none }
         ensures tuples { self.new.tuples ≡ [] }

@@ -7,7 +7,7 @@ ghost use Rattle.sn_command.specs.Stages.{Text};
 ghost use Rattle.sn_command_training.specs.Taking.{IsTaken, MayGoOn};
 ghost use Rattle.sn_command_training.specs.Training.{TrainingIn};
 ghost use Rattle.sn_io.specs.Counts.{OnlyRises, RoseAt};
-ghost use Rattle.sn_io.specs.Inputs.{told_file};
+ghost use Rattle.sn_io.specs.Inputs.{stated_file};
 ghost use Rattle.sn_windows.specs.Blocks.{most_records};
 
 use crate::taking::Taking;
@@ -24,14 +24,14 @@ use std::alloc::Global;
 fn take_file<I: Inputs>(taking: &mut Taking, files: &mut I, name: &str) -> Result<(), ReadError>
     requires { MayGoOn taking.old }
     ensures goes_on { OnOk result (MayGoOn taking.new) }
-    ensures taken { OnOk result (IfSome (told_file (I.told files.old) name.now) (λ file. (window : ℕ) → IsTaken window file 0 taking.old →
+    ensures taken { OnOk result (IfSome (stated_file (I.reported files.old) name.now) (λ file. (window : ℕ) → IsTaken window file 0 taking.old →
         IsTaken window file (length file) taking.new)) }
-    ensures most { OnOk result (IfSome (told_file (I.told files.old) name.now) (λ file. length file ≤ 2 ^ 30)) }
-    ensures large { IsErrOf result ReadError.TooLarge → IfSome (told_file (I.told files.old) name.now) (λ file. 2 ^ 30 < length file) }
+    ensures most { OnOk result (IfSome (stated_file (I.reported files.old) name.now) (λ file. length file ≤ 2 ^ 30)) }
+    ensures large { IsErrOf result ReadError.TooLarge → IfSome (stated_file (I.reported files.old) name.now) (λ file. 2 ^ 30 < length file) }
     ensures missing { IsErrOf result ReadError.Missing ↔ (get (I.faults files.old) name.now ≡ None) }
     ensures unchanged { IsErrOf result ReadError.Missing → files.new ≡ files.old }
     ensures fault { IsErrOf result ReadError.ReadFault → RoseAt name.now (I.faults files.old) (I.faults files.new) }
-    ensures told { I.told files.new ≡ I.told files.old }
+    ensures reported { I.reported files.new ≡ I.reported files.old }
     ensures faults { OnlyRises name.now (I.faults files.old) (I.faults files.new) }
 {
     let mut piece = [0; PIECE];

@@ -12,7 +12,7 @@ use Rattle.sn_core.specs.declared.supply.Supply.TheVariants.{Numbered, End}
 use Rattle.sn_core.specs.declared.supply.Window.TheVariants.{Idle, Begun, Closed}
 use Rattle.sn_core.specs.Needs.{first_full, first_need_that_fails, first_open, has_room, is_over, needs, needs_of_all, passes}
 use Rattle.sn_core.specs.Events.{after_event, all_started, change_at, emptied, given, kept_for, kept_from, delivered, with_next, with_tuple}
-use Rattle.sn_core.specs.Due.{all_items, and_later, answers_of, behind_window, due, fresh, items_from_start, of_window, windows_of}
+use Rattle.sn_core.specs.Due.{all_items, and_later, answers_of, after_window, due, fresh, items_from_start, of_window, windows_of}
 use Rattle.sn_core.specs.Standing.{IsAtWork, IsNet, KeepsLast, Stands}
 use Rattle.sn_core.specs.Workings.{AreLawful, Workings}
 use Rattle.sn_core.proofs.Items.{closed_items, ended_lane, first_items, next_items, started_items, tuple_items}
@@ -24,22 +24,22 @@ use Rattle.std.specs.Option.{option_to_list}
 module _ {Tuple : Type 0} where
   -- where a window is over, nothing more comes of it
   pub none_of : (window : ℕ) (held : Option (Supply Tuple)) (following : List (Supply Tuple)) → is_over window held ≡ true →
-      (of_window window (option_to_list held ++ following) ≡ []) × (behind_window window (option_to_list held ++ following) ≡ option_to_list held ++ following)
+      (of_window window (option_to_list held ++ following) ≡ []) × (after_window window (option_to_list held ++ following) ≡ option_to_list held ++ following)
   none_of window None following over = absurd (false≢true over)
   none_of window (Some End) following over = (refl, refl)
   none_of window (Some (Numbered number tuple)) following over =
       let other : nat_eq number window ≡ false = ne_eqb number window (λ e. omega (arith, e, ltb-true window number over)) in
-      (ap (λ b. cond b (tuple ∷ of_window window following) []) other, ap (λ b. cond b (behind_window window following) (Numbered number tuple ∷ following)) other)
+      (ap (λ b. cond b (tuple ∷ of_window window following) []) other, ap (λ b. cond b (after_window window following) (Numbered number tuple ∷ following)) other)
 
 module _ {Pipe Tuple Item Kept Answers : Type 0} (w : Workings Pipe Tuple Item Kept Answers) (law : AreLawful w) where
   -- the answers of a begun window, and of those after it, by what they rest on
   same_later : (sets : List Kept) (lanes others : List (Lane Pipe Item)) (number : ℕ) (supplies later : List (Supply Tuple)) (items found : List (List Item)) →
-      map (blank w) lanes ≡ map (blank w) others → behind_window number supplies ≡ behind_window number later → items ≡ found →
+      map (blank w) lanes ≡ map (blank w) others → after_window number supplies ≡ after_window number later → items ≡ found →
       and_later w lanes number supplies (w.answers sets number items) ≡ and_later w others number later (w.answers sets number found)
-  same_later sets lanes others number supplies later items found blanks behind same =
+  same_later sets lanes others number supplies later items found blanks following same =
       ap (λ xs. and_later w lanes number supplies (w.answers sets number xs)) same
-      ∙ ap (λ ys. w.answers sets number found ∷ ys) (same_answers w law lanes others (Some (number, w.kept_of (w.answers sets number found))) (windows_of (behind_window number supplies)) blanks
-      ∙ ap (λ (ss : List (Supply Tuple)). answers_of w others (Some (number, w.kept_of (w.answers sets number found))) (windows_of ss)) behind)
+      ∙ ap (λ ys. w.answers sets number found ∷ ys) (same_answers w law lanes others (Some (number, w.kept_of (w.answers sets number found))) (windows_of (after_window number supplies)) blanks
+      ∙ ap (λ (ss : List (Supply Tuple)). answers_of w others (Some (number, w.kept_of (w.answers sets number found))) (windows_of ss)) following)
 
   module _ (room : ℕ) (lanes : List (Lane Pipe Item)) (installs : List Kept) (last : Option (ℕ × List Kept)) (waiting : Option Answers) where
     abbrev with_parts : Option (Supply Tuple) → Window → Net Pipe Tuple Item Kept Answers
@@ -58,7 +58,7 @@ module _ {Pipe Tuple Item Kept Answers : Type 0} (w : Workings Pipe Tuple Item K
         ap (λ ys. option_to_list waiting ++ ys) (same_later (kept_from last number) (map (with_tuple w tuple) lanes) lanes number following (Numbered n tuple ∷ following)
         (map (all_items w (of_window number following)) (map (with_tuple w tuple) lanes)) (map (all_items w (of_window number (Numbered n tuple ∷ following))) lanes)
         (map_same (with_tuple w tuple) (blank w) (blank w) (blank_tuple w law tuple) lanes)
-        (sym (ap (λ b. cond b (behind_window number following) (Numbered n tuple ∷ following)) same))
+        (sym (ap (λ b. cond b (after_window number following) (Numbered n tuple ∷ following)) same))
         (map_same (with_tuple w tuple) (all_items w (of_window number following)) (all_items w (tuple ∷ of_window number following)) (tuple_items w law tuple (of_window number following)) lanes
         ∙ ap (λ ts. map (all_items w ts) lanes) (sym (ap (λ b. cond b (tuple ∷ of_window number following) []) same))))
 
@@ -100,7 +100,7 @@ module _ {Pipe Tuple Item Kept Answers : Type 0} (w : Workings Pipe Tuple Item K
         ap (λ ys. option_to_list waiting ++ ys) (ap (λ l. and_later w (all_started w lanes sets) n supplies (w.answers (kept_from l n) n (map (all_items w (of_window n supplies)) (all_started w lanes sets)))) keeps
         ∙ same_later sets (all_started w lanes sets) lanes n supplies following
         (map (all_items w (of_window n supplies)) (all_started w lanes sets)) (items_from_start w (tuple ∷ of_window n following) lanes sets)
-        (blank_started w law lanes sets) (ap (λ b. cond b (behind_window n following) supplies) own)
+        (blank_started w law lanes sets) (ap (λ b. cond b (after_window n following) supplies) own)
         (started_items w law (of_window n supplies) lanes sets stands.1
         ∙ ap (λ b. items_from_start w (cond b (tuple ∷ of_window n following) []) lanes sets) own)
         ∙ sym (ap (answers_of w lanes (Some (number, installs))) (first_window n tuple following)))
@@ -140,7 +140,7 @@ module _ {Pipe Tuple Item Kept Answers : Type 0} (w : Workings Pipe Tuple Item K
         ap (λ ys. option_to_list waiting ++ ys) (ap (λ l. and_later w lanes n supplies (w.answers (kept_from l n) n (map (all_items w (of_window n supplies)) lanes))) (keeps refl)
         ∙ same_later [] lanes lanes n supplies following
         (map (all_items w (of_window n supplies)) lanes) (items_from_start w (tuple ∷ of_window n following) lanes [])
-        refl (ap (λ b. cond b (behind_window n following) supplies) own)
+        refl (ap (λ b. cond b (after_window n following) supplies) own)
         (fresh_items (of_window n supplies) lanes stands.1 ∙ ap (λ b. items_from_start w (cond b (tuple ∷ of_window n following) []) lanes []) own)
         ∙ sym (ap (answers_of w lanes None) (first_window n tuple following)))
     give supply (Begun number) following stands keeps = refl

@@ -13,7 +13,7 @@ use Rattle.sn_core.specs.declared.supply.Supply.TheVariants.{Numbered, End}
 use Rattle.sn_core.specs.declared.supply.Window.TheVariants.{Idle, Begun, Closed}
 use Rattle.sn_core.specs.Needs.{first_full, first_need_that_fails, first_open, has_room, is_empty, is_over, needs, needs_of_all, passes}
 use Rattle.sn_core.specs.Events.{after_event, all_started, change_at, emptied, given, kept_for, delivered, with_next, with_tuple}
-use Rattle.sn_core.specs.Due.{behind_window, windows_of}
+use Rattle.sn_core.specs.Due.{after_window, windows_of}
 use Rattle.sn_core.specs.Debt.{debt, debt_of_lanes, tuples_in, windows_in, work}
 use Rattle.sn_core.specs.Standing.{IsNet, Stands}
 use Rattle.sn_core.specs.Workings.{AreLawful, Workings}
@@ -62,8 +62,8 @@ module _ {Pipe Tuple Item Kept Answers : Type 0} (w : Workings Pipe Tuple Item K
         let d : ℕ = debt_of_lanes w (Begun number) (map (with_tuple w tuple) lanes) + 2 in
         let e : ℕ = debt_of_lanes w (Begun number) lanes + 2 in
         let lanes_debt : debt_of_lanes w (Begun number) (map (with_tuple w tuple) lanes) ≤ debt_of_lanes w (Begun number) lanes + 2 * length lanes = mapped_two w law (Begun number) (Begun number) (with_tuple w tuple) (tuple_debt w law (Begun number) tuple) lanes in
-        subst (λ (m : ℕ). suc (whole d m t k) ≤ whole e l (suc t) (length (windows_of (behind_window number (Numbered n tuple ∷ following))))) (sym (length-map lanes (with_tuple w tuple)))
-        (subst (λ (b : Bool). suc (whole d l t k) ≤ whole e l (suc t) (length (windows_of (cond b (behind_window number following) (Numbered n tuple ∷ following))))) (sym same)
+        subst (λ (m : ℕ). suc (whole d m t k) ≤ whole e l (suc t) (length (windows_of (after_window number (Numbered n tuple ∷ following))))) (sym (length-map lanes (with_tuple w tuple)))
+        (subst (λ (b : Bool). suc (whole d l t k) ≤ whole e l (suc t) (length (windows_of (cond b (after_window number following) (Numbered n tuple ∷ following))))) (sym same)
         (with_tuple_used d e l ((2 * l + 1) * t) ((2 * l + 1) * suc t) ((2 * l + 2) * k) (omega (arith, lanes_debt)) (mul-suc (2 * l + 1) t)))
 
     read_out : (lane : ℕ) (held : Option (Supply Tuple)) (window : Window) (following : List (Supply Tuple)) → Works (ReadOut lane) held window following
@@ -107,7 +107,7 @@ module _ {Pipe Tuple Item Kept Answers : Type 0} (w : Workings Pipe Tuple Item K
         let d : ℕ = debt_of_lanes w (Closed number) (map emptied lanes) + 1 in
         let e : ℕ = debt_of_lanes w (Begun number) lanes + 2 in
         let less = mapped_none w law (Begun number) (Closed number) emptied (emptied_debt w law number) lanes in
-        subst (λ (m : ℕ). suc (whole d m t (length (windows_of supplies))) ≤ whole e l t (length (windows_of (behind_window number supplies)))) (sym (length-map lanes emptied))
+        subst (λ (m : ℕ). suc (whole d m t (length (windows_of supplies))) ≤ whole e l t (length (windows_of (after_window number supplies)))) (sym (length-map lanes emptied))
         (subst (λ (ss : List (Supply Tuple)). suc (whole d l t (length (windows_of supplies))) ≤ whole e l t (length (windows_of ss))) (sym none.1)
         (lower d e ((2 * l + 1) * t) ((2 * l + 2) * length (windows_of supplies)) (omega (arith, less))))
 
@@ -126,12 +126,12 @@ module _ {Pipe Tuple Item Kept Answers : Type 0} (w : Workings Pipe Tuple Item K
         let own : nat_eq n n ≡ true = eq-eqb n n refl in
         let l : ℕ = length lanes in
         let t : ℕ = tuples_in supplies in
-        let k : ℕ = length (windows_of (behind_window n following)) in
+        let k : ℕ = length (windows_of (after_window n following)) in
         let d : ℕ = debt_of_lanes w (Begun n) (all_started w lanes sets) + 2 in
         let e : ℕ = debt_of_lanes w (Closed number) lanes + 1 in
         let more = started_debt w law n number lanes sets in
-        subst (λ (m : ℕ). suc (whole d m t (length (windows_of (behind_window n supplies)))) ≤ whole e l t (length (windows_of supplies))) (sym (length_started w law lanes sets))
-        (subst (λ (b : Bool). suc (whole d l t (length (windows_of (cond b (behind_window n following) supplies)))) ≤ whole e l t (length (windows_of supplies))) (sym own)
+        subst (λ (m : ℕ). suc (whole d m t (length (windows_of (after_window n supplies)))) ≤ whole e l t (length (windows_of supplies))) (sym (length_started w law lanes sets))
+        (subst (λ (b : Bool). suc (whole d l t (length (windows_of (cond b (after_window n following) supplies)))) ≤ whole e l t (length (windows_of supplies))) (sym own)
         (subst (λ (c : ℕ). suc (whole d l t k) ≤ whole e l t c) (sym (ap length (first_window n tuple following)))
         (with_window_used d e l ((2 * l + 1) * t) ((2 * l + 2) * k) ((2 * l + 2) * suc k) (omega (arith, more)) (mul-suc (2 * l + 2) k))))
 
@@ -147,11 +147,11 @@ module _ {Pipe Tuple Item Kept Answers : Type 0} (w : Workings Pipe Tuple Item K
         let own : nat_eq n n ≡ true = eq-eqb n n refl in
         let l : ℕ = length lanes in
         let t : ℕ = tuples_in supplies in
-        let k : ℕ = length (windows_of (behind_window n following)) in
+        let k : ℕ = length (windows_of (after_window n following)) in
         let d : ℕ = debt_of_lanes w (Begun n) lanes + 2 in
         let e : ℕ = debt_of_lanes w Idle lanes + 0 in
         let more = begun_debt w law n lanes in
-        subst (λ (b : Bool). whole d l t (length (windows_of (cond b (behind_window n following) supplies))) ≤ whole e l t (length (windows_of supplies))) (sym own)
+        subst (λ (b : Bool). whole d l t (length (windows_of (cond b (after_window n following) supplies))) ≤ whole e l t (length (windows_of supplies))) (sym own)
         (subst (λ (c : ℕ). whole d l t k ≤ whole e l t c) (sym (ap length (first_window n tuple following)))
         (with_first_window d e l ((2 * l + 1) * t) ((2 * l + 2) * k) ((2 * l + 2) * suc k) (omega (arith, more)) (mul-suc (2 * l + 2) k)))
 

@@ -24,18 +24,18 @@ use Rattle.sn_core.proofs.Tests.{all_changed, all_hold, all_mapped, all_same, le
 
 module _ {Item : Type 0} where
   -- before its End a lane may append rows, and then its End
-  rows_behind : (ended closed : Bool) (frames : List (Frame Item)) (o : Option Item) → ended ≡ false → HasEndLast ended closed frames → HasEndLast ended closed (frames ++ row_frames o)
-  rows_behind ended true frames o running h = absurd (false≢true (sym running ∙ h.0))
-  rows_behind ended false [] None running h = h
-  rows_behind ended false [] (Some item) running h = h
-  rows_behind ended false (Row item ∷ frames) o running h = rows_behind ended false frames o running h
-  rows_behind ended false (Last ∷ frames) o running h = absurd (false≢true (sym running ∙ h.0))
+  rows_after : (ended closed : Bool) (frames : List (Frame Item)) (o : Option Item) → ended ≡ false → HasEndLast ended closed frames → HasEndLast ended closed (frames ++ row_frames o)
+  rows_after ended true frames o running h = absurd (false≢true (sym running ∙ h.0))
+  rows_after ended false [] None running h = h
+  rows_after ended false [] (Some item) running h = h
+  rows_after ended false (Row item ∷ frames) o running h = rows_after ended false frames o running h
+  rows_after ended false (Last ∷ frames) o running h = absurd (false≢true (sym running ∙ h.0))
 
-  end_behind : (ended closed : Bool) (frames : List (Frame Item)) → ended ≡ false → HasEndLast ended closed frames → HasEndLast true closed (frames ++ Last ∷ [])
-  end_behind ended true frames running h = absurd (false≢true (sym running ∙ h.0))
-  end_behind ended false [] running h = (refl, refl)
-  end_behind ended false (Row item ∷ frames) running h = end_behind ended false frames running h
-  end_behind ended false (Last ∷ frames) running h = absurd (false≢true (sym running ∙ h.0))
+  end_after : (ended closed : Bool) (frames : List (Frame Item)) → ended ≡ false → HasEndLast ended closed frames → HasEndLast true closed (frames ++ Last ∷ [])
+  end_after ended true frames running h = absurd (false≢true (sym running ∙ h.0))
+  end_after ended false [] running h = (refl, refl)
+  end_after ended false (Row item ∷ frames) running h = end_after ended false frames running h
+  end_after ended false (Last ∷ frames) running h = absurd (false≢true (sym running ∙ h.0))
 
   cons_not_nil : {G : Type 0} (frame : Frame Item) (frames : List (Frame Item)) → frame ∷ frames ≡ [] → G
   cons_not_nil frame frames e = absurd (omega (arith, length_of e))
@@ -70,7 +70,7 @@ module _ {Pipe Tuple Item Kept Answers : Type 0} (w : Workings Pipe Tuple Item K
   tuple_work tuple over before lane h =
       let open_end : lane.ended ≡ false = still_open lane.ended over h.ends_late before in
       record {
-        end = rows_behind lane.ended lane.closed lane.ring (w.item_of lane.pipe tuple) open_end h.end;
+        end = rows_after lane.ended lane.closed lane.ring (w.item_of lane.pipe tuple) open_end h.end;
         read_out = λ e. absurd (false≢true (sym open_end ∙ e));
         ends_late = λ e. absurd (false≢true (sym open_end ∙ e));
         unread = λ e. law.tuples_are_unread lane.pipe tuple (h.unread before);
@@ -78,7 +78,7 @@ module _ {Pipe Tuple Item Kept Answers : Type 0} (w : Workings Pipe Tuple Item K
 
   next_work_of : (over : Bool) → over ≡ true → (lane : Lane Pipe Item) (items : List Item) → w.left lane.pipe ≡ items → not lane.ended ≡ true → IsAtWork w over lane → IsAtWork w over (with_next_of w lane items)
   next_work_of over late lane [] left is_open h = record {
-    end = end_behind lane.ended lane.closed lane.ring (opens lane.ended is_open) h.end;
+    end = end_after lane.ended lane.closed lane.ring (opens lane.ended is_open) h.end;
     read_out = λ e. left;
     ends_late = λ e. late;
     unread = λ e. absurd (false≢true (sym e ∙ late));
@@ -86,7 +86,7 @@ module _ {Pipe Tuple Item Kept Answers : Type 0} (w : Workings Pipe Tuple Item K
   next_work_of over late lane (item ∷ items) left is_open h =
       let open_end : lane.ended ≡ false = opens lane.ended is_open in
       record {
-        end = rows_behind lane.ended lane.closed lane.ring (Some item) open_end h.end;
+        end = rows_after lane.ended lane.closed lane.ring (Some item) open_end h.end;
         read_out = λ e. absurd (false≢true (sym open_end ∙ e));
         ends_late = λ e. late;
         unread = λ e. absurd (false≢true (sym e ∙ late));

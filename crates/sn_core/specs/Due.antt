@@ -39,10 +39,10 @@ module _ {Tuple : Type 0} where
   of_window window (End ∷ supplies) = []
   of_window window (Numbered number tuple ∷ supplies) = if nat_eq number window then tuple ∷ of_window window supplies else []
 
-  abbrev pub behind_window : ℕ → List (Supply Tuple) → List (Supply Tuple)
-  behind_window window [] = []
-  behind_window window (End ∷ supplies) = End ∷ supplies
-  behind_window window (Numbered number tuple ∷ supplies) = if nat_eq number window then behind_window window supplies else Numbered number tuple ∷ supplies
+  abbrev pub after_window : ℕ → List (Supply Tuple) → List (Supply Tuple)
+  after_window window [] = []
+  after_window window (End ∷ supplies) = End ∷ supplies
+  after_window window (Numbered number tuple ∷ supplies) = if nat_eq number window then after_window window supplies else Numbered number tuple ∷ supplies
 
 abbrev pub items_in : {Item : Type 0} → List (Frame Item) → List Item
 items_in [] = []
@@ -84,7 +84,7 @@ module _ {Pipe Tuple Item Kept Answers : Type 0} (w : Workings Pipe Tuple Item K
   -- ---- all of it
 
   abbrev pub and_later : List (Lane Pipe Item) → ℕ → List (Supply Tuple) → Answers → List Answers
-  and_later lanes number supplies answers = answers ∷ answers_of lanes (Some (number, w.kept_of answers)) (windows_of (behind_window number supplies))
+  and_later lanes number supplies answers = answers ∷ answers_of lanes (Some (number, w.kept_of answers)) (windows_of (after_window number supplies))
 
   abbrev pub due_in : Net Pipe Tuple Item Kept Answers → List (Supply Tuple) → Window → List Answers
   due_in net supplies Idle = answers_of net.lanes None (windows_of supplies)

@@ -21,13 +21,13 @@ use Rattle.sn_core.specs.declared.supply.Window.TheVariants.{Begun}
 use Rattle.sn_core_drive.specs.Schedules.{events_of, is_still, may_happen, picked}
 use Rattle.sn_gen.specs.Generated.{drawn, next_number}
 use Rattle.sn_core_net.specs.States.{State, Works}
-use Rattle.sn_core_drive.specs.Turns.{Turns, behind, no_turn, parted, turns, turns_on}
+use Rattle.sn_core_drive.specs.Turns.{Turns, led_by, no_turn, parted, turns, turns_on}
 use Rattle.sn_core_drive.proofs.TurnLemmas.{one_turn}
 use Rattle.sn_base.proofs.Lists.{filter_same}
 use Rattle.sn_core_drive.proofs.Running.{picked_may}
 
 none_turned : (w : Works) (n x : ℕ) (s : State) → picked s (drawn (next_number x)) ≡ None → is_still s ≡ false → turns w (suc n) x s ≡ no_turn x s
-none_turned w n x s none going = rw going (ap (λ (o : Option Event). option_map_or (λ event. behind event (turns w n (next_number x) (without_answers (after_event w s event)))) o (no_turn x s)) none)
+none_turned w n x s none going = rw going (ap (λ (o : Option Event). option_map_or (λ event. led_by event (turns w n (next_number x) (without_answers (after_event w s event)))) o (no_turn x s)) none)
 
 some_work : (a b c : ℕ) → a + 2 + b + c ≤ 0 → ⊥
 some_work a b c le = omega (arith, le)

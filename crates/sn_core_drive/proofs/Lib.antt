@@ -1,7 +1,7 @@
 mod Owing
 mod Listing
 pub mod Running
-mod Behind
+mod After
 mod BitLemmas
 mod Found
 mod Noting

@@ -6,7 +6,7 @@ use Rattle.sn_base.proofs.Lists.{none_some, some_same, all_append}
 use Rattle.sn_core.specs.declared.event.Event.{Event}
 use Rattle.sn_core.specs.declared.event.Event.TheVariants.{Packet, ReadOut, Deliver, CloseWindow, Install}
 use Rattle.sn_engine_lockstep.proofs.Changes.{all_get}
-use Rattle.sn_engine_lockstep.proofs.Finding.{get_behind, get_front}
+use Rattle.sn_engine_lockstep.proofs.Finding.{get_after, get_front}
 use Rattle.sn_core_net.specs.States.{State}
 use Rattle.sn_core_net.specs.Steps.{IsOneOf}
 use Rattle.sn_core_drive.specs.Schedules.{enabled_events, events_of, may_happen}
@@ -53,19 +53,19 @@ module _ (lanes : ℕ) where
       same = omega arith
 
   -- after the packet
-  behind : (j : ℕ) (e : Event) → slice_get (reads ++ (delivers ++ lasts)) j ≡ Some e → (i : ℕ) → i ≡ suc j → slice_get (events_of lanes) i ≡ Some e
-  behind j e h i is = ap (slice_get (events_of lanes)) is ∙ h
+  afterwards : (j : ℕ) (e : Event) → slice_get (reads ++ (delivers ++ lasts)) j ≡ Some e → (i : ℕ) → i ≡ suc j → slice_get (events_of lanes) i ≡ Some e
+  afterwards j e h i is = ap (slice_get (events_of lanes)) is ∙ h
 
   read_at : (i k : ℕ) → k < lanes → i ≡ suc k → slice_get (events_of lanes) i ≡ Some (ReadOut k)
-  read_at i k lt is = behind k (ReadOut k) (get_front reads (delivers ++ lasts) k (ReadOut k) (read_here k lt)) i is
+  read_at i k lt is = afterwards k (ReadOut k) (get_front reads (delivers ++ lasts) k (ReadOut k) (read_here k lt)) i is
 
   deliver_at : (i k : ℕ) → k < lanes → i ≡ suc (lanes + k) → slice_get (events_of lanes) i ≡ Some (Deliver k)
   deliver_at i k lt is =
-      behind (length reads + k) (Deliver k) (get_behind reads (delivers ++ lasts) k (Deliver k) (get_front delivers lasts k (Deliver k) (deliver_here k lt))) i (omega (arith, is, many_reads))
+      afterwards (length reads + k) (Deliver k) (get_after reads (delivers ++ lasts) k (Deliver k) (get_front delivers lasts k (Deliver k) (deliver_here k lt))) i (omega (arith, is, many_reads))
 
   last_at : (i k : ℕ) (e : Event) → slice_get lasts k ≡ Some e → i ≡ suc (2 * lanes + k) → slice_get (events_of lanes) i ≡ Some e
   last_at i k e h is =
-      behind (length reads + (length delivers + k)) e (get_behind reads (delivers ++ lasts) (length delivers + k) e (get_behind delivers lasts k e h)) i (omega (arith, is, many_reads, many_delivers))
+      afterwards (length reads + (length delivers + k)) e (get_after reads (delivers ++ lasts) (length delivers + k) e (get_after delivers lasts k e h)) i (omega (arith, is, many_reads, many_delivers))
 
   close_at : (i : ℕ) → i ≡ 2 * lanes + 1 → slice_get (events_of lanes) i ≡ Some CloseWindow
   close_at i is = last_at i 0 CloseWindow refl (omega (arith, is))

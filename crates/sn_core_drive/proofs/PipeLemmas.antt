@@ -7,8 +7,8 @@ use Rattle.std.specs.Ordering.{nat_cmp}
 use Rattle.std.proofs.lemmas.List.{length-map}
 use Rattle.sn_base.specs.Groups.{Row}
 use Rattle.sn_pipe_items.specs.Items.{tagged}
-use Rattle.sn_core_net.specs.ReadOut.{after_read_out, held_from, place_behind, unwalked, walked}
-use Rattle.sn_pipe.specs.Pipes.{PipeState, after_packet, at_start, item_of, lets_in, row_in}
+use Rattle.sn_core_net.specs.ReadOut.{after_read_out, held_from, place_after, unwalked, walked}
+use Rattle.sn_pipe.specs.Pipes.{PipeState, after_packet, at_start, item_of, admits, row_in}
 use Rattle.sn_pipe.specs.Prefixes.{left_in}
 use Rattle.sn_pipe.specs.Stages.{after_row, cleared, flows, item_at, item_from, overflows, stages_after}
 use Rattle.sn_pipe.specs.Windows.{goes_up, held_row, left_from, passes, rows_left}
@@ -98,7 +98,7 @@ walked_same f g same [] = refl
 walked_same f g same (None ∷ cells) = ap suc (walked_same f g same cells)
 walked_same f g same (Some e ∷ cells) = rw (same (held_row e), walked_same f g same cells) refl
 
-same_place : (level : ℕ) (spilled : Bool) (place : ℕ) (ss : List Stage) → place_behind level spilled place (plain_stages ss) ≡ place_behind level spilled place ss
+same_place : (level : ℕ) (spilled : Bool) (place : ℕ) (ss : List Stage) → place_after level spilled place (plain_stages ss) ≡ place_after level spilled place ss
 same_place level spilled place [] = refl
 same_place level spilled place (Filter conds ∷ ss) = same_place level spilled place ss
 same_place level spilled place (Map exprs ∷ ss) = same_place level spilled place ss
@@ -116,13 +116,13 @@ same_held place (Reduce r chain ∷ ss) = refl
 -- ---- pipes
 
 pub plain_item : (p : PipeState) (tuple : List ℕ) → item_of (plain_pipe p) tuple ≡ item_of p tuple
-plain_item p tuple = ap (λ (o : Option Item). cond (lets_in p tuple) o None) (same_item p.prefix.level 0 p.prefix.stages (row_in p tuple))
+plain_item p tuple = ap (λ (o : Option Item). cond (admits p tuple) o None) (same_item p.prefix.level 0 p.prefix.stages (row_in p tuple))
 
 abbrev with_stages : PipeState → List Stage → PipeState
 with_stages p stages = record p { prefix = record p.prefix { stages = stages } }
 
 pub plain_packet : (p : PipeState) (tuple : List ℕ) → after_packet (plain_pipe p) tuple ≡ plain_pipe (after_packet p tuple)
-plain_packet p tuple = ap (λ (stages : List Stage). with_stages p stages) (by (lets_in p tuple))
+plain_packet p tuple = ap (λ (stages : List Stage). with_stages p stages) (by (admits p tuple))
   where
     by : (b : Bool) → cond b (stages_after p.prefix.level (plain_stages p.prefix.stages) (row_in p tuple)) (plain_stages p.prefix.stages) ≡ plain_stages (cond b (stages_after p.prefix.level p.prefix.stages (row_in p tuple)) p.prefix.stages)
     by true = same_after p.prefix.level p.prefix.stages (row_in p tuple)

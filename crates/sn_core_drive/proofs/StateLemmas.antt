@@ -31,7 +31,7 @@ use Rattle.sn_pipe.specs.Pipes.{PipeState}
 use Rattle.sn_report.specs.Items.{Item}
 use Rattle.sn_types.specs.declared.typed_query.TypedQuery.{TypedQuery}
 use Rattle.sn_core_drive.specs.Plain.{plain_lane, plain_state, plain_turns}
-use Rattle.sn_core_drive.specs.Turns.{Turns, behind, no_turn, turns, turns_on}
+use Rattle.sn_core_drive.specs.Turns.{Turns, led_by, no_turn, turns, turns_on}
 use Rattle.sn_core_drive.proofs.PipeLemmas.{plain_item, plain_left, plain_packet, plain_read, plain_start, plain_unwalked}
 
 abbrev One : Type 0
@@ -169,7 +169,7 @@ module _ (queries : List TypedQuery) (intakes : List Intake) (sources : List Sou
   turns_same (suc n) x s = by (turns_same n (next_number x)) (is_still s)
     where
       next : State → Event → Turns
-      next from event = behind event (turns w n (next_number x) (without_answers (after_event w from event)))
+      next from event = led_by event (turns w n (next_number x) (without_answers (after_event w from event)))
 
       by : ((t : State) → turns w n (next_number x) (plain_state t) ≡ plain_turns (turns w n (next_number x) t)) → (b : Bool)
           → cond b (no_turn x (plain_state s)) (option_map_or (next (plain_state s)) (picked (plain_state s) (drawn (next_number x))) (no_turn x (plain_state s)))
@@ -180,7 +180,7 @@ module _ (queries : List TypedQuery) (intakes : List Intake) (sources : List Sou
           on : ((t : State) → turns w n (next_number x) (plain_state t) ≡ plain_turns (turns w n (next_number x) t)) → (o : Option Event)
               → option_map_or (next (plain_state s)) o (no_turn x (plain_state s)) ≡ plain_turns (option_map_or (next s) o (no_turn x s))
           on more None = refl
-          on more (Some event) = ap (λ (t : State). behind event (turns w n (next_number x) (without_answers t))) (event_same s event) ∙ ap (behind event) (more (without_answers (after_event w s event)))
+          on more (Some event) = ap (λ (t : State). led_by event (turns w n (next_number x) (without_answers t))) (event_same s event) ∙ ap (led_by event) (more (without_answers (after_event w s event)))
 
   pub turns_on_same : (x : ℕ) (s : State) (supply : Supply (List ℕ)) → turns_on w x (plain_state s) supply ≡ plain_turns (turns_on w x s supply)
   turns_on_same x s supply = ap (λ (n : ℕ). turns w n x (plain_state (given s supply))) (work_same (given s supply)) ∙ turns_same (work w (given s supply) []) x (given s supply)

@@ -34,7 +34,7 @@ new_stage depth slots (ops.Reduce r) = Reduce r (empty_chain r.fold depth slots)
 -- those of operators, of which the first has number i, with the size of its number for each
 abbrev pub new_stages : ℕ → (ℕ → ℕ) → ℕ → List TOp → List Stage
 new_stages depth size i [] = []
-new_stages depth size i (op ∷ behind) = new_stage depth (size i) op ∷ new_stages depth size (suc i) behind
+new_stages depth size i (op ∷ afterwards) = new_stage depth (size i) op ∷ new_stages depth size (suc i) afterwards
 
 -- the pipe of a piece, with empty registers and an empty prefix set
 abbrev pub new_pipe : List TypedQuery → Tables → Placed → PipeState

@@ -13,7 +13,7 @@ use Rattle.sn_gen.specs.Generated.{drawn, next_number}
 use Rattle.sn_core_net.specs.States.{State, Works}
 use Rattle.sn_types.specs.declared.answers.Answers.{Answers}
 use Rattle.sn_core_drive.specs.declared.note.Note.{Note}
-use Rattle.sn_core_drive.specs.declared.note.Note.TheVariants.{Happened, Told}
+use Rattle.sn_core_drive.specs.declared.note.Note.TheVariants.{Happened, Reported}
 
 -- ---- which events there are
 
@@ -41,23 +41,23 @@ is_still s = wants s || is_done s
 -- From this state, where x was drawn last, these notes are taken until a supply is wanted or all is done, and then y was drawn
 -- last. Answers are reported as soon as they wait; else a number is drawn, and the event that it picks happens.
 abbrev pub IsRun : Works → (Answers → Answers) → ℕ → State → List Note → ℕ → State → Type 0
-IsRun w told x s [] y t = (s.waiting ≡ None) × (is_still s ≡ true) × (y ≡ x) × (t ≡ s)
-IsRun w told x s (Happened event ∷ notes) y t =
-    (s.waiting ≡ None) × (is_still s ≡ false) × (picked s (drawn (next_number x)) ≡ Some event) × IsRun w told (next_number x) (after_event w s event) notes y t
-IsRun w told x s (Told answers ∷ notes) y t =
-    ((found : Answers) × (s.waiting ≡ Some found) × (answers ≡ told found)) × IsRun w told x (without_answers s) notes y t
+IsRun w reported x s [] y t = (s.waiting ≡ None) × (is_still s ≡ true) × (y ≡ x) × (t ≡ s)
+IsRun w reported x s (Happened event ∷ notes) y t =
+    (s.waiting ≡ None) × (is_still s ≡ false) × (picked s (drawn (next_number x)) ≡ Some event) × IsRun w reported (next_number x) (after_event w s event) notes y t
+IsRun w reported x s (Reported answers ∷ notes) y t =
+    ((found : Answers) × (s.waiting ≡ Some found) × (answers ≡ reported found)) × IsRun w reported x (without_answers s) notes y t
 
 -- the answers that were reported
 abbrev pub answers_in : List Note → List Answers
 answers_in [] = []
 answers_in (Happened event ∷ notes) = answers_in notes
-answers_in (Told answers ∷ notes) = answers ∷ answers_in notes
+answers_in (Reported answers ∷ notes) = answers ∷ answers_in notes
 
 -- these notes lead from one state to another, whatever notes are taken then
 abbrev pub Leads : Works → (Answers → Answers) → ℕ → State → List Note → ℕ → State → Type 0
-Leads w told x s notes y t = (more : List Note) (z : ℕ) (u : State) → IsRun w told y t more z u → IsRun w told x s (notes ++ more) z u
+Leads w reported x s notes y t = (more : List Note) (z : ℕ) (u : State) → IsRun w reported y t more z u → IsRun w reported x s (notes ++ more) z u
 
 -- What was given is used up: the window of the tuple is begun, and the next supply is wanted; or all is done.
-abbrev pub IsBehind : Supply (List ℕ) → State → Type 0
-IsBehind (Numbered number tuple) s = (s.held ≡ None) × (s.window ≡ Begun number)
-IsBehind End s = is_done s ≡ true
+abbrev pub IsAfter : Supply (List ℕ) → State → Type 0
+IsAfter (Numbered number tuple) s = (s.held ≡ None) × (s.window ≡ Begun number)
+IsAfter End s = is_done s ≡ true

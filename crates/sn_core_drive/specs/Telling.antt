@@ -24,11 +24,11 @@ pub record IsSortedPart (queries : List TypedQuery) (x : Part) : Type 0 where
 
 -- What is reported has the window, the number of items, and the parts of what is answered, each with its query and level; and its
 -- rows are sorted rows of the queries where the answered ones are.
-pub record Tells (queries : List TypedQuery) (answers told : Answers) : Type 0 where
-  pub window : told.window ≡ answers.window
-  pub emitted : told.emitted ≡ answers.emitted
-  pub places : map place_of told.parts ≡ map place_of answers.parts
-  pub rows : AllByRecursion (IsSortedPart queries) answers.parts → AllByRecursion (IsSortedPart queries) told.parts
+pub record Tells (queries : List TypedQuery) (answers reported : Answers) : Type 0 where
+  pub window : reported.window ≡ answers.window
+  pub emitted : reported.emitted ≡ answers.emitted
+  pub places : map place_of reported.parts ≡ map place_of answers.parts
+  pub rows : AllByRecursion (IsSortedPart queries) answers.parts → AllByRecursion (IsSortedPart queries) reported.parts
 
 -- answers report themselves
 pub tells_itself : (queries : List TypedQuery) (answers : Answers) → Tells queries answers answers

@@ -9,7 +9,7 @@ use Rattle.sn_core.specs.declared.event.Event.TheVariants.{Packet, ReadOut, Deli
 use Rattle.sn_core.specs.declared.supply.Supply.{Supply}
 use Rattle.sn_core_drive.specs.Schedules.{is_still, picked}
 use Rattle.sn_core_drive.specs.declared.note.Note.{Note}
-use Rattle.sn_core_drive.specs.declared.note.Note.TheVariants.{Happened, Told}
+use Rattle.sn_core_drive.specs.declared.note.Note.TheVariants.{Happened, Reported}
 use Rattle.sn_gen.specs.Generated.{drawn, next_number}
 use Rattle.sn_core_net.specs.States.{State, Works}
 
@@ -24,8 +24,8 @@ pub record Turns : Type 0 where
 abbrev pub no_turn : ℕ → State → Turns
 no_turn x s = record { events = []; number = x; state = s }
 
-abbrev pub behind : Event → Turns → Turns
-behind event later = record later { events = event ∷ later.events }
+abbrev pub led_by : Event → Turns → Turns
+led_by event later = record later { events = event ∷ later.events }
 
 -- From this state, where x was drawn last, events happen until a supply is wanted or all is done, at most this many: a number is drawn, the
 -- event that it picks happens, and the answers that wait are taken.
@@ -33,7 +33,7 @@ abbrev pub turns : Works → ℕ → ℕ → State → Turns
 turns w zero x s = no_turn x s
 turns w (suc n) x s =
     if is_still s then no_turn x s
-    else option_map_or (λ event. behind event (turns w n (next_number x) (without_answers (after_event w s event)))) (picked s (drawn (next_number x)))
+    else option_map_or (λ event. led_by event (turns w n (next_number x) (without_answers (after_event w s event)))) (picked s (drawn (next_number x)))
     (no_turn x s)
 
 -- The same once a supply is given. Each event does some of the work, so no more of them are to come.
@@ -44,7 +44,7 @@ turns_on w x s next = let now = given s next in turns w (work w now []) x now
 abbrev pub events_in : List Note → List Event
 events_in [] = []
 events_in (Happened event ∷ notes) = event ∷ events_in notes
-events_in (Told answers ∷ notes) = events_in notes
+events_in (Reported answers ∷ notes) = events_in notes
 
 -- ---- from one close to the next
 
@@ -58,7 +58,7 @@ is_close Install = false
 
 abbrev pub note_closes : Note → Bool
 note_closes (Happened event) = is_close event
-note_closes (Told answers) = false
+note_closes (Reported answers) = false
 
 -- After what happened since a window closed come these events. Where the next window closes among them, all up to its close is parted from
 -- what comes after it, and else nothing is.

@@ -6,7 +6,7 @@ ghost use Rattle.sn_core.specs.Events.{after_event, given, without_answers};
 ghost use Rattle.sn_core.specs.Needs.{first_need_that_fails, wants};
 ghost use Rattle.sn_core.specs.Standing.{IsNet, IsNoEarlier};
 ghost use Rattle.sn_core.specs.declared.supply.Supply.{Supply as Given};
-ghost use Rattle.sn_core_drive.specs.Schedules.{IsBehind, IsRun, Leads, answers_in, is_still};
+ghost use Rattle.sn_core_drive.specs.Schedules.{IsAfter, IsRun, Leads, answers_in, is_still};
 ghost use Rattle.sn_core_drive.specs.declared.note.Note.TheVariants as Note;
 ghost use Rattle.sn_core_net.specs.States.{State};
 ghost use Rattle.sn_core_net.specs.Steps.{IsOneOf};
@@ -42,13 +42,13 @@ fn happen<M: Machine>(machine: &mut M, event: Event, notes: &mut Notes) -> Resul
 
 /// Takes the answers that wait, if any do, and notes them.
 fn gather<M: Machine>(machine: &mut M, notes: &mut Notes) -> Result<(), Memory>
-    ensures notes { OnOk result ((x y : ℕ) (s : State) → Leads (M.works machine.old) M.told x s notes.old y (M.state machine.old) →
-        Leads (M.works machine.old) M.told x s notes.new y (M.state machine.new)) }
+    ensures notes { OnOk result ((x y : ℕ) (s : State) → Leads (M.works machine.old) M.reported x s notes.old y (M.state machine.old) →
+        Leads (M.works machine.old) M.reported x s notes.new y (M.state machine.new)) }
     ensures rest { M.state machine.new ≡ without_answers (M.state machine.old) }
     ensures works { M.works machine.new ≡ M.works machine.old }
 {
     match machine.take_answers() {
-        Some(answers) => notes.told(answers),
+        Some(answers) => notes.reported(answers),
         None => Ok(()),
     }
 }
@@ -58,8 +58,8 @@ fn turn<M: Machine>(machine: &mut M, draws: &mut Draws, notes: &mut Notes) -> Re
     requires stands { IsNet (M.works machine.old) (M.state machine.old) }
     requires going { is_still (M.state machine.old) ≡ false }
     requires taken { (M.state machine.old).waiting ≡ None }
-    ensures notes { OnOk result ((x : ℕ) (s : State) → Leads (M.works machine.old) M.told x s notes.old draws.old.number (M.state machine.old) →
-        Leads (M.works machine.old) M.told x s notes.new draws.new.number (M.state machine.new)) }
+    ensures notes { OnOk result ((x : ℕ) (s : State) → Leads (M.works machine.old) M.reported x s notes.old draws.old.number (M.state machine.old) →
+        Leads (M.works machine.old) M.reported x s notes.new draws.new.number (M.state machine.new)) }
     ensures work { OnOk result (work (M.works machine.old) (M.state machine.new) [] < work (M.works machine.old) (M.state machine.old) []) }
     ensures stands { OnOk result (IsNet (M.works machine.old) (M.state machine.new)) }
     ensures taken { OnOk result ((M.state machine.new).waiting ≡ None) }
@@ -75,7 +75,7 @@ fn turn<M: Machine>(machine: &mut M, draws: &mut Draws, notes: &mut Notes) -> Re
 fn settle<M: Machine>(alloc: Global, machine: &mut M, draws: &mut Draws) -> Result<Notes, Memory>
     requires stands { IsNet (M.works machine.old) (M.state machine.old) }
     requires taken { (M.state machine.old).waiting ≡ None }
-    ensures run { IfOk result (λ notes. IsRun (M.works machine.old) M.told draws.old.number (M.state machine.old) notes draws.new.number
+    ensures run { IfOk result (λ notes. IsRun (M.works machine.old) M.reported draws.old.number (M.state machine.old) notes draws.new.number
         (M.state machine.new)) }
     ensures stands { OnOk result (IsNet (M.works machine.old) (M.state machine.new)) }
     ensures still { OnOk result (is_still (M.state machine.new) ≡ true) }
@@ -105,13 +105,13 @@ pub fn advance<M: Machine>(
     requires wants { wants (M.state machine.old) ≡ true }
     requires rises { IsNoEarlier next (M.state machine.old).window }
     requires taken { (M.state machine.old).waiting ≡ None }
-    ensures run { IfOk result (λ notes. IsRun (M.works machine.old) M.told draws.old.number (given (M.state machine.old) next) notes draws.new.number
+    ensures run { IfOk result (λ notes. IsRun (M.works machine.old) M.reported draws.old.number (given (M.state machine.old) next) notes draws.new.number
         (M.state machine.new)) }
     ensures due { IfOk result (λ notes. (following : List (Given (List ℕ))) →
-        map M.told (due (M.works machine.old) (M.state machine.old) (next ∷ following)) ≡ answers_in notes ++ map M.told
+        map M.reported (due (M.works machine.old) (M.state machine.old) (next ∷ following)) ≡ answers_in notes ++ map M.reported
         (due (M.works machine.old) (M.state machine.new) following)) }
     ensures stands { OnOk result (IsNet (M.works machine.old) (M.state machine.new)) }
-    ensures behind { OnOk result (IsBehind next (M.state machine.new)) }
+    ensures afterwards { OnOk result (IsAfter next (M.state machine.new)) }
     ensures taken { OnOk result ((M.state machine.new).waiting ≡ None) }
     ensures works { M.works machine.new ≡ M.works machine.old }
 {

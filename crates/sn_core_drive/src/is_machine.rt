@@ -18,7 +18,7 @@ impl Machine for Net {
 
     ghost state = { state };
 
-    ghost told = { λ answers. answers };
+    ghost reported = { λ answers. answers };
 
     fn make(t: &Typed, s: &Switch, plan: &Plan, room: u32) -> Result<Net, Memory> {
         Net::make(t, s, plan, room)

@@ -28,9 +28,9 @@ ghost use Rattle.sn_types.specs.declared.typed_query.TypedQuery.{TypedQuery};
 /// that was drawn at last and the state that it leaves are those of the turns.
 #[tactic(auto, using(crate::proofs::TurnLemmas::run_turns_on))]
 pub fn runs_are_turns()
-    ensures { (w : Works) → AreLawful w → (told : Answers → Answers) (x : ℕ) (s : State) (next : Supply (List ℕ)) (notes : List Note) (y : ℕ) (t : State) →
+    ensures { (w : Works) → AreLawful w → (reported : Answers → Answers) (x : ℕ) (s : State) (next : Supply (List ℕ)) (notes : List Note) (y : ℕ) (t : State) →
         s.waiting ≡ None → IsNet w (given s next) →
-        IsRun w told x (given s next) notes y t → turns_on w x s next ≡ record { events = events_in notes; number = y; state = t } }
+        IsRun w reported x (given s next) notes y t → turns_on w x s next ≡ record { events = events_in notes; number = y; state = t } }
 {}
 
 /// What happens up to the close of a window is the same, whichever tuple of a later window is given or the end.

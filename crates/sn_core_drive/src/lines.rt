@@ -81,7 +81,7 @@ fn push_note_line(text: &mut Vec<u8>, note: &Note) -> Result<(), Memory>
 {
     match note {
         Note::Happened(event) => push_event_line(text, *event),
-        Note::Told(_) => Ok(()),
+        Note::Reported(_) => Ok(()),
     }
 }
 
@@ -117,9 +117,9 @@ pub fn follow(alloc: Global, lines: &mut Vec<u8>, notes: &[Note]) -> Result<Vec<
         };
         push_note_line(lines, note)?;
         if closes(note) {
-            let mut behind = Vec::new(alloc);
-            push_note_lines(&mut behind, later)?;
-            return Ok(mem::replace(lines, behind));
+            let mut afterwards = Vec::new(alloc);
+            push_note_lines(&mut afterwards, later)?;
+            return Ok(mem::replace(lines, afterwards));
         }
         rest = later;
     }

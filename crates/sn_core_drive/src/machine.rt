@@ -42,7 +42,7 @@ pub trait Machine: Sized + Drop {
     ghost state: { Self → State };
 
     /// What machines of this kind report of answers.
-    ghost told: { Found → Found };
+    ghost reported: { Found → Found };
 
     /// The machine of a plan that fits, with room for this many frames in each lane, at least 1. Nothing was given to it.
     fn make(t: &Typed, s: &Switch, plan: &Plan, room: u32) -> Result<Self, Memory>
@@ -97,7 +97,7 @@ pub trait Machine: Sized + Drop {
 
     /// Takes the answers that wait, as they are reported. `None` exactly where none do. Takes no memory.
     fn take_answers(&mut self) -> Option<Answers>
-        ensures answers { result ≡ option_map told (state self.old).waiting }
+        ensures answers { result ≡ option_map reported (state self.old).waiting }
         ensures rest { state self.new ≡ without_answers (state self.old) }
         ensures works { works self.new ≡ works self.old };
 
@@ -109,5 +109,5 @@ pub trait Machine: Sized + Drop {
     ghost lawful: { (machine : Self) → AreLawful (works machine) };
 
     /// Whatever is reported keeps the window, the number of items, and which parts there are.
-    ghost tells: { (queries : List TypedQuery) (answers : Found) → Tells queries answers (told answers) };
+    ghost tells: { (queries : List TypedQuery) (answers : Found) → Tells queries answers (reported answers) };
 }

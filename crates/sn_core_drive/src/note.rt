@@ -8,5 +8,5 @@ pub enum Note {
     /// This event happened.
     Happened(Event),
     /// These answers were reported.
-    Told(Answers),
+    Reported(Answers),
 }

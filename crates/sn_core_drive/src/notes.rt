@@ -80,12 +80,12 @@ impl Notes {
     }
 
     /// Notes answers.
-    pub fn told(&mut self, answers: Answers) -> Result<(), Memory>
-        ensures { OnOk result (self.new ≡ self.old ++ Note.Told answers ∷ []) }
+    pub fn reported(&mut self, answers: Answers) -> Result<(), Memory>
+        ensures { OnOk result (self.new ≡ self.old ++ Note.Reported answers ∷ []) }
     {
         put_last(&mut self.events, &mut self.last)?;
         move_events(&mut self.front, &mut self.events)?;
-        self.front.push(Note::Told(answers))
+        self.front.push(Note::Reported(answers))
     }
 
     /// All notes.

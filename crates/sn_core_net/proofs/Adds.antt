@@ -13,7 +13,7 @@ use Rattle.sn_report.specs.Items.{Item}
 use Rattle.sn_types.specs.Values.{holds, value_of}
 use Rattle.sn_pipe.specs.AnyStage.{Stage}
 use Rattle.sn_pipe.specs.declared.stage.Stage.TheVariants.{Filter, Map, Distinct, Reduce}
-use Rattle.sn_pipe.specs.Pipes.{PipeState, after_packet, item_of, lets_in, row_in}
+use Rattle.sn_pipe.specs.Pipes.{PipeState, after_packet, item_of, admits, row_in}
 use Rattle.sn_pipe.specs.Stages.{answer_to, cleared, is_new, is_over, item_at, item_from, stages_after}
 use Rattle.sn_core.specs.Workings.{may_add}
 use Rattle.sn_core_net.specs.ReadOut.{held_from, unwalked}
@@ -72,14 +72,14 @@ stages_add_one level i place (Distinct chain over ∷ ss) row = adds_offered lev
 stages_add_one level i place (Reduce r chain ∷ ss) row =
     offered level i place row (columns_at r.keys row) (any_step chain.fold) chain.cells (slice_index row r.value) (holder chain (columns_at r.keys row)) (vacancy chain (columns_at r.keys row)) (item_from level (suc i) ss)
 
-adds_let_in : (p : PipeState) (row : Row) (b : Bool) →
+adds_admitted : (p : PipeState) (row : Row) (b : Bool) →
     held_from p.prefix.place (cond b (stages_after p.prefix.level p.prefix.stages row) p.prefix.stages)
     ≤ held_from p.prefix.place p.prefix.stages + may_add (cond b (item_from p.prefix.level 0 p.prefix.stages row) None)
-adds_let_in p row true = stages_add_one p.prefix.level 0 p.prefix.place p.prefix.stages row
-adds_let_in p row false = omega arith
+adds_admitted p row true = stages_add_one p.prefix.level 0 p.prefix.place p.prefix.stages row
+adds_admitted p row false = omega arith
 
 pub tuples_add_one : (p : PipeState) (tuple : List ℕ) → unwalked (after_packet p tuple) ≤ unwalked p + may_add (item_of p tuple)
-tuples_add_one p tuple = adds_let_in p (row_in p tuple) (lets_in p tuple)
+tuples_add_one p tuple = adds_admitted p (row_in p tuple) (admits p tuple)
 
 -- ---- empty registers
 

@@ -97,8 +97,8 @@ module _ (queries : List TypedQuery) (intakes : List Intake) (sources : List Sou
     pub close_may : (held : Option (Supply (List ℕ))) (window : Window) (number : ℕ) → intakes ≡ xs → window ≡ Begun number → first_need_that_fails (at held window) event.CloseWindow ≡ None → ends_agree window xs ≡ true →
         all_ended number (map emptied intakes) (map (λ lane. lane.taken) (lanes_of hs xs)) ≡ xs
     close_may held window number here is may agreed =
-        let behind = need_holds (is_begun_with (λ n. true) window) NotReading (needs_of_all (first_open (lanes_of hs xs)) Unfinished (needs (is_none waiting) Waiting None)) may in
-        let closed = none_passes (λ (lane : Lane PipeState Item). not lane.closed) (lanes_of hs xs) (all_hold (first_open (lanes_of hs xs)) Unfinished (needs (is_none waiting) Waiting None) behind.1).0 in
+        let following = need_holds (is_begun_with (λ n. true) window) NotReading (needs_of_all (first_open (lanes_of hs xs)) Unfinished (needs (is_none waiting) Waiting None)) may in
+        let closed = none_passes (λ (lane : Lane PipeState Item). not lane.closed) (lanes_of hs xs) (all_hold (first_open (lanes_of hs xs)) Unfinished (needs (is_none waiting) Waiting None) following.1).0 in
         ap (λ (is : List Intake). all_ended number (map emptied is) (map (λ lane. lane.taken) (lanes_of hs xs))) here ∙ ended_again number hs xs matched closed (subst (λ (w : Window). ends_agree w xs ≡ true) is agreed)
 
     -- the answers are those of the items that the lanes have

@@ -10,13 +10,13 @@ use Rattle.sn_engine_lockstep.specs.declared.source.Source.{Source}
 use Rattle.sn_engine_lockstep.specs.Sources.{source_of}
 use Rattle.sn_engine_lockstep.specs.Work.{intake_of}
 use Rattle.sn_core_net.proofs.Adds.{cleared_hold_none, tuples_add_one}
-use Rattle.sn_core_net.proofs.ReadOuts.{fewer_held, left_behind}
+use Rattle.sn_core_net.proofs.ReadOuts.{fewer_held, left_after}
 use Rattle.sn_core_net.specs.PlanWorkings.{workings, workings_of}
 
 -- whatever the lanes of the engine and the sources are
 pub lawful_of : (queries : List TypedQuery) (intakes : List Intake) (sources : List Source) → AreLawful (workings_of queries intakes sources)
 lawful_of queries intakes sources = record {
-  reads = λ pipe. left_behind pipe.prefix.level 0 false pipe.prefix.place pipe.prefix.stages;
+  reads = λ pipe. left_after pipe.prefix.level 0 false pipe.prefix.place pipe.prefix.stages;
   forgets_tuples = λ pipe tuple kept. forgets pipe kept tuple;
   forgets_reading = λ pipe kept. refl;
   starts_again = λ pipe before kept. starts_again pipe before kept;

@@ -46,16 +46,16 @@ first_named change (name ∷ names) (x ∷ xs) (suc n) d named within =
     ap (λ b. cond b (change x ∷ xs) (x ∷ with_first (is_lane other) change xs)) (no_more (is_lane other x) (all_at (λ o. not (is_lane o x)) names n d parts.1 (omega arith)))
     ∙ ap (λ ys. x ∷ ys) (first_named change names xs n d parts.2 (omega arith))
 
-told : (xs : List Intake) (name : Lane) (window : ℕ) (frame : Frame Item) → after_frame xs (report_of name window frame) ≡ with_first (is_lane name) (λ x. taken x (report_of name window frame)) xs
-told xs name window (Row item) = refl
-told xs name window Last = refl
+reported : (xs : List Intake) (name : Lane) (window : ℕ) (frame : Frame Item) → after_frame xs (report_of name window frame) ≡ with_first (is_lane name) (λ x. taken x (report_of name window frame)) xs
+reported xs name window (Row item) = refl
+reported xs name window Last = refl
 
 -- the engine's lanes after a frame of the lane of this number
 pub frame_taken : (hs : List Holder) (xs : List Intake) (n window : ℕ) (h : Holder) (frame : Frame Item) → are_named (names_of hs) (map emptied xs) ≡ true → n < length hs → h ≡ get_or hs n h →
     after_frame xs (report_of h.sender.lane window frame) ≡ change_at (λ x. taken x (report_of h.sender.lane window frame)) xs n
 frame_taken hs xs n window h frame named within own =
     let change : Intake → Intake = λ x. taken x (report_of h.sender.lane window frame) in
-    told xs h.sender.lane window frame
+    reported xs h.sender.lane window frame
     ∙ ap (λ name. with_first (is_lane name) change xs) (ap (λ (k : Holder). k.sender.lane) own ∙ sym (get_name hs n h.sender.lane h within))
     ∙ first_named change (names_of hs) xs n h.sender.lane named (omega (arith, within, length-map hs (λ (k : Holder). k.sender.lane)))
 

@@ -26,14 +26,14 @@ use Rattle.sn_core_net.proofs.PlanAnswers.{plan_windows}
 use Rattle.sn_core_net.specs.PlanWorkings.{AreLanesFor, HaveWidths, given_of, workings}
 use Rattle.sn_windows.specs.Rising.{AreRising, Window}
 
-rise_behind : (held : ℕ → Option (List (List ℕ))) (last : ℕ) (windows : List (Tuples (List ℕ))) → HoldWindows held (suc last) windows → AreRising (Some last) (map given_of windows)
-rise_behind held last [] h = tt
-rise_behind held last (x ∷ xs) h = (omega (arith, h.0), rise_behind held x.number xs h.3)
+rise_after : (held : ℕ → Option (List (List ℕ))) (last : ℕ) (windows : List (Tuples (List ℕ))) → HoldWindows held (suc last) windows → AreRising (Some last) (map given_of windows)
+rise_after held last [] h = tt
+rise_after held last (x ∷ xs) h = (omega (arith, h.0), rise_after held x.number xs h.3)
 
 -- windows by their numbers rise
 rise : (held : ℕ → Option (List (List ℕ))) (windows : List (Tuples (List ℕ))) → HoldWindows held 0 windows → AreRising None (map given_of windows)
 rise held [] h = tt
-rise held (x ∷ xs) h = (tt, rise_behind held x.number xs h.3)
+rise held (x ∷ xs) h = (tt, rise_after held x.number xs h.3)
 
 pub plan_schedules : (typed_for room : ℕ) (queries : List TypedQuery) (s : Switch) (entries : List Entry) (lanes : List (Lane PipeState Item)) (calls : List (Call (List ℕ))) →
     ∥ IsTyped typed_for queries ∥₁ → IsSwitch s → Fits queries s entries → AreLanesFor queries (tables_of s) (pieces_from 0 entries) lanes → 0 < room → 0 < length lanes →

@@ -15,7 +15,7 @@ use Rattle.sn_pipe.specs.Prefixes.{left_in}
 use Rattle.sn_pipe.specs.Windows.{goes_up, held_row, left_from, rows_left, tag_up}
 use Rattle.sn_pipe.proofs.ReadOuts.{left_up_is}
 use Rattle.sn_types.specs.declared.typed_op.TReduce.{TReduce}
-use Rattle.sn_core_net.specs.ReadOut.{after_read_out, place_behind, walked}
+use Rattle.sn_core_net.specs.ReadOut.{after_read_out, place_after, walked}
 use Rattle.sn_core_net.specs.Settled.{least_place, settled, settled_place, ups}
 use Rattle.sn_base.proofs.Tests.{zero_plus}
 
@@ -115,7 +115,7 @@ module _ (level i : ℕ) (spilled : Bool) (r : TReduce) (chain : ChainState AnyF
   left_length place = ap length (left_up_is level i spilled ss (rows_left chain place)) ∙ tag_length (tag_up i spilled ss) (ups (goes_up level spilled ss) (drop place chain.cells))
 
 settled_next : (level i : ℕ) (spilled : Bool) (place after : ℕ) (ss : List Stage) → 0 < length (left_from level i spilled place ss) → length (left_from level i spilled after ss) ≡ length (left_from level i spilled place ss) - 1 →
-    settled_place level spilled after ss ≡ place_behind level spilled (settled_place level spilled place ss) ss
+    settled_place level spilled after ss ≡ place_after level spilled (settled_place level spilled place ss) ss
 settled_next level i spilled place after [] some e = absurd (omega (arith, some))
 settled_next level i spilled place after (Filter conds ∷ ss) some e = settled_next level (suc i) spilled place after ss some e
 settled_next level i spilled place after (Map exprs ∷ ss) some e = settled_next level (suc i) spilled place after ss some e

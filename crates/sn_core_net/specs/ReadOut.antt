@@ -15,16 +15,16 @@ walked up (None ∷ cells) = suc (walked up cells)
 walked up (Some e ∷ cells) = if up (held_row e) then 1 else suc (walked up cells)
 
 -- the place of the first reduce of these stages with which the read-out goes on, after the next row that goes up
-abbrev pub place_behind : ℕ → Bool → ℕ → List Stage → ℕ
-place_behind level spilled place [] = place
-place_behind level spilled place (Filter conds ∷ ss) = place_behind level spilled place ss
-place_behind level spilled place (Map exprs ∷ ss) = place_behind level spilled place ss
-place_behind level spilled place (Distinct chain over ∷ ss) = place_behind level (spilled || over) place ss
-place_behind level spilled place (Reduce r chain ∷ ss) = place + walked (goes_up level spilled ss) (drop place chain.cells)
+abbrev pub place_after : ℕ → Bool → ℕ → List Stage → ℕ
+place_after level spilled place [] = place
+place_after level spilled place (Filter conds ∷ ss) = place_after level spilled place ss
+place_after level spilled place (Map exprs ∷ ss) = place_after level spilled place ss
+place_after level spilled place (Distinct chain over ∷ ss) = place_after level (spilled || over) place ss
+place_after level spilled place (Reduce r chain ∷ ss) = place + walked (goes_up level spilled ss) (drop place chain.cells)
 
 -- a pipe after its next item is read out
 abbrev pub after_read_out : PipeState → PipeState
-after_read_out p = record p { prefix = record p.prefix { place = place_behind p.prefix.level false p.prefix.place p.prefix.stages } }
+after_read_out p = record p { prefix = record p.prefix { place = place_after p.prefix.level false p.prefix.place p.prefix.stages } }
 
 -- how many rows the first reduce of these stages holds from a place on
 abbrev pub held_from : ℕ → List Stage → ℕ

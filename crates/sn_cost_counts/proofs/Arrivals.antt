@@ -100,7 +100,7 @@ none_come level ops seen passed out none zeros empty h = record {
 }
 
 module _ (level : ℕ) (ops : List TOp) (rows : List Row) (row : Row) (times n seen next : ℕ) (passed found : List ℕ) (out : List Row) (h : HaveCome level ops rows seen passed out) (far : n ≡ reach (map (op_at level) ops) row)
-    (within : n < 13) (more : next ≡ seen + times) (told : found ≡ set passed n (slice_index passed n + times)) where
+    (within : n < 13) (more : next ≡ seen + times) (reported : found ≡ set passed n (slice_index passed n + times)) where
   abbrev os : List Op
   os = map (op_at level) ops
 
@@ -111,13 +111,13 @@ module _ (level : ℕ) (ops : List TOp) (rows : List Row) (row : Row) (times n s
       by_test (nat_eq k n)
       (λ is.
       let e : k ≡ n = nat_same k n is in
-      let a = ap (λ ns. slice_index ns k) told ∙ ap (slice_index (set passed n (slice_index passed n + times))) e ∙ get_or-set_same passed n (slice_index passed n + times) 0 (omega (arith, within, h.places)) in
+      let a = ap (λ ns. slice_index ns k) reported ∙ ap (slice_index (set passed n (slice_index passed n + times))) e ∙ get_or-set_same passed n (slice_index passed n + times) 0 (omega (arith, within, h.places)) in
       let b = h.each n within in
       let c = ap {B = ℕ} (λ m. length (filter (λ x. nat_eq m (reach os x)) rows)) e in
       let d = ap {B = ℕ} (λ t. cond t times 0) is in
       omega (arith, a, b, c, d, grown))
       (λ isnt.
-      let a = ap (λ ns. slice_index ns k) told ∙ get_or-set_other passed n k (slice_index passed n + times) 0 (λ e. true≢false (sym (nat_self n) ∙ ap (λ m. nat_eq m n) (sym e) ∙ isnt)) in
+      let a = ap (λ ns. slice_index ns k) reported ∙ get_or-set_other passed n k (slice_index passed n + times) 0 (λ e. true≢false (sym (nat_self n) ∙ ap (λ m. nat_eq m n) (sym e) ∙ isnt)) in
       let b = h.each k lt in
       let d = ap {B = ℕ} (λ t. cond t times 0) isnt in
       omega (arith, a, b, d, grown))
@@ -126,7 +126,7 @@ module _ (level : ℕ) (ops : List TOp) (rows : List Row) (row : Row) (times n s
   come_as all grown = record {
     stateless = h.stateless;
     total = let a = length-append rows (replicate times row) in let b = h.total in let c = length-replicate {A = Row} times row in omega (arith, a, b, c, more);
-    places = ap length told ∙ length-set passed n (slice_index passed n + times) ∙ h.places;
+    places = ap length reported ∙ length-set passed n (slice_index passed n + times) ∙ h.places;
     each = counted;
     come = grown ∙ ap (λ xs. xs ++ each_come (come os row) times) h.come ∙ sym (through_more os h.stateless rows row times);
   }
@@ -141,7 +141,7 @@ module _ (level : ℕ) (ops : List TOp) (rows : List Row) (row : Row) (times n s
   pub they_come : (x : Row) → come os row ≡ Some x → HaveCome level ops (rows ++ replicate times row) next found (out ++ replicate times x)
   they_come x some = come_as (out ++ replicate times x) (ap (λ (o : Option Row). out ++ each_come o times) (sym some))
 
-  -- which of both, as it's told
+  -- which of both, as it's reported
   pub all_or_some : n ≤ length ops → (x : Row) → (n ≡ length ops → come os row ≡ Some x) → HaveCome level ops (rows ++ replicate times row) next found (out ++ cond (nat_eq n (length ops)) (replicate times x) [])
   all_or_some most x comes =
       by_test (nat_eq n (length ops))
@@ -202,7 +202,7 @@ coming_at level (op ∷ os) rows (suc i) lt = coming_at level os (apply (op_at l
 -- how many come to this operator, and the counts of those before it
 pub record AtPlace (level : ℕ) (ops : List TOp) (rows : List Row) (first : List ℕ) (i left : ℕ) (counts : List ℕ) : Type 0 where
   pub at : left ≡ length (filter (λ row. nat_le i (reach (map (op_at level) ops) row)) rows)
-  pub told : counts ≡ first ++ take i (coming_to level ops rows)
+  pub reported : counts ≡ first ++ take i (coming_to level ops rows)
 
 module _ (level : ℕ) (ops : List TOp) (rows : List Row) (first : List ℕ) (seen : ℕ) (passed : List ℕ) (out : List Row) (h : HaveCome level ops rows seen passed out) where
   abbrev far : Row → ℕ
@@ -211,7 +211,7 @@ module _ (level : ℕ) (ops : List TOp) (rows : List Row) (first : List ℕ) (se
   pub place_first : AtPlace level ops rows first 0 seen first
   place_first = record {
     at = h.total ∙ reached (map (op_at level) ops) 0 h.stateless (omega arith) rows;
-    told = sym (append-nil first);
+    reported = sym (append-nil first);
   }
 
   pub passed_within : (i left : ℕ) (counts : List ℕ) → i < 13 → AtPlace level ops rows first i left counts → slice_index passed i ≤ left
@@ -224,8 +224,8 @@ module _ (level : ℕ) (ops : List TOp) (rows : List Row) (first : List ℕ) (se
       place.at ∙ sym (reached (map (op_at level) ops) i h.stateless (omega (arith, within)) rows) ∙ sym (coming_at level ops rows i lt) in
       record {
         at = let a = place.at in let b = h.each i (omega (arith, lt, short)) in let c = parts far i rows in omega (arith, a, b, c, less);
-        told =
-            grown ∙ ap (λ ns. ns ++ left ∷ []) place.told ∙ append_assoc first (take i (coming_to level ops rows)) (left ∷ [])
+        reported =
+            grown ∙ ap (λ ns. ns ++ left ∷ []) place.reported ∙ append_assoc first (take i (coming_to level ops rows)) (left ∷ [])
             ∙ ap (λ m. first ++ (take i (coming_to level ops rows) ++ m ∷ [])) here
             ∙ ap (λ ns. first ++ ns) (sym (take_more (coming_to level ops rows) i 0 (let long = coming_long level ops rows in omega (arith, lt, long))));
       }
@@ -239,4 +239,4 @@ module _ (level : ℕ) (ops : List TOp) (rows : List Row) (first : List ℕ) (se
       ∙ ap (λ (xs : List Op). length (through xs rows)) (take_all i os (omega (arith, le, long))) ∙ sym (ap length h.come)
 
   pub place_end : (i left : ℕ) (counts : List ℕ) → length ops ≤ i → AtPlace level ops rows first i left counts → counts ≡ first ++ coming_to level ops rows
-  place_end i left counts le place = place.told ∙ ap (λ ns. first ++ ns) (take_all i (coming_to level ops rows) (let long = coming_long level ops rows in omega (arith, le, long)))
+  place_end i left counts le place = place.reported ∙ ap (λ ns. first ++ ns) (take_all i (coming_to level ops rows) (let long = coming_long level ops rows in omega (arith, le, long)))

@@ -3,7 +3,7 @@ use Rattle.std.proofs.Common.{◌≡◌, ℕ, zero, suc, ◌+◌, List, [], ◌�
 use Rattle.std.proofs.lemmas.Bool.{lt-ltb}
 use Rattle.std.proofs.lemmas.List.{length-append}
 use Rattle.sn_base.specs.Bags.{SameBag}
-use Rattle.sn_base.specs.Bags.SameBag.{stays, behind, turned, joined}
+use Rattle.sn_base.specs.Bags.SameBag.{stays, following, turned, joined}
 use Rattle.sn_base.specs.Groups.{Row}
 use Rattle.sn_base.proofs.BagLemmas.{bag_filter}
 use Rattle.sn_base.specs.Operators.{Grouping, Op}
@@ -26,7 +26,7 @@ use Rattle.sn_cost_counts.proofs.Holding.{held_bag}
 
 pub bag_long : {A : Type 0} (xs ys : List A) → SameBag xs ys → length xs ≡ length ys
 bag_long _ _ (stays xs) = refl
-bag_long _ _ (behind x xs ys b) = ap suc (bag_long xs ys b)
+bag_long _ _ (following x xs ys b) = ap suc (bag_long xs ys b)
 bag_long _ _ (turned x y xs) = refl
 bag_long _ _ (joined xs ys zs b c) = bag_long xs ys b ∙ bag_long ys zs c
 

@@ -178,7 +178,7 @@ all_fit level passed op os fs h =
 
 -- the counts of the operators before this one are there, and its rows with them
 pub record Along (depth level : ℕ) (slots : List ℕ) (os : List TOp) (all : List ℕ) (passed i : ℕ) (fs : List Flow) (counts : List ℕ) : Type 0 where
-  pub told : counts ++ counts_from depth level slots (drop i os) fs ≡ all
+  pub reported : counts ++ counts_from depth level slots (drop i os) fs ≡ all
   pub go : AllGo level (passed + i) (drop i os) fs
 
 pub operators_ahead : (os : List TOp) (i : ℕ) (op : TOp) → i < length os → op ≡ get_or os i op → drop i os ≡ op ∷ drop (i + 1) os
@@ -190,7 +190,7 @@ pub one_ahead : (level passed i : ℕ) (os : List TOp) (op : TOp) (fs : List Flo
 one_ahead level passed i os op fs lt at h = subst (λ (xs : List TOp). AllGo level passed xs fs) (operators_ahead os i op lt at) h
 
 pub at_first : (depth level : ℕ) (slots : List ℕ) (os : List TOp) (passed : ℕ) (first : List Flow) (before : List ℕ) → AllGo level passed os first → Along depth level slots os (before ++ counts_from depth level slots os first) passed 0 first before
-at_first depth level slots os passed first before h = let e : passed ≡ passed + 0 = omega arith in record { told = refl; go = subst (λ n. AllGo level n os first) e h }
+at_first depth level slots os passed first before h = let e : passed ≡ passed + 0 = omega arith in record { reported = refl; go = subst (λ n. AllGo level n os first) e h }
 
 pub one_along : (depth level : ℕ) (slots : List ℕ) (os : List TOp) (all : List ℕ) (passed i : ℕ) (op : TOp) (fs next : List Flow) (counts more : List ℕ) → i < length os → op ≡ get_or os i op
     → Along depth level slots os all passed i fs counts → more ≡ counts ++ map counted fs → next ≡ wider depth level slots op fs → Along depth level slots os all passed (i + 1) next more
@@ -199,18 +199,18 @@ one_along depth level slots os all passed i op fs next counts more lt at so_far 
     let go : AllGo level (passed + (i + 1)) (drop (i + 1) os) (wider depth level slots op fs) =
     subst (λ m. AllGo level m (drop (i + 1) os) (wider depth level slots op fs)) n (wider_go level (passed + i) depth slots op (drop (i + 1) os) fs (one_ahead level (passed + i) i os op fs lt at so_far.go)) in
     record {
-      told =
+      reported =
           ap (λ xs. xs ++ counts_from depth level slots (drop (i + 1) os) next) grown
           ∙ append_assoc counts (map counted fs) (counts_from depth level slots (drop (i + 1) os) next)
           ∙ ap (λ x. counts ++ (map counted fs ++ counts_from depth level slots (drop (i + 1) os) x)) wide
           ∙ sym (ap (λ (xs : List TOp). counts ++ counts_from depth level slots xs fs) (operators_ahead os i op lt at))
-          ∙ so_far.told;
+          ∙ so_far.reported;
       go = subst (AllGo level (passed + (i + 1)) (drop (i + 1) os)) (sym wide) go;
     }
 
 pub all_along : (depth level : ℕ) (slots : List ℕ) (os : List TOp) (all : List ℕ) (passed i : ℕ) (fs : List Flow) (counts more : List ℕ) → length os ≤ i → Along depth level slots os all passed i fs counts → more ≡ counts ++ map counted fs → more ≡ all
 all_along depth level slots os all passed i fs counts more le so_far grown =
-    grown ∙ sym (ap (λ (xs : List TOp). counts ++ counts_from depth level slots xs fs) (drop_all i os le)) ∙ so_far.told
+    grown ∙ sym (ap (λ (xs : List TOp). counts ++ counts_from depth level slots xs fs) (drop_all i os le)) ∙ so_far.reported
 
 -- ---- what is after an operator
 

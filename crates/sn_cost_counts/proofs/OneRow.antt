@@ -20,21 +20,21 @@ module _ (level : ℕ) (row : Row) (after : List TOp) where
   comes os = come (map (op_at level) os) row
 
   pub filter_reach : (os : List TOp) (conds held : List TCond) (passes : Bool) (n : ℕ) → os ≡ ops.Filter conds ∷ after → held ≡ conds → passes ≡ list_all (λ c. holds level c row) held → passes ≡ true → n ≡ far after → 1 + n ≡ far os
-  filter_reach os conds held passes n is same told pass rest =
-      let t : list_all (λ c. holds level c row) conds ≡ true = ap (list_all (λ c. holds level c row)) (sym same) ∙ sym told ∙ pass in
+  filter_reach os conds held passes n is same reported pass rest =
+      let t : list_all (λ c. holds level c row) conds ≡ true = ap (list_all (λ c. holds level c row)) (sym same) ∙ sym reported ∙ pass in
       one_more n ∙ ap suc rest ∙ sym (ap far is ∙ ap (λ b. cond b (suc (far after)) 0) t)
     where
       one_more : (n : ℕ) → 1 + n ≡ suc n
       one_more n = omega arith
 
   pub filter_stays : (os : List TOp) (conds held : List TCond) (passes : Bool) → os ≡ ops.Filter conds ∷ after → held ≡ conds → passes ≡ list_all (λ c. holds level c row) held → passes ≡ false → 0 ≡ far os
-  filter_stays os conds held passes is same told pass =
-      let t : list_all (λ c. holds level c row) conds ≡ false = ap (list_all (λ c. holds level c row)) (sym same) ∙ sym told ∙ pass in
+  filter_stays os conds held passes is same reported pass =
+      let t : list_all (λ c. holds level c row) conds ≡ false = ap (list_all (λ c. holds level c row)) (sym same) ∙ sym reported ∙ pass in
       sym (ap far is ∙ ap (λ b. cond b (suc (far after)) 0) t)
 
   pub filter_come : (os : List TOp) (conds held : List TCond) (passes : Bool) (out : Row) → os ≡ ops.Filter conds ∷ after → held ≡ conds → passes ≡ list_all (λ c. holds level c row) held → passes ≡ true → comes after ≡ Some out → comes os ≡ Some out
-  filter_come os conds held passes out is same told pass rest =
-      let t : list_all (λ c. holds level c row) conds ≡ true = ap (list_all (λ c. holds level c row)) (sym same) ∙ sym told ∙ pass in
+  filter_come os conds held passes out is same reported pass rest =
+      let t : list_all (λ c. holds level c row) conds ≡ true = ap (list_all (λ c. holds level c row)) (sym same) ∙ sym reported ∙ pass in
       ap comes is ∙ ap (λ b. cond b (comes after) None) t ∙ rest
 
   pub map_reach : (os : List TOp) (exprs held : List TExpr) (next : Row) (n : ℕ) → os ≡ ops.Map exprs ∷ after → held ≡ exprs → next ≡ map (λ e. value_of e row) held → n ≡ reach (map (op_at level) after) next → 1 + n ≡ far os

@@ -31,8 +31,8 @@ few_each depth slots rows keys times few are counted =
     All-from_recursion fits slots (all_of fits (λ size. few_over depth size most_records rows keys times few are counted) slots)
 
 -- what is over_and_marks of homes decides what stays
-pub from_told : (distinct : Bool) (rows : List Row) (homes : List Homes) (facts : List (ℕ × List Bool)) → map over_and_marks homes ≡ facts → map (λ (h : Homes). staying distinct rows (over_and_marks h)) homes ≡ map (staying distinct rows) facts
-from_told distinct rows homes facts are = sym (map_both over_and_marks (staying distinct rows) homes) ∙ ap (map (staying distinct rows)) are
+pub from_reported : (distinct : Bool) (rows : List Row) (homes : List Homes) (facts : List (ℕ × List Bool)) → map over_and_marks homes ≡ facts → map (λ (h : Homes). staying distinct rows (over_and_marks h)) homes ≡ map (staying distinct rows) facts
+from_reported distinct rows homes facts are = sym (map_both over_and_marks (staying distinct rows) homes) ∙ ap (map (staying distinct rows)) are
 
 module _ (depth : ℕ) (rows keys : List Row) (times : List ℕ) (are : keys ≡ once same_row rows) (counted : times ≡ tallied rows) where
   distinct_stays : (size : ℕ) → staying true keys (homes_at depth keys times size) ≡ stepped depth size Distinct (starting rows)
@@ -48,7 +48,7 @@ module _ (depth : ℕ) (rows keys : List Row) (times : List ℕ) (are : keys ≡
   pub distinct_shared : (slots : List ℕ) (homes : List Homes) → map over_and_marks homes ≡ map (homes_at depth keys times) slots
       → map (λ (h : Homes). staying true keys (over_and_marks h)) homes ≡ map (λ size. stepped depth size Distinct (starting rows)) slots
   distinct_shared slots homes is =
-      from_told true keys homes (map (homes_at depth keys times) slots) is ∙ map_both (homes_at depth keys times) (staying true keys) slots
+      from_reported true keys homes (map (homes_at depth keys times) slots) is ∙ map_both (homes_at depth keys times) (staying true keys) slots
       ∙ map_agree (λ size. staying true keys (homes_at depth keys times size)) (λ size. stepped depth size Distinct (starting rows)) distinct_stays slots
 
 module _ (depth : ℕ) (g : Grouping) (rows keys : List Row) (times : List ℕ) (groups : List Row) (are : keys ≡ once same_row (map (key_of g) rows)) (counted : times ≡ tallied (map (key_of g) rows)) (made : groups ≡ apply (Reduce g) rows) where
@@ -65,7 +65,7 @@ module _ (depth : ℕ) (g : Grouping) (rows keys : List Row) (times : List ℕ) 
   pub reduce_shared : (slots : List ℕ) (homes : List Homes) → map over_and_marks homes ≡ map (homes_at depth keys times) slots
       → map (λ (h : Homes). staying false groups (over_and_marks h)) homes ≡ map (λ size. stepped depth size (Reduce g) (starting rows)) slots
   reduce_shared slots homes is =
-      from_told false groups homes (map (homes_at depth keys times) slots) is ∙ map_both (homes_at depth keys times) (staying false groups) slots
+      from_reported false groups homes (map (homes_at depth keys times) slots) is ∙ map_both (homes_at depth keys times) (staying false groups) slots
       ∙ map_agree (λ size. staying false groups (homes_at depth keys times size)) (λ size. stepped depth size (Reduce g) (starting rows)) reduce_stays slots
 
 -- ---- following what was sent before
@@ -130,7 +130,7 @@ pub filter_shared : (distinct : Bool) (t : Row → Bool) (rows next : List Row) 
     → map (λ (h : Homes). staying distinct next (over_and_marks h)) out ≡ map (stepped 0 0 (Filter t)) (map (λ (h : Homes). staying distinct rows (over_and_marks h)) homes)
 filter_shared distinct t rows next homes out stay passing kept is =
     ap (λ (xs : List Row). map (λ (h : Homes). staying distinct xs (over_and_marks h)) out) kept
-    ∙ from_told distinct (filter t rows) out (map (λ (h : Homes). (h.over, marked stay h.marks.items)) homes) is
+    ∙ from_reported distinct (filter t rows) out (map (λ (h : Homes). (h.over, marked stay h.marks.items)) homes) is
     ∙ ap (λ (xs : List Bool). map (staying distinct (filter t rows)) (map (λ (h : Homes). (h.over, marked xs h.marks.items)) homes)) passing
     ∙ map_both (λ (h : Homes). (h.over, marked (map t rows) h.marks.items)) (staying distinct (filter t rows)) homes
     ∙ map_agree (λ (h : Homes). staying distinct (filter t rows) (h.over, marked (map t rows) h.marks.items)) (λ (h : Homes). stepped 0 0 (Filter t) (staying distinct rows (over_and_marks h))) (λ h. filter_stays distinct t rows (over_and_marks h)) homes
@@ -161,16 +161,16 @@ counted_each distinct rows homes = sym (map_both (λ (h : Homes). staying distin
 
 -- ---- lists of sizes before
 
-repeated_told : {X Y Z : Type 0} (f : X → Y) (g : Z → List Y) (xs : List X) (z : Z) (n : ℕ) → map f xs ≡ g z → map f (flat_map (λ ys. ys) (replicate n xs)) ≡ flat_map g (replicate n z)
-repeated_told f g xs z zero is = refl
-repeated_told f g xs z (suc n) is =
-    map-append f xs (flat_map (λ ys. ys) (replicate n xs)) ∙ ap (λ ys. ys ++ map f (flat_map (λ ys. ys) (replicate n xs))) is ∙ ap (λ ys. g z ++ ys) (repeated_told f g xs z n is)
+repeated_reported : {X Y Z : Type 0} (f : X → Y) (g : Z → List Y) (xs : List X) (z : Z) (n : ℕ) → map f xs ≡ g z → map f (flat_map (λ ys. ys) (replicate n xs)) ≡ flat_map g (replicate n z)
+repeated_reported f g xs z zero is = refl
+repeated_reported f g xs z (suc n) is =
+    map-append f xs (flat_map (λ ys. ys) (replicate n xs)) ∙ ap (λ ys. ys ++ map f (flat_map (λ ys. ys) (replicate n xs))) is ∙ ap (λ ys. g z ++ ys) (repeated_reported f g xs z n is)
 
 pub repeated_shared : (distinct : Bool) (rows : List Row) (homes out : List Homes) (more : ℕ) (g : Flow → List Flow) (first : Flow) → map over_and_marks out ≡ flat_map (λ hs. hs) (replicate (suc more) (map over_and_marks homes))
     → map (λ (h : Homes). staying distinct rows (over_and_marks h)) homes ≡ g first → map (λ (h : Homes). staying distinct rows (over_and_marks h)) out ≡ flat_map g (replicate (suc more) first)
 repeated_shared distinct rows homes out more g first are is =
-    from_told distinct rows out (flat_map (λ hs. hs) (replicate (suc more) (map over_and_marks homes))) are
-    ∙ repeated_told (staying distinct rows) g (map over_and_marks homes) first (suc more) (map_both over_and_marks (staying distinct rows) homes ∙ is)
+    from_reported distinct rows out (flat_map (λ hs. hs) (replicate (suc more) (map over_and_marks homes))) are
+    ∙ repeated_reported (staying distinct rows) g (map over_and_marks homes) first (suc more) (map_both over_and_marks (staying distinct rows) homes ∙ is)
 
 pub none_of_all : (distinct : Bool) (rows : List Row) (homes : List Homes) → list_all (λ (f : Flow). nat_eq f.sent 0) (map (λ (h : Homes). staying distinct rows (over_and_marks h)) homes) ≡ list_all (λ (h : Homes). nat_eq h.over 0) homes
 none_of_all distinct rows [] = refl

@@ -83,12 +83,12 @@ module _ (level : ℕ) (ops : List TOp) (rows more : List Row) (seen next : ℕ)
   }
 
   -- and where they do
-  pub weighed_push : (row : Row) (times : ℕ) (all : List Row) (told : List ℕ) → 1 ≤ times → all ≡ out ++ row ∷ [] → told ≡ weights ++ times ∷ []
-      → HaveCome level ops more next found (repeated out weights ++ replicate times row) → ComeWeighed level ops more next found all told
-  weighed_push row times all told some grown weighed come =
+  pub weighed_push : (row : Row) (times : ℕ) (all : List Row) (reported : List ℕ) → 1 ≤ times → all ≡ out ++ row ∷ [] → reported ≡ weights ++ times ∷ []
+      → HaveCome level ops more next found (repeated out weights ++ replicate times row) → ComeWeighed level ops more next found all reported
+  weighed_push row times all reported some grown weighed come =
       let long : length (weights ++ times ∷ []) ≡ length (out ++ row ∷ []) =
       (let a = length-append weights (times ∷ []) in let b = length-append out (row ∷ []) in let same = h.long in omega (arith, a, b, same)) in
-      subst (λ xs. ComeWeighed level ops more next found xs told) (sym grown)
+      subst (λ xs. ComeWeighed level ops more next found xs reported) (sym grown)
       (subst (ComeWeighed level ops more next found (out ++ row ∷ [])) (sym weighed)
       (record {
         come = subst (HaveCome level ops more next found) (sym (repeated_push out weights row times (sym h.long))) come;

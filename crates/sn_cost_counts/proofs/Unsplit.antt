@@ -49,9 +49,9 @@ Follows level os all i o = option_map (through (map (op_at level) (drop i os))) 
 pub follows_next : (level : ℕ) (os : List TOp) (all : Option (List Row)) (i : ℕ) (op : TOp) (o next : Option (List Row)) → i < length os → op ≡ get_or os i op → Follows level os all i o
     → next ≡ option_map (apply (op_at level op)) o → Follows level os all (i + 1) next
 follows_next level os all i op o next lt at so_far is =
-    let behind : List TOp = drop (i + 1) os in
-    ap (option_map (through (map (op_at level) behind))) is
-    ∙ map_twice (apply (op_at level op)) (through (map (op_at level) behind)) o
+    let following : List TOp = drop (i + 1) os in
+    ap (option_map (through (map (op_at level) following))) is
+    ∙ map_twice (apply (op_at level op)) (through (map (op_at level) following)) o
     ∙ sym (ap (λ (xs : List TOp). option_map (through (map (op_at level) xs)) o) (operators_ahead os i op lt at))
     ∙ so_far
 
@@ -71,10 +71,10 @@ pub fits_after : (level : ℕ) (os : List TOp) (i : ℕ) (op : TOp) (held next :
     → IfSome next (λ rows. option_map (apply (op_at level op)) held ≡ Some rows) → IfSome next (AllFit level (drop (i + 1) os))
 fits_after level os i op held None lt at fit is = tt
 fits_after level os i op held (Some rows) lt at fit is =
-    let behind : List TOp = drop (i + 1) os in
-    subst (λ (x : Option (List Row)). IfSome x (AllFit level behind)) is
-    (if_mapped (apply (op_at level op)) held (AllFit level behind)
-    (if_some held (AllFit level (op ∷ behind)) (λ (x : List Row). AllFit level behind (apply (op_at level op) x)) (λ x f. f.1) (fits_ahead level os i op held lt at fit)))
+    let following : List TOp = drop (i + 1) os in
+    subst (λ (x : Option (List Row)). IfSome x (AllFit level following)) is
+    (if_mapped (apply (op_at level op)) held (AllFit level following)
+    (if_some held (AllFit level (op ∷ following)) (λ (x : List Row). AllFit level following (apply (op_at level op) x)) (λ x f. f.1) (fits_ahead level os i op held lt at fit)))
 
 -- where all rows are kept, or none
 pub map_given : (asked : Bool) (f : List Row → List Row) (rows : List Row) → option_map f (cond asked (Some rows) None) ≡ cond asked (Some (f rows)) None

@@ -33,12 +33,12 @@ none_ahead op os is =
     (λ no. let e : suc (ahead os) ≡ 0 = sym (ap (λ b. cond b 0 (suc (ahead os))) no) ∙ is in absurd (omega (arith, e)))
 
 -- where there is one, those from the first on begin with it
-pub some_behind : (os : List TOp) → nat_lt 0 (stateful os) ≡ true → (0 < length (drop (ahead os) os)) × (ahead (drop (ahead os) os) ≡ 0)
-some_behind [] some = absurd (false≢true some)
-some_behind (ops.Filter conds ∷ os) some = some_behind os some
-some_behind (ops.Map exprs ∷ os) some = some_behind os some
-some_behind (ops.Distinct ∷ os) some = (omega arith, refl)
-some_behind (ops.Reduce r ∷ os) some = (omega arith, refl)
+pub some_after : (os : List TOp) → nat_lt 0 (stateful os) ≡ true → (0 < length (drop (ahead os) os)) × (ahead (drop (ahead os) os) ≡ 0)
+some_after [] some = absurd (false≢true some)
+some_after (ops.Filter conds ∷ os) some = some_after os some
+some_after (ops.Map exprs ∷ os) some = some_after os some
+some_after (ops.Distinct ∷ os) some = (omega arith, refl)
+some_after (ops.Reduce r ∷ os) some = (omega arith, refl)
 
 pub any_stateful : (os : List TOp) → nat_lt 0 (stateful os) ≡ true → list_any is_stateful os ≡ true
 any_stateful [] some = absurd (false≢true some)

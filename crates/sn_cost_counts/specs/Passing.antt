@@ -2,7 +2,7 @@
 -- Rows on their way through the operators of a prefix as contracts see them: those for each list of sizes, and all rows.
 use Rattle.std.specs.Prelude.{◌≤◌, List, ◌∷◌, length, replicate, Option, Some, None, if◌then◌else◌}
 use Rattle.sn_base.specs.Groups.{Row}
-use Rattle.sn_types.specs.Cuts.{cut_behind_distinct, filters_ahead, greatest_cut}
+use Rattle.sn_types.specs.Cuts.{cut_after_distinct, filters_ahead, greatest_cut}
 use Rattle.sn_types.specs.declared.typed_op.TOp.{TOp}
 use Rattle.sn_cost_counts.specs.AnyFlow.{Flow}
 use Rattle.sn_cost_counts.specs.Flows.{starting}
@@ -35,5 +35,5 @@ unsplit_of (Apart flows unsplit) = unsplit
 -- distinct or after a reduce, and in the end filters alone
 abbrev pub CanFollow : Passing → List TOp → Type 0
 CanFollow (Together rows more kept) os = length os ≤ greatest_cut os
-CanFollow (Marked shared kept) os = length os ≤ (if shared.distinct then cut_behind_distinct os else filters_ahead os)
+CanFollow (Marked shared kept) os = length os ≤ (if shared.distinct then cut_after_distinct os else filters_ahead os)
 CanFollow (Apart flows unsplit) os = length os ≤ filters_ahead os

@@ -8,7 +8,7 @@ ghost use Rattle.sn_cost_counts.specs.Passing.{CanFollow, flows_of, held_by, uns
 ghost use Rattle.sn_cost_tally.specs.Weighed.{AreWeights, weighed};
 ghost use Rattle.sn_ops.specs.Flow.{Fits};
 ghost use Rattle.sn_types.specs.declared.typed_op.TOp.{TOp};
-ghost use Rattle.sn_types.specs.Cuts.{cut_behind_distinct, filters_ahead, greatest_cut, is_stateful};
+ghost use Rattle.sn_types.specs.Cuts.{cut_after_distinct, filters_ahead, greatest_cut, is_stateful};
 ghost use Rattle.sn_types.specs.Values.{op_at};
 ghost use Rattle.sn_chain.specs.Limits.{largest_register};
 ghost use Rattle.sn_windows.specs.Blocks.{most_records};
@@ -247,12 +247,12 @@ fn after_marked<R: AnyRow>(
     requires most_depth { depth ≤ 4 }
     requires sizes { All (λ size. (1 ≤ size) × (size ≤ largest_register)) slots.now }
     requires go { (passed : ℕ) × (ahead : List TOp) × (passed < 12) × AllGo level passed (op.now ∷ ahead) (flows_in shared) }
-    requires shape { (ahead : List TOp) × (length (op.now ∷ ahead) ≤ (if shared.distinct then cut_behind_distinct (op.now ∷ ahead) else filters_ahead (op.now ∷ ahead))) }
+    requires shape { (ahead : List TOp) × (length (op.now ∷ ahead) ≤ (if shared.distinct then cut_after_distinct (op.now ∷ ahead) else filters_ahead (op.now ∷ ahead))) }
     requires fits { Fits op.now shared.rows }
     ensures flows { IfOk result (λ next. flows_of next ≡ wider depth level slots.now op.now (flows_in shared)) }
     ensures unsplit { IfOk result (λ next. unsplit_of next ≡ option_map (apply (op_at level op.now)) (if kept then Some shared.rows else None)) }
     ensures held { IfOk result (λ next. IfSome (held_by next) (λ rows. Some (apply (op_at level op.now) shared.rows) ≡ Some rows)) }
-    ensures shape { IfOk result (λ next. (ahead : List TOp) → length (op.now ∷ ahead) ≤ (if shared.distinct then cut_behind_distinct (op.now ∷ ahead) else filters_ahead (op.now ∷ ahead)) → CanFollow next ahead) }
+    ensures shape { IfOk result (λ next. (ahead : List TOp) → length (op.now ∷ ahead) ≤ (if shared.distinct then cut_after_distinct (op.now ∷ ahead) else filters_ahead (op.now ∷ ahead)) → CanFollow next ahead) }
 {
     match op {
         TOp::Filter(_) | TOp::Map(_) => {

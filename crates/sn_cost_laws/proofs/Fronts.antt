@@ -54,7 +54,7 @@ path_among : (levels path : List ℕ) → IsRising levels → IsRising path → 
 path_among [] [] r s k = refl
 path_among [] (x ∷ path) r s k = absurd (let no : false ≡ true = k.0 in cc)
 path_among (l ∷ levels) [] r s k = path_among levels [] r.1 tt tt
-path_among (l ∷ levels) (x ∷ path) r s k = by_test (nat_eq x l) (λ is. here (nat_same x l is) (path_among levels path r.1 s.1)) (λ isnt. behind isnt (path_among levels (x ∷ path) r.1 s))
+path_among (l ∷ levels) (x ∷ path) r s k = by_test (nat_eq x l) (λ is. here (nat_same x l is) (path_among levels path r.1 s.1)) (λ isnt. following isnt (path_among levels (x ∷ path) r.1 s))
   where
     here : x ≡ l → (AllByRecursion (λ y. is_among levels y ≡ true) path → filter (is_among path) levels ≡ path) → filter (is_among (x ∷ path)) (l ∷ levels) ≡ x ∷ path
     here e rest =
@@ -64,8 +64,8 @@ path_among (l ∷ levels) (x ∷ path) r s k = by_test (nat_eq x l) (λ is. here
         ∙ ap (λ ys. l ∷ ys) (filter_agree (is_among (l ∷ path)) (is_among path) levels (all_weaker (λ y. l < y) (λ y. is_among (l ∷ path) y ≡ is_among path y) (λ y lt. among_rest l y path lt) levels r.0))
         ∙ ap (λ ys. l ∷ ys) (rest (known_rest l levels path above k.1)))
 
-    behind : nat_eq x l ≡ false → (AllByRecursion (λ y. is_among levels y ≡ true) (x ∷ path) → filter (is_among (x ∷ path)) levels ≡ x ∷ path) → filter (is_among (x ∷ path)) (l ∷ levels) ≡ x ∷ path
-    behind isnt rest =
+    following : nat_eq x l ≡ false → (AllByRecursion (λ y. is_among levels y ≡ true) (x ∷ path) → filter (is_among (x ∷ path)) levels ≡ x ∷ path) → filter (is_among (x ∷ path)) (l ∷ levels) ≡ x ∷ path
+    following isnt rest =
         let later : is_among levels x ≡ true = sym (ap (λ b. b || list_any (nat_eq x) levels) isnt) ∙ k.0 in
         let lt : l < x = among_all (λ y. l < y) x levels later r.0 in
         let above : AllByRecursion (λ y. l < y) (x ∷ path) = (lt, all_weaker (λ y. x < y) (λ y. l < y) (λ y more. omega (arith, lt, more)) path s.0) in

@@ -99,8 +99,8 @@ module _ (query : ℕ) (typed : TypedQuery) where
       let on = path_is (m / 2) (i + 1) (before + 2 ^ i) (k ∷ ls) (next_bit i before small) later in
       let past = path_is (m / 2) (i + 1) before (k ∷ ls) (let one = next_bit i before small in omega (arith, one)) later in
       let own : List PieceTask = level_pieces query (before + 2 ^ i) (before == 0) 0 typed.branches in
-      let behind : List PieceTask = path_pieces query typed.branches (m / 2) (i + 1) (before + 2 ^ i) (k ∷ ls) in
-      by_bit (m % 2 == 1) (own ++ behind) (path_pieces query typed.branches (m / 2) (i + 1) before (k ∷ ls)) (all_append (IsPieceOf query typed) own behind here on) past
+      let following : List PieceTask = path_pieces query typed.branches (m / 2) (i + 1) (before + 2 ^ i) (k ∷ ls) in
+      by_bit (m % 2 == 1) (own ++ following) (path_pieces query typed.branches (m / 2) (i + 1) before (k ∷ ls)) (all_append (IsPieceOf query typed) own following here on) past
     where
       by_bit : (t : Bool) (xs ys : List PieceTask) → AllByRecursion (IsPieceOf query typed) xs → AllByRecursion (IsPieceOf query typed) ys → AllByRecursion (IsPieceOf query typed) (if t then xs else ys)
       by_bit true xs ys a b = a

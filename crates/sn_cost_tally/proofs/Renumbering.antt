@@ -46,8 +46,8 @@ one_numbered ks found rows key ns new n grown lt is pushed h =
     }
 
 -- where there is a number, there is its row
-pub none_missing : (keys : List Row) (n count : ℕ) (told : Bool) (row : Row) → n < count → count ≡ length keys → told ≡ false → slice_get keys n ≡ cond told (Some row) None → ⊥
-none_missing keys n count told row lt is isnt got =
+pub none_missing : (keys : List Row) (n count : ℕ) (reported : Bool) (row : Row) → n < count → count ≡ length keys → reported ≡ false → slice_get keys n ≡ cond reported (Some row) None → ⊥
+none_missing keys n count reported row lt is isnt got =
     none_some (sym (got ∙ ap (λ b. cond b (Some row) None) isnt) ∙ slice_get-get_or keys n [] (omega (arith, lt, is)))
 
 -- ---- places of keys that came
@@ -126,9 +126,9 @@ got_map f (y ∷ xs) (suc n) x is = got_map f xs n x is
 pub mapped_read : {X Y : Type 0} (f : X → Y) (xs : List X) (x : X) (ys : List Y) (n : ℕ) (y : Y) → ys ≡ map f xs → slice_get xs n ≡ Some x → y ≡ slice_index_or ys n y → y ≡ f x
 mapped_read f xs x ys n y are is read = read ∙ ap (λ zs. slice_index_or zs n y) are ∙ get_or_from_slice_get (map f xs) n (f x) y (got_map f xs n x is)
 
-module _ (key : Row) (ks : List Row) (after : ℕ) (told : after ≡ placed ks key) where
+module _ (key : Row) (ks : List Row) (after : ℕ) (reported : after ≡ placed ks key) where
   came : 0 < after → (position_or_len (same_row key) ks ≡ after - 1) × (after - 1 < length ks)
-  came some = let e : placed ks key ≡ suc (after - 1) = omega (arith, told, some) in was_placed key ks (after - 1) e
+  came some = let e : placed ks key ≡ suc (after - 1) = omega (arith, reported, some) in was_placed key ks (after - 1) e
 
   pub came_at : 0 < after → after - 1 ≡ position_or_len (same_row key) ks
   came_at some = sym (came some).0
@@ -138,13 +138,13 @@ module _ (key : Row) (ks : List Row) (after : ℕ) (told : after ≡ placed ks k
 
   pub comes_at : (count : ℕ) (new : List Row) → after ≡ 0 → count ≡ length new → new ≡ ks ++ key ∷ [] → count - 1 ≡ position_or_len (same_row key) ks
   comes_at count new none long pushed =
-      let at_end = not_placed key ks (sym told ∙ none) in
+      let at_end = not_placed key ks (sym reported ∙ none) in
       let longer = ap length pushed in
       let one = length-append ks (key ∷ []) in
       omega (arith, at_end, long, longer, one)
 
   pub comes_last : (new : List Row) → after ≡ 0 → new ≡ ks ++ key ∷ [] → new ≡ insert_key same_row ks key
-  comes_last new none pushed = keys_next key ks (insert_key same_row ks key) new refl (not_placed key ks (sym told ∙ none)) pushed
+  comes_last new none pushed = keys_next key ks (insert_key same_row ks key) new refl (not_placed key ks (sym reported ∙ none)) pushed
 
   pub comes_renumbered : (all new : List Row) (places : List ℕ) (slots grown : List (List ℕ)) (slot : List ℕ) (n count : ℕ) → Apart same_row all → slice_get all n ≡ Some key → AreRenumbered all ks places slots
       → after ≡ 0 → count ≡ length new → new ≡ ks ++ key ∷ [] → slot ≡ largest_slots key → grown ≡ slots ++ slot ∷ [] → AreRenumbered all new (slice_set places n count) grown
@@ -155,7 +155,7 @@ module _ (key : Row) (ks : List Row) (after : ℕ) (told : after ≡ placed ks k
       record {
         each =
             ap (λ ns. slice_set ns n count) so_far.each ∙ ap (slice_set (map (placed ks) all) n) next
-            ∙ places_set key ks all n apart is (sym told ∙ none)
+            ∙ places_set key ks all n apart is (sym reported ∙ none)
             ∙ ap (λ xs. map (placed xs) all) (sym pushed);
         known = added ∙ ap (λ ss. ss ++ slot ∷ []) so_far.known ∙ ap (λ s. map largest_slots ks ++ s ∷ []) at_slot ∙ sym (map-append largest_slots ks (key ∷ [])) ∙ ap (map largest_slots) (sym pushed);
       }

@@ -5,7 +5,7 @@ use Rattle.std.specs.Cmp.Lexicographic.{nat_list_eq_equiv}
 use Rattle.std.proofs.lemmas.List.{length-map, map-append}
 use Rattle.std.proofs.lemmas.List.Elements.{All-from_recursion, filter-append}
 use Rattle.sn_base.specs.Bags.{SameBag}
-use Rattle.sn_base.specs.Bags.SameBag.{behind}
+use Rattle.sn_base.specs.Bags.SameBag.{following}
 use Rattle.sn_base.specs.Groups.{Row, once, same_row}
 use Rattle.sn_base.proofs.BagLemmas.{bag_before, bag_filter, bag_parted, bag_same, bag_swapped, bag_then}
 use Rattle.sn_base.proofs.FoldedLemmas.{same_row_exact}
@@ -89,7 +89,7 @@ tallied_bag (row ∷ rows) =
     let others : repeated far times ≡ filter other (repeated keys (tallied rows)) =
     ap (repeated far) (map_where (times_in (row ∷ rows)) (times_in rows) other (times_apart row rows) keys) ∙ sym (repeated_filter other (times_in rows) keys) in
     bag_then (bag_same (ap (λ ys. ys ++ repeated far times) first ∙ ap (λ ys. row ∷ (again ++ ys)) others))
-    (behind row (again ++ filter other (repeated keys (tallied rows))) rows
+    (following row (again ++ filter other (repeated keys (tallied rows))) rows
     (bag_then (bag_before again (filter other (repeated keys (tallied rows))) (filter other rows) (bag_filter other (repeated keys (tallied rows)) rows (tallied_bag rows)))
     (bag_then (bag_swapped again (filter other rows)) (bag_parted (same_row row) rows))))
 

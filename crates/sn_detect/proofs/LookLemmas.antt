@@ -16,7 +16,7 @@ use Rattle.sn_detect.specs.declared.stay.Stay.{Stay}
 use Rattle.sn_detect.specs.Finding.{event, events_of, found_on, look_events, stays_of}
 use Rattle.sn_detect.specs.Keeping.{HoldOn, InTime, Rise}
 use Rattle.sn_detect.specs.Looks.{holds, look_at}
-use Rattle.sn_detect.specs.Stays.{AreStays, HeldIn, IsInTime, IsPrinted, IsStay, ToldIn}
+use Rattle.sn_detect.specs.Stays.{AreStays, HeldIn, IsInTime, IsPrinted, IsStay, ReportedIn}
 use Rattle.sn_detect.proofs.StayLemmas.{Has, InOrder, IsUpTo, either, found_stays, is_event, is_kind, same_stays}
 
 -- ---- sorted events are in order
@@ -90,8 +90,8 @@ all_made (l ∷ looks) = all_append IsMade (look_events l) (events_of looks)
 
 -- ---- what events say
 
-abbrev told_or_held : Bool → Look → List ℕ
-told_or_held kind l = cond kind l.refined l.unrefined
+abbrev reported_or_held : Bool → Look → List ℕ
+reported_or_held kind l = cond kind l.refined l.unrefined
 
 -- an address is made of its two halves
 whole : (n : ℕ) → n / 2 ^ 64 * 2 ^ 64 + n % 2 ^ 64 ≡ n
@@ -107,7 +107,7 @@ mapped kind b u w k false e (n ∷ ns) =
     ap (λ m. ((is_kind kind k && (w == u)) && nat_eq b m) || list_any (is_event kind b u) (map (event w k) ns)) (whole n)
     ∙ ap (λ t. (t && nat_eq b n) || list_any (is_event kind b u) (map (event w k) ns)) e ∙ mapped kind b u w k false e ns
 
-in_look : (kind : Bool) (b u : ℕ) (l : Look) → (l.window == u) ≡ true → list_any (is_event kind b u) (look_events l) ≡ holds (told_or_held kind l) b
+in_look : (kind : Bool) (b u : ℕ) (l : Look) → (l.window == u) ≡ true → list_any (is_event kind b u) (look_events l) ≡ holds (reported_or_held kind l) b
 in_look false b u l is =
     list_any-append (is_event false b u) (map (event l.window 1) l.unrefined) (map (event l.window 0) l.refined)
     ∙ ap (λ r. r || list_any (is_event false b u) (map (event l.window 0) l.refined)) (mapped false b u l.window 1 true is l.unrefined)
@@ -136,29 +136,29 @@ later_alone kind b u v (m ∷ looks) same later =
     ∙ ap (λ r. r || list_any (is_event kind b u) (events_of looks)) (not_in_look kind b u m (not_true (m.window == u) (λ is. let at = nat_same m.window u is in absurd (omega (arith, at, up, same)))))
     ∙ later_alone kind b u v looks same later.1
 
-said : (kind : Bool) (b u : ℕ) (looks : List Look) → Rise looks → list_any (is_event kind b u) (events_of looks) ≡ holds (option_map_or (told_or_held kind) (look_at looks u) []) b
+said : (kind : Bool) (b u : ℕ) (looks : List Look) → Rise looks → list_any (is_event kind b u) (events_of looks) ≡ holds (option_map_or (reported_or_held kind) (look_at looks u) []) b
 said kind b u [] rise = refl
 said kind b u (l ∷ looks) rise =
     list_any-append (is_event kind b u) (look_events l) (events_of looks)
     ∙ by_test (l.window == u)
     (λ is. ap (λ r. r || list_any (is_event kind b u) (events_of looks)) (in_look kind b u l is)
-    ∙ ap (λ r. holds (told_or_held kind l) b || r) (later_alone kind b u l.window looks (nat_same l.window u is) rise.0)
-    ∙ or_false (holds (told_or_held kind l) b)
-    ∙ sym (ap (λ c. holds (option_map_or (told_or_held kind) (cond c (Some l) (look_at looks u)) []) b) is))
+    ∙ ap (λ r. holds (reported_or_held kind l) b || r) (later_alone kind b u l.window looks (nat_same l.window u is) rise.0)
+    ∙ or_false (holds (reported_or_held kind l) b)
+    ∙ sym (ap (λ c. holds (option_map_or (reported_or_held kind) (cond c (Some l) (look_at looks u)) []) b) is))
     (λ isnt. ap (λ r. r || list_any (is_event kind b u) (events_of looks)) (not_in_look kind b u l isnt)
     ∙ said kind b u looks rise.1
-    ∙ sym (ap (λ c. holds (option_map_or (told_or_held kind) (cond c (Some l) (look_at looks u)) []) b) isnt))
+    ∙ sym (ap (λ c. holds (option_map_or (reported_or_held kind) (cond c (Some l) (look_at looks u)) []) b) isnt))
 
 abbrev sorted_events : List Look → List Row
 sorted_events looks = sorted_rows (events_of looks)
 
-sorted_said : (kind : Bool) (b u : ℕ) (looks : List Look) → Rise looks → list_any (is_event kind b u) (sorted_events looks) ≡ holds (option_map_or (told_or_held kind) (look_at looks u) []) b
+sorted_said : (kind : Bool) (b u : ℕ) (looks : List Look) → Rise looks → list_any (is_event kind b u) (sorted_events looks) ≡ holds (option_map_or (reported_or_held kind) (look_at looks u) []) b
 sorted_said kind b u looks rise = bag_any (is_event kind b u) (sorted_events looks) (events_of looks) (sorted_bag (events_of looks)) ∙ said kind b u looks rise
 
 -- what is found of windows that rise are exactly the stays
-pub stays_are : (looks : List Look) → Rise looks → AreStays (HeldIn looks) (ToldIn looks) (stays_of looks)
+pub stays_are : (looks : List Look) → Rise looks → AreStays (HeldIn looks) (ReportedIn looks) (stays_of looks)
 stays_are looks rise =
-    same_stays (Has false (sorted_events looks)) (HeldIn looks) (Has true (sorted_events looks)) (ToldIn looks)
+    same_stays (Has false (sorted_events looks)) (HeldIn looks) (Has true (sorted_events looks)) (ReportedIn looks)
     (λ b u has. sym (sorted_said false b u looks rise) ∙ has) (λ b u is. sorted_said false b u looks rise ∙ is)
     (λ b u has. sym (sorted_said true b u looks rise) ∙ has) (λ b u is. sorted_said true b u looks rise ∙ is)
     (found_on (sorted_events looks) [])
@@ -166,15 +166,15 @@ stays_are looks rise =
 
 -- ---- in time
 
-told_by : (Told : ℕ → ℕ → Type 0) (a first last t : ℕ) (o : Option ℕ) → IsPrinted Told a first last o → first ≤ t → t ≤ last → Told a t → IsSomeAnd o (λ p. p ≤ t)
-told_by Told a first last t None p from upto told = absurd (p t from upto told)
-told_by Told a first last t (Some q) p from upto told = by_order t q (λ before. absurd (p.3 t from before told)) (λ le. le)
+reported_by : (Reported : ℕ → ℕ → Type 0) (a first last t : ℕ) (o : Option ℕ) → IsPrinted Reported a first last o → first ≤ t → t ≤ last → Reported a t → IsSomeAnd o (λ p. p ≤ t)
+reported_by Reported a first last t None p from upto reported = absurd (p t from upto reported)
+reported_by Reported a first last t (Some q) p from upto reported = by_order t q (λ before. absurd (p.3 t from before reported)) (λ le. le)
 
 weaker_some : (o : Option ℕ) (P Q : ℕ → Type 0) → ((p : ℕ) → P p → Q p) → IsSomeAnd o P → IsSomeAnd o Q
 weaker_some None P Q w h = h
 weaker_some (Some p) P Q w h = w p h
 
-pub stay_in_time : (looks : List Look) (path : List ℕ) (s : Stay) → 1 ≤ length path → InTime path looks → IsStay (HeldIn looks) (ToldIn looks) s → IsInTime (length path) s
+pub stay_in_time : (looks : List Look) (path : List ℕ) (s : Stay) → 1 ≤ length path → InTime path looks → IsStay (HeldIn looks) (ReportedIn looks) s → IsInTime (length path) s
 stay_in_time looks [] s some time h enough = absurd (omega (arith, some))
 stay_in_time looks (x ∷ path) s some time h enough =
     let last = length path in
@@ -182,4 +182,4 @@ stay_in_time looks (x ∷ path) s some time h enough =
     let upto : s.first + last ≤ s.last = omega (arith, enough) in
     let on : HoldOn looks s.address s.first last = λ i le. h.held (s.first + i) (omega arith) (omega (arith, le, upto)) in
     weaker_some s.printed (λ p. p ≤ s.first + last) (λ p. p < s.first + length (x ∷ path)) (λ p le. omega (arith, le))
-    (told_by (ToldIn looks) s.address s.first s.last (s.first + last) s.printed h.printed from upto (time last s.first s.address refl on))
+    (reported_by (ReportedIn looks) s.address s.first s.last (s.first + last) s.printed h.printed from upto (time last s.first s.address refl on))

@@ -35,31 +35,31 @@ covering a w (t ∷ ts) c =
 
 -- ---- two stays of an address that share a window are the same
 
-module _ (Held Told : ℕ → ℕ → Type 0) where
-  same_print : (a first last : ℕ) (o p : Option ℕ) → IsPrinted Told a first last o → IsPrinted Told a first last p → o ≡ p
+module _ (Held Reported : ℕ → ℕ → Type 0) where
+  same_print : (a first last : ℕ) (o p : Option ℕ) → IsPrinted Reported a first last o → IsPrinted Reported a first last p → o ≡ p
   same_print a first last None None h k = refl
   same_print a first last None (Some q) h k = absurd (h q k.0 k.1 k.2)
   same_print a first last (Some q) None h k = absurd (k q h.0 h.1 h.2)
   same_print a first last (Some q) (Some r) h k =
       ap (λ n. Some n) (neither_below q r (λ lt. k.3 q h.0 lt h.2) (λ lt. h.3 r k.0 lt k.2))
 
-  not_earlier : (s t : Stay) → IsStay Held Told s → IsStay Held Told t → s.address ≡ t.address → (w : ℕ) → t.first ≤ w → w ≤ s.last → s.first < t.first → ⊥
+  not_earlier : (s t : Stay) → IsStay Held Reported s → IsStay Held Reported t → s.address ≡ t.address → (w : ℕ) → t.first ≤ w → w ≤ s.last → s.first < t.first → ⊥
   not_earlier s t h k same w from upto earlier = before t.first refl
     where
       before : (n : ℕ) → n ≡ t.first → ⊥
       before zero at = omega (arith, at, earlier)
       before (suc u) at = k.begins u at (subst (λ b. Held b u) same (h.held u (omega (arith, at, earlier)) (omega (arith, at, from, upto))))
 
-  not_longer : (s t : Stay) → IsStay Held Told s → IsStay Held Told t → s.address ≡ t.address → (w : ℕ) → t.first ≤ w → w ≤ s.last → s.last < t.last → ⊥
+  not_longer : (s t : Stay) → IsStay Held Reported s → IsStay Held Reported t → s.address ≡ t.address → (w : ℕ) → t.first ≤ w → w ≤ s.last → s.last < t.last → ⊥
   not_longer s t h k same w from upto longer =
       h.ends (subst (λ b. Held b (suc s.last)) (sym same) (k.held (suc s.last) (omega (arith, from, upto)) (omega (arith, longer))))
 
-  meeting : (s t : Stay) → IsStay Held Told s → IsStay Held Told t → s.address ≡ t.address → (w : ℕ) → s.first ≤ w → w ≤ s.last → t.first ≤ w → w ≤ t.last → s ≡ t
+  meeting : (s t : Stay) → IsStay Held Reported s → IsStay Held Reported t → s.address ≡ t.address → (w : ℕ) → s.first ≤ w → w ≤ s.last → t.first ≤ w → w ≤ t.last → s ≡ t
   meeting s t h k same w low high from upto =
       let first : s.first ≡ t.first = neither_below s.first t.first (not_earlier s t h k same w from high) (not_earlier t s k h (sym same) w low upto) in
       let last : s.last ≡ t.last = neither_below s.last t.last (not_longer s t h k same w from high) (not_longer t s k h (sym same) w low upto) in
-      let moved : IsPrinted Told t.address t.first t.last s.printed =
-      subst (λ b. IsPrinted Told b t.first t.last s.printed) same (subst (λ n. IsPrinted Told s.address n t.last s.printed) first (subst (λ n. IsPrinted Told s.address s.first n s.printed) last h.printed)) in
+      let moved : IsPrinted Reported t.address t.first t.last s.printed =
+      subst (λ b. IsPrinted Reported b t.first t.last s.printed) same (subst (λ n. IsPrinted Reported s.address n t.last s.printed) first (subst (λ n. IsPrinted Reported s.address s.first n s.printed) last h.printed)) in
       ap (λ b. the_stay b s.first s.last s.printed) same
       ∙ ap (λ n. the_stay t.address n s.last s.printed) first
       ∙ ap (λ n. the_stay t.address t.first n s.printed) last
@@ -69,12 +69,12 @@ module _ (Held Told : ℕ → ℕ → Type 0) where
       the_stay a first last printed = record { address = a; first = first; last = last; printed = printed }
 
   -- each stay of one list is one of the other
-  found_in : (xs ys : List Stay) → AreStays Held Told xs → AreStays Held Told ys → (s : Stay) → IsOneOf s xs → IsOneOf s ys
+  found_in : (xs ys : List Stay) → AreStays Held Reported xs → AreStays Held Reported ys → (s : Stay) → IsOneOf s xs → IsOneOf s ys
   found_in xs ys h k s among =
-      let stay : IsStay Held Told s = one_holds (IsStay Held Told) s xs h.each among in
+      let stay : IsStay Held Reported s = one_holds (IsStay Held Reported) s xs h.each among in
       let rising = stay.rising in
       let c = covering s.address s.first ys (k.all s.address s.first (stay.held s.first (omega arith) rising)) in
-      let other : IsStay Held Told c.stay = one_holds (IsStay Held Told) c.stay ys k.each c.among in
+      let other : IsStay Held Reported c.stay = one_holds (IsStay Held Reported) c.stay ys k.each c.among in
       subst (λ t. IsOneOf t ys) (meeting c.stay s other stay c.covers.0 s.first c.covers.1 c.covers.2 (omega arith) rising) c.among
 
   -- ---- lists in order with the same members are the same
@@ -111,10 +111,10 @@ module _ (Held Told : ℕ → ℕ → Type 0) where
       (λ t among. in_rest x xs ys y same h.0 l t among (to t (inr among)))
       (λ t among. in_rest y ys xs x (sym same) k.0 m t among (back t (inr among))))
 
-  long_all : (ss : List Stay) → AllByRecursion (IsStay Held Told) ss → AreLong ss
+  long_all : (ss : List Stay) → AllByRecursion (IsStay Held Reported) ss → AreLong ss
   long_all [] all = tt
   long_all (s ∷ ss) all = ((all.0).rising, long_all ss all.1)
 
-  pub one_list : (xs ys : List Stay) → AreStays Held Told xs → AreStays Held Told ys → xs ≡ ys
+  pub one_list : (xs ys : List Stay) → AreStays Held Reported xs → AreStays Held Reported ys → xs ≡ ys
   one_list xs ys h k =
       same_members xs ys h.apart k.apart (long_all xs h.each) (long_all ys k.each) (found_in xs ys h k) (found_in ys xs k h)

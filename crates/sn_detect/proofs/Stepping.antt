@@ -22,9 +22,9 @@ use Rattle.sn_types.specs.Typed.{HasWidths, IsTyped, finest_level, query_at}
 use Rattle.sn_types.specs.declared.answers.Part.{Part}
 use Rattle.sn_types.specs.declared.typed_query.TypedQuery.{TypedQuery}
 use Rattle.sn_refine_laws.specs.Monotone.{is_monotone}
-use Rattle.sn_refine_laws.specs.Told.{EndsFinest, is_told}
+use Rattle.sn_refine_laws.specs.Reported.{EndsFinest, is_reported}
 use Rattle.sn_refine_laws.proofs.Queries.{level_range}
-use Rattle.sn_refine_laws.proofs.Windows.{told_first, told_held, told_own}
+use Rattle.sn_refine_laws.proofs.Windows.{reported_first, reported_held, reported_own}
 use Rattle.sn_detect.specs.declared.look.Look.{Look}
 use Rattle.sn_detect.specs.Keeping.{AreUpTo, HoldOn, InTime, OnTheWay, Rise, prefix_of}
 use Rattle.sn_detect.specs.Looks.{holds, look_at, refined_at, unrefined_at}
@@ -121,7 +121,7 @@ module _ (window q : ℕ) (queries : List TypedQuery) (field : Field) (typed : I
   now_earlier : (v : ℕ) → (v ≡ w → ⊥) → look_at all v ≡ look_at looks v
   now_earlier v apart = earlier looks look last upto above v apart
 
-  in_last : (a : ℕ) → holds (unrefined_at all w) a ≡ true → is_told the (level_rows the (finest_level the) (Some tuples)) a ≡ true
+  in_last : (a : ℕ) → holds (unrefined_at all w) a ≡ true → is_reported the (level_rows the (finest_level the) (Some tuples)) a ≡ true
   in_last a is = sym (ap (λ o. holds (option_map_or (λ (l : Look). l.unrefined) o []) a) now_here) ∙ is
 
   in_earlier : (v a : ℕ) → v < w → holds (unrefined_at all v) a ≡ true → holds (unrefined_at looks v) a ≡ true
@@ -132,9 +132,9 @@ module _ (window q : ℕ) (queries : List TypedQuery) (field : Field) (typed : I
   was_last v a next is = go last looks upto above is
     where
       go : (o : Option ℕ) (ls : List Look) → AreUpTo o ls → IsAbove o w → holds (unrefined_at ls v) a ≡ true → o ≡ Some v
-      go None [] none up told = absurd (false≢true told)
-      go None (l ∷ ls) none up told = absurd none
-      go (Some u) ls low up told = let le = held_upto ls u v a low told in ap (λ (n : ℕ). Some n) (omega (arith, le, up, next))
+      go None [] none up reported = absurd (false≢true reported)
+      go None (l ∷ ls) none up reported = absurd none
+      go (Some u) ls low up reported = let le = held_upto ls u v a low reported in ap (λ (n : ℕ). Some n) (omega (arith, le, up, next))
 
   kept_there : (v j : ℕ) → suc v ≡ w → last ≡ Some v → kept_at last kept w j ≡ unwrap_or (slice_get kept j) set.empty
   kept_there v j next is =
@@ -148,11 +148,11 @@ module _ (window q : ℕ) (queries : List TypedQuery) (field : Field) (typed : I
   prefix_is bits a = ap (λ o. prefix_of o bits a) is_field
 
   -- an address that is held on up to this window has its prefix in the answers of the level of each place
-  told_rows : (j v a : ℕ) → j < length path → v + j ≡ w → HoldOn all a v j → is_told the (rows j) (masked (width_of field) (slice_index path j) a) ≡ true
-  told_rows zero v a within at on =
+  reported_rows : (j v a : ℕ) → j < length path → v + j ≡ w → HoldOn all a v j → is_reported the (rows j) (masked (width_of field) (slice_index path j) a) ≡ true
+  reported_rows zero v a within at on =
       let now : holds (unrefined_at all w) a ≡ true = subst (λ (n : ℕ). holds (unrefined_at all n) a ≡ true) at (on 0 (omega arith)) in
-      told_first window q queries field typed lt is_field mono a (slice_index path 0) tuples (ends.known 0 within) widths (in_last a now)
-  told_rows (suc j) v a within at on =
+      reported_first window q queries field typed lt is_field mono a (slice_index path 0) tuples (ends.known 0 within) widths (in_last a now)
+  reported_rows (suc j) v a within at on =
       let bits : ℕ = slice_index path j in
       let before : ℕ = v + j in
       let next : suc before ≡ w = omega (arith, at) in
@@ -166,17 +166,17 @@ module _ (window q : ℕ) (queries : List TypedQuery) (field : Field) (typed : I
       ap (λ s. set.contains s (masked (width_of field) bits a)) (kept_there before j next was) ∙ ap (set.contains (unwrap_or (slice_get kept j) set.empty)) (sym (prefix_is bits a)) ∙ so_far in
       let earlier : j < length path = omega (arith, within) in
       let below = (level_range window q bits queries field typed lt is_field (ends.known j earlier)).le in
-      told_held window q queries field typed lt is_field mono a (slice_index path (suc j)) bits held tuples (ends.known (suc j) within) below widths has (in_last a now)
+      reported_held window q queries field typed lt is_field mono a (slice_index path (suc j)) bits held tuples (ends.known (suc j) within) below widths has (in_last a now)
 
   -- what is kept of this window
   pub way_after : OnTheWay the.field path (Some w) (kept_of the path (parts_in q the path (kept_at last kept w) tuples)) all
   way_after j v a within at on =
       let bits : ℕ = slice_index path j in
       let n : ℕ = masked (width_of field) bits a in
-      let told = told_rows j v a (omega (arith, within)) at on in
+      let reported = reported_rows j v a (omega (arith, within)) at on in
       ap (λ s. set.contains s (prefix_of the.field bits a)) (at_place (λ (part : Part). prefixes_of the part.rows) (part_at q path rows) (length path) (length path - 1) j set.empty (omega (arith, within)) (omega arith))
       ∙ ap (set.contains (prefixes_of the (rows j))) (prefix_is bits a)
-      ∙ set.contains-from_list_nat (column_of the (rows j)) n ∙ any_back n (column_of the (rows j)) ∙ told
+      ∙ set.contains-from_list_nat (column_of the (rows j)) n ∙ any_back n (column_of the (rows j)) ∙ reported
 
   -- where the refined column is that of the last level
   pub time_after : ((last : ℕ) → length path ≡ suc last → refined ≡ column_of the (rows last)) → InTime path all
@@ -189,12 +189,12 @@ module _ (window q : ℕ) (queries : List TypedQuery) (field : Field) (typed : I
       let finest : slice_index path final ≡ F = ends.finest final long in
       let now : holds (unrefined_at all w) a ≡ true = subst (λ (n : ℕ). holds (unrefined_at all n) a ≡ true) at (on final (omega arith)) in
       let own : masked (width_of field) (slice_index path final) a ≡ a =
-      ap (λ k. masked (width_of field) k a) finest ∙ told_own window q queries field typed lt is_field mono a tuples (subst (λ (n : ℕ). list_any (nat_eq n) the.levels ≡ true) finest (ends.known final within)) (in_last a now) in
+      ap (λ k. masked (width_of field) k a) finest ∙ reported_own window q queries field typed lt is_field mono a tuples (subst (λ (n : ℕ). list_any (nat_eq n) the.levels ≡ true) finest (ends.known final within)) (in_last a now) in
       ap (λ n. holds (refined_at all n) a) at
       ∙ ap (λ o. holds (option_map_or (λ (l : Look). l.refined) o []) a) now_here
       ∙ ap (λ ns. holds ns a) (same final long)
       ∙ ap (holds (column_of the (rows final))) (sym own)
-      ∙ told_rows final v a within at on)
+      ∙ reported_rows final v a within at on)
       (λ isnt. by_test (nat_lt t w)
       (λ low. let below = ltb-true t w low in
       let older : HoldOn looks a v final = λ i le. in_earlier (v + i) a (omega (arith, le, below)) (on i le) in

@@ -40,16 +40,16 @@ with_held a w [] = begun a w ∷ []
 with_held a w (s ∷ ss) = cond (meets a w s) (from_window w s ∷ ss) (begun a w ∷ s ∷ ss)
 
 -- a stay that was printed in this window
-abbrev pub told_in : ℕ → Stay → Stay
-told_in w s = record { address = s.address; first = s.first; last = s.last; printed = Some w }
+abbrev pub reported_in : ℕ → Stay → Stay
+reported_in w s = record { address = s.address; first = s.first; last = s.last; printed = Some w }
 
--- an address is told in a window, where it is held
-abbrev pub with_told : ℕ → ℕ → List Stay → List Stay
-with_told a w [] = []
-with_told a w (s ∷ ss) = cond ((s.address == a) && (s.first == w)) (told_in w s ∷ ss) (s ∷ ss)
+-- an address is reported in a window, where it is held
+abbrev pub with_reported : ℕ → ℕ → List Stay → List Stay
+with_reported a w [] = []
+with_reported a w (s ∷ ss) = cond ((s.address == a) && (s.first == w)) (reported_in w s ∷ ss) (s ∷ ss)
 
 abbrev pub with_event : Row → List Stay → List Stay
-with_event e ss = cond (slice_index e 3 == 0) (with_told (address_in e) (slice_index e 2) ss) (with_held (address_in e) (slice_index e 2) ss)
+with_event e ss = cond (slice_index e 3 == 0) (with_reported (address_in e) (slice_index e 2) ss) (with_held (address_in e) (slice_index e 2) ss)
 
 abbrev pub found_on : List Row → List Stay → List Stay
 found_on [] ss = ss

@@ -11,7 +11,7 @@ use Rattle.sn_base.specs.Groups.{Row}
 use Rattle.sn_base.specs.Mask.{masked}
 use Rattle.sn_fields.specs.declared.field.Field.{Field}
 use Rattle.sn_fields.specs.Fields.{width_of}
-use Rattle.sn_refine_laws.specs.Told.{EndsFinest}
+use Rattle.sn_refine_laws.specs.Reported.{EndsFinest}
 use Rattle.sn_refine.specs.Refined.{column_of, level_rows}
 use Rattle.sn_refine.specs.Steps.{IsPathOf, Set, rows_at}
 use Rattle.sn_types.specs.Typed.{finest_level, query_at}
@@ -20,8 +20,8 @@ use Rattle.sn_detect.specs.Looks.{holds, refined_at, unrefined_at}
 use Rattle.sn_detect.specs.declared.look.Look.{Look}
 
 -- a row's refinement column, masked to these bits, is one of these prefixes
-abbrev pub is_let_in : TypedQuery → Field → ℕ → Set → Row → Bool
-is_let_in query field bits held row = set.contains held (masked (width_of field) bits (slice_index row (unwrap_or query.column 0)))
+abbrev pub is_admitted : TypedQuery → Field → ℕ → Set → Row → Bool
+is_admitted query field bits held row = set.contains held (masked (width_of field) bits (slice_index row (unwrap_or query.column 0)))
 
 -- the unrefined answers hold an address in this window and in this many after it
 abbrev pub HoldOn : List Look → ℕ → ℕ → ℕ → Type 0

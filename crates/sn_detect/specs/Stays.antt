@@ -10,21 +10,21 @@ use Rattle.sn_detect.specs.Looks.{holds, refined_at, unrefined_at}
 abbrev pub HeldIn : List Look → ℕ → ℕ → Type 0
 HeldIn looks a w = holds (unrefined_at looks w) a ≡ true
 
-abbrev pub ToldIn : List Look → ℕ → ℕ → Type 0
-ToldIn looks a w = holds (refined_at looks w) a ≡ true
+abbrev pub ReportedIn : List Look → ℕ → ℕ → Type 0
+ReportedIn looks a w = holds (refined_at looks w) a ≡ true
 
--- the first window from one to another in which an address is told, or none of them
+-- the first window from one to another in which an address is reported, or none of them
 abbrev pub IsPrinted : (ℕ → ℕ → Type 0) → ℕ → ℕ → ℕ → Option ℕ → Type 0
-IsPrinted Told a first last None = (w : ℕ) → first ≤ w → w ≤ last → Told a w → ⊥
-IsPrinted Told a first last (Some p) = (first ≤ p) × (p ≤ last) × Told a p × ((w : ℕ) → first ≤ w → w < p → Told a w → ⊥)
+IsPrinted Reported a first last None = (w : ℕ) → first ≤ w → w ≤ last → Reported a w → ⊥
+IsPrinted Reported a first last (Some p) = (first ≤ p) × (p ≤ last) × Reported a p × ((w : ℕ) → first ≤ w → w < p → Reported a w → ⊥)
 
 -- a longest run of windows of consecutive numbers that hold an address
-pub record IsStay (Held Told : ℕ → ℕ → Type 0) (s : Stay) : Type 0 where
+pub record IsStay (Held Reported : ℕ → ℕ → Type 0) (s : Stay) : Type 0 where
   pub rising : s.first ≤ s.last
   pub held : (w : ℕ) → s.first ≤ w → w ≤ s.last → Held s.address w
   pub ends : Held s.address (suc s.last) → ⊥
   pub begins : (w : ℕ) → suc w ≡ s.first → Held s.address w → ⊥
-  pub printed : IsPrinted Told s.address s.first s.last s.printed
+  pub printed : IsPrinted Reported s.address s.first s.last s.printed
 
 -- a window that holds an address is of one of these stays
 abbrev pub Covers : ℕ → ℕ → Stay → Type 0
@@ -43,8 +43,8 @@ AreApart [] = Unit {0}
 AreApart (s ∷ ss) = AllByRecursion (IsBefore s) ss × AreApart ss
 
 -- exactly the stays: each is one, each window that holds an address is of one of them, and they are in order
-pub record AreStays (Held Told : ℕ → ℕ → Type 0) (stays : List Stay) : Type 0 where
-  pub each : AllByRecursion (IsStay Held Told) stays
+pub record AreStays (Held Reported : ℕ → ℕ → Type 0) (stays : List Stay) : Type 0 where
+  pub each : AllByRecursion (IsStay Held Reported) stays
   pub all : (a w : ℕ) → Held a w → IsCovered a w stays
   pub apart : AreApart stays
 

@@ -5,10 +5,10 @@ ghost use Rattle.std.specs.List.{AllByRecursion};
 ghost use Rattle.std.proofs.Math.Bool.{Bool-set};
 ghost use Rattle.std.proofs.Math.Bridge.{le_prop};
 ghost use Rattle.sn_refine_laws.specs.Monotone.{is_monotone};
-ghost use Rattle.sn_refine_laws.specs.Told.{EndsFinest};
+ghost use Rattle.sn_refine_laws.specs.Reported.{EndsFinest};
 ghost use Rattle.sn_fields.specs.declared.field.Field.{Field};
-ghost use Rattle.sn_detect.specs.Keeping.{AreUpTo, InTime, OnTheWay, Rise, is_let_in, look_of, time_prop, upto_prop, way_prop, ends_prop, path_prop, rise_prop};
-ghost use Rattle.sn_detect.specs.Stays.{AreStays, HeldIn, IsInTime, ToldIn};
+ghost use Rattle.sn_detect.specs.Keeping.{AreUpTo, InTime, OnTheWay, Rise, is_admitted, look_of, time_prop, upto_prop, way_prop, ends_prop, path_prop, rise_prop};
+ghost use Rattle.sn_detect.specs.Stays.{AreStays, HeldIn, IsInTime, ReportedIn};
 ghost use Rattle.sn_detect.specs.Finding.{stays_of};
 ghost use Rattle.sn_refine.specs.Refined.{column_of, level_rows};
 ghost use Rattle.sn_refine.specs.Steps.{IsPathOf, kept_at, kept_of, parts_in, rows_at};
@@ -132,7 +132,7 @@ impl Detect {
             compared.refined ≡ rows_at query self.old.refined.path (kept_at self.old.refined.last self.old.refined.kept w) tuples.now last) }
         ensures no_false_row { let query = query_at self.old.t.queries self.old.refined.query in IfOk result (λ compared.
             (last : ℕ) (field : Field) → length self.old.refined.path ≡ suc (suc last) → query.field ≡ Some field →
-            compared.refined ≡ filter (is_let_in query field (slice_index self.old.refined.path last)
+            compared.refined ≡ filter (is_admitted query field (slice_index self.old.refined.path last)
             (kept_at self.old.refined.last self.old.refined.kept w last)) compared.unrefined) }
         ensures looks { let query = query_at self.old.t.queries self.old.refined.query in IfOk result (λ compared.
             self.new.looks ≡ self.old.looks
@@ -170,7 +170,7 @@ impl Detect {
     /// The stays of all addresses over the windows given, by address and then by window, and when each was printed.
     pub fn stays(&self) -> Result<Seq<Stay>, Memory>
         ensures stays { IfOk result (λ stays. stays ≡ stays_of self.now.looks) }
-        ensures exact { IfOk result (AreStays (HeldIn self.now.looks) (ToldIn self.now.looks)) }
+        ensures exact { IfOk result (AreStays (HeldIn self.now.looks) (ReportedIn self.now.looks)) }
         ensures in_time { is_monotone (query_at self.now.t.queries self.now.refined.query) ≡ true →
             IfOk result (AllByRecursion (IsInTime (length self.now.refined.path))) }
     {
@@ -180,7 +180,7 @@ impl Detect {
     /// `stays`, where no window follows.
     pub fn finish(self) -> Result<Seq<Stay>, Memory>
         ensures stays { IfOk result (λ stays. stays ≡ stays_of self.looks) }
-        ensures exact { IfOk result (AreStays (HeldIn self.looks) (ToldIn self.looks)) }
+        ensures exact { IfOk result (AreStays (HeldIn self.looks) (ReportedIn self.looks)) }
         ensures in_time { is_monotone (query_at self.t.queries self.refined.query) ≡ true →
             IfOk result (AllByRecursion (IsInTime (length self.refined.path))) }
     {

@@ -1,8 +1,8 @@
 //! The stays of addresses, found in what the windows hold.
 ghost use Rattle.std.specs.Prelude.{◌≡◌, ◌++◌, [], map, reverse, IfOk, OnOk};
 ghost use Rattle.sn_base.specs.Sorted.{sorted_rows};
-ghost use Rattle.sn_detect.specs.Finding.{address_in, begun, event, events_of, found_on, from_window, look_events, meets, stays_of, told_in};
-ghost use Rattle.sn_detect.specs.Finding.{with_event, with_held, with_told};
+ghost use Rattle.sn_detect.specs.Finding.{address_in, begun, event, events_of, found_on, from_window, look_events, meets, stays_of, reported_in};
+ghost use Rattle.sn_detect.specs.Finding.{with_event, with_held, with_reported};
 
 use crate::look::Look;
 use crate::stay::Stay;
@@ -110,8 +110,8 @@ fn from_window(window: u64, stay: Stay) -> Stay
 }
 
 /// The same stay, where it was printed in this window.
-fn told_in(window: u64, stay: Stay) -> Stay
-    ensures { result ≡ told_in window stay }
+fn reported_in(window: u64, stay: Stay) -> Stay
+    ensures { result ≡ reported_in window stay }
 {
     Stay {
         address: stay.address,
@@ -138,15 +138,15 @@ fn take_held(stays: &mut Seq<Stay>, address: u128, window: u64) -> Result<(), Me
     }
 }
 
-/// Takes an address that is told in a window before all that was taken.
-fn take_told(stays: &mut Seq<Stay>, address: u128, window: u64) -> Result<(), Memory>
-    ensures { OnOk result (reverse stays.new ≡ with_told address window (reverse stays.old)) }
+/// Takes an address that is reported in a window before all that was taken.
+fn take_reported(stays: &mut Seq<Stay>, address: u128, window: u64) -> Result<(), Memory>
+    ensures { OnOk result (reverse stays.new ≡ with_reported address window (reverse stays.old)) }
 {
     match stays.pop() {
         None => Ok(()),
         Some(stay) => {
             if stay.address == address && stay.first == window {
-                stays.push(told_in(window, stay))
+                stays.push(reported_in(window, stay))
             } else {
                 stays.push(stay)
             }
@@ -161,7 +161,7 @@ fn take(stays: &mut Seq<Stay>, event: &ShortRow) -> Result<(), Memory>
     let address = address_in(event);
     let window = column(event, 2);
     if column(event, 3) == 0 {
-        take_told(stays, address, window)
+        take_reported(stays, address, window)
     } else {
         take_held(stays, address, window)
     }

@@ -7,7 +7,7 @@ use Rattle.std.specs.Ordering.{nat_cmp}
 use Rattle.sn_base.specs.declared.lane.Lane.{Lane}
 use Rattle.sn_plan_fit.specs.Paths.{level_before, place_in}
 use Rattle.sn_pipe_items.specs.Items.{items}
-use Rattle.sn_pipe.specs.Pipes.{IsNewPipe, PipeState, at_start, rows_let_in}
+use Rattle.sn_pipe.specs.Pipes.{IsNewPipe, PipeState, at_start, rows_admitted}
 use Rattle.sn_pipe.specs.declared.gate.Gate.{Gate}
 use Rattle.sn_plan_grammar.specs.declared.plan.Entry.{Entry}
 use Rattle.sn_plan_grammar.specs.declared.plan.Piece.{Piece}
@@ -87,4 +87,4 @@ abbrev pub items_of : List TypedQuery → Tables → Placed → set.FinSet nat_c
 items_of queries tables x kept tuples =
     let branch = branch_at queries x.query x.piece.branch in
     items tables.depth (size_at branch.ops x.piece.slots) x.piece.cut (map (op_at x.piece.level) branch.ops)
-    (rows_let_in (query_at queries x.query) x.piece.branch x.piece.level (gate_before tables.entries x.path x.piece.level) kept tuples)
+    (rows_admitted (query_at queries x.query) x.piece.branch x.piece.level (gate_before tables.entries x.path x.piece.level) kept tuples)

@@ -3,7 +3,7 @@ use Rattle.std.proofs.Common.{◌≡◌, ℕ, suc, ◌==◌, List, [], ◌∷◌
 use Rattle.std.specs.List.{AllByRecursion, find}
 use Rattle.std.specs.Option.{option_map_or}
 use Rattle.sn_base.specs.Bags.{SameBag}
-use Rattle.sn_base.specs.Bags.SameBag.{stays, behind, turned, joined}
+use Rattle.sn_base.specs.Bags.SameBag.{stays, following, turned, joined}
 use Rattle.sn_base.specs.declared.lane.Lane.{Lane}
 use Rattle.sn_base.proofs.BagLemmas.{bag_after, bag_before, bag_same, bag_then}
 use Rattle.sn_base.specs.Groups.{Row as Numbers}
@@ -182,7 +182,7 @@ after_both f g xs = after (after_frame xs f) g ∙ ap (with_first (is_lane (lane
 
 orders_alike : (frames others : List Frame) → SameBag frames others → (lanes : List Intake) → Alike (fold after_frame lanes frames) (fold after_frame lanes others)
 orders_alike _ _ (stays xs) lanes = alike_self (fold after_frame lanes xs)
-orders_alike _ _ (behind f xs ys b) lanes = orders_alike xs ys b (after_frame lanes f)
+orders_alike _ _ (following f xs ys b) lanes = orders_alike xs ys b (after_frame lanes f)
 orders_alike _ _ (turned f g xs) lanes =
     all_alike xs (after_frame (after_frame lanes f) g) (after_frame (after_frame lanes g) f)
     (alike_is (after_frame (after_frame lanes f) g) (both f g lanes) (after_frame (after_frame lanes g) f) (both g f lanes) (after_both f g lanes) (after_both g f lanes) (swapped f g lanes))
@@ -206,7 +206,7 @@ items_alike lane (x ∷ xs) (y ∷ ys) a =
 
 bag_length : (xs ys : List Item) → SameBag xs ys → length xs ≡ length ys
 bag_length _ _ (stays xs) = refl
-bag_length _ _ (behind x xs ys b) = ap suc (bag_length xs ys b)
+bag_length _ _ (following x xs ys b) = ap suc (bag_length xs ys b)
 bag_length _ _ (turned x y xs) = refl
 bag_length _ _ (joined xs ys zs a b) = bag_length xs ys a ∙ bag_length ys zs b
 

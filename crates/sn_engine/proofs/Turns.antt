@@ -13,8 +13,8 @@ pub record Finishes (level number place : ℕ) (ahead all : List TOp) (items : L
   pub fit : ItemsFit level number ahead items rows
   pub same : finish number (map (op_at level) ahead) items rows ≡ value (map (op_at level) all) items
 
-abbrev behind : ℕ → ℕ → TOp → List Item → List Row → ℕ → List Row
-behind level n op items rows next = taken (op_at level op) rows (rows_with (is_partial n) items) ++ rows_with (is_at next) items
+abbrev following : ℕ → ℕ → TOp → List Item → List Row → ℕ → List Row
+following level n op items rows next = taken (op_at level op) rows (rows_with (is_partial n) items) ++ rows_with (is_at next) items
 
 pub turn : (level n i : ℕ) (os : List TOp) (op : TOp) (items : List Item) (rows later : List Row) → i < length os → op ≡ get_or os i op → Finishes level n i (drop i os) os items rows
     → later ≡ taken (op_at level op) rows (rows_with (is_partial n) items) ++ rows_with (is_at (n + 1)) items → Finishes level (n + 1) (i + 1) (drop (i + 1) os) os items later
@@ -23,7 +23,7 @@ turn level n i os op items rows later within at before now =
     let next : n + 1 ≡ suc n = omega arith in
     let rest : List TOp = drop (i + 1) os in
     let ahead : drop i os ≡ op ∷ rest = drop-cons os i op within ∙ ap (λ (o : TOp). o ∷ drop (suc i) os) (sym at) ∙ ap (λ m. op ∷ drop m os) step in
-    let is : later ≡ behind level n op items rows (suc n) = now ∙ ap (behind level n op items rows) next in
+    let is : later ≡ following level n op items rows (suc n) = now ∙ ap (following level n op items rows) next in
     let fit : ItemsFit level n (op ∷ rest) items rows = subst (λ (xs : List TOp). ItemsFit level n xs items rows) ahead before.fit in
     let counted : n ≡ i = before.counted in
     record {

@@ -12,7 +12,7 @@ ghost use Rattle.sn_refine.specs.Steps.{Set};
 ghost use Rattle.sn_base.specs.Bags.{SameBag};
 ghost use Rattle.sn_base.specs.Sorted.{sorted_rows};
 ghost use Rattle.sn_ops.specs.Plain.{query_rows};
-ghost use Rattle.sn_engine_split.specs.Opened.{Prefixes, let_in};
+ghost use Rattle.sn_engine_split.specs.Opened.{Prefixes, tuples_admitted};
 ghost use Rattle.sn_engine_split.specs.Wholes.{AreLeft};
 ghost use Rattle.sn_types.specs.Typed.{IsTyped, HasWidths, query_at};
 ghost use Rattle.sn_types.specs.declared.typed_query.TypedQuery.{TypedQuery};
@@ -46,5 +46,5 @@ pub fn answers_are_those_of_the_query()
         AreLeft queries x.query 0 x.level ps tuples x.items →
         (length (query_at queries x.query).branches ≡ 2 → AreLeft queries x.query 1 x.level ps tuples (items_at lanes (lane_at x.query x.place 1))) →
         let query = query_at queries x.query in
-        (part_of queries lanes x).rows ≡ sorted_rows (query_rows query x.level None (let_in query ps tuples)) }
+        (part_of queries lanes x).rows ≡ sorted_rows (query_rows query x.level None (tuples_admitted query ps tuples)) }
 {}

@@ -52,7 +52,7 @@ all_pieces queries es h = pieces_of es 0 queries es (λ i. ap (slice_get es) (no
     none : (i : ℕ) → 0 + i ≡ i
     none i = omega arith
 
--- ---- a level that another one stands behind
+-- ---- a level that another one stands after
 
 -- the level before another one of a path has a place before the last
 next_within : (path : List ℕ) (level before : ℕ) → IsRising path → is_among path level ≡ true → level_before path level ≡ Some before → place_in path before + 1 < length path

@@ -31,7 +31,7 @@ use Rattle.sn_engine_lockstep.specs.Sources.{kept_in, source_at, source_of}
 use Rattle.sn_engine_lockstep.specs.Windows.{Follows, Measure, Remembers, count_all, measured, parts_from, piece_count, piece_measure, plan_answers, refined_from, window_answers}
 use Rattle.sn_engine_lockstep.proofs.Apart.{levels_known, place_is, rising_index}
 use Rattle.sn_engine_lockstep.proofs.Changes.{all_get}
-use Rattle.sn_engine_lockstep.proofs.Finding.{find_behind, find_front, find_number}
+use Rattle.sn_engine_lockstep.proofs.Finding.{find_after, find_front, find_number}
 use Rattle.sn_engine_lockstep.proofs.Seeing.{items_passed, passed_by, seen_by}
 use Rattle.sn_base.proofs.Tests.{and_false_left, and_false_right, by_order}
 use Rattle.sn_refine.proofs.Windows.{no_prefixes}
@@ -69,7 +69,7 @@ module _ (queries : List TypedQuery) (windows : Windows) (v : ℕ) where
       ∙ find_front (is_part q (slice_index e.levels j)) (refined_parts q (query_at queries q) windows e.levels v) (refined_from queries windows v (suc q) es) (part_at q e.levels (rows_of q e.levels) j)
       (found_along q e.levels (rows_of q e.levels) j rising lt)
   found_part q n (suc i) (f ∷ es) e j same at rising lt =
-      find_behind (is_part q (slice_index e.levels j)) (refined_parts n (query_at queries n) windows f.levels v) (refined_from queries windows v (suc n) es)
+      find_after (is_part q (slice_index e.levels j)) (refined_parts n (query_at queries n) windows f.levels v) (refined_from queries windows v (suc n) es)
       (others_fail q n (slice_index e.levels j) f.levels (rows_of n f.levels) (λ is. absurd (omega (arith, is, same))) (range_with_len 0 (length f.levels)))
       ∙ found_part q (suc n) i es e j (omega (arith, same)) at rising lt
 
@@ -97,13 +97,13 @@ module _ (queries : List TypedQuery) (windows : Windows) (es : List Entry) (q : 
       ∙ ap (prefixes_of query) (rows_are_found queries windows a.window q es e j at rising lt)
       ∙ ap (λ n. prefixes_of query (refined_rows query windows e.levels j n)) (back same))
       (λ isnt. ap (λ b. cond b (prefixes_of query (rows_found a.parts q (slice_index e.levels j))) set.empty) isnt
-      ∙ no_prefixes query (refined_rows query windows e.levels j v) (no_rows query windows e.levels j v (f.none v (behind isnt) (omega arith))))
+      ∙ no_prefixes query (refined_rows query windows e.levels j v) (no_rows query windows e.levels j v (f.none v (following isnt) (omega arith))))
     where
       back : a.window + 1 ≡ suc v → a.window ≡ v
       back same = omega (arith, same)
 
-      behind : (a.window + 1 == suc v) ≡ false → a.window < v
-      behind isnt =
+      following : (a.window + 1 == suc v) ≡ false → a.window < v
+      following isnt =
           by_test (a.window == v)
           (λ is. let same = nat_same a.window v is in absurd (false≢true (sym isnt ∙ eq-eqb (a.window + 1) (suc v) (omega (arith, same)))))
           (λ differs. by_less differs)

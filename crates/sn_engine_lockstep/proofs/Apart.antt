@@ -24,12 +24,12 @@ pub record At (path : List ℕ) (level n : ℕ) : Type 0 where
 at_first : (path : List ℕ) (level : ℕ) → is_among path level ≡ true → At path level (position_or_len (λ (other : ℕ). level == other) path)
 at_first [] level e = cc
 at_first (l ∷ path) level e =
-    let behind = position_or_len (λ (other : ℕ). level == other) path in
+    let following = position_or_len (λ (other : ℕ). level == other) path in
     by_test (level == l)
-    (λ is. subst (λ b. At (l ∷ path) level (cond (not b) (1 + behind) 0)) (sym is) (record { within = omega arith; is = sym (nat_same level l is) }))
-    (λ isnt. subst (λ b. At (l ∷ path) level (cond (not b) (1 + behind) 0)) (sym isnt)
+    (λ is. subst (λ b. At (l ∷ path) level (cond (not b) (1 + following) 0)) (sym is) (record { within = omega arith; is = sym (nat_same level l is) }))
+    (λ isnt. subst (λ b. At (l ∷ path) level (cond (not b) (1 + following) 0)) (sym isnt)
     (let rest = at_first path level (sym (ap (λ b. b || list_any (nat_eq level) path) isnt) ∙ e) in let w = rest.within in
-    subst (At (l ∷ path) level) (next behind) (record { within = omega (arith, w); is = rest.is })))
+    subst (At (l ∷ path) level) (next following) (record { within = omega (arith, w); is = rest.is })))
   where
     next : (n : ℕ) → suc n ≡ 1 + n
     next n = omega arith

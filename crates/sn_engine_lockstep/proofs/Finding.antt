@@ -23,9 +23,9 @@ found {X = X} t (y ∷ xs) (suc i) x at is =
     record { at = f.at; place = suc f.place; stands = f.stands; passes = f.passes; first = ap (λ b. cond b (Some y) (find t xs)) isnt ∙ f.first })
 
 -- none of a front passes
-pub find_behind : {X : Type 0} (t : X → Bool) (xs ys : List X) → AllByRecursion (λ x. t x ≡ false) xs → find t (xs ++ ys) ≡ find t ys
-find_behind t [] ys h = refl
-find_behind t (x ∷ xs) ys h = ap (λ b. cond b (Some x) (find t (xs ++ ys))) h.0 ∙ find_behind t xs ys h.1
+pub find_after : {X : Type 0} (t : X → Bool) (xs ys : List X) → AllByRecursion (λ x. t x ≡ false) xs → find t (xs ++ ys) ≡ find t ys
+find_after t [] ys h = refl
+find_after t (x ∷ xs) ys h = ap (λ b. cond b (Some x) (find t (xs ++ ys))) h.0 ∙ find_after t xs ys h.1
 
 -- one of a front is found there
 pub find_front : {X : Type 0} (t : X → Bool) (xs ys : List X) (x : X) → find t xs ≡ Some x → find t (xs ++ ys) ≡ Some x
@@ -74,12 +74,12 @@ get_front [] ys i x e = absurd (none_some e)
 get_front (y ∷ xs) ys zero x e = e
 get_front (y ∷ xs) ys (suc i) x e = get_front xs ys i x e
 
-pub get_behind : {X : Type 0} (xs ys : List X) (i : ℕ) (x : X) → slice_get ys i ≡ Some x → slice_get (xs ++ ys) (length xs + i) ≡ Some x
-get_behind {X} [] ys i x e = subst (λ n. slice_get ys n ≡ Some x) none_before e
+pub get_after : {X : Type 0} (xs ys : List X) (i : ℕ) (x : X) → slice_get ys i ≡ Some x → slice_get (xs ++ ys) (length xs + i) ≡ Some x
+get_after {X} [] ys i x e = subst (λ n. slice_get ys n ≡ Some x) none_before e
   where
     none_before : i ≡ 0 + i
     none_before = omega arith
-get_behind {X} (y ∷ xs) ys i x e = subst (λ n. slice_get (y ∷ (xs ++ ys)) n ≡ Some x) one_more (get_behind xs ys i x e)
+get_after {X} (y ∷ xs) ys i x e = subst (λ n. slice_get (y ∷ (xs ++ ys)) n ≡ Some x) one_more (get_after xs ys i x e)
   where
     one_more : suc (length xs + i) ≡ suc (length xs) + i
     one_more = omega arith

@@ -39,7 +39,7 @@ use Rattle.sn_engine_lockstep.specs.Windows.{parts_from, sent_by}
 use Rattle.sn_engine_lockstep.specs.Work.{AreApart, done, intake_of, left_done, name_of}
 use Rattle.sn_engine_lockstep.proofs.Apart.{index_place, levels_known, place_is, place_level, rising_index}
 use Rattle.sn_engine_lockstep.proofs.Changes.{all_get, own_name}
-use Rattle.sn_engine_lockstep.proofs.Finding.{Mapped, get_behind, get_front, get_map, map_get}
+use Rattle.sn_engine_lockstep.proofs.Finding.{Mapped, get_after, get_front, get_map, map_get}
 use Rattle.sn_engine_lockstep.proofs.Seeing.{before_first, before_next, items_tabled, prefixes_seen, rows_seen, seen_by}
 
 -- ---- the lane of a piece is found
@@ -140,7 +140,7 @@ module _ (typed_for window : ℕ) (queries : List TypedQuery) (kept : Source →
     stands : (i : ℕ) (p : Piece) → slice_get e.pieces i ≡ Some p → slice_get pieces (length front + i) ≡ Some (placed q e.levels p)
     stands i p at =
         ap (λ xs. slice_get xs (length front + i)) whole
-        ∙ get_behind front (map (placed q e.levels) e.pieces ++ rest) i (placed q e.levels p) (get_front (map (placed q e.levels) e.pieces) rest i (placed q e.levels p) (get_map (placed q e.levels) e.pieces i p at))
+        ∙ get_after front (map (placed q e.levels) e.pieces ++ rest) i (placed q e.levels p) (get_front (map (placed q e.levels) e.pieces) rest i (placed q e.levels p) (get_map (placed q e.levels) e.pieces i p at))
 
     mine : (i : ℕ) (p : Piece) → slice_get e.pieces i ≡ Some p → CanMake queries (placed q e.levels p)
     mine i p at = all_get (CanMake queries) pieces (length front + i) (placed q e.levels p) can (stands i p at)
@@ -216,13 +216,13 @@ module _ (typed_for window : ℕ) (queries : List TypedQuery) (kept : Source →
   filter_append t [] ys = refl
   filter_append t (x ∷ xs) ys = elim (t x) as (λ b. cond b (x ∷ filter t (xs ++ ys)) (filter t (xs ++ ys)) ≡ cond b (x ∷ filter t xs) (filter t xs) ++ filter t ys) [ true ↦ ap (λ zs. x ∷ zs) (filter_append t xs ys) | false ↦ filter_append t xs ys ]
 
-  parts_behind : (left : List TypedQuery) (n : ℕ) (es : List Entry) (front : List Placed) → ((j : ℕ) → query_at queries (n + j) ≡ query_at left j) → n + length left ≡ length queries → AreEntriesOf left es
+  parts_after : (left : List TypedQuery) (n : ℕ) (es : List Entry) (front : List Placed) → ((j : ℕ) → query_at queries (n + j) ≡ query_at left j) → n + length left ≡ length queries → AreEntriesOf left es
       → pieces ≡ front ++ pieces_from n es
       → map (part_of queries lanes) (filter (λ (x : Intake). x.branch == 0) (map lane (pieces_from n es))) ≡ parts_from queries kept tuples n es
-  parts_behind [] n [] front same count h whole = refl
-  parts_behind [] n (e ∷ es) front same count h whole = absurd h
-  parts_behind (query ∷ left) n [] front same count h whole = absurd h
-  parts_behind (query ∷ left) n (e ∷ es) front same count h whole =
+  parts_after [] n [] front same count h whole = refl
+  parts_after [] n (e ∷ es) front same count h whole = absurd h
+  parts_after (query ∷ left) n [] front same count h whole = absurd h
+  parts_after (query ∷ left) n (e ∷ es) front same count h whole =
       let own = map (placed n e.levels) e.pieces in
       let here : query_at queries n ≡ query = ap (query_at queries) none_more ∙ same 0 in
       let entry : IsEntryOf (query_at queries n) e = subst (λ x. IsEntryOf x e) (sym here) h.0 in
@@ -232,7 +232,7 @@ module _ (typed_for window : ℕ) (queries : List TypedQuery) (kept : Source →
       ∙ map-append (part_of queries lanes) (filter first (map lane own)) (filter first (map lane (pieces_from (suc n) es)))
       ∙ ap (λ ps. ps ++ map (part_of queries lanes) (filter first (map lane (pieces_from (suc n) es)))) (entry_parts n e front (pieces_from (suc n) es) (omega (arith, count)) entry whole)
       ∙ ap (λ ps. parts_in n (query_at queries n) e.levels (kept_before n e.levels) tuples ++ ps)
-      (parts_behind left (suc n) es (front ++ own) (λ j. ap (query_at queries) (moved j) ∙ same (suc j)) (omega (arith, count)) h.1 (whole ∙ sym (append_assoc front own (pieces_from (suc n) es))))
+      (parts_after left (suc n) es (front ++ own) (λ j. ap (query_at queries) (moved j) ∙ same (suc j)) (omega (arith, count)) h.1 (whole ∙ sym (append_assoc front own (pieces_from (suc n) es))))
     where
       none_more : n ≡ n + 0
       none_more = omega arith
@@ -243,7 +243,7 @@ module _ (typed_for window : ℕ) (queries : List TypedQuery) (kept : Source →
   pub parts_are : (es : List Entry) → AreEntriesOf queries es → pieces ≡ pieces_from 0 es → parts_of queries lanes ≡ parts_from queries kept tuples 0 es
   parts_are es h are =
       ap (λ xs. map (part_of queries lanes) (filter (λ (x : Intake). x.branch == 0) (map lane xs))) are
-      ∙ parts_behind queries 0 es [] (λ j. ap (query_at queries) (from j)) (omega arith) h are
+      ∙ parts_after queries 0 es [] (λ j. ap (query_at queries) (from j)) (omega arith) h are
     where
       from : (j : ℕ) → 0 + j ≡ j
       from j = omega arith

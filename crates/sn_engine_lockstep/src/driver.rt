@@ -122,13 +122,13 @@ impl Driver {
         )
     }
 
-    /// Gives a tuple of the window to all lanes. The engine takes what they send, and the wire is told of it.
+    /// Gives a tuple of the window to all lanes. The engine takes what they send, and the wire is reported of it.
     pub fn packet<W: Wire>(&mut self, wire: &mut W, tuple: &Tuple) -> Result<(), Memory>
         requires { AreUnread self.old.emitter }
         ensures work { OnOk result ((queries : List TypedQuery) (tables : Tables) (pieces : List Placed) (kept : Source → Set) (tuples : List (List ℕ)) →
             AreAtWork queries tables pieces kept tuples self.old.emitter self.old.engine.lanes.items →
             AreAtWork queries tables pieces kept (tuples ++ tuple.now ∷ []) self.new.emitter self.new.engine.lanes.items) }
-        ensures sent { OnOk result (W.told wire.new ≡ W.told wire.old ++ flat_map W.word (flat_map (frames_given tuple.now) self.old.emitter)) }
+        ensures sent { OnOk result (W.reported wire.new ≡ W.reported wire.old ++ flat_map W.word (flat_map (frames_given tuple.now) self.old.emitter)) }
         ensures unread { OnOk result (AreUnread self.new.emitter) }
         ensures lanes { OnOk result ((queries : List TypedQuery) (tables : Tables) (pieces : List Placed) → AreLanesOf queries tables pieces self.old.emitter →
             AreLanesOf queries tables pieces self.new.emitter) }
@@ -147,7 +147,7 @@ impl Driver {
         )
     }
 
-    /// Reads all lanes out. The engine takes what they send, and the wire is told of it. Then the engine holds all items of the
+    /// Reads all lanes out. The engine takes what they send, and the wire is reported of it. Then the engine holds all items of the
     /// window.
     pub fn drain<W: Wire>(&mut self, wire: &mut W, window: u64) -> Result<(), Memory>
         ensures items { OnOk result ((typed_for : ℕ) (tables : Tables) (queries : List TypedQuery) (pieces : List Placed) (kept : Source → Set)
@@ -155,7 +155,7 @@ impl Driver {
             ∥ IsTyped typed_for queries ∥₁ → AllByRecursion (CanMake queries) pieces → AllByRecursion HasWidths tuples →
             AreAtWork queries tables pieces kept tuples self.old.emitter self.old.engine.lanes.items →
             self.new.engine.lanes.items ≡ map (done queries tables kept tuples window) pieces) }
-        ensures sent { OnOk result (W.told wire.new ≡ W.told wire.old ++ flat_map W.word (flat_map (λ s. frames_left s window) self.old.emitter)) }
+        ensures sent { OnOk result (W.reported wire.new ≡ W.reported wire.old ++ flat_map W.word (flat_map (λ s. frames_left s window) self.old.emitter)) }
         ensures lanes { OnOk result ((queries : List TypedQuery) (tables : Tables) (pieces : List Placed) → AreLanesOf queries tables pieces self.old.emitter →
             AreLanesOf queries tables pieces self.new.emitter) }
         ensures count { OnOk result (length self.new.emitter ≡ length self.old.emitter) }
@@ -197,7 +197,7 @@ impl Driver {
         })
     }
 
-    /// Reads all lanes out, and answers the window. The engine takes what they send, and the wire is told of it.
+    /// Reads all lanes out, and answers the window. The engine takes what they send, and the wire is reported of it.
     pub fn close<W: Wire>(&mut self, wire: &mut W, window: u64) -> Result<Answers, Memory>
         ensures window { IfOk result (λ answers. answers.window ≡ window) }
         ensures answers { IfOk result (λ answers. (typed_for : ℕ) (tables : Tables) (pieces : List Placed) (kept : Source → Set) (tuples : List (List ℕ)) →
@@ -217,7 +217,7 @@ impl Driver {
             ∥ IsTyped typed_for queries ∥₁ → AllByRecursion (CanMake queries) pieces → AllByRecursion HasWidths tuples →
             AreAtWork queries tables pieces kept tuples self.old.emitter self.old.engine.lanes.items →
             AreLanesOf queries tables pieces self.old.emitter → AreIdle queries tables pieces self.new.emitter self.new.engine.lanes.items) }
-        ensures sent { OnOk result (W.told wire.new ≡ W.told wire.old ++ flat_map W.word (flat_map (λ s. frames_left s window) self.old.emitter)) }
+        ensures sent { OnOk result (W.reported wire.new ≡ W.reported wire.old ++ flat_map W.word (flat_map (λ s. frames_left s window) self.old.emitter)) }
         ensures count { OnOk result (length self.new.emitter ≡ length self.old.emitter) }
         ensures queries { OnOk result (self.new.engine.t.queries ≡ self.old.engine.t.queries) }
         ensures sources { self.new.sources ≡ self.old.sources }

@@ -62,7 +62,7 @@ pub(crate) fn give_lanes<W: Wire>(
     ensures work { OnOk result ((queries : List TypedQuery) (tables : Tables) (pieces : List Placed) (kept : Source → Set) (tuples : List (List ℕ)) →
         AreAtWork queries tables pieces kept tuples emitter.old engine.old.lanes.items →
         AreAtWork queries tables pieces kept (tuples ++ tuple.now ∷ []) emitter.new engine.new.lanes.items) }
-    ensures sent { OnOk result (W.told wire.new ≡ W.told wire.old ++ flat_map W.word (flat_map (frames_given tuple.now) emitter.old)) }
+    ensures sent { OnOk result (W.reported wire.new ≡ W.reported wire.old ++ flat_map W.word (flat_map (frames_given tuple.now) emitter.old)) }
     ensures unread { OnOk result (AreUnread emitter.new) }
     ensures lanes { OnOk result ((queries : List TypedQuery) (tables : Tables) (pieces : List Placed) → AreLanesOf queries tables pieces emitter.old →
         AreLanesOf queries tables pieces emitter.new) }
@@ -89,7 +89,7 @@ pub(crate) fn drain_lanes<W: Wire>(
         ∥ IsTyped typed_for queries ∥₁ → AllByRecursion (CanMake queries) pieces → AllByRecursion HasWidths tuples →
         AreAtWork queries tables pieces kept tuples emitter.old engine.old.lanes.items →
         engine.new.lanes.items ≡ map (done queries tables kept tuples window) pieces) }
-    ensures sent { OnOk result (W.told wire.new ≡ W.told wire.old ++ flat_map W.word (flat_map (λ s. frames_left s window) emitter.old)) }
+    ensures sent { OnOk result (W.reported wire.new ≡ W.reported wire.old ++ flat_map W.word (flat_map (λ s. frames_left s window) emitter.old)) }
     ensures lanes { OnOk result ((queries : List TypedQuery) (tables : Tables) (pieces : List Placed) → AreLanesOf queries tables pieces emitter.old →
         AreLanesOf queries tables pieces emitter.new) }
     ensures count { OnOk result (length emitter.new ≡ length emitter.old) }

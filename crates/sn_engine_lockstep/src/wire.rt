@@ -1,4 +1,4 @@
-//! Who is told of the frames that lanes send.
+//! Who is reported of the frames that lanes send.
 ghost use Rattle.std.specs.Prelude.{◌≡◌, ◌≤◌, ◌++◌, ℕ, List, OnOk};
 ghost use Rattle.sn_emit.specs.Making.{CanEncode};
 ghost use Rattle.sn_report.specs.Frames.{lane_of, operator_in, spelling};
@@ -11,18 +11,18 @@ use sn_emit::given::{AnyFrame, Given};
 use sn_report::encode::{MOST_BYTES, encode};
 use sn_report::frame::Frame;
 
-/// What is told of each frame that a lane sends, once the engine has taken it.
+/// What is reported of each frame that a lane sends, once the engine has taken it.
 pub trait Wire {
-    /// What was told so far.
-    ghost told: { Self → List ℕ };
+    /// What was reported so far.
+    ghost reported: { Self → List ℕ };
 
-    /// What is told of one frame.
+    /// What is reported of one frame.
     ghost word: { Framed → List ℕ };
 
     /// Tells of a frame, after those before.
     fn sent(&mut self, frame: &Given) -> Result<(), Memory>
         requires { CanEncode frame.now }
-        ensures { OnOk result (told self.new ≡ told self.old ++ word frame.now) };
+        ensures { OnOk result (reported self.new ≡ reported self.old ++ word frame.now) };
 }
 
 /// Adds the bytes of a frame.
@@ -42,7 +42,7 @@ fn push_frame<R: AnyRow>(text: &mut Vec<u8>, frame: &Frame<R>) -> Result<(), Mem
 impl Wire for Vec<u8> {
     ghost use Rattle.sn_report.specs.Frames.{spelling};
 
-    ghost told = { λ text. text.items };
+    ghost reported = { λ text. text.items };
 
     ghost word = { spelling 2 };
 
@@ -54,14 +54,14 @@ impl Wire for Vec<u8> {
     }
 }
 
-/// Nobody is told.
+/// Nobody is reported.
 #[derive(Clone, Copy, Debug)]
 pub struct Nobody;
 
 impl Wire for Nobody {
     ghost use Rattle.std.specs.Prelude.{[]};
 
-    ghost told = { λ wire. [] };
+    ghost reported = { λ wire. [] };
 
     ghost word = { λ frame. [] };
 

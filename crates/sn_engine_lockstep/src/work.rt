@@ -1,4 +1,4 @@
-//! One lane at work: the engine takes what it sends, and a wire is told of it.
+//! One lane at work: the engine takes what it sends, and a wire is reported of it.
 ghost use Rattle.std.specs.Prelude.{◌≡◌, ◌≢◌, ◌<◌, ◌++◌, ℕ, List, length, fold, slice_get, slice_set, IfSome, OnOk};
 ghost use Rattle.std.specs.List.{flat_map};
 ghost use Rattle.sn_engine_lockstep.specs.Work.{IsReadInto, frames_given};
@@ -30,11 +30,11 @@ fn take(engine: &mut Engine, frame: &Given) -> Result<(), TakeFault>
     }
 }
 
-/// The engine takes a frame of a lane, and the wire is told of it.
+/// The engine takes a frame of a lane, and the wire is reported of it.
 fn send<W: Wire>(engine: &mut Engine, wire: &mut W, frame: &Given) -> Result<(), Memory>
     requires { CanEncode frame.now }
     ensures taken { OnOk result (engine.new.lanes.items ≡ after_frame engine.old.lanes.items frame.now) }
-    ensures sent { OnOk result (W.told wire.new ≡ W.told wire.old ++ W.word frame.now) }
+    ensures sent { OnOk result (W.reported wire.new ≡ W.reported wire.old ++ W.word frame.now) }
     ensures queries { engine.new.t.queries ≡ engine.old.t.queries }
     ensures closed { engine.new.closed ≡ engine.old.closed }
     ensures prefixes { engine.new.kept ≡ engine.old.kept }
@@ -59,7 +59,7 @@ pub(crate) fn give<W: Wire>(
     ensures after { IfSome (slice_get emitter.old lane) (λ s. emitter.new ≡ slice_set emitter.old lane (sender_next s tuple.now)) }
     ensures taken { OnOk result (IfSome (slice_get emitter.old lane)
         (λ s. engine.new.lanes.items ≡ fold after_frame engine.old.lanes.items (frames_given tuple.now s))) }
-    ensures sent { OnOk result (IfSome (slice_get emitter.old lane) (λ s. W.told wire.new ≡ W.told wire.old ++ flat_map W.word (frames_given tuple.now s))) }
+    ensures sent { OnOk result (IfSome (slice_get emitter.old lane) (λ s. W.reported wire.new ≡ W.reported wire.old ++ flat_map W.word (frames_given tuple.now s))) }
     ensures lanes { (queries : List TypedQuery) (tables : Tables) (pieces : List Placed) → AreLanesOf queries tables pieces emitter.old →
         AreLanesOf queries tables pieces emitter.new }
     ensures queries { engine.new.t.queries ≡ engine.old.t.queries }
@@ -84,7 +84,7 @@ pub(crate) fn drain<W: Wire>(
     requires { lane < length emitter.old }
     ensures read { OnOk result (IfSome (slice_get emitter.old lane)
         (λ s. IfSome (slice_get emitter.new lane) (λ t. IsReadInto window s t engine.old.lanes.items engine.new.lanes.items))) }
-    ensures sent { OnOk result (IfSome (slice_get emitter.old lane) (λ s. W.told wire.new ≡ W.told wire.old ++ flat_map W.word (frames_left s window))) }
+    ensures sent { OnOk result (IfSome (slice_get emitter.old lane) (λ s. W.reported wire.new ≡ W.reported wire.old ++ flat_map W.word (frames_left s window))) }
     ensures count { length emitter.new ≡ length emitter.old }
     ensures others { (other : ℕ) → other ≢ lane → slice_get emitter.new other ≡ slice_get emitter.old other }
     ensures lanes { (queries : List TypedQuery) (tables : Tables) (pieces : List Placed) → AreLanesOf queries tables pieces emitter.old →

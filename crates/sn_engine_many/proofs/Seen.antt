@@ -16,7 +16,7 @@ use Rattle.sn_engine_many.specs.Answers.{many_sent, passed_of, shared_items, sha
 use Rattle.sn_engine_split.specs.Opened.{is_open}
 use Rattle.sn_multi.specs.Switches.{all_items}
 use Rattle.sn_ops.specs.Packets.{packet_rows}
-use Rattle.sn_pipe.specs.Pipes.{rows_let_in}
+use Rattle.sn_pipe.specs.Pipes.{rows_admitted}
 use Rattle.sn_plan_fit.specs.Fits.{AreEntriesOf}
 use Rattle.sn_plan_fit.specs.Paths.{is_among, level_before, place_in}
 use Rattle.sn_plan_grammar.specs.declared.plan.Entry.{Entry}
@@ -54,14 +54,14 @@ module _ (queries : List TypedQuery) (tables : Tables) (windows : Windows) (w : 
       ∙ ap (λ s. cond (is_open tables.entries s) tuples (answered (query_at queries q) (slice_index path j) (before (refined_rows (query_at queries q) windows path j) w) tuples)) (right j (omega (arith, lt)))
 
   rows_right : (q : ℕ) (path : List ℕ) (b level : ℕ) → IsRight q path → place_in path level < length path → (captures : Captures)
-      → map (rows_let_in (query_at queries q) b level (gate_before tables.entries path level) (kept (source_at q (level_before path level)))) captures
+      → map (rows_admitted (query_at queries q) b level (gate_before tables.entries path level) (kept (source_at q (level_before path level)))) captures
       ≡ map (packet_rows (query_at queries q) b level None) (map (passed_of (query_at queries q) tables.entries windows path (place_in path level) w) captures)
   rows_right q path b level right lt [] = refl
   rows_right q path b level right lt (tuples ∷ captures) =
       let query : TypedQuery = query_at queries q in
-      let let_in : List (List ℕ) → List (List ℕ) = rows_let_in query b level (gate_before tables.entries path level) (kept (source_at q (level_before path level))) in
+      let tuples_admitted : List (List ℕ) → List (List ℕ) = rows_admitted query b level (gate_before tables.entries path level) (kept (source_at q (level_before path level))) in
       let passed : List (List ℕ) → List (List ℕ) = passed_of query tables.entries windows path (place_in path level) w in
-      ap (λ (rows : List (List ℕ)). rows ∷ map let_in captures)
+      ap (λ (rows : List (List ℕ)). rows ∷ map tuples_admitted captures)
       (rows_let_passed query q path kept tuples tables.entries b level ∙ ap (packet_rows query b level None) (passed_right q path tuples (place_in path level) right lt))
       ∙ ap (λ (others : Captures). packet_rows query b level None (passed tuples) ∷ others) (rows_right q path b level right lt captures)
 

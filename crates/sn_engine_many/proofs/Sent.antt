@@ -4,7 +4,7 @@ use Rattle.std.specs.List.{AllByRecursion, flat_map}
 use Rattle.sn_base.proofs.BagLemmas.{bag_after, bag_back, bag_before, bag_same, bag_then}
 use Rattle.sn_base.proofs.Lists.{map_agree}
 use Rattle.sn_base.specs.Bags.{SameBag}
-use Rattle.sn_base.specs.Bags.SameBag.{stays, behind, turned as swapped, joined}
+use Rattle.sn_base.specs.Bags.SameBag.{stays, following, turned as swapped, joined}
 use Rattle.sn_base.specs.Groups.{Row}
 use Rattle.sn_base.specs.Operators.{Op}
 use Rattle.sn_base.specs.Sorted.{sorted_rows}
@@ -21,14 +21,14 @@ use Rattle.sn_engine_many.specs.Answers.{shared_items}
 use Rattle.sn_engine_many.specs.Shorts.{short_placed, up_to_stateful}
 use Rattle.sn_engine.specs.Turns.{held_tag, turn}
 use Rattle.sn_engine_split.specs.Branches.{query_value}
-use Rattle.sn_engine_split.specs.Opened.{Prefixes, left_in, let_in, tabled}
+use Rattle.sn_engine_split.specs.Opened.{Prefixes, left_in, tuples_admitted, tabled}
 use Rattle.sn_multi.proofs.Pipes.{pipe_turned}
 use Rattle.sn_multi.proofs.Typed.{queries_left}
 use Rattle.sn_multi.specs.Branches.{AreLeftOfSwitches, together}
 use Rattle.sn_multi.specs.Switches.{switch_items}
 use Rattle.sn_multi.specs.Turned.{turned}
 use Rattle.sn_ops.specs.Packets.{packet_rows}
-use Rattle.sn_pipe.specs.Pipes.{rows_let_in}
+use Rattle.sn_pipe.specs.Pipes.{rows_admitted}
 use Rattle.sn_pipe_items.specs.Items.{items}
 use Rattle.sn_plan_fit.specs.Paths.{is_among, level_before, place_in}
 use Rattle.sn_plan_grammar.specs.declared.plan.Piece.{Piece}
@@ -43,7 +43,7 @@ use Rattle.sn_types.specs.declared.typed_query.TypedQuery.{TypedQuery}
 
 bag_length : {A : Type 0} (xs ys : List A) → SameBag xs ys → length xs ≡ length ys
 bag_length _ _ (stays xs) = refl
-bag_length _ _ (behind x xs ys b) = ap suc (bag_length xs ys b)
+bag_length _ _ (following x xs ys b) = ap suc (bag_length xs ys b)
 bag_length _ _ (swapped x y xs) = refl
 bag_length _ _ (joined xs ys zs a b) = bag_length xs ys a ∙ bag_length ys zs b
 
@@ -61,7 +61,7 @@ module _ (queries : List TypedQuery) (tables : Tables) (kept : Source → Set) w
   cut_of x = up_to_stateful (take x.piece.cut (ops_of x))
 
   abbrev rows_of : Placed → List (List ℕ) → List Row
-  rows_of x tuples = rows_let_in (query_at queries x.query) x.piece.branch x.piece.level (gate_before tables.entries x.path x.piece.level) (kept (source_of x)) tuples
+  rows_of x tuples = rows_admitted (query_at queries x.query) x.piece.branch x.piece.level (gate_before tables.entries x.path x.piece.level) (kept (source_of x)) tuples
 
   -- what a switch sends of a piece, with its tags among several switches
   abbrev pub own_items : Placed → List (List ℕ) → List Item
@@ -113,14 +113,14 @@ module _ (queries : List TypedQuery) (tables : Tables) (kept : Source → Set) w
 
   sent_same : (q : ℕ) (path : List ℕ) (p : Piece) (captures : List (List (List ℕ)))
       → SameBag (flat_map (switch_items tables.depth (size_at (ops_of (placed q path p)) p.slots) 0 (take (cut_of (placed q path p)) (plain_of (placed q path p))))
-      (map (packet_rows (query_at queries q) p.branch p.level None) (map (let_in (query_at queries q) (tabled tables.entries (prefixes q path p.level))) captures)))
+      (map (packet_rows (query_at queries q) p.branch p.level None) (map (tuples_admitted (query_at queries q) (tabled tables.entries (prefixes q path p.level))) captures)))
       (gathered captures (placed q path p))
   sent_same q path p [] = bag_same refl
   sent_same q path p (tuples ∷ captures) =
       let x = placed q path p in
       let query = query_at queries q in
       let sends = switch_items tables.depth (size_at (ops_of x) p.slots) 0 (take (cut_of x) (plain_of x)) in
-      let admitted : List (List ℕ) → List (List ℕ) = let_in query (tabled tables.entries (prefixes q path p.level)) in
+      let admitted : List (List ℕ) → List (List ℕ) = tuples_admitted query (tabled tables.entries (prefixes q path p.level)) in
       let rest = flat_map sends (map (packet_rows query p.branch p.level None) (map admitted captures)) in
       bag_both (sends (packet_rows query p.branch p.level None (admitted tuples))) (own_items x tuples) rest (gathered captures x)
       (bag_then (bag_same (ap sends (sym (rows_let_tabled query tables.entries path p.branch p.level (kept (source_of x)) tuples)))) (one_switch x tuples))

@@ -9,7 +9,7 @@ use Rattle.sn_engine_lockstep.specs.declared.source.Source.{Source}
 use Rattle.sn_engine_split.specs.Opened.{is_open}
 use Rattle.sn_multi.specs.Branches.{many_items, together}
 use Rattle.sn_multi.specs.Switches.{all_items}
-use Rattle.sn_pipe.specs.Pipes.{rows_let_in}
+use Rattle.sn_pipe.specs.Pipes.{rows_admitted}
 use Rattle.sn_plan_fit.specs.Paths.{place_in}
 use Rattle.sn_plan_grammar.specs.declared.plan.Entry.{Entry}
 use Rattle.sn_refine.specs.Passes.{prefixes_before}
@@ -28,7 +28,7 @@ abbrev pub shared_items : List TypedQuery → Tables → Placed → Set → List
 shared_items queries tables x kept captures =
     let branch = branch_at queries x.query x.piece.branch in
     all_items tables.depth (size_at branch.ops x.piece.slots) x.piece.cut (map (op_at x.piece.level) branch.ops)
-    (map (rows_let_in (query_at queries x.query) x.piece.branch x.piece.level (gate_before tables.entries x.path x.piece.level) kept) captures)
+    (map (rows_admitted (query_at queries x.query) x.piece.branch x.piece.level (gate_before tables.entries x.path x.piece.level) kept) captures)
 
 -- how many items all pieces send
 abbrev pub shared_sent : List TypedQuery → Tables → List Placed → (Source → Set) → List (List (List ℕ)) → ℕ

@@ -72,7 +72,7 @@ module _ (T : ℕ → Bool) (level : ℕ) where
       record {
         key = λ k. T (slice_index k q);
         before = λ row. ap T (number_found (λ (k : ℕ). k == p) (λ place. slice_index row place) (slice_index row p) (λ k is. ap (slice_index row) (nat_same k p is)) r.keys h) ∙ sym (here row);
-        behind = λ k a long. next (k ++ a ∷ []) ∙ ap T (at_front k (a ∷ []) q (omega (arith, long, within)));
+        following = λ k a long. next (k ++ a ∷ []) ∙ ap T (at_front k (a ∷ []) q (omega (arith, long, within)));
         in_parts = λ row long. next row ∙ ap T (sym (at_taken (length r.keys) q row within));
       }
 
@@ -97,7 +97,7 @@ constant_one : (b : Bool) (level i : ℕ) (op : TOp) (keeps : ℕ → Row → Bo
 constant_one b level i (ops.Filter conds) keeps same = λ row. same (suc i) row ∙ sym (same i row)
 constant_one b level i (ops.Map exprs) keeps same = λ row. same (suc i) (map (λ e. value_of e row) exprs) ∙ sym (same i row)
 constant_one b level i ops.Distinct keeps same = λ row. same (suc i) row ∙ sym (same i row)
-constant_one b level i (ops.Reduce r) keeps same = record { key = λ k. b; before = λ row. sym (same i row); behind = λ k a long. same (suc i) (k ++ a ∷ []); in_parts = λ row long. same (suc i) row }
+constant_one b level i (ops.Reduce r) keeps same = record { key = λ k. b; before = λ row. sym (same i row); following = λ k a long. same (suc i) (k ++ a ∷ []); in_parts = λ row long. same (suc i) row }
 
 pub constant : (b : Bool) (level i : ℕ) (os : List TOp) (keeps : ℕ → Row → Bool) → ((j : ℕ) (row : Row) → keeps j row ≡ b) → Carries keeps i (map (op_at level) os)
 constant b level i [] keeps same = tt

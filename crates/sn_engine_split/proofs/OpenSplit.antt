@@ -53,7 +53,7 @@ use Rattle.sn_types.proofs.CarriedPlaces.{at_name, here, later}
 use Rattle.sn_engine_split.proofs.Carry.{carry, constant, number_found}
 use Rattle.sn_types.proofs.Following.{AllHold, all_hold_prop, along}
 use Rattle.sn_types.proofs.NotLost.{known_first}
-use Rattle.sn_engine_split.specs.Opened.{IsWithinLevel, Prefixes, has_prefix, is_open, keeps_in, left_in, let_in, lets_in, tabled}
+use Rattle.sn_engine_split.specs.Opened.{IsWithinLevel, Prefixes, has_prefix, is_open, keeps_in, left_in, tuples_admitted, admits, tabled}
 use Rattle.sn_types.specs.Places.{field_place}
 
 -- ---- fields by their numbers
@@ -162,7 +162,7 @@ read_again f level bits tuple le =
     ])
 
 passes : (level : ℕ) (branch : TypedBranch) (field : Option Field) (ps : Option Prefixes) → ((f : Field) → field ≡ Some f → Followed f branch) → IsWithinLevel level ps → (tuple : List ℕ) →
-    keeps_in field branch ps 0 (packet_row field level branch.fields tuple) ≡ lets_in field ps tuple
+    keeps_in field branch ps 0 (packet_row field level branch.fields tuple) ≡ admits field ps tuple
 passes level branch field None h low tuple = refl
 passes level branch None (Some ps) h low tuple = refl
 passes level branch (Some f) (Some ps) h low tuple =
@@ -171,9 +171,9 @@ passes level branch (Some f) (Some ps) h low tuple =
     (λ g is. ap (read_at (Some f) level tuple) (number_same g f (nat_same (number_of g) (number_of f) is))) branch.fields (h f refl).among in
     ap (has_prefix f ps) found ∙ ap (set.contains ps.1) (read_again f level ps.0 tuple low)
 
-tabled_passes : (entries : Option ℕ) (field : Option Field) (ps : Option Prefixes) (tuple : List ℕ) → lets_in field ps tuple ≡ true → lets_in field (tabled entries ps) tuple ≡ true
+tabled_passes : (entries : Option ℕ) (field : Option Field) (ps : Option Prefixes) (tuple : List ℕ) → admits field ps tuple ≡ true → admits field (tabled entries ps) tuple ≡ true
 tabled_passes entries field None tuple is = is
-tabled_passes entries field (Some ps) tuple is = (elim (is_open entries ps.1) as (λ b. lets_in field (cond b None (Some ps)) tuple ≡ true) [ true ↦ refl | false ↦ is ])
+tabled_passes entries field (Some ps) tuple is = (elim (is_open entries ps.1) as (λ b. admits field (cond b None (Some ps)) tuple ≡ true) [ true ↦ refl | false ↦ is ])
 
 -- all tuples are kept where no prefixes are named
 all_kept : (field : Option Field) (tuples : List (List ℕ)) → filter (is_kept field None) tuples ≡ tuples
@@ -182,17 +182,17 @@ all_kept field (tuple ∷ tuples) = ap (λ ts. tuple ∷ ts) (all_kept field tup
 
 -- of the rows that were let in, those that pass are the rows of the tuples with these prefixes
 rows_pass : (query : TypedQuery) (b level : ℕ) (entries : Option ℕ) (ps : Option Prefixes) (tuples : List (List ℕ)) → ((f : Field) → query.field ≡ Some f → Followed f (branch_of query b)) → IsWithinLevel level ps →
-    filter (keeps_in query.field (branch_of query b) ps 0) (packet_rows query b level None (let_in query (tabled entries ps) tuples)) ≡ packet_rows query b level None (let_in query ps tuples)
+    filter (keeps_in query.field (branch_of query b) ps 0) (packet_rows query b level None (tuples_admitted query (tabled entries ps) tuples)) ≡ packet_rows query b level None (tuples_admitted query ps tuples)
 rows_pass query b level entries ps tuples h low =
     let branch : TypedBranch = branch_of query b in
     let row : List ℕ → Row = packet_row query.field level branch.fields in
     let keeps : Row → Bool = keeps_in query.field branch ps 0 in
-    let wide : List (List ℕ) = let_in query (tabled entries ps) tuples in
+    let wide : List (List ℕ) = tuples_admitted query (tabled entries ps) tuples in
     ap (λ ts. filter keeps (map row ts)) (all_kept query.field wide)
     ∙ sym (filter_map row keeps wide)
-    ∙ ap (map row) (filter_agree (λ tuple. keeps (row tuple)) (lets_in query.field ps) (passes level branch query.field ps h low) wide
-    ∙ filter_within (lets_in query.field ps) (lets_in query.field (tabled entries ps)) (tabled_passes entries query.field ps) tuples
-    ∙ sym (all_kept query.field (let_in query ps tuples)))
+    ∙ ap (map row) (filter_agree (λ tuple. keeps (row tuple)) (admits query.field ps) (passes level branch query.field ps h low) wide
+    ∙ filter_within (admits query.field ps) (admits query.field (tabled entries ps)) (tabled_passes entries query.field ps) tuples
+    ∙ sym (all_kept query.field (tuples_admitted query ps tuples)))
 
 -- ---- the law
 
@@ -203,13 +203,13 @@ branch_on level query b rows = through (map (op_at level) (branch_of query b).op
 -- these prefixes
 pub open_value : (window q b level : ℕ) (queries : List TypedQuery) (entries : Option ℕ) (ps : Option Prefixes) (tuples : List (List ℕ)) (found : List Item) → ∥ IsTyped window queries ∥₁ → q < length queries → b < length (query_at queries q).branches
     → IsWithinLevel level ps → ItemsHad 0 (map (op_at level) (branch_at queries q b).ops) found
-    → SameBag (value (map (op_at level) (branch_at queries q b).ops) found) (branch_rows (query_at queries q) b level None (let_in (query_at queries q) (tabled entries ps) tuples))
-    → SameBag (value (map (op_at level) (branch_at queries q b).ops) (left_in (query_at queries q) b ps found)) (branch_rows (query_at queries q) b level None (let_in (query_at queries q) ps tuples))
+    → SameBag (value (map (op_at level) (branch_at queries q b).ops) found) (branch_rows (query_at queries q) b level None (tuples_admitted (query_at queries q) (tabled entries ps) tuples))
+    → SameBag (value (map (op_at level) (branch_at queries q b).ops) (left_in (query_at queries q) b ps found)) (branch_rows (query_at queries q) b level None (tuples_admitted (query_at queries q) ps tuples))
 open_value window q b level queries entries ps tuples found t lt within low had bag =
     let query : TypedQuery = query_at queries q in
     let ops : List Acting = map (op_at level) (branch_of query b).ops in
     let keeps : ℕ → Row → Bool = keeps_in query.field (branch_of query b) ps in
-    let rows : List Row = packet_rows query b level None (let_in query (tabled entries ps) tuples) in
+    let rows : List Row = packet_rows query b level None (tuples_admitted query (tabled entries ps) tuples) in
     let follows : (f : Field) → query.field ≡ Some f → Followed f (branch_of query b) = λ f is. followed window queries q b f t lt within is in
     let carries = carries_where level (branch_of query b) query.field ps follows in
     bag_then
@@ -219,19 +219,19 @@ open_value window q b level queries entries ps tuples found t lt within low had 
     (bag_same (through_left keeps ops carries rows ∙ ap (branch_on level query b) (rows_pass query b level entries ps tuples follows low))))
 
 pub open_split : (window q b level cut depth : ℕ) (sizes : List ℕ) (queries : List TypedQuery) (entries : Option ℕ) (ps : Option Prefixes) (tuples : List (List ℕ)) (found : List Item) → ∥ IsTyped window queries ∥₁ → q < length queries → b < length (query_at queries q).branches
-    → AllByRecursion HasWidths tuples → cut ≤ (branch_at queries q b).max_cut → IsWithinLevel level ps → SameBag (branch_items (query_at queries q) b level None cut depth sizes (let_in (query_at queries q) (tabled entries ps) tuples)) found
-    → SameBag (value (map (op_at level) (branch_at queries q b).ops) (left_in (query_at queries q) b ps found)) (branch_rows (query_at queries q) b level None (let_in (query_at queries q) ps tuples))
+    → AllByRecursion HasWidths tuples → cut ≤ (branch_at queries q b).max_cut → IsWithinLevel level ps → SameBag (branch_items (query_at queries q) b level None cut depth sizes (tuples_admitted (query_at queries q) (tabled entries ps) tuples)) found
+    → SameBag (value (map (op_at level) (branch_at queries q b).ops) (left_in (query_at queries q) b ps found)) (branch_rows (query_at queries q) b level None (tuples_admitted (query_at queries q) ps tuples))
 open_split window q b level cut depth sizes queries entries ps tuples found t lt within widths le low bag =
     let query : TypedQuery = query_at queries q in
     let os = (branch_at queries q b).ops in
     let size : ℕ → ℕ = size_at os sizes in
-    let wide : List (List ℕ) = let_in query (tabled entries ps) tuples in
+    let wide : List (List ℕ) = tuples_admitted query (tabled entries ps) tuples in
     let rows : List Row = packet_rows query b level None wide in
     let is_cut = cut_within level cut os (cut_of window queries q b cut t lt within le) in
     let follows : (f : Field) → query.field ≡ Some f → Followed f (branch_of query b) = λ f is. followed window queries q b f t lt within is in
     bag_then
     (split_left (keeps_in query.field (branch_of query b) ps) depth size (map (op_at level) os) cut rows found is_cut
     (carries_where level (branch_of query b) query.field ps follows)
-    (rows_had window queries q b level rows t lt within (packets_of window queries q b level None wide t lt within (all_filter HasWidths (lets_in query.field (tabled entries ps)) tuples widths)))
+    (rows_had window queries q b level rows t lt within (packets_of window queries q b level None wide t lt within (all_filter HasWidths (admits query.field (tabled entries ps)) tuples widths)))
     (bag_then (items_bag depth size cut (map (op_at level) os) rows is_cut) bag))
     (bag_same (ap (branch_on level query b) (rows_pass query b level entries ps tuples follows low)))

@@ -23,7 +23,7 @@ use Rattle.sn_query_grammar.specs.Limits.{AreJoined, PostOp}
 use Rattle.sn_types.specs.declared.typed_op.JoinKey.{JoinKey}
 use Rattle.sn_types.specs.declared.typed_query.TypedQuery.{TypedQuery}
 use Rattle.sn_types.specs.Typed.{IsTyped, HasWidths, query_at, branch_at}
-use Rattle.sn_types.specs.Typing.{behind_branches, posts_of, typed_op, typed_ops}
+use Rattle.sn_types.specs.Typing.{after_branches, posts_of, typed_op, typed_ops}
 use Rattle.sn_types.specs.Values.{op_at}
 use Rattle.sn_types.proofs.Sources.{source_of}
 use Rattle.sn_ops.specs.Joins.{lefts, rights, meets, both, joined}
@@ -46,9 +46,9 @@ posts_had : (level : ℕ) (columns : List Column) (ops : List Op) → AllByRecur
 posts_had level columns [] h row = tt
 posts_had level columns (op ∷ ops) h row = post_had level columns op.what (map (op_at level) (typed_ops (columns_after columns op.what) ops)) h.0 (posts_had level (columns_after columns op.what) ops h.1) row
 
-join_had : (level : ℕ) (refine : Option Refine) (branches : List Branch) (join : Option Join) → AreJoined branches join → (row : Row) → Had (map (op_at level) (typed_ops (behind_branches refine branches join).columns (posts_of join))) row
+join_had : (level : ℕ) (refine : Option Refine) (branches : List Branch) (join : Option Join) → AreJoined branches join → (row : Row) → Had (map (op_at level) (typed_ops (after_branches refine branches join).columns (posts_of join))) row
 join_had level refine branches None h row = tt
-join_had level refine branches (Some j) h row = posts_had level (behind_branches refine branches (Some j)).columns j.post h.1.each row
+join_had level refine branches (Some j) h row = posts_had level (after_branches refine branches (Some j)).columns j.post h.1.each row
 
 pub query_posts_had : (window : ℕ) (queries : List TypedQuery) (q level : ℕ) → ∥ IsTyped window queries ∥₁ → q < length queries → (rows : List Row) → AllOf (map (op_at level) (query_at queries q).posts) rows
 query_posts_had window queries q level t lt [] = tt

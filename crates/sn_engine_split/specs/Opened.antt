@@ -37,20 +37,20 @@ left_in query b ps found = left_of (keeps_in query.field (branch_of query b) ps)
 -- ---- in the switch
 
 -- a tuple has one of these prefixes
-abbrev pub lets_in : Option Field → Option Prefixes → List ℕ → Bool
-lets_in refined None tuple = true
-lets_in None (Some ps) tuple = false
-lets_in (Some field) (Some ps) tuple = has_prefix field ps (slice_index tuple (number_of field))
+abbrev pub admits : Option Field → Option Prefixes → List ℕ → Bool
+admits refined None tuple = true
+admits None (Some ps) tuple = false
+admits (Some field) (Some ps) tuple = has_prefix field ps (slice_index tuple (number_of field))
 
-abbrev pub let_in : TypedQuery → Option Prefixes → List (List ℕ) → List (List ℕ)
-let_in query ps tuples = filter (lets_in query.field ps) tuples
+abbrev pub tuples_admitted : TypedQuery → Option Prefixes → List (List ℕ) → List (List ℕ)
+tuples_admitted query ps tuples = filter (admits query.field ps) tuples
 
 -- a table with this many entries stays open where the set has more members; without a limit it never does
 abbrev pub is_open : Option ℕ → set.FinSet nat_cmp → Bool
 is_open None members = false
 is_open (Some entries) members = nat_lt entries (set.len members)
 
--- the prefixes by which a switch lets tuples in: where the table stays open all tuples pass
+-- the prefixes by which a switch admits tuples: where the table stays open all tuples pass
 abbrev pub tabled : Option ℕ → Option Prefixes → Option Prefixes
 tabled entries None = None
 tabled entries (Some ps) = if is_open entries ps.1 then None else Some ps

@@ -4,7 +4,7 @@ ghost use Rattle.std.specs.List.{AllByRecursion};
 ghost use Rattle.sn_base.specs.Bags.{SameBag};
 ghost use Rattle.sn_base.specs.Sorted.{sorted_rows};
 ghost use Rattle.sn_engine_split.specs.Branches.{IsItemOf, branch_items, query_value};
-ghost use Rattle.sn_engine_split.specs.Opened.{IsWithinLevel, Prefixes, left_in, let_in, tabled};
+ghost use Rattle.sn_engine_split.specs.Opened.{IsWithinLevel, Prefixes, left_in, tuples_admitted, tabled};
 ghost use Rattle.sn_engine_split.specs.Wholes.{AreLeft};
 ghost use Rattle.sn_ops.specs.Plain.{branch_rows, query_rows};
 ghost use Rattle.sn_pipe_items.specs.Value.{value};
@@ -21,9 +21,9 @@ pub fn open_split_law()
         (tuples : List (List ℕ)) (found : List Item) →
         ∥ IsTyped window queries ∥₁ → q < length queries → b < length (query_at queries q).branches → AllByRecursion HasWidths tuples →
         cut ≤ (branch_at queries q b).max_cut → IsWithinLevel level ps →
-        SameBag (branch_items (query_at queries q) b level None cut depth sizes (let_in (query_at queries q) (tabled entries ps) tuples)) found →
+        SameBag (branch_items (query_at queries q) b level None cut depth sizes (tuples_admitted (query_at queries q) (tabled entries ps) tuples)) found →
         SameBag (value (map (op_at level) (branch_at queries q b).ops) (left_in (query_at queries q) b ps found))
-        (branch_rows (query_at queries q) b level None (let_in (query_at queries q) ps tuples)) }
+        (branch_rows (query_at queries q) b level None (tuples_admitted (query_at queries q) ps tuples)) }
 {}
 
 /// For every query, level, set of prefixes and tuples: the value of the items that are left, whatever was sent and in whatever
@@ -33,7 +33,7 @@ pub fn whole_queries_are_left()
         ∥ IsTyped window queries ∥₁ → q < length queries → AllByRecursion HasWidths tuples →
         AreLeft queries q 0 level ps tuples left → (length (query_at queries q).branches ≡ 2 → AreLeft queries q 1 level ps tuples right) →
         sorted_rows (query_value (query_at queries q) level left right)
-        ≡ sorted_rows (query_rows (query_at queries q) level None (let_in (query_at queries q) ps tuples)) }
+        ≡ sorted_rows (query_rows (query_at queries q) level None (tuples_admitted (query_at queries q) ps tuples)) }
 {}
 
 /// The sorted value of what is left of the items of a query's branches depends on the bags of the items and on the prefixes alone.

@@ -5,7 +5,7 @@ use borrow.Author.Tests.{leb-true, leb-false}
 use Rattle.byteorder.specs.Endian.{big_from}
 use Rattle.sn_base.specs.declared.link.Link.{Link}
 use Rattle.sn_base.specs.declared.link.Link.TheVariants.{Ethernet, RawIp, Cooked, Cooked2}
-use Rattle.sn_fields.specs.Headers.{number_at, has_bytes, has_tag, tags, link_length, has_ethernet, ether_type, ip_place, ip_words, is_ip, is_ip6, behind_ip, is_first, carries, carries_6, has_ip6, transport_place}
+use Rattle.sn_fields.specs.Headers.{number_at, has_bytes, has_tag, tags, link_length, has_ethernet, ether_type, ip_place, ip_words, is_ip, is_ip6, after_ip, is_first, carries, carries_6, has_ip6, transport_place}
 use Rattle.sn_fields.specs.Tuples.{tuple}
 use Rattle.sn_base.proofs.Lists.{by_test}
 
@@ -101,13 +101,13 @@ ip_front type bytes place near =
     let whole = has_front bytes (place + 4 * ip_words bytes place) (omega arith) in
     rw (first, stand, whole) refl
 
-behind_front : (bytes : List ℕ) (place : ℕ) → place ≤ 28 → behind_ip (take 128 bytes) place ≡ behind_ip bytes place
-unfolding behind_ip
-behind_front bytes place near = ap (λ n. place + 4 * n) (words_front bytes place near)
+after_front : (bytes : List ℕ) (place : ℕ) → place ≤ 28 → after_ip (take 128 bytes) place ≡ after_ip bytes place
+unfolding after_ip
+after_front bytes place near = ap (λ n. place + 4 * n) (words_front bytes place near)
 
-behind_most : (bytes : List ℕ) (place : ℕ) → place ≤ 28 → behind_ip bytes place ≤ 88
-unfolding behind_ip
-behind_most bytes place near = omega arith
+after_most : (bytes : List ℕ) (place : ℕ) → place ≤ 28 → after_ip bytes place ≤ 88
+unfolding after_ip
+after_most bytes place near = omega arith
 
 first_front : (bytes : List ℕ) (place : ℕ) → place ≤ 28 → is_first (take 128 bytes) place ≡ is_first bytes place
 unfolding is_first
@@ -118,9 +118,9 @@ unfolding carries
 carries_front bytes place protocol count near few =
     let first = first_front bytes place near in
     let byte = byte_front bytes (place + 9) (omega arith) in
-    let end = behind_front bytes place near in
-    let most = behind_most bytes place near in
-    let stand = has_front bytes (behind_ip bytes place + count) (omega arith) in
+    let end = after_front bytes place near in
+    let most = after_most bytes place near in
+    let stand = has_front bytes (after_ip bytes place + count) (omega arith) in
     rw (first, byte, end, stand) refl
 
 six_front : (type : ℕ) (bytes : List ℕ) (place : ℕ) → place ≤ 28 → is_ip6 type (take 128 bytes) place ≡ is_ip6 type bytes place
@@ -137,9 +137,9 @@ carries_six_front bytes place protocol count near few =
     let stand = has_front bytes (place + 40 + count) (omega arith) in
     rw (byte, stand) refl
 
-place_most_behind : (six : Bool) (p q : ℕ) → p ≤ 28 → q ≤ 88 → cond six (p + 40) q ≤ 88
-place_most_behind true p q near far = omega (arith, near)
-place_most_behind false p q near far = far
+place_most_after : (six : Bool) (p q : ℕ) → p ≤ 28 → q ≤ 88 → cond six (p + 40) q ≤ 88
+place_most_after true p q near far = omega (arith, near)
+place_most_after false p q near far = far
 
 transport_front : (link : Link) (bytes : List ℕ) → transport_place link (take 128 bytes) ≡ transport_place link bytes
 transport_front link bytes =
@@ -147,16 +147,16 @@ transport_front link bytes =
     let type = type_front link bytes in
     let place = place_front link bytes in
     let six = six_front (ether_type link bytes) bytes (ip_place link bytes) near in
-    let behind = behind_front bytes (ip_place link bytes) near in
-    rw (type, place, six, behind) refl
+    let following = after_front bytes (ip_place link bytes) near in
+    rw (type, place, six, following) refl
 
 pub tuple_front : (link : Link) (wire : ℕ) (bytes : List ℕ) → tuple link wire (take 128 bytes) ≡ tuple link wire bytes
 unfolding tuple
 tuple_front link wire bytes =
     let p = ip_place link bytes in
     let near = place_most link bytes in
-    let q = behind_ip bytes p in
-    let most = behind_most bytes p near in
+    let q = after_ip bytes p in
+    let most = after_most bytes p near in
     let ethernet = ethernet_front link bytes in
     let destination = number_front 6 bytes 0 (omega arith) in
     let source = number_front 6 bytes 6 (omega arith) in
@@ -173,7 +173,7 @@ tuple_front link wire bytes =
     let tcp = carries_front bytes p 6 20 near (omega arith) in
     let udp = carries_front bytes p 17 8 near (omega arith) in
     let icmp = carries_front bytes p 1 4 near (omega arith) in
-    let behind = behind_front bytes p near in
+    let following = after_front bytes p near in
     let six = six_front (ether_type link bytes) bytes p near in
     let tcp_6 = carries_six_front bytes p 6 20 near (omega arith) in
     let udp_6 = carries_six_front bytes p 17 8 near (omega arith) in
@@ -183,7 +183,7 @@ tuple_front link wire bytes =
     let six_8 = number_front 16 bytes (p + 8) (omega arith) in
     let six_24 = number_front 16 bytes (p + 24) (omega arith) in
     let t = transport_place link bytes in
-    let far : t ≤ 88 = place_most_behind (has_ip6 link bytes) p q near most in
+    let far : t ≤ 88 = place_most_after (has_ip6 link bytes) p q near most in
     let there = transport_front link bytes in
     let t_0 = number_front 2 bytes t (omega (arith, far)) in
     let t_2 = number_front 2 bytes (t + 2) (omega (arith, far)) in

@@ -11,7 +11,7 @@ use Rattle.sn_fields.specs.declared.headers.Carried.{Carried}
 use Rattle.sn_fields.specs.declared.transport.TcpHeader.{TcpHeader}
 use Rattle.sn_fields.specs.declared.transport.UdpHeader.{UdpHeader}
 use Rattle.sn_fields.specs.declared.transport.IcmpHeader.{IcmpHeader}
-use Rattle.sn_fields.specs.Headers.{number_at, ether_type, ip_place, is_ip, is_ip6, behind_ip, is_first, carries, carries_6, has_ip, has_ip6, has_transport, has_tcp, has_udp, has_icmp, transport_place}
+use Rattle.sn_fields.specs.Headers.{number_at, ether_type, ip_place, is_ip, is_ip6, after_ip, is_first, carries, carries_6, has_ip, has_ip6, has_transport, has_tcp, has_udp, has_icmp, transport_place}
 use Rattle.sn_fields.specs.Tuples.{where_present, field_of, tuple}
 use Rattle.sn_fields.specs.Parts.{IsLinkPart, IsIpPart, IsIp6, of_ip, carried_of, part_carries, IsTcp, IsUdp, IsIcmp, TransportParts, IsTransport, no_ip, no_ip6, no_ip_part, numbers_in}
 use Rattle.sn_base.proofs.Lists.{by_test, and_parts}
@@ -33,15 +33,15 @@ carried : (type : ℕ) (bytes : List ℕ) (place : ℕ) (ip : IpPart) (protocol 
     → part_carries (of_ip ip) bytes protocol count ≡ is_ip type bytes place && carries bytes place protocol count
 unfolding carries
 carried type bytes place ip protocol count h =
-    carried_by (is_ip type bytes place) ip.first (is_first bytes place) ip.header.protocol (slice_index bytes (place + 9)) ip.end (behind_ip bytes place)
+    carried_by (is_ip type bytes place) ip.first (is_first bytes place) ip.header.protocol (slice_index bytes (place + 9)) ip.end (after_ip bytes place)
     protocol count (length bytes) h.first_is h.protocol_is h.end_is
 
 -- and stands where the header ends
 placed : (type : ℕ) (bytes : List ℕ) (place : ℕ) (ip : IpPart) (protocol count : ℕ) → IsIpPart type bytes place ip
-    → part_carries (of_ip ip) bytes protocol count ≡ true → ip.end ≡ behind_ip bytes place
+    → part_carries (of_ip ip) bytes protocol count ≡ true → ip.end ≡ after_ip bytes place
 placed type bytes place ip protocol count h whole =
     placed_by (is_ip type bytes place) ip.first (is_first bytes place) (ip.header.protocol == protocol) (nat_le (ip.end + count) (length bytes))
-    ip.end (behind_ip bytes place) h.first_is h.end_is whole
+    ip.end (after_ip bytes place) h.first_is h.end_is whole
 
 -- ---- IPv6
 
@@ -93,10 +93,10 @@ module _ (link : Link) (bytes : List ℕ) (ip : IpPart) (six : Ip6Header)
   abbrev place : ℕ
   place = ip_place link bytes
 
-  behind_six : (protocol count : ℕ) → has_ip6 link bytes ≡ true
+  after_six : (protocol count : ℕ) → has_ip6 link bytes ≡ true
       → part_carries (record { first = true; protocol = six.next; end = place + 40 }) bytes protocol count ≡ carries_6 bytes place protocol count
   unfolding carries_6
-  behind_six protocol count is =
+  after_six protocol count is =
       let next : six.next ≡ slice_index bytes (place + 6) = k.next_is ∙ ap (λ b. where_present b (slice_index bytes (place + 6))) is in
       ap (λ n. nat_eq n protocol && nat_le (place + 40 + count) (length bytes)) next
 
@@ -107,7 +107,7 @@ module _ (link : Link) (bytes : List ℕ) (ip : IpPart) (six : Ip6Header)
       carries_by six.valid six_part (of_ip ip) bytes protocol count
       ∙ ap (cond six.valid (part_carries six_part bytes protocol count)) (carried type bytes place ip protocol count h)
       ∙ transport_by six.valid (has_ip6 link bytes) (has_ip link bytes) (carries bytes place protocol count) (carries_6 bytes place protocol count) (part_carries six_part bytes protocol count)
-      k.valid_is (no_ip_too type bytes place) (behind_six protocol count)
+      k.valid_is (no_ip_too type bytes place) (after_six protocol count)
 
   end_by : (valid six_there : Bool) (one other : ℕ) (b : ℕ) → valid ≡ six_there → (valid ≡ false → other ≡ b) → cond valid one other ≡ cond six_there one b
   end_by true true one other b same at = refl
@@ -127,7 +127,7 @@ module _ (link : Link) (bytes : List ℕ) (ip : IpPart) (six : Ip6Header)
   at_transport protocol count whole =
       let six_part : Carried = record { first = true; protocol = six.next; end = place + 40 } in
       end_of six.valid six_part (of_ip ip)
-      ∙ end_by six.valid (has_ip6 link bytes) (place + 40) ip.end (behind_ip bytes place) k.valid_is
+      ∙ end_by six.valid (has_ip6 link bytes) (place + 40) ip.end (after_ip bytes place) k.valid_is
       (λ isnt. placed type bytes place ip protocol count h (carries_other six.valid six_part (of_ip ip) protocol count whole isnt))
 
   -- ICMP is that of IPv4 alone

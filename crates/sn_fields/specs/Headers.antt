@@ -70,8 +70,8 @@ abbrev pub has_ip : Link → List ℕ → Bool
 has_ip link bytes = is_ip (ether_type link bytes) bytes (ip_place link bytes)
 
 -- where the header of the transport stands, right after a header of IPv4 at a place
-unfoldable pub behind_ip : List ℕ → ℕ → ℕ
-behind_ip bytes place = place + 4 * ip_words bytes place
+unfoldable pub after_ip : List ℕ → ℕ → ℕ
+after_ip bytes place = place + 4 * ip_words bytes place
 
 -- a header of IPv4 at a place is that of a first fragment: its fragment offset is 0
 unfoldable pub is_first : List ℕ → ℕ → Bool
@@ -80,7 +80,7 @@ is_first bytes place = number_at 2 bytes (place + 6) % 8192 == 0
 -- this many bytes of a protocol stand right after a header of IPv4 at a place
 unfoldable pub carries : List ℕ → ℕ → ℕ → ℕ → Bool
 carries bytes place protocol count =
-    is_first bytes place && (slice_index bytes (place + 9) == protocol) && has_bytes bytes (behind_ip bytes place + count)
+    is_first bytes place && (slice_index bytes (place + 9) == protocol) && has_bytes bytes (after_ip bytes place + count)
 
 -- after a type, a header of IPv6 stands at a place (RFC 8200, section 3): its 40 bytes, and version 6
 unfoldable pub is_ip6 : ℕ → List ℕ → ℕ → Bool
@@ -110,4 +110,4 @@ has_icmp link bytes = has_ip link bytes && carries bytes (ip_place link bytes) 1
 
 -- where their header stands
 abbrev pub transport_place : Link → List ℕ → ℕ
-transport_place link bytes = if has_ip6 link bytes then ip_place link bytes + 40 else behind_ip bytes (ip_place link bytes)
+transport_place link bytes = if has_ip6 link bytes then ip_place link bytes + 40 else after_ip bytes (ip_place link bytes)

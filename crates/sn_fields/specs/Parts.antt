@@ -11,7 +11,7 @@ use Rattle.sn_fields.specs.declared.headers.Carried.{Carried}
 use Rattle.sn_fields.specs.declared.transport.TcpHeader.{TcpHeader}
 use Rattle.sn_fields.specs.declared.transport.UdpHeader.{UdpHeader}
 use Rattle.sn_fields.specs.declared.transport.IcmpHeader.{IcmpHeader}
-use Rattle.sn_fields.specs.Headers.{number_at, has_ethernet, tags, ether_type, ip_place, is_ip, is_ip6, behind_ip, is_first}
+use Rattle.sn_fields.specs.Headers.{number_at, has_ethernet, tags, ether_type, ip_place, is_ip, is_ip6, after_ip, is_first}
 use Rattle.sn_fields.specs.Tuples.{where_present}
 
 -- the link header of a packet
@@ -35,7 +35,7 @@ pub record IsIpPart (type : ℕ) (bytes : List ℕ) (place : ℕ) (part : IpPart
   pub source_is : part.header.source ≡ where_present (is_ip type bytes place) (number_at 4 bytes (place + 12))
   pub destination_is : part.header.destination ≡ where_present (is_ip type bytes place) (number_at 4 bytes (place + 16))
   pub first_is : part.first ≡ is_ip type bytes place && is_first bytes place
-  pub end_is : part.end ≡ where_present (is_ip type bytes place) (behind_ip bytes place)
+  pub end_is : part.end ≡ where_present (is_ip type bytes place) (after_ip bytes place)
   pub within : part.end ≤ length bytes
 
 -- the header of IPv6 that stands at a place after a type, if one does

@@ -2,7 +2,7 @@
 ghost use Rattle.std.specs.Prelude.{◌≡◌, ◌≤◌, ◌<◌, ◌+◌, ◌*◌, ◌/◌, ◌%◌, ◌^◌, nat_le, nat_lt, length, slice_index};
 ghost use Rattle.std.specs.Bool.{OnTrue};
 ghost use Rattle.sn_base.specs.declared.link.Link.TheVariants.{Ethernet};
-ghost use Rattle.sn_fields.specs.Headers.{number_at, has_tag, tags, type_of_version, is_ip, is_ip6, behind_ip};
+ghost use Rattle.sn_fields.specs.Headers.{number_at, has_tag, tags, type_of_version, is_ip, is_ip6, after_ip};
 ghost use Rattle.sn_fields.specs.Tuples.{where_present};
 ghost use Rattle.sn_fields.specs.Parts.{IsLinkPart, IsIpPart, IsIp6, carried_of, of_ip, no_ip, no_ip6, no_ip_part};
 
@@ -10,7 +10,7 @@ use crate::held::Held48;
 use crate::numbers::{u16_at, u32_at, u48_at, u128_at};
 use sn_base::link::Link;
 
-/// The types of Ethernet that are told apart (IEEE 802 numbers): IPv4, IPv6, and the two of tags.
+/// The types of Ethernet that are reported apart (IEEE 802 numbers): IPv4, IPv6, and the two of tags.
 const IPV4: u16 = 0x0800;
 
 pub const IPV6: u16 = 0x86dd;
@@ -221,12 +221,12 @@ pub fn link_part(link: Link, bytes: &[u8]) -> LinkPart
 }
 
 /// Whether a header of IPv4 stands at a place after a type (RFC 791, section 3.1).
-#[tactic(auto, unfolding(crate::specs::Headers::is_ip, crate::specs::Headers::behind_ip))]
+#[tactic(auto, unfolding(crate::specs::Headers::is_ip, crate::specs::Headers::after_ip))]
 fn is_ip(kind: u16, bytes: &[u8], place: usize) -> bool
     requires { place ≤ 22 }
     ensures ip { result ≡ is_ip kind bytes.now place }
     ensures captured { OnTrue result (place + 20 ≤ length bytes.now) }
-    ensures whole { OnTrue result (behind_ip bytes.now place ≤ length bytes.now) }
+    ensures whole { OnTrue result (after_ip bytes.now place ≤ length bytes.now) }
 {
     if kind != IPV4 || bytes.len() < place + 20 {
         return false;
@@ -236,7 +236,7 @@ fn is_ip(kind: u16, bytes: &[u8], place: usize) -> bool
 }
 
 /// The header of IPv4 that stands at a place after a type, if one does.
-#[tactic(auto, unfolding(crate::specs::Headers::behind_ip, crate::specs::Headers::is_first))]
+#[tactic(auto, unfolding(crate::specs::Headers::after_ip, crate::specs::Headers::is_first))]
 pub fn ip_part(kind: u16, bytes: &[u8], place: usize) -> IpPart
     requires { place ≤ 22 }
     ensures { IsIpPart kind bytes.now place result }

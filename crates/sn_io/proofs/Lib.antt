@@ -2,5 +2,5 @@ pub mod CountLemmas
 pub mod FileLemmas
 pub mod PutLemmas
 pub mod Raised
-pub mod Told
+pub mod Reported
 pub mod Updates

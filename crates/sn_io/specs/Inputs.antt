@@ -4,8 +4,8 @@ use Rattle.std.specs.FinMap.{get}
 use Rattle.sn_io.specs.Counts.{ByName}
 
 -- the bytes of a file, where contents are known and the file is known
-abbrev pub told_file : Option (ByName (List ℕ)) → List ℕ → Option (List ℕ)
-told_file told name = option_and_then (λ files. get files name) told
+abbrev pub stated_file : Option (ByName (List ℕ)) → List ℕ → Option (List ℕ)
+stated_file reported name = option_and_then (λ files. get files name) reported
 
 -- a read put this many bytes of the file, from a place on, into the front of a buffer and left the rest of it;
 -- it put none exactly at the end of the file or where the buffer is empty

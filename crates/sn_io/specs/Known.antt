@@ -26,5 +26,5 @@ abbrev pub raised : List ℕ → Known → Known
 raised name = with_first (is_named name) (λ entry. (entry.0, counted entry.1))
 
 -- where nothing is known, anything is so
-pub none_told : {A B : Type 0} {x : A} → None ≡ Some x → B
-none_told e = absurd (cc)
+pub none_reported : {A B : Type 0} {x : A} → None ≡ Some x → B
+none_reported e = absurd (cc)

@@ -103,6 +103,6 @@ some_inner {X = X} a b e = ap (inner a) e
     inner : X → Option X → X
     inner d o = elim o [ Some x ↦ x | _ ↦ d ]
 
-pub told_known : (s : MemInputsState) (files : ByName (List ℕ)) (q : List ℕ) → Some (held_by s.files) ≡ Some files
+pub reported_known : (s : MemInputsState) (files : ByName (List ℕ)) (q : List ℕ) → Some (held_by s.files) ≡ Some files
     → is_some (get files q) ≡ is_some (get (faults_of s.files) q)
-told_known s files q e = ap (λ m. is_some (get m q)) (sym (some_inner (held_by s.files) files e)) ∙ held_known s.files q
+reported_known s files q e = ap (λ m. is_some (get m q)) (sym (some_inner (held_by s.files) files e)) ∙ held_known s.files q

@@ -2,7 +2,7 @@
 ghost use Rattle.std.specs.Prelude.{◌≡◌, ℕ, ◌<◌, ◌≤◌, ◌↔◌, ◌⊎◌, List, [], Option, None, Some, is_some, length, IfOk, OnErr, IfSome, IsSomeAnd, IsErrOf, IsOkUnless};
 ghost use Rattle.std.specs.FinMap.{get};
 ghost use Rattle.sn_io.specs.Counts.{ByName, OnlyRises, RoseAt};
-ghost use Rattle.sn_io.specs.Inputs.{Reads, told_file};
+ghost use Rattle.sn_io.specs.Inputs.{Reads, stated_file};
 
 use sn_base::seed::Seed;
 use sn_base::seq::Seq;
@@ -20,21 +20,21 @@ pub enum InputFault {
 /// Files that are read by name. Reading changes no contents and no known name, and no count falls.
 pub trait Inputs {
     /// What each file holds, where that is known.
-    ghost told: { Self → Option (ByName (List ℕ)) };
+    ghost reported: { Self → Option (ByName (List ℕ)) };
 
     /// The known names, each with the number of its faults.
     ghost faults: { Self → ByName ℕ };
 
     /// Reads bytes of a file from the place `at` on into the front of `into`, and says how many.
     fn read_at(&mut self, name: &str, at: u64, into: &mut [u8]) -> Result<usize, InputFault>
-        ensures told { told self.new ≡ told self.old }
+        ensures reported { reported self.new ≡ reported self.old }
         ensures faults { OnlyRises name.now (faults self.old) (faults self.new) }
         ensures missing { IsErrOf result InputFault.Missing ↔ (get (faults self.old) name.now ≡ None) }
         ensures unchanged { IsErrOf result InputFault.Missing → self.new ≡ self.old }
         ensures failed { IsErrOf result InputFault.Failed → RoseAt name.now (faults self.old) (faults self.new) }
         ensures untouched { OnErr result (into.new ≡ into.old) }
         ensures within { IfOk result (λ n. n ≤ length into.old) }
-        ensures bytes { IfOk result (λ n. IfSome (told_file (told self.old) name.now) (λ file. Reads file at n into.old into.new)) };
+        ensures bytes { IfOk result (λ n. IfSome (stated_file (reported self.old) name.now) (λ file. Reads file at n into.old into.new)) };
 
     /// A seed that the writers of the files couldn't know, where there is one.
     fn seed(&self) -> Seed {
@@ -48,7 +48,7 @@ pub trait Inputs {
     }
 
     /// Where contents are known, the names held are the names known.
-    ghost same_names: { (s : Self) (files : ByName (List ℕ)) (name : List ℕ) → told s ≡ Some files → is_some (get files name) ≡ is_some (get (faults s) name) };
+    ghost same_names: { (s : Self) (files : ByName (List ℕ)) (name : List ℕ) → reported s ≡ Some files → is_some (get files name) ≡ is_some (get (faults s) name) };
 }
 
 /// The most bytes of a file that are read at once.
@@ -87,21 +87,21 @@ pub fn read_whole<I: Inputs>(
     name: &str,
     limit: u64,
 ) -> Result<Seq<u8>, ReadError>
-    ensures bytes { IfOk result (λ bytes. IfSome (told_file (I.told files.old) name.now) (λ file. bytes ≡ file)) }
+    ensures bytes { IfOk result (λ bytes. IfSome (stated_file (I.reported files.old) name.now) (λ file. bytes ≡ file)) }
     ensures most { IfOk result (λ bytes. length bytes ≤ limit) }
-    ensures whole { IsSomeAnd (told_file (I.told files.old) name.now) (λ file. length file ≤ limit) →
+    ensures whole { IsSomeAnd (stated_file (I.reported files.old) name.now) (λ file. length file ≤ limit) →
         ¬ RoseAt name.now (I.faults files.old) (I.faults files.new) → IsOkUnless result ReadError.Memory }
 
     ensures missing { IsErrOf result ReadError.Missing ↔ (get (I.faults files.old) name.now ≡ None) }
     ensures unchanged { IsErrOf result ReadError.Missing → files.new ≡ files.old }
     ensures fault { IsErrOf result ReadError.ReadFault → RoseAt name.now (I.faults files.old) (I.faults files.new) }
-    ensures large { IsErrOf result ReadError.TooLarge → IfSome (told_file (I.told files.old) name.now) (λ file. limit < length file) }
+    ensures large { IsErrOf result ReadError.TooLarge → IfSome (stated_file (I.reported files.old) name.now) (λ file. limit < length file) }
 
     // `ReadFault` and `Memory` go before `TooLarge`.
-    ensures is_large { IsSomeAnd (told_file (I.told files.old) name.now) (λ file. limit < length file) →
+    ensures is_large { IsSomeAnd (stated_file (I.reported files.old) name.now) (λ file. limit < length file) →
         IsErrOf result ReadError.TooLarge ⊎ (IsErrOf result ReadError.ReadFault ⊎ IsErrOf result ReadError.Memory) }
 
-    ensures told { I.told files.new ≡ I.told files.old }
+    ensures reported { I.reported files.new ≡ I.reported files.old }
     ensures faults { OnlyRises name.now (I.faults files.old) (I.faults files.new) }
 {
     let mut bytes = room_for(alloc, files, name, limit);

@@ -3,10 +3,10 @@ ghost use Rattle.std.specs.Prelude.{◌≡◌, ◌<◌, ◌≤◌, ◌-◌, ◌^
 ghost use Rattle.std.specs.Prelude.{position};
 ghost use Rattle.std.specs.FinMap.{get, insert};
 ghost use Rattle.sn_io.specs.Counts.{OnlyRises, RoseAt};
-ghost use Rattle.sn_io.specs.Inputs.{Reads, told_file};
+ghost use Rattle.sn_io.specs.Inputs.{Reads, stated_file};
 ghost use Rattle.sn_io.specs.Known.{counted};
 ghost use Rattle.sn_io.specs.MemInputs.{MemInputsState, has_name, held_by, faults_of, with_bytes, with_fault, with_name, files_put, read_answer, after_read};
-ghost use Rattle.sn_io.specs.MemInputs.{told_known};
+ghost use Rattle.sn_io.specs.MemInputs.{reported_known};
 
 use crate::inputs::{InputFault, Inputs};
 use crate::known::one_more;
@@ -212,11 +212,11 @@ impl MemInputs {
 }
 
 impl Inputs for MemInputs {
-    ghost told = { λ s. Some (held_by s.files) };
+    ghost reported = { λ s. Some (held_by s.files) };
 
     ghost faults = { λ s. faults_of s.files };
 
-    ghost same_names = { told_known };
+    ghost same_names = { reported_known };
 
     /// Reads as many bytes of a file as there are from the place `at` on and fit into `into`. `Missing` comes exactly
     /// where the name isn't known, and `Failed` exactly where the read is one that is to fail. The first two clauses
@@ -224,14 +224,14 @@ impl Inputs for MemInputs {
     fn read_at(&mut self, name: &str, at: u64, into: &mut [u8]) -> Result<usize, InputFault>
         ensures answer { result ≡ read_answer self.old name.now at (length into.old) }
         ensures after { self.new ≡ after_read self.old name.now }
-        ensures told { Some (held_by self.new.files) ≡ Some (held_by self.old.files) }
+        ensures reported { Some (held_by self.new.files) ≡ Some (held_by self.old.files) }
         ensures faults { OnlyRises name.now (faults_of self.old.files) (faults_of self.new.files) }
         ensures missing { IsErrOf result InputFault.Missing ↔ (get (faults_of self.old.files) name.now ≡ None) }
         ensures unchanged { IsErrOf result InputFault.Missing → self.new ≡ self.old }
         ensures failed { IsErrOf result InputFault.Failed → RoseAt name.now (faults_of self.old.files) (faults_of self.new.files) }
         ensures untouched { OnErr result (into.new ≡ into.old) }
         ensures within { IfOk result (λ n. n ≤ length into.old) }
-        ensures bytes { IfOk result (λ n. IfSome (told_file (Some (held_by self.old.files)) name.now) (λ file. Reads file at n into.old into.new)) }
+        ensures bytes { IfOk result (λ n. IfSome (stated_file (Some (held_by self.old.files)) name.now) (λ file. Reads file at n into.old into.new)) }
     {
         self.read(name, at, into)
     }

@@ -4,7 +4,7 @@ ghost use Rattle.std.specs.List.{list_any};
 ghost use Rattle.std.specs.Cmp.Lexicographic.{pointwise};
 ghost use Rattle.std.specs.FinMap.{get};
 ghost use Rattle.std.specs.String.{string_bytes};
-ghost use Rattle.sn_io.specs.Known.{counts_of, none_told};
+ghost use Rattle.sn_io.specs.Known.{counts_of, none_reported};
 
 use crate::inputs::{InputFault, Inputs};
 use crate::known::{Entry, one_more, place_of, raise, read_place};
@@ -131,11 +131,11 @@ impl RealInputs {
 }
 
 impl Inputs for RealInputs {
-    ghost told = { λ _. None };
+    ghost reported = { λ _. None };
 
     ghost faults = { counts_of };
 
-    ghost same_names = { λ s files name e. none_told e };
+    ghost same_names = { λ s files name e. none_reported e };
 
     fn read_at(&mut self, name: &str, at: u64, into: &mut [u8]) -> Result<usize, InputFault> {
         let Some(place) = place_of(&self.known, name) else {

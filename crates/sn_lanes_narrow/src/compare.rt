@@ -2,9 +2,9 @@
 ghost use Rattle.std.specs.Prelude.{◌≡◌, ◌≤◌, length, map, take};
 ghost use Rattle.sn_lanes_narrow.specs.Marks.{number_mark};
 
-use crate::condition::compares;
 use crate::lane::{LANES, Lane};
 use sn_query_grammar::ast::Cmp;
+use sn_types::evaluate::compares;
 
 fn mark_of<L: Lane>(number: L, and: u128, cmp: Cmp, constant: u64) -> u8
     ensures { result ≡ number_mark cmp and constant (L.value number) }

@@ -1,11 +1,11 @@
 //! Conditions on fields.
 ghost use Rattle.std.specs.Prelude.{◌≡◌, true, length};
 ghost use Rattle.sn_lanes_narrow.specs.Marks.{asks, marks_of};
-ghost use Rattle.sn_types.specs.Values.{compared};
 
 use sn_fields::field::Field;
 use sn_fields::tuple::Tuple;
 use sn_query_grammar::ast::Cmp;
+use sn_types::evaluate::compares;
 
 /// A condition on a field of a tuple: its number, and-ed with another one, compares so with a constant.
 #[derive(Clone, Copy)]
@@ -14,20 +14,6 @@ pub struct Condition {
     pub and: u128,
     pub cmp: Cmp,
     pub constant: u64,
-}
-
-/// Whether two numbers compare so.
-pub(crate) fn compares(cmp: Cmp, left: u128, right: u128) -> bool
-    ensures { result ≡ compared cmp left right }
-{
-    match cmp {
-        Cmp::Eq => left == right,
-        Cmp::Ne => left != right,
-        Cmp::Lt => left < right,
-        Cmp::Le => left <= right,
-        Cmp::Gt => left > right,
-        Cmp::Ge => left >= right,
-    }
 }
 
 impl Condition {

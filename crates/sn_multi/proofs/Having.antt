@@ -19,7 +19,7 @@ use Rattle.sn_chain.proofs.HomeLemmas.{homes_known}
 use Rattle.sn_pipe_items.specs.Items.{held, tagged}
 use Rattle.sn_pipe_items.specs.Value.{is_at, is_partial, rows_with, value}
 use Rattle.sn_pipe_items.proofs.Homes.{all_members, member}
-use Rattle.sn_pipe_items.proofs.ItemLemmas.{rows_all, rows_behind, rows_none}
+use Rattle.sn_pipe_items.proofs.ItemLemmas.{rows_all, rows_after, rows_none}
 use Rattle.sn_pipe_items.proofs.ItemsHadLemmas.{had_none}
 use Rattle.sn_pipe_items.proofs.LeftLaw.{items_had_bag}
 use Rattle.sn_pipe_items.proofs.ValueBag.{IsHeld, ItemsHad, PartialHad, value_bag}
@@ -99,11 +99,11 @@ module _ (depth : ℕ) (size : ℕ → ℕ) where
         rows = subst (AllByRecursion (Had (Reduce g ∷ ops))) (sym (rows_both (is_at i) (tagged (At i) over) rest ∙ ap (λ xs. xs ++ rows_with (is_at i) rest) (rows_all (is_at i) (At i) (nat_self i) over) ∙ ap (λ xs. over ++ xs) (rows_none (is_at i) (Partial i) refl kept)))
             (all_append (Had (Reduce g ∷ ops)) over [] (all_filter (Had (Reduce g ∷ ops)) (λ row. not (has_home depth (size i) (map (key_of g) flow) (key_of g row))) flow had) tt);
         items = (
-          subst (AllByRecursion (IsHeld g ops)) (sym (rows_behind (is_partial i) (At i) refl over rest ∙ rows_all (is_partial i) (Partial i) (nat_self i) kept)) (held_are i g ops flow had),
-          subst (AllByRecursion (Had ops)) (sym (rows_behind (is_at (suc i)) (At i) (nat_apart (suc i) i (λ e. omega arith)) over rest ∙ rows_none (is_at (suc i)) (Partial i) refl kept)) tt,
+          subst (AllByRecursion (IsHeld g ops)) (sym (rows_after (is_partial i) (At i) refl over rest ∙ rows_all (is_partial i) (Partial i) (nat_self i) kept)) (held_are i g ops flow had),
+          subst (AllByRecursion (Had ops)) (sym (rows_after (is_at (suc i)) (At i) (nat_apart (suc i) i (λ e. omega arith)) over rest ∙ rows_none (is_at (suc i)) (Partial i) refl kept)) tt,
           had_none (suc i) ops (tagged (At i) over ++ rest)
-              (λ j le. rows_behind (is_partial j) (At i) refl over rest ∙ rows_none (is_partial j) (Partial i) (nat_apart j i (λ e. omega arith)) kept)
-              (λ j lt. rows_behind (is_at j) (At i) (nat_apart j i (λ e. omega arith)) over rest ∙ rows_none (is_at j) (Partial i) refl kept),
+              (λ j le. rows_after (is_partial j) (At i) refl over rest ∙ rows_none (is_partial j) (Partial i) (nat_apart j i (λ e. omega arith)) kept)
+              (λ j lt. rows_after (is_at j) (At i) (nat_apart j i (λ e. omega arith)) over rest ∙ rows_none (is_at j) (Partial i) refl kept),
         );
       }
 

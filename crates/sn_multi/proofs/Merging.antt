@@ -24,7 +24,7 @@ use Rattle.sn_chain.proofs.HomeLemmas.{homes_known, homes_test}
 use Rattle.sn_pipe_items.specs.Items.{held, tagged}
 use Rattle.sn_pipe_items.specs.Value.{finish, is_at, is_partial, rows_with, taken, value}
 use Rattle.sn_pipe_items.proofs.Homes.{homes_apart_any}
-use Rattle.sn_pipe_items.proofs.ItemLemmas.{finish_alone, finish_none, finish_past, finish_past_partial, rows_all, rows_behind, rows_none, taken_none}
+use Rattle.sn_pipe_items.proofs.ItemLemmas.{finish_alone, finish_none, finish_past, finish_past_partial, rows_all, rows_after, rows_none, taken_none}
 use Rattle.sn_report.specs.Items.{Item}
 use Rattle.sn_report.specs.declared.frame.Tag.{Tag}
 use Rattle.sn_report.specs.declared.frame.Tag.TheVariants.{At, Partial}
@@ -72,7 +72,7 @@ module _ (depth : ℕ) (size : ℕ → ℕ) where
   one_before t i ats pts (Filter p ∷ ops) flow = one_before t (suc i) (λ j le. ats j (omega arith)) (λ j le. pts j (omega arith)) ops (filter p flow)
   one_before t i ats pts (Map f ∷ ops) flow = one_before t (suc i) (λ j le. ats j (omega arith)) (λ j le. pts j (omega arith)) ops (map f flow)
   one_before t i ats pts (Distinct ∷ ops) flow = rows_none t (At i) (ats i (omega arith)) (beyond depth size i flow ++ firsts depth size i flow)
-  one_before t i ats pts (Reduce g ∷ ops) flow = rows_behind t (At i) (ats i (omega arith)) (beyond_keys depth size i g flow) (tagged (Partial i) (held depth size i g flow)) ∙ rows_none t (Partial i) (pts i (omega arith)) (held depth size i g flow)
+  one_before t i ats pts (Reduce g ∷ ops) flow = rows_after t (At i) (ats i (omega arith)) (beyond_keys depth size i g flow) (tagged (Partial i) (held depth size i g flow)) ∙ rows_none t (Partial i) (pts i (omega arith)) (held depth size i g flow)
 
   none_before : (t : Tag → Bool) (i : ℕ) → ((j : ℕ) → i ≤ j → t (At j) ≡ false) → ((j : ℕ) → i ≤ j → t (Partial j) ≡ false) → (ops : List Op) (flows : List (List Row)) → rows_with t (from i ops flows) ≡ []
   none_before t i ats pts ops [] = refl
@@ -120,7 +120,7 @@ module _ (depth : ℕ) (size : ℕ → ℕ) where
       let rows : List Row = flat_map sent flows in
       let found : from i (Distinct ∷ ops) flows ≡ tagged (At i) rows = tagged_all (At i) sent flows in
       let run : List Item → List Row = λ xs. finish i (Distinct ∷ rest) xs (rows_with (is_at i) xs) in
-      let told : run (tagged (At i) rows) ≡ through rest (once same_row rows) =
+      let reported : run (tagged (At i) rows) ≡ through rest (once same_row rows) =
       ap (λ into. finish i (Distinct ∷ rest) (tagged (At i) rows) into) (rows_all (is_at i) (At i) (nat_self i) rows)
       ∙ ap (λ ys. finish (suc i) rest (tagged (At i) rows) (once same_row rows ++ ys)) (rows_none (is_at (suc i)) (At i) (nat_apart (suc i) i (λ e. omega arith)) rows)
       ∙ ap (finish (suc i) rest (tagged (At i) rows)) (append-nil (once same_row rows))
@@ -128,7 +128,7 @@ module _ (depth : ℕ) (size : ℕ → ℕ) where
       let bags : SameBag (once same_row rows) (once same_row (rows_in flows)) =
       apart_bag nat_list_eq_equiv same_row_exact (once same_row rows) (once same_row (rows_in flows)) (once_apart same_row rows) (once_apart same_row (rows_in flows))
       (λ k. any_once nat_list_eq_equiv same_row_exact k rows ∙ all_occur i k flows ∙ sym (any_once nat_list_eq_equiv same_row_exact k (rows_in flows))) in
-      bag_then (bag_same (ap run found ∙ told))
+      bag_then (bag_same (ap run found ∙ reported))
       (bag_back (through rest (once same_row (rows_in flows))) (through rest (once same_row rows))
       (through_bag rest (once same_row (rows_in flows)) (once same_row rows) (had_after Distinct rest (rows_in flows) had) (bag_back (once same_row rows) (once same_row (rows_in flows)) bags)))
 
@@ -158,14 +158,14 @@ module _ (depth : ℕ) (size : ℕ → ℕ) where
     part_rows [] = refl
     part_rows (flow ∷ flows) =
         rows_both (is_partial i) (sent flow) (flat_map sent flows)
-        ∙ ap (λ xs. xs ++ rows_with (is_partial i) (flat_map sent flows)) (rows_behind (is_partial i) (At i) refl (over flow) (tagged (Partial i) (holds flow)) ∙ rows_all (is_partial i) (Partial i) (nat_self i) (holds flow))
+        ∙ ap (λ xs. xs ++ rows_with (is_partial i) (flat_map sent flows)) (rows_after (is_partial i) (At i) refl (over flow) (tagged (Partial i) (holds flow)) ∙ rows_all (is_partial i) (Partial i) (nat_self i) (holds flow))
         ∙ ap (λ xs. holds flow ++ xs) (part_rows flows)
 
     next_rows : (flows : List (List Row)) → rows_with (is_at (suc i)) (flat_map sent flows) ≡ []
     next_rows [] = refl
     next_rows (flow ∷ flows) =
         rows_both (is_at (suc i)) (sent flow) (flat_map sent flows)
-        ∙ ap (λ xs. xs ++ rows_with (is_at (suc i)) (flat_map sent flows)) (rows_behind (is_at (suc i)) (At i) (nat_apart (suc i) i (λ e. omega arith)) (over flow) (tagged (Partial i) (holds flow)) ∙ rows_none (is_at (suc i)) (Partial i) refl (holds flow))
+        ∙ ap (λ xs. xs ++ rows_with (is_at (suc i)) (flat_map sent flows)) (rows_after (is_at (suc i)) (At i) (nat_apart (suc i) i (λ e. omega arith)) (over flow) (tagged (Partial i) (holds flow)) ∙ rows_none (is_at (suc i)) (Partial i) refl (holds flow))
         ∙ next_rows flows
 
     passed : (rest : List Op) (flows : List (List Row)) (into : List Row) → finish (suc i) rest (flat_map sent flows) into ≡ through rest into
@@ -275,13 +275,13 @@ module _ (depth : ℕ) (size : ℕ → ℕ) where
     at_reduce ops rest flows had =
         let found : List Item = flat_map sent flows in
         let rows : List Row = grouped g (pairs (flat_map over flows) ++ parts (flat_map holds flows)) in
-        let told : finish i (Reduce g ∷ rest) found (rows_with (is_at i) found) ≡ through rest rows =
+        let reported : finish i (Reduce g ∷ rest) found (rows_with (is_at i) found) ≡ through rest rows =
         ap (λ into. finish (suc i) rest found (taken (Reduce g) into (rows_with (is_partial i) found) ++ rows_with (is_at (suc i)) found)) (at_rows flows)
         ∙ ap (λ ps. finish (suc i) rest found (taken (Reduce g) (flat_map over flows) ps ++ rows_with (is_at (suc i)) found)) (part_rows flows)
         ∙ ap (λ ys. finish (suc i) rest found (rows ++ ys)) (next_rows flows)
         ∙ ap (finish (suc i) rest found) (append-nil rows)
         ∙ passed rest flows rows in
-        bag_then (bag_same told)
+        bag_then (bag_same reported)
         (bag_back (through rest (apply (Reduce g) (rows_in flows))) (through rest rows)
         (through_bag rest (apply (Reduce g) (rows_in flows)) rows (had_after (Reduce g) rest (rows_in flows) had)
         (bag_back rows (apply (Reduce g) (rows_in flows)) (all_joined flows [] tt (pairs_had g rest (rows_in flows) had)))))

@@ -18,7 +18,7 @@ use Rattle.sn_ops.proofs.Branches.{packets_of}
 use Rattle.sn_ops.proofs.PacketSteps.{some_branch}
 use Rattle.sn_report.specs.Items.{Item}
 use Rattle.sn_engine_split.specs.Branches.{branch_value, query_value}
-use Rattle.sn_engine_split.specs.Opened.{Prefixes, let_in, lets_in, tabled}
+use Rattle.sn_engine_split.specs.Opened.{Prefixes, tuples_admitted, admits, tabled}
 use Rattle.sn_engine_split.proofs.OpenSplit.{open_value}
 use Rattle.sn_engine_split.proofs.Queries.{query_bag}
 use Rattle.sn_engine_split.proofs.Typed.{rows_had}
@@ -71,23 +71,23 @@ queries_merged window q level queries kept captures left right t lt widths l r =
 -- ---- where items of other prefixes are dropped
 
 -- the tuples of all captures that were let in
-in_together : (query : TypedQuery) (ps : Option Prefixes) (captures : List (List (List ℕ))) → together (map (let_in query ps) captures) ≡ let_in query ps (together captures)
+in_together : (query : TypedQuery) (ps : Option Prefixes) (captures : List (List (List ℕ))) → together (map (tuples_admitted query ps) captures) ≡ tuples_admitted query ps (together captures)
 in_together query ps [] = refl
 in_together query ps (tuples ∷ captures) =
-    ap (λ ts. let_in query ps tuples ++ ts) (in_together query ps captures) ∙ sym (filter-append (lets_in query.field ps) tuples (together captures))
+    ap (λ ts. tuples_admitted query ps tuples ++ ts) (in_together query ps captures) ∙ sym (filter-append (admits query.field ps) tuples (together captures))
 
 branch_left : (window q b level : ℕ) (queries : List TypedQuery) (ps : Option Prefixes) (captures : List (List (List ℕ))) (found : List Item) → ∥ IsTyped window queries ∥₁ → q < length queries → b < length (query_at queries q).branches
-    → AllByRecursion HasWidths (together captures) → AreLeftOfSwitches queries q b level ps captures found → SameBag (branch_value (query_at queries q) b level found) (branch_rows (query_at queries q) b level None (let_in (query_at queries q) ps (together captures)))
+    → AllByRecursion HasWidths (together captures) → AreLeftOfSwitches queries q b level ps captures found → SameBag (branch_value (query_at queries q) b level found) (branch_rows (query_at queries q) b level None (tuples_admitted (query_at queries q) ps (together captures)))
 branch_left window q b level queries ps captures found t lt within widths h =
     let query : TypedQuery = query_at queries q in
-    let wide : List (List (List ℕ)) = map (let_in query (tabled h.entries ps)) captures in
-    let all : together wide ≡ let_in query (tabled h.entries ps) (together captures) = in_together query (tabled h.entries ps) captures in
-    let wide_widths : AllByRecursion HasWidths (together wide) = subst (AllByRecursion HasWidths) (sym all) (all_filter HasWidths (lets_in query.field (tabled h.entries ps)) (together captures) widths) in
-    let sent : SameBag (branch_value query b level h.sent) (branch_rows query b level None (let_in query (tabled h.entries ps) (together captures))) =
+    let wide : List (List (List ℕ)) = map (tuples_admitted query (tabled h.entries ps)) captures in
+    let all : together wide ≡ tuples_admitted query (tabled h.entries ps) (together captures) = in_together query (tabled h.entries ps) captures in
+    let wide_widths : AllByRecursion HasWidths (together wide) = subst (AllByRecursion HasWidths) (sym all) (all_filter HasWidths (admits query.field (tabled h.entries ps)) (together captures) widths) in
+    let sent : SameBag (branch_value query b level h.sent) (branch_rows query b level None (tuples_admitted query (tabled h.entries ps) (together captures))) =
     bag_then
     (branch_merged window q b level queries None wide h.sent t lt within wide_widths record { cut = h.cut; depth = h.depth; sizes = h.sizes; same = h.same })
     (bag_same (ap (branch_rows query b level None) all)) in
-    subst (λ (xs : List Item). SameBag (branch_value query b level xs) (branch_rows query b level None (let_in query ps (together captures)))) (sym h.is)
+    subst (λ (xs : List Item). SameBag (branch_value query b level xs) (branch_rows query b level None (tuples_admitted query ps (together captures)))) (sym h.is)
     (open_value window q b level queries h.entries ps (together captures) h.sent t lt within h.low
     (any_had h.depth (size_at (branch_of query b).ops h.sizes) h.cut (map (op_at level) (branch_of query b).ops) (map (packet_rows query b level None) wide) h.sent
     (rows_are_had window q b level queries None wide t lt within wide_widths) h.same) sent)
@@ -95,11 +95,11 @@ branch_left window q b level queries ps captures found t lt within widths h =
 -- the value of what is left of the items of a query in all switches is the query on the tuples of all captures with these prefixes
 pub queries_left : (window q level : ℕ) (queries : List TypedQuery) (ps : Option Prefixes) (captures : List (List (List ℕ))) (left right : List Item) → ∥ IsTyped window queries ∥₁ → q < length queries → AllByRecursion HasWidths (together captures)
     → AreLeftOfSwitches queries q 0 level ps captures left → (length (query_at queries q).branches ≡ 2 → AreLeftOfSwitches queries q 1 level ps captures right)
-    → sorted_rows (query_value (query_at queries q) level left right) ≡ sorted_rows (query_rows (query_at queries q) level None (let_in (query_at queries q) ps (together captures)))
+    → sorted_rows (query_value (query_at queries q) level left right) ≡ sorted_rows (query_rows (query_at queries q) level None (tuples_admitted (query_at queries q) ps (together captures)))
 queries_left window q level queries ps captures left right t lt widths l r =
     let query : TypedQuery = query_at queries q in
     let some = some_branch window queries q t lt in
-    sort_bag (query_value query level left right) (query_rows query level None (let_in query ps (together captures)))
-    (query_bag window queries q level None (let_in query ps (together captures)) left right t lt
+    sort_bag (query_value query level left right) (query_rows query level None (tuples_admitted query ps (together captures)))
+    (query_bag window queries q level None (tuples_admitted query ps (together captures)) left right t lt
     (branch_left window q 0 level queries ps captures left t lt (omega (arith, some)) widths l)
     (λ two. branch_left window q 1 level queries ps captures right t lt (omega (arith, two)) widths (r two)))

@@ -3,7 +3,7 @@
 use Rattle.std.specs.Prelude.{◌≡◌, ℕ, List, map, Option, None}
 use Rattle.std.specs.List.{flat_map}
 use Rattle.sn_base.specs.Bags.{SameBag}
-use Rattle.sn_engine_split.specs.Opened.{IsWithinLevel, Prefixes, left_in, let_in, tabled}
+use Rattle.sn_engine_split.specs.Opened.{IsWithinLevel, Prefixes, left_in, tuples_admitted, tabled}
 use Rattle.sn_ops.specs.Packets.{packet_rows}
 use Rattle.sn_ops.specs.declared.packets.Kept.{Kept}
 use Rattle.sn_report.specs.Items.{Item}
@@ -41,5 +41,5 @@ pub record AreLeftOfSwitches (queries : List TypedQuery) (q b level : ℕ) (ps :
   pub sent : List Item
   pub low : IsWithinLevel level ps
   pub same : SameBag
-      (many_items (query_at queries q) b level None cut depth sizes (map (let_in (query_at queries q) (tabled entries ps)) captures)) sent
+      (many_items (query_at queries q) b level None cut depth sizes (map (tuples_admitted (query_at queries q) (tabled entries ps)) captures)) sent
   pub is : found ≡ left_in (query_at queries q) b ps sent

@@ -9,7 +9,7 @@ ghost use Rattle.sn_base.specs.Sorted.{sorted_rows};
 ghost use Rattle.sn_ops.specs.Plain.{query_rows};
 ghost use Rattle.sn_ops.specs.declared.packets.Kept.{Kept};
 ghost use Rattle.sn_engine_split.specs.Branches.{query_value};
-ghost use Rattle.sn_engine_split.specs.Opened.{Prefixes, let_in};
+ghost use Rattle.sn_engine_split.specs.Opened.{Prefixes, tuples_admitted};
 ghost use Rattle.sn_types.specs.Typed.{HasWidths, IsTyped, query_at};
 ghost use Rattle.sn_types.specs.declared.typed_query.TypedQuery.{TypedQuery};
 ghost use Rattle.sn_multi.specs.Branches.{AreLeftOfSwitches, AreOfSwitches, together};
@@ -45,5 +45,5 @@ pub fn open_tables_of_many_switches_change_no_answer()
         AreLeftOfSwitches queries q 0 level ps captures left →
         (length (query_at queries q).branches ≡ 2 → AreLeftOfSwitches queries q 1 level ps captures right) →
         sorted_rows (query_value (query_at queries q) level left right)
-        ≡ sorted_rows (query_rows (query_at queries q) level None (let_in (query_at queries q) ps (together captures))) }
+        ≡ sorted_rows (query_rows (query_at queries q) level None (tuples_admitted (query_at queries q) ps (together captures))) }
 {}

@@ -32,8 +32,8 @@ pub keys_fit : (level : ℕ) (r : TReduce) (ops : List TOp) (s : SeenState) (see
 keys_fit level r ops s seen out h =
     subst (All (λ (g : Row × ℕ). length g.0 < 8)) (sym h.1.0) (groups_short (any_step r.fold) (any_unit r.fold) r.keys r.value h.0 h.2.0.few)
 
-pub behind_fit : (level : ℕ) (r : TReduce) (ops : List TOp) (s : SeenState) (seen : List SeenState) (out rows : List Row) → Ready level (Reduce r ∷ ops) (s ∷ seen) out → rows ≡ map group_row s.groups.entries → AllFit level ops rows
-behind_fit level r ops s seen out rows h is = subst (AllFit level ops) (sym (is ∙ groups_give level r ops s seen h.0 out h.1)) h.2.1
+pub after_fit : (level : ℕ) (r : TReduce) (ops : List TOp) (s : SeenState) (seen : List SeenState) (out rows : List Row) → Ready level (Reduce r ∷ ops) (s ∷ seen) out → rows ≡ map group_row s.groups.entries → AllFit level ops rows
+after_fit level r ops s seen out rows h is = subst (AllFit level ops) (sym (is ∙ groups_give level r ops s seen h.0 out h.1)) h.2.1
 
 pub run_gives : {Y : Type 0} (level : ℕ) (r : TReduce) (ops : List TOp) (s : SeenState) (seen : List SeenState) (out given : List Row) (result : Result (List Row) Y) → given ≡ map group_row s.groups.entries
     → IfOk result (λ found. found ≡ through (map (op_at level) ops) given) → IfOk result (λ found. (rows : List Row) → Stands level (Reduce r ∷ ops) (s ∷ seen) rows out → found ≡ through (map (op_at level) (Reduce r ∷ ops)) rows)

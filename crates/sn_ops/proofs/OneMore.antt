@@ -64,11 +64,11 @@ seen_push (Reduce r) seen groups rows row h =
 
 -- ---- all operators
 
-lets_on : (level : ℕ) (op : TOp) (seen : List Row) (row next : Row) → flows level op seen row ≡ Some next → is_reduce op ≡ false
-lets_on level (Filter conds) seen row next e = refl
-lets_on level (Map exprs) seen row next e = refl
-lets_on level Distinct seen row next e = refl
-lets_on level (Reduce r) seen row next e = cc
+flows_on : (level : ℕ) (op : TOp) (seen : List Row) (row next : Row) → flows level op seen row ≡ Some next → is_reduce op ≡ false
+flows_on level (Filter conds) seen row next e = refl
+flows_on level (Map exprs) seen row next e = refl
+flows_on level Distinct seen row next e = refl
+flows_on level (Reduce r) seen row next e = cc
 
 -- the operator has seen one row more
 has_one_more : (op : TOp) (s s' : SeenState) (rows : List Row) (row : Row) → s'.rows.keys ≡ rows_after op s.rows.keys row → s'.groups.entries ≡ groups_after op s.groups.entries row
@@ -82,11 +82,11 @@ pub stands_on : (level : ℕ) (op : TOp) (ops : List TOp) (s s' : SeenState) (se
     → s'.rows.keys ≡ rows_after op s.rows.keys row → s'.groups.entries ≡ groups_after op s.groups.entries row → flows level op s.rows.keys row ≡ Some next
     → ((rs : List Row) → Stands level ops seen rs out → Stands level ops seen' (rs ++ next ∷ []) out')
     → Stands level (op ∷ ops) (s ∷ seen) rows out → Stands level (op ∷ ops) (s' ∷ seen') (rows ++ row ∷ []) out'
-stands_on level op ops s s' seen seen' rows row next out out' e g flow behind h = (
+stands_on level op ops s s' seen seen' rows row next out out' e g flow following h = (
   has_one_more op s s' rows row e g h.0,
   λ other. subst (λ (rs : List Row). Stands level ops seen' rs out')
       (sym (apply_push level op s.rows.keys s.groups.entries rows row h.0 other ∙ ap (λ o. apply (op_at level op) rows ++ as_list o) flow))
-      (behind (apply (op_at level op) rows) (h.1 other)),
+      (following (apply (op_at level op) rows) (h.1 other)),
 )
 
 -- a row that stays at the first operator
@@ -131,7 +131,7 @@ can_take level [] seen rows row out h f = tt
 can_take level (op ∷ ops) [] rows row out h f = h
 can_take level (op ∷ ops) (s ∷ seen) rows row out h f = (
   can_meet op s.rows.keys s.groups.entries rows row h.0 f.0,
-  λ next flow. let other = lets_on level op s.rows.keys row next flow in
+  λ next flow. let other = flows_on level op s.rows.keys row next flow in
       can_take level ops seen (apply (op_at level op) rows) next out (h.1 other)
       (subst (AllFit level ops) (apply_push level op s.rows.keys s.groups.entries rows row h.0 other ∙ ap (λ o. apply (op_at level op) rows ++ as_list o) flow) f.1),
 )

@@ -17,14 +17,14 @@ one_pair f found i right within at =
     ∙ ap (map f) (take-append-drop (i + 1) found)
 
 -- the pairs of a left row stand after those of the rows before it, and before those of the others
-pub pairs_whole : (meets : Row → Row → Bool) (both : Row → Row → Row) (left right : List Row) (i : ℕ) (row : Row) (front behind : List Row) → i < length left → row ≡ get_or left i row
-    → front ++ behind ≡ map (both row) (filter (meets row) right) → (join meets both (take i left) right ++ front) ++ (behind ++ join meets both (drop (i + 1) left) right) ≡ join meets both left right
-pairs_whole meets both left right i row front behind within at is =
+pub pairs_whole : (meets : Row → Row → Bool) (both : Row → Row → Row) (left right : List Row) (i : ℕ) (row : Row) (front following : List Row) → i < length left → row ≡ get_or left i row
+    → front ++ following ≡ map (both row) (filter (meets row) right) → (join meets both (take i left) right ++ front) ++ (following ++ join meets both (drop (i + 1) left) right) ≡ join meets both left right
+pairs_whole meets both left right i row front following within at is =
     let f : Row → List Row = λ l. map (both l) (filter (meets l) right) in
     let J : List Row = join meets both (take i left) right in
     let D : List Row = join meets both (drop (i + 1) left) right in
-    append_assoc J front (behind ++ D)
-    ∙ ap (λ (rs : List Row). J ++ rs) (sym (append_assoc front behind D) ∙ ap (λ (rs : List Row). rs ++ D) is)
+    append_assoc J front (following ++ D)
+    ∙ ap (λ (rs : List Row). J ++ rs) (sym (append_assoc front following D) ∙ ap (λ (rs : List Row). rs ++ D) is)
     ∙ sym (append_assoc J (f row) D)
     ∙ ap (λ (rs : List Row). rs ++ D) (flat_step f left i row within at)
     ∙ sym (flat_map-append f (take (i + 1) left) (drop (i + 1) left))

@@ -25,7 +25,7 @@ pub fn start<R: AnyRow>(
     requires { CanTake level ops.now seen.old packet.now }
     ensures { OnOk result ((rows : List Row) → Stands level ops.now seen.old rows out.old → Stands level ops.now seen.new (rows ++ packet.now ∷ []) out.new) }
 {
-    let Some((op, behind)) = ops.split_first() else {
+    let Some((op, following)) = ops.split_first() else {
         packet.put_into(row);
         return out.push(row);
     };
@@ -33,8 +33,8 @@ pub fn start<R: AnyRow>(
         unreachable!();
     };
     match first.begin(op, level, packet, row)? {
-        Passage::Same => start(behind, later, level, packet, row, out),
-        Passage::Other => take(behind, later, level, row, out),
+        Passage::Same => start(following, later, level, packet, row, out),
+        Passage::Other => take(following, later, level, row, out),
         Passage::Stays => Ok(()),
     }
 }

@@ -56,11 +56,11 @@ pub joined_given : (queries : List TypedQuery) (s : QueryStream) (second : AnyBr
 joined_given queries s second left right found is one two rows columns tuples h =
     let query : TypedQuery = query_at queries s.q in
     let had = second_taken queries s.q s.level tuples s.second second is h.1 in
-    let behind : List Row → List Row → List Row = λ ls rs. through (map (op_at s.level) query.posts) (joined query.keys ls rs) in
-    let whole : List Row = behind (branch_rows query 0 s.level None tuples) (branch_rows query 1 s.level None tuples) in
+    let following : List Row → List Row → List Row = λ ls rs. through (map (op_at s.level) query.posts) (joined query.keys ls rs) in
+    let whole : List Row = following (branch_rows query 0 s.level None tuples) (branch_rows query 1 s.level None tuples) in
     let chosen : whole ≡ query_rows query s.level None tuples = sym (ap (λ (n : ℕ). cond (n == 2) whole (branch_rows query 0 s.level None tuples)) had.0) in (
-      rows ∙ ap (λ (ls : List Row). behind ls right) (one queries s.q 0 s.level tuples h.0).0
-          ∙ ap (behind (branch_rows query 0 s.level None tuples)) (two queries s.q 1 s.level tuples had.1).0 ∙ chosen,
+      rows ∙ ap (λ (ls : List Row). following ls right) (one queries s.q 0 s.level tuples h.0).0
+          ∙ ap (following (branch_rows query 0 s.level None tuples)) (two queries s.q 1 s.level tuples had.1).0 ∙ chosen,
       columns,
     )
 

@@ -11,18 +11,18 @@ use Rattle.sn_types.specs.Values.{holds}
 use Rattle.sn_lanes_narrow.specs.Marks.{asks_all}
 use Rattle.sn_lanes_narrow.specs.declared.condition.Condition.{Condition}
 
--- an operator is a filter that lets a row through
-abbrev pub lets : ℕ → TOp → Row → Bool
-lets level (Filter conds) row = list_all (λ c. holds level c row) conds
-lets level (Map exprs) row = false
-lets level Distinct row = false
-lets level (Reduce r) row = false
+-- an operator is a filter that admits a row
+abbrev pub filter_admits : ℕ → TOp → Row → Bool
+filter_admits level (Filter conds) row = list_all (λ c. holds level c row) conds
+filter_admits level (Map exprs) row = false
+filter_admits level Distinct row = false
+filter_admits level (Reduce r) row = false
 
 -- and so is each of the first ones
-abbrev pub lets_in : ℕ → ℕ → List TOp → Row → Bool
-lets_in level zero ops row = true
-lets_in level (suc front) [] row = false
-lets_in level (suc front) (op ∷ ops) row = lets level op row && lets_in level front ops row
+abbrev pub admits : ℕ → ℕ → List TOp → Row → Bool
+admits level zero ops row = true
+admits level (suc front) [] row = false
+admits level (suc front) (op ∷ ops) row = filter_admits level op row && admits level front ops row
 
 abbrev pub IsFilter : TOp → Type 0
 IsFilter (Filter conds) = Unit {0}
@@ -39,4 +39,4 @@ AreFilters (suc front) (op ∷ ops) = IsFilter op × AreFilters front ops
 -- the first operators are filters, which let a tuple's packet row through exactly where these conditions hold of the tuple
 pub record IsFront (refined : Option Field) (level : ℕ) (fields : List Field) (ops : List TOp) (front : ℕ) (conditions : List Condition) : Type 0 where
   pub filters : AreFilters front ops
-  pub same : (tuple : List ℕ) → lets_in level front ops (packet_row refined level fields tuple) ≡ asks_all conditions tuple
+  pub same : (tuple : List ℕ) → admits level front ops (packet_row refined level fields tuple) ≡ asks_all conditions tuple

@@ -9,7 +9,7 @@ use Rattle.sn_types.specs.Typed.{IsTyped, branch_at, end_columns, final_columns,
 use Rattle.sn_ops.specs.Packets.{packet_rows}
 use Rattle.sn_ops.specs.Plain.{branch_rows, query_rows}
 use Rattle.sn_ops.specs.Standing.{Stands}
-use Rattle.sn_ops_stream.specs.Fronts.{lets_in}
+use Rattle.sn_ops_stream.specs.Fronts.{admits}
 use Rattle.sn_ops_stream.specs.States.{BranchState}
 use Rattle.sn_ops_stream.specs.declared.any_branch.AnyBranch.{AnyBranch}
 use Rattle.sn_ops_stream.specs.declared.any_branch.AnyBranch.TheVariants as kinds
@@ -38,8 +38,8 @@ pub record IsSameBranch (old new : BranchState) : Type 0 where
   pub same_ops : new.ops ≡ old.ops
 
 -- its first operators let a tuple through
-abbrev pub lets_tuple : BranchState → ℕ → List ℕ → Bool
-lets_tuple s front tuple = lets_in s.level front s.ops (packet_row s.refined s.level s.fields tuple)
+abbrev pub admits_tuple : BranchState → ℕ → List ℕ → Bool
+admits_tuple s front tuple = admits s.level front s.ops (packet_row s.refined s.level s.fields tuple)
 
 -- some tuples have come to it
 abbrev pub IsTaking : BranchState → Type 0

@@ -3,7 +3,7 @@ ghost use Rattle.std.specs.Prelude.{◌≡◌, ◌++◌, ◌∷◌, [], true, Li
 ghost use Rattle.sn_base.specs.Groups.{Row};
 ghost use Rattle.sn_ops.specs.Passing.{CanTake};
 ghost use Rattle.sn_ops.specs.Standing.{Stands};
-ghost use Rattle.sn_ops_stream.specs.Fronts.{lets_in};
+ghost use Rattle.sn_ops_stream.specs.Fronts.{admits};
 
 use sn_base::any_row::AnyRow;
 use sn_base::memory::Memory;
@@ -24,18 +24,18 @@ pub(crate) fn start_after<R: AnyRow>(
     row: &mut R,
     out: &mut RowSeq<R>,
 ) -> Result<(), Memory>
-    requires front { lets_in level front ops.now packet.now ≡ true }
+    requires front { admits level front ops.now packet.now ≡ true }
     requires can { CanTake level ops.now seen.old packet.now }
     ensures { OnOk result ((rows : List Row) → Stands level ops.now seen.old rows out.old → Stands level ops.now seen.new (rows ++ packet.now ∷ []) out.new) }
 {
     if front == 0 {
         return start(ops, seen, level, packet, row, out);
     }
-    let Some((_first, behind)) = ops.split_first() else {
+    let Some((_first, following)) = ops.split_first() else {
         unreachable!();
     };
     let Some((_seen, later)) = seen.split_first_mut() else {
         unreachable!();
     };
-    start_after(front - 1, behind, later, level, packet, row, out)
+    start_after(front - 1, following, later, level, packet, row, out)
 }

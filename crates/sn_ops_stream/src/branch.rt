@@ -6,7 +6,7 @@ ghost use Rattle.sn_types.specs.Typed.{branch_at, branch_of, query_at};
 ghost use Rattle.sn_lanes_narrow.specs.Asked.{AreOf};
 ghost use Rattle.sn_lanes_narrow.specs.Marks.{mark};
 ghost use Rattle.sn_ops_stream.specs.Fronts.{AreFilters};
-ghost use Rattle.sn_ops_stream.specs.Streams.{GivesRows, HasTaken, HasTakenMore, IsSameBranch, IsTaking, lets_tuple};
+ghost use Rattle.sn_ops_stream.specs.Streams.{GivesRows, HasTaken, HasTakenMore, IsSameBranch, IsTaking, admits_tuple};
 
 use crate::after::start_after;
 use crate::front::front_into;
@@ -93,7 +93,7 @@ impl<'a, R: AnyRow> BranchStream<'a, R> {
     fn give(&mut self, front: usize, marked: u8, tuple: &Tuple) -> Result<(), Memory>
         requires taking { IsTaking self.old }
         requires filters { AreFilters front self.old.ops }
-        requires marked { marked ≡ mark (lets_tuple self.old front tuple.now) }
+        requires marked { marked ≡ mark (admits_tuple self.old front tuple.now) }
         ensures taken { OnOk result (HasTakenMore (tuple.now ∷ []) self.old self.new) }
         ensures same { OnOk result (IsSameBranch self.old self.new) }
     {
@@ -118,7 +118,7 @@ impl<'a, R: AnyRow> BranchStream<'a, R> {
     fn take_marked(&mut self, front: usize, tuples: &[Tuple], marks: &[u8]) -> Result<(), Memory>
         requires taking { IsTaking self.old }
         requires filters { AreFilters front self.old.ops }
-        requires marks { marks.now ≡ map (λ tuple. mark (lets_tuple self.old front tuple)) tuples.now }
+        requires marks { marks.now ≡ map (λ tuple. mark (admits_tuple self.old front tuple)) tuples.now }
         ensures { OnOk result (HasTakenMore tuples.now self.old self.new) }
     {
         for (place, marked) in marks.iter().enumerate() {

@@ -9,33 +9,9 @@ ghost use Rattle.sn_ops_stream.specs.Fronts.{IsFront};
 use sn_base::memory::Memory;
 use sn_fields::field::Field;
 use sn_lanes_narrow::condition::Condition;
-use sn_query_grammar::ast::Relax;
-use sn_types::packet::Packets;
+use sn_types::evaluate::constant_at;
+use sn_types::packet::{Packets, is_field};
 use sn_types::typed_op::{TCond, TOp};
-
-fn is_field(refined: Option<Field>, field: Field) -> bool
-    ensures { result ≡ is_field refined field }
-{
-    match refined {
-        Some(other) => other.number() == field.number(),
-        None => false,
-    }
-}
-
-fn relaxed_at(level: u32, relaxed: &[Relax]) -> Option<Relax>
-    ensures { result ≡ find (λ r. r.level == level) relaxed.now }
-{
-    relaxed.iter().copied().find(|relax| relax.level == level)
-}
-
-fn constant_at(level: u32, relaxed: &[Relax], own: u64) -> u64
-    ensures { result ≡ constant_at level relaxed.now own }
-{
-    match relaxed_at(level, relaxed) {
-        Some(relax) => relax.value,
-        None => own,
-    }
-}
 
 /// A condition on a column of packet rows as one on a field, where the column is the field as it stands: `None` where it may be masked.
 fn condition_of(packets: &Packets<'_>, cond: &TCond) -> Option<Condition>

@@ -42,11 +42,11 @@ bad_words = codes "capture bad at byte "
 unfoldable pub capture_words : List ℕ
 capture_words = codes "capture "
 
-unfoldable pub cut_behind_words : List ℕ
-cut_behind_words = codes " cut at byte "
+unfoldable pub cut_after_words : List ℕ
+cut_after_words = codes " cut at byte "
 
-unfoldable pub bad_behind_words : List ℕ
-bad_behind_words = codes " bad at byte "
+unfoldable pub bad_after_words : List ℕ
+bad_after_words = codes " bad at byte "
 
 unfoldable pub levels_words : List ℕ
 levels_words = codes " levels "
@@ -211,8 +211,8 @@ damage_line (Bad at) = bad_words ++ decimal at ++ 10 ∷ []
 -- capture without damage
 abbrev pub damage_line_of : ℕ → Ending → List ℕ
 damage_line_of file Clean = []
-damage_line_of file (Cut at) = capture_words ++ decimal file ++ cut_behind_words ++ decimal at ++ 10 ∷ []
-damage_line_of file (Bad at) = capture_words ++ decimal file ++ bad_behind_words ++ decimal at ++ 10 ∷ []
+damage_line_of file (Cut at) = capture_words ++ decimal file ++ cut_after_words ++ decimal at ++ 10 ∷ []
+damage_line_of file (Bad at) = capture_words ++ decimal file ++ bad_after_words ++ decimal at ++ 10 ∷ []
 
 -- ---- what can be printed
 

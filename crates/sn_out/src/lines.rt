@@ -86,7 +86,7 @@ fn file_line(alloc: Global, file: u64, words: &[u8], at: u64) -> Result<Seq<u8>,
 
 /// The line that says at which byte the records of one of several captures end, where it is damaged. The captures are counted
 /// from 1. Nothing for a capture without damage.
-#[tactic(auto, unfolding(crate::specs::Text::cut_behind_words, crate::specs::Text::bad_behind_words))]
+#[tactic(auto, unfolding(crate::specs::Text::cut_after_words, crate::specs::Text::bad_after_words))]
 pub fn damage_of(alloc: Global, file: u64, ending: Ending) -> Result<Seq<u8>, Memory>
     ensures { IfOk result (λ text. text ≡ damage_line_of file ending) }
 {

@@ -8,7 +8,7 @@ use Rattle.sn_pcap.specs.declared.header.HeadFault.{HeadFault}
 use Rattle.sn_pcap.specs.declared.header.HeadFault.TheVariants as faults
 use Rattle.sn_pcap.specs.Capture.{number_at, magic_of, has_version, link_type, form_of, link_of, with_link, with_form, head_of}
 use Rattle.sn_pcap.proofs.Fronts.{number_in}
-use Rattle.sn_pcap.proofs.ToldLemmas.{at_told}
+use Rattle.sn_pcap.proofs.ReportedLemmas.{at_reported}
 use Rattle.sn_base.proofs.Tests.{by_order as below_or_not, not_less as not_below}
 
 abbrev form : ℕ → ℕ → Option (Bool × Bool)
@@ -57,20 +57,20 @@ head_front file =
     ∙ ap (λ (found : Result Header HeadFault). if nat_lt (length file) 24 then too_short else found) (with_same file (form_of file)))
 
 -- a read adds to the front
-pub front_more : (told now : Option (List ℕ)) (bytes new : List ℕ) (held n : ℕ) → now ≡ told → IfSome told (λ file. take held bytes ≡ take held file) → IfSome now (λ file. take (held + n) new ≡ take held bytes ++ take n (drop held file))
-    → IfSome told (λ file. take (held + n) new ≡ take (held + n) file)
+pub front_more : (reported now : Option (List ℕ)) (bytes new : List ℕ) (held n : ℕ) → now ≡ reported → IfSome reported (λ file. take held bytes ≡ take held file) → IfSome now (λ file. take (held + n) new ≡ take held bytes ++ take n (drop held file))
+    → IfSome reported (λ file. take (held + n) new ≡ take (held + n) file)
 front_more None now bytes new held n same front read = tt
 front_more (Some file) now bytes new held n same front read =
-    at_told (λ f. take (held + n) new ≡ take held bytes ++ take n (drop held f)) now file same read
+    at_reported (λ f. take (held + n) new ≡ take held bytes ++ take n (drop held f)) now file same read
     ∙ ap (λ (xs : List ℕ). xs ++ take n (drop held file)) front ∙ sym (take-add held n file)
 
 -- the file ended
-pub front_ends : (told now : Option (List ℕ)) (bytes : List ℕ) (held most : ℕ) → now ≡ told → held ≤ most → IfSome told (λ file. take held bytes ≡ take held file) → IfSome now (λ file. length file ≤ held) → IfSome told (λ file. take held bytes ≡ take most file)
+pub front_ends : (reported now : Option (List ℕ)) (bytes : List ℕ) (held most : ℕ) → now ≡ reported → held ≤ most → IfSome reported (λ file. take held bytes ≡ take held file) → IfSome now (λ file. length file ≤ held) → IfSome reported (λ file. take held bytes ≡ take most file)
 front_ends None now bytes held most same within front ended = tt
 front_ends (Some file) now bytes held most same within front ended =
-    let short : length file ≤ held = at_told (λ f. length f ≤ held) now file same ended in
+    let short : length file ≤ held = at_reported (λ f. length f ≤ held) now file same ended in
     front ∙ take_all held file short ∙ sym (take_all most file (omega arith))
 
-pub told_head : (told : Option (List ℕ)) (front bytes : List ℕ) (n : ℕ) (found : Result Header HeadFault) → front ≡ take n bytes → found ≡ head_of front → IfSome told (λ file. take n bytes ≡ take 24 file) → IfSome told (λ file. found ≡ head_of file)
-told_head None front bytes n found same is read = tt
-told_head (Some file) front bytes n found same is read = is ∙ ap head_of (same ∙ read) ∙ head_front file
+pub reported_head : (reported : Option (List ℕ)) (front bytes : List ℕ) (n : ℕ) (found : Result Header HeadFault) → front ≡ take n bytes → found ≡ head_of front → IfSome reported (λ file. take n bytes ≡ take 24 file) → IfSome reported (λ file. found ≡ head_of file)
+reported_head None front bytes n found same is read = tt
+reported_head (Some file) front bytes n found same is read = is ∙ ap head_of (same ∙ read) ∙ head_front file

@@ -49,9 +49,9 @@ holds_rest file held rest offset n holds is =
     (λ below.
     let more : ℕ = length held - n in
     let all : length held ≡ n + more = omega arith in
-    let behind : rest ≡ take more (drop (offset + n) file) =
+    let following : rest ≡ take more (drop (offset + n) file) =
     is ∙ ap (drop n) (holds ∙ ap (λ (k : ℕ). take k (drop offset file)) all) ∙ drop-take n more (drop offset file) ∙ ap (take more) (drop-drop n offset file) in
-    behind ∙ ap (λ (k : ℕ). take k (drop (offset + n) file)) (sym (ap length is ∙ length-drop n held)))
+    following ∙ ap (λ (k : ℕ). take k (drop (offset + n) file)) (sym (ap length is ∙ length-drop n held)))
     (λ past. holds_none file (offset + n) rest (is ∙ drop_of_length-le held past))
 
 pub length_within : (file : List ℕ) → length (within file) ≡ min (2 ^ 40) (length file)

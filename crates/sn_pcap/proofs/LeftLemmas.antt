@@ -24,9 +24,9 @@ pub left_once : (file : List ℕ) (reader : ReaderState) (ps qs : List Packet) (
 left_once file reader ps qs e f (records _ a _ goes are is) (records _ b _ also_goes also_are also_is) =
     let same = records_once are also_are in
     (same.0, is ∙ ap (last_of file) same.1 ∙ sym also_is)
-left_once file reader ps qs e f (records _ a _ goes are is) (none _ told) = absurd (cc)
-left_once file reader ps qs e f (none _ told) (records _ b _ goes are is) = absurd (cc)
-left_once file reader ps qs e f (none _ told) (none _ also_told) = (refl, some_is (sym told ∙ also_told))
+left_once file reader ps qs e f (records _ a _ goes are is) (none _ reported) = absurd (cc)
+left_once file reader ps qs e f (none _ reported) (records _ b _ goes are is) = absurd (cc)
+left_once file reader ps qs e f (none _ reported) (none _ also_reported) = (refl, some_is (sym reported ∙ also_reported))
 
 -- and there is one
 pub left_some : (file : List ℕ) (reader : ReaderState) → HasLeft file reader
@@ -35,7 +35,7 @@ left_some file reader =
       | None ↦ λ goes.
           let found = records_some reader.header (within file) reader.offset in
           record { packets = found.packets; last = last_of file found.ending; are = records found.packets found.ending (last_of file found.ending) goes found.are refl }
-      | Some l ↦ λ told. record { packets = []; last = l; are = none l told }
+      | Some l ↦ λ reported. record { packets = []; last = l; are = none l reported }
     ] refl
 
 -- of records whose first one is whole it is the first, and the others are left
@@ -52,9 +52,9 @@ first_whole has (short_packet n a b c) = absurd (omega arith)
 first_whole has (whole n ps e a r) = record { others = ps; is = refl; are = r }
 
 -- the others are left after a packet
-left_behind : (file : List ℕ) (before now : ReaderState) (answer : Result Next ReadError) (seen : Seen) (others : List Packet) (ending : Ending) (l : Last) → TellsPacket file before answer seen now
+left_after : (file : List ℕ) (before now : ReaderState) (answer : Result Next ReadError) (seen : Seen) (others : List Packet) (ending : Ending) (l : Last) → TellsPacket file before answer seen now
     → Records before.header (within file) (before.offset + 16 + captured before.header (within file) before.offset) others ending → l ≡ last_of file ending → Left file now others l
-left_behind file before now answer seen others ending l t are is =
+left_after file before now answer seen others ending l t are is =
     let at : Records before.header (within file) now.offset others ending = subst (λ (n : ℕ). Records before.header (within file) n others ending) (sym t.moved) are in
     records others ending l t.still (subst (λ (h : Header). Records h (within file) now.offset others ending) (sym t.same_header) at) is
 
@@ -63,18 +63,18 @@ pub left_taken : (file : List ℕ) (before now : ReaderState) (packets : List Pa
 left_taken file before now packets l answer seen (records _ ending _ goes are is) (inl t) =
     let first = first_whole t.whole are in
     subst (λ (ps : List Packet). Takes file ps l answer seen now) (sym first.is)
-    (record { is_seen = t.is_seen; answered = t.answered; left = left_behind file before now answer seen first.others ending l t first.are is })
+    (record { is_seen = t.is_seen; answered = t.answered; left = left_after file before now answer seen first.others ending l t first.are is })
 left_taken file before now packets l answer seen (records _ ending _ goes are is) (inr (inl t)) =
     let same = records_once are t.none in
     let ends : l ≡ last_of file t.ending = is ∙ ap (last_of file) same.1 in
     subst (λ (ps : List Packet). Takes file ps l answer seen now) (sym same.0)
     (t.answered ∙ ap answer_of (sym ends), none l (t.noted ∙ ap (λ (x : Last). Some x) (sym ends)))
-left_taken file before now packets l answer seen (records _ ending _ goes are is) (inr (inr t)) = absurd (apart t.last (sym goes ∙ t.told))
-left_taken file before now packets l answer seen (none _ told) (inl t) = absurd (apart l (sym t.goes_on ∙ told))
-left_taken file before now packets l answer seen (none _ told) (inr (inl t)) = absurd (apart l (sym t.goes_on ∙ told))
-left_taken file before now packets l answer seen (none _ told) (inr (inr t)) =
-    let same : t.last ≡ l = some_is (sym t.told ∙ told) in
-    (t.answered ∙ ap answer_of same, none l (ap (λ (r : ReaderState). r.last) t.kept ∙ told))
+left_taken file before now packets l answer seen (records _ ending _ goes are is) (inr (inr t)) = absurd (apart t.last (sym goes ∙ t.reported))
+left_taken file before now packets l answer seen (none _ reported) (inl t) = absurd (apart l (sym t.goes_on ∙ reported))
+left_taken file before now packets l answer seen (none _ reported) (inr (inl t)) = absurd (apart l (sym t.goes_on ∙ reported))
+left_taken file before now packets l answer seen (none _ reported) (inr (inr t)) =
+    let same : t.last ≡ l = some_is (sym t.reported ∙ reported) in
+    (t.answered ∙ ap answer_of same, none l (ap (λ (r : ReaderState). r.last) t.kept ∙ reported))
 
 abbrev packet_answer : Result Next ReadError
 packet_answer = Ok next.Packet
@@ -96,12 +96,12 @@ pub run_records : {file : List ℕ} {reader : ReaderState} {seens : List Seen} {
 run_records {file} {reader} packets ending (more {after = after} {seens = seens} seen (inl t) rest) goes are =
     let first = first_whole t.whole are in
     let at : Records reader.header (within file) after.offset first.others ending = subst (λ (n : ℕ). Records reader.header (within file) n first.others ending) (sym t.moved) first.are in
-    let behind = run_records first.others ending rest t.still (subst (λ (h : Header). Records h (within file) after.offset first.others ending) (sym t.same_header) at) in
-    (subst (λ (ps : List Packet). AllSeen (within file) ps (seen ∷ seens)) (sym first.is) (also t.is_seen behind.0), behind.1)
+    let following = run_records first.others ending rest t.still (subst (λ (h : Header). Records h (within file) after.offset first.others ending) (sym t.same_header) at) in
+    (subst (λ (ps : List Packet). AllSeen (within file) ps (seen ∷ seens)) (sym first.is) (also t.is_seen following.0), following.1)
 run_records packets ending (more seen (inr (inl t)) rest) goes are = absurd (never_packet _ t.answered)
-run_records packets ending (more seen (inr (inr t)) rest) goes are = absurd (apart t.last (sym goes ∙ t.told))
+run_records packets ending (more seen (inr (inr t)) rest) goes are = absurd (apart t.last (sym goes ∙ t.reported))
 run_records packets ending (ends l (inl t)) goes are = absurd (never_packet l (sym t.answered))
 run_records {file} packets ending (ends l (inr (inl t))) goes are =
     let same = records_once are t.none in
     (subst (λ (ps : List Packet). AllSeen (within file) ps []) (sym same.0) nothing, answer_one l (last_of file t.ending) t.answered ∙ ap (last_of file) (sym same.1))
-run_records packets ending (ends l (inr (inr t))) goes are = absurd (apart t.last (sym goes ∙ t.told))
+run_records packets ending (ends l (inr (inr t))) goes are = absurd (apart t.last (sym goes ∙ t.reported))

@@ -5,4 +5,4 @@ pub mod LeftLemmas
 pub mod OneCapture
 pub mod Pieces
 pub mod Shorts
-pub mod ToldLemmas
+pub mod ReportedLemmas

@@ -93,7 +93,7 @@ pub record TellsEnd (file : List ℕ) (before : ReaderState) (answer : Result Ne
 -- or that was said before, and is said again.
 pub record TellsAgain (before : ReaderState) (answer : Result Next ReadError) (now : ReaderState) : Type 0 where
   pub last : Last
-  pub told : before.last ≡ Some last
+  pub reported : before.last ≡ Some last
   pub answered : answer ≡ answer_of last
   pub kept : now ≡ before
 

@@ -2,7 +2,7 @@
 ghost use Rattle.std.specs.Prelude.{◌≡◌, ◌<◌, ◌≤◌, ◌+◌, ◌-◌, ◌++◌, ◌↔◌, [], None, length, take, drop, IfOk, OnErr, IfSome, IsErrOf};
 ghost use Rattle.std.specs.FinMap.{get};
 ghost use Rattle.sn_io.specs.Counts.{OnlyRises, RoseAt};
-ghost use Rattle.sn_io.specs.Inputs.{told_file};
+ghost use Rattle.sn_io.specs.Inputs.{stated_file};
 
 use sn_base::memory::Memory;
 use sn_io::inputs::{InputFault, Inputs};
@@ -46,7 +46,7 @@ fn move_front(bytes: &mut [u8], start: usize, end: usize)
 }
 
 /// Reads bytes of a file from the place `at` on, after the first ones that are held.
-pub fn read_behind<I: Inputs>(
+pub fn read_after<I: Inputs>(
     bytes: &mut [u8],
     held: usize,
     files: &mut I,
@@ -56,11 +56,11 @@ pub fn read_behind<I: Inputs>(
     requires { held < length bytes.old }
     ensures kept { take held bytes.new ≡ take held bytes.old }
     ensures within { IfOk result (λ n. held + n ≤ length bytes.old) }
-    ensures bytes { IfOk result (λ n. IfSome (told_file (I.told files.old) name.now)
+    ensures bytes { IfOk result (λ n. IfSome (stated_file (I.reported files.old) name.now)
         (λ file. take (held + n) bytes.new ≡ take held bytes.old ++ take n (drop at file))) }
-    ensures stand { IfOk result (λ n. IfSome (told_file (I.told files.old) name.now) (λ file. n ≤ length file - at)) }
-    ensures none { IfOk result (λ n. IfSome (told_file (I.told files.old) name.now) (λ file. (n ≡ 0) ↔ (length file ≤ at))) }
-    ensures told { I.told files.new ≡ I.told files.old }
+    ensures stand { IfOk result (λ n. IfSome (stated_file (I.reported files.old) name.now) (λ file. n ≤ length file - at)) }
+    ensures none { IfOk result (λ n. IfSome (stated_file (I.reported files.old) name.now) (λ file. (n ≡ 0) ↔ (length file ≤ at))) }
+    ensures reported { I.reported files.new ≡ I.reported files.old }
     ensures faults { OnlyRises name.now (I.faults files.old) (I.faults files.new) }
     ensures missing { IsErrOf result InputFault.Missing ↔ (get (I.faults files.old) name.now ≡ None) }
     ensures unchanged { IsErrOf result InputFault.Missing → files.new ≡ files.old }
@@ -96,8 +96,8 @@ impl Buffer {
     pub fn as_slice(&self) -> &[u8]
         ensures { result.now ≡ self.now }
     {
-        let (_, behind) = self.bytes.split_at(self.start);
-        let (held, _) = behind.split_at(self.end - self.start);
+        let (_, following) = self.bytes.split_at(self.start);
+        let (held, _) = following.split_at(self.end - self.start);
         held
     }
 
@@ -130,10 +130,10 @@ impl Buffer {
         ensures more { IfOk result (λ n. length self.new ≡ length self.old + n) }
         ensures most { length self.new ≤ BUFFER_BYTES }
         ensures err { OnErr result (self.new ≡ self.old) }
-        ensures bytes { IfOk result (λ n. IfSome (told_file (I.told files.old) name.now) (λ file. self.new ≡ self.old ++ take n (drop at file))) }
-        ensures stand { IfOk result (λ n. IfSome (told_file (I.told files.old) name.now) (λ file. n ≤ length file - at)) }
-        ensures none { IfOk result (λ n. IfSome (told_file (I.told files.old) name.now) (λ file. (n ≡ 0) ↔ (length file ≤ at))) }
-        ensures told { I.told files.new ≡ I.told files.old }
+        ensures bytes { IfOk result (λ n. IfSome (stated_file (I.reported files.old) name.now) (λ file. self.new ≡ self.old ++ take n (drop at file))) }
+        ensures stand { IfOk result (λ n. IfSome (stated_file (I.reported files.old) name.now) (λ file. n ≤ length file - at)) }
+        ensures none { IfOk result (λ n. IfSome (stated_file (I.reported files.old) name.now) (λ file. (n ≡ 0) ↔ (length file ≤ at))) }
+        ensures reported { I.reported files.new ≡ I.reported files.old }
         ensures faults { OnlyRises name.now (I.faults files.old) (I.faults files.new) }
         ensures missing { IsErrOf result InputFault.Missing ↔ (get (I.faults files.old) name.now ≡ None) }
         ensures unchanged { IsErrOf result InputFault.Missing → files.new ≡ files.old }
@@ -142,7 +142,7 @@ impl Buffer {
         move_front(&mut self.bytes, self.start, self.end);
         self.end -= self.start;
         self.start = 0;
-        let count = read_behind(&mut self.bytes, self.end, files, name, at)?;
+        let count = read_after(&mut self.bytes, self.end, files, name, at)?;
         self.end += count;
         Ok(count)
     }

@@ -2,10 +2,10 @@
 ghost use Rattle.std.specs.Prelude.{◌≡◌, ◌≤◌, ◌⊎◌, ◌↔◌, None, length, take, IfOk, IfSome, IsErrOf, OnErr};
 ghost use Rattle.std.specs.FinMap.{get};
 ghost use Rattle.sn_io.specs.Counts.{OnlyRises, RoseAt};
-ghost use Rattle.sn_io.specs.Inputs.{told_file};
+ghost use Rattle.sn_io.specs.Inputs.{stated_file};
 ghost use Rattle.sn_pcap.specs.Capture.{head_of};
 
-use crate::buffer::read_behind;
+use crate::buffer::read_after;
 use crate::header::{HEADER_BYTES, HeadFault, Header, head};
 use sn_io::inputs::{InputFault, Inputs};
 
@@ -13,8 +13,8 @@ use sn_io::inputs::{InputFault, Inputs};
 fn read_front<I: Inputs>(bytes: &mut [u8], files: &mut I, name: &str) -> Result<usize, InputFault>
     requires { 1 ≤ length bytes.old }
     ensures within { IfOk result (λ n. n ≤ length bytes.old) }
-    ensures bytes { IfOk result (λ n. IfSome (told_file (I.told files.old) name.now) (λ file. take n bytes.new ≡ take (length bytes.old) file)) }
-    ensures told { I.told files.new ≡ I.told files.old }
+    ensures bytes { IfOk result (λ n. IfSome (stated_file (I.reported files.old) name.now) (λ file. take n bytes.new ≡ take (length bytes.old) file)) }
+    ensures reported { I.reported files.new ≡ I.reported files.old }
     ensures faults { OnlyRises name.now (I.faults files.old) (I.faults files.new) }
     ensures missing { IsErrOf result InputFault.Missing ↔ (get (I.faults files.old) name.now ≡ None) }
     ensures unchanged { IsErrOf result InputFault.Missing → files.new ≡ files.old }
@@ -25,7 +25,7 @@ fn read_front<I: Inputs>(bytes: &mut [u8], files: &mut I, name: &str) -> Result<
         if held >= bytes.len() {
             return Ok(held);
         }
-        match read_behind(bytes, held, files, name, held as u64) {
+        match read_after(bytes, held, files, name, held as u64) {
             Ok(0) => return Ok(held),
             Ok(count) => held += count,
             Err(fault) => return Err(fault),
@@ -39,8 +39,8 @@ pub fn read_head<I: Inputs>(
     files: &mut I,
     name: &str,
 ) -> Result<Result<Header, HeadFault>, InputFault>
-    ensures head { IfOk result (λ found. IfSome (told_file (I.told files.old) name.now) (λ file. found ≡ head_of file)) }
-    ensures told { I.told files.new ≡ I.told files.old }
+    ensures head { IfOk result (λ found. IfSome (stated_file (I.reported files.old) name.now) (λ file. found ≡ head_of file)) }
+    ensures reported { I.reported files.new ≡ I.reported files.old }
     ensures faults { OnlyRises name.now (I.faults files.old) (I.faults files.new) }
     ensures missing { IsErrOf result InputFault.Missing ↔ (get (I.faults files.old) name.now ≡ None) }
     ensures unchanged { IsErrOf result InputFault.Missing → files.new ≡ files.old }

@@ -3,7 +3,7 @@ ghost use Rattle.std.specs.Prelude.{◌≡◌, ◌≢◌, ◌<◌, ◌≤◌, �
 ghost use Rattle.std.specs.Prelude.{OnOk, OnErr, IfSome, IsErrOf};
 ghost use Rattle.std.specs.FinMap.{get};
 ghost use Rattle.sn_io.specs.Counts.{OnlyRises, RoseAt};
-ghost use Rattle.sn_io.specs.Inputs.{told_file};
+ghost use Rattle.sn_io.specs.Inputs.{stated_file};
 ghost use Rattle.sn_pcap.specs.declared.header.Header.{Header};
 ghost use Rattle.sn_pcap.specs.declared.packet.Packet.{Packet};
 ghost use Rattle.sn_pcap.specs.declared.packet.Ending.{Ending};
@@ -62,10 +62,10 @@ fn fill<I: Inputs>(
     requires room { want ≤ BUFFER_BYTES }
     requires most { offset ≤ 2 ^ 40 }
     ensures kept { take (length buffer.old) buffer.new ≡ buffer.old }
-    ensures holds { IfSome (told_file (I.told files.old) name.now) (λ file. HoldsAt file offset buffer.old → HoldsAt file offset buffer.new) }
-    ensures reached { OnOk result (IfSome (told_file (I.told files.old) name.now) (λ file. min want (length file - offset) ≤ length buffer.new)) }
+    ensures holds { IfSome (stated_file (I.reported files.old) name.now) (λ file. HoldsAt file offset buffer.old → HoldsAt file offset buffer.new) }
+    ensures reached { OnOk result (IfSome (stated_file (I.reported files.old) name.now) (λ file. min want (length file - offset) ≤ length buffer.new)) }
     ensures unknown { length buffer.old < want → get (I.faults files.old) name.now ≡ None → IsErrOf result InputFault.Missing }
-    ensures told { I.told files.new ≡ I.told files.old }
+    ensures reported { I.reported files.new ≡ I.reported files.old }
     ensures faults { OnlyRises name.now (I.faults files.old) (I.faults files.new) }
     ensures missing { IsErrOf result InputFault.Missing → get (I.faults files.old) name.now ≡ None }
     ensures unread { get (I.faults files.old) name.now ≡ None → files.new ≡ files.old }
@@ -88,9 +88,9 @@ fn fill<I: Inputs>(
 fn pass_piece<I: Inputs>(files: &mut I, name: &str, from: u64, to: u64) -> Result<usize, InputFault>
     requires { from < to }
     ensures most { IfOk result (λ n. n ≤ to - from) }
-    ensures stand { IfOk result (λ n. IfSome (told_file (I.told files.old) name.now) (λ file. n ≤ length file - from)) }
-    ensures none { IfOk result (λ n. IfSome (told_file (I.told files.old) name.now) (λ file. (n ≡ 0) ↔ (length file ≤ from))) }
-    ensures told { I.told files.new ≡ I.told files.old }
+    ensures stand { IfOk result (λ n. IfSome (stated_file (I.reported files.old) name.now) (λ file. n ≤ length file - from)) }
+    ensures none { IfOk result (λ n. IfSome (stated_file (I.reported files.old) name.now) (λ file. (n ≡ 0) ↔ (length file ≤ from))) }
+    ensures reported { I.reported files.new ≡ I.reported files.old }
     ensures faults { OnlyRises name.now (I.faults files.old) (I.faults files.new) }
     ensures missing { IsErrOf result InputFault.Missing ↔ (get (I.faults files.old) name.now ≡ None) }
     ensures unchanged { IsErrOf result InputFault.Missing → files.new ≡ files.old }
@@ -107,8 +107,8 @@ fn pass_over<I: Inputs>(files: &mut I, name: &str, from: u64, to: u64) -> Result
     requires { from ≤ to }
     ensures later { IfOk result (λ place. from ≤ place) }
     ensures most { IfOk result (λ place. place ≤ to) }
-    ensures reached { IfOk result (λ place. IfSome (told_file (I.told files.old) name.now) (λ file. from ≤ length file → place ≡ min to (length file))) }
-    ensures told { I.told files.new ≡ I.told files.old }
+    ensures reached { IfOk result (λ place. IfSome (stated_file (I.reported files.old) name.now) (λ file. from ≤ length file → place ≡ min to (length file))) }
+    ensures reported { I.reported files.new ≡ I.reported files.old }
     ensures faults { OnlyRises name.now (I.faults files.old) (I.faults files.new) }
     ensures missing { IsErrOf result InputFault.Missing → get (I.faults files.old) name.now ≡ None }
     ensures unread { get (I.faults files.old) name.now ≡ None → files.new ≡ files.old }
@@ -137,13 +137,13 @@ fn stands<I: Inputs>(
     requires asked { want ≤ 2 ^ 40 }
     requires most { offset ≤ 2 ^ 40 }
     ensures kept { take (length buffer.old) buffer.new ≡ buffer.old }
-    ensures holds { IfSome (told_file (I.told files.old) name.now) (λ file. HoldsAt file offset buffer.old → HoldsAt file offset buffer.new) }
-    ensures count { IfOk result (λ count. IfSome (told_file (I.told files.old) name.now) (λ file. HoldsAt file offset buffer.old →
+    ensures holds { IfSome (stated_file (I.reported files.old) name.now) (λ file. HoldsAt file offset buffer.old → HoldsAt file offset buffer.new) }
+    ensures count { IfOk result (λ count. IfSome (stated_file (I.reported files.old) name.now) (λ file. HoldsAt file offset buffer.old →
         count ≡ min want (length file - offset))) }
     ensures held { IfOk result (λ count. min count BUFFER_BYTES ≤ length buffer.new) }
     ensures most { IfOk result (λ count. count ≤ want) }
     ensures unknown { length buffer.old < min want BUFFER_BYTES → get (I.faults files.old) name.now ≡ None → IsErrOf result InputFault.Missing }
-    ensures told { I.told files.new ≡ I.told files.old }
+    ensures reported { I.reported files.new ≡ I.reported files.old }
     ensures faults { OnlyRises name.now (I.faults files.old) (I.faults files.new) }
     ensures missing { IsErrOf result InputFault.Missing → get (I.faults files.old) name.now ≡ None }
     ensures unread { get (I.faults files.old) name.now ≡ None → files.new ≡ files.old }
@@ -181,15 +181,15 @@ fn short<I: Inputs>(
     requires asked { need ≤ 2 ^ 40 }
     requires most { offset ≤ 2 ^ 40 }
     ensures kept { take (length buffer.old) buffer.new ≡ buffer.old }
-    ensures holds { IfSome (told_file (I.told files.old) name.now) (λ file. HoldsAt file offset buffer.old → HoldsAt file offset buffer.new) }
+    ensures holds { IfSome (stated_file (I.reported files.old) name.now) (λ file. HoldsAt file offset buffer.old → HoldsAt file offset buffer.new) }
     ensures ends { IfOk result (λ short. IfSome short
-        (λ last. IfSome (told_file (I.told files.old) name.now) (λ file. HoldsAt file offset buffer.old → IsShort file offset need last))) }
+        (λ last. IfSome (stated_file (I.reported files.old) name.now) (λ file. HoldsAt file offset buffer.old → IsShort file offset need last))) }
     ensures whole { IfOk result (λ short. short ≡ None →
-        IfSome (told_file (I.told files.old) name.now) (λ file. HoldsAt file offset buffer.old → offset + need ≤ length (within file))) }
+        IfSome (stated_file (I.reported files.old) name.now) (λ file. HoldsAt file offset buffer.old → offset + need ≤ length (within file))) }
     ensures held { IfOk result (λ short. short ≡ None → min need BUFFER_BYTES ≤ length buffer.new) }
     ensures limit { IfOk result (λ short. short ≡ None → offset + need ≤ 2 ^ 40) }
     ensures unknown { length buffer.old ≡ 0 → get (I.faults files.old) name.now ≡ None → IsErrOf result InputFault.Missing }
-    ensures told { I.told files.new ≡ I.told files.old }
+    ensures reported { I.reported files.new ≡ I.reported files.old }
     ensures faults { OnlyRises name.now (I.faults files.old) (I.faults files.new) }
     ensures missing { IsErrOf result InputFault.Missing → get (I.faults files.old) name.now ≡ None }
     ensures unread { get (I.faults files.old) name.now ≡ None → files.new ≡ files.old }
@@ -213,15 +213,15 @@ fn short_when_read<I: Inputs>(
     requires asked { need ≤ 2 ^ 40 }
     requires most { offset ≤ 2 ^ 40 }
     ensures kept { take (length buffer.old) buffer.new ≡ buffer.old }
-    ensures holds { IfSome (told_file (I.told files.old) name.now) (λ file. HoldsAt file offset buffer.old → HoldsAt file offset buffer.new) }
+    ensures holds { IfSome (stated_file (I.reported files.old) name.now) (λ file. HoldsAt file offset buffer.old → HoldsAt file offset buffer.new) }
     ensures ends { IfOk result (λ short. IfSome short
-        (λ last. IfSome (told_file (I.told files.old) name.now) (λ file. HoldsAt file offset buffer.old → IsShort file offset need last))) }
+        (λ last. IfSome (stated_file (I.reported files.old) name.now) (λ file. HoldsAt file offset buffer.old → IsShort file offset need last))) }
     ensures whole { IfOk result (λ short. short ≡ None →
-        IfSome (told_file (I.told files.old) name.now) (λ file. HoldsAt file offset buffer.old → offset + need ≤ length (within file))) }
+        IfSome (stated_file (I.reported files.old) name.now) (λ file. HoldsAt file offset buffer.old → offset + need ≤ length (within file))) }
     ensures held { IfOk result (λ short. short ≡ None → min need BUFFER_BYTES ≤ length buffer.new) }
     ensures limit { IfOk result (λ short. short ≡ None → offset + need ≤ 2 ^ 40) }
     ensures unknown { length buffer.old ≡ 0 → get (I.faults files.old) name.now ≡ None → IsErrOf result InputFault.Missing }
-    ensures told { I.told files.new ≡ I.told files.old }
+    ensures reported { I.reported files.new ≡ I.reported files.old }
     ensures faults { OnlyRises name.now (I.faults files.old) (I.faults files.new) }
     ensures missing { IsErrOf result InputFault.Missing → get (I.faults files.old) name.now ≡ None }
     ensures unread { get (I.faults files.old) name.now ≡ None → files.new ≡ files.old }
@@ -268,8 +268,8 @@ fn see(header: &Header, bytes: &[u8], cap: u32, seen: &mut Seen)
     ensures len { seen.new.len ≡ min cap 128 }
 {
     let len = cap.min(FRONT_BYTES as u32);
-    let (_, behind) = bytes.split_at(RECORD_BYTES);
-    keep_front(behind, len as usize, &mut seen.front);
+    let (_, following) = bytes.split_at(RECORD_BYTES);
+    keep_front(following, len as usize, &mut seen.front);
     seen.time = time_at(header, bytes, 0);
     seen.wire = u32_at(header.big, bytes, 12);
     seen.cap = cap;
@@ -289,15 +289,15 @@ fn look<I: Inputs>(
 ) -> Result<Option<Last>, InputFault>
     requires { offset ≤ 2 ^ 40 }
     ensures kept { take (length buffer.old) buffer.new ≡ buffer.old }
-    ensures holds { IfSome (told_file (I.told files.old) name.now) (λ file. HoldsAt file offset buffer.old → HoldsAt file offset buffer.new) }
+    ensures holds { IfSome (stated_file (I.reported files.old) name.now) (λ file. HoldsAt file offset buffer.old → HoldsAt file offset buffer.new) }
     ensures packet { IfOk result (λ found. found ≡ None →
-        IfSome (told_file (I.told files.old) name.now) (λ file. HoldsAt file offset buffer.old → IsNextPacket header.now file offset seen.new)) }
+        IfSome (stated_file (I.reported files.old) name.now) (λ file. HoldsAt file offset buffer.old → IsNextPacket header.now file offset seen.new)) }
     ensures last { IfOk result (λ found. IfSome found
-        (λ last. IfSome (told_file (I.told files.old) name.now) (λ file. HoldsAt file offset buffer.old → IsNextEnd header.now file offset last))) }
+        (λ last. IfSome (stated_file (I.reported files.old) name.now) (λ file. HoldsAt file offset buffer.old → IsNextEnd header.now file offset last))) }
     ensures lawful { IfOk result (λ found. found ≡ None → IsLawful offset seen.new) }
     ensures unseen { result ≢ Ok None → seen.new ≡ seen.old }
     ensures unknown { length buffer.old ≡ 0 → get (I.faults files.old) name.now ≡ None → IsErrOf result InputFault.Missing }
-    ensures told { I.told files.new ≡ I.told files.old }
+    ensures reported { I.reported files.new ≡ I.reported files.old }
     ensures faults { OnlyRises name.now (I.faults files.old) (I.faults files.new) }
     ensures missing { IsErrOf result InputFault.Missing → get (I.faults files.old) name.now ≡ None }
     ensures unread { get (I.faults files.old) name.now ≡ None → files.new ≡ files.old }
@@ -367,16 +367,16 @@ impl Reader {
         name: &str,
         seen: &mut Seen,
     ) -> Result<Next, ReadError>
-        requires follows { IfSome (told_file (I.told files.old) name.now) (λ file. Follows file self.old) }
+        requires follows { IfSome (stated_file (I.reported files.old) name.now) (λ file. Follows file self.old) }
         requires known { HasRead self.old → is_some (get (I.faults files.old) name.now) ≡ true }
 
         // Where contents are known: the exact answer, that it takes the first of the records that are left, and that
         // the reader goes on following the file.
-        ensures step { IfSome (told_file (I.told files.old) name.now) (λ file. result ≢ Err ReadError.ReadFault →
+        ensures step { IfSome (stated_file (I.reported files.old) name.now) (λ file. result ≢ Err ReadError.ReadFault →
             IsStep file self.old result seen.new self.new) }
-        ensures takes { IfSome (told_file (I.told files.old) name.now) (λ file. (packets : List Packet) (last : Last) →
+        ensures takes { IfSome (stated_file (I.reported files.old) name.now) (λ file. (packets : List Packet) (last : Last) →
             Left file self.old packets last → result ≢ Err ReadError.ReadFault → Takes file packets last result seen.new self.new) }
-        ensures follows { IfSome (told_file (I.told files.new) name.now) (λ file. Follows file self.new) }
+        ensures follows { IfSome (stated_file (I.reported files.new) name.now) (λ file. Follows file self.new) }
 
         // Over any files.
         ensures packet { result ≡ Ok Next.Packet → MovesOn self.old seen.new self.new }
@@ -391,7 +391,7 @@ impl Reader {
         ensures fault { IsErrOf result ReadError.ReadFault → RoseAt name.now (I.faults files.old) (I.faults files.new) }
         ensures undone { IsErrOf result ReadError.Missing ⊎ IsErrOf result ReadError.ReadFault → self.new ≡ self.old }
         ensures no_memory { ¬ IsErrOf result ReadError.Memory }
-        ensures told { I.told files.new ≡ I.told files.old }
+        ensures reported { I.reported files.new ≡ I.reported files.old }
         ensures faults { OnlyRises name.now (I.faults files.old) (I.faults files.new) }
     {
         if let Some(last) = self.last {

@@ -15,7 +15,7 @@ use Rattle.sn_types.specs.declared.typed_op.TOp.{TOp}
 use Rattle.sn_types.specs.declared.typed_op.TOp.TheVariants as ops
 use Rattle.sn_types.specs.declared.typed_query.TypedBranch.{TypedBranch}
 use Rattle.sn_types.specs.declared.typed_query.TypedQuery.{TypedQuery}
-use Rattle.sn_types.specs.Cuts.{cut_behind_distinct, filters_ahead, greatest_cut}
+use Rattle.sn_types.specs.Cuts.{cut_after_distinct, filters_ahead, greatest_cut}
 use Rattle.sn_types.specs.Typed.{IsTyped, branch_at, query_at}
 use Rattle.sn_types.specs.Typing.{typed_op, typed_ops}
 use Rattle.sn_types.specs.WellFormed.{StaysWithin}
@@ -35,18 +35,18 @@ filters_short (ops.Map exprs ∷ os) = omega arith
 filters_short (ops.Distinct ∷ os) = omega arith
 filters_short (ops.Reduce r ∷ os) = omega arith
 
-pub behind_short : (os : List TOp) → cut_behind_distinct os ≤ length os
-behind_short [] = omega arith
-behind_short (ops.Filter conds ∷ os) = let rest = behind_short os in omega (arith, rest)
-behind_short (ops.Map exprs ∷ os) = let rest = behind_short os in omega (arith, rest)
-behind_short (ops.Distinct ∷ os) = omega arith
-behind_short (ops.Reduce r ∷ os) = let rest = filters_short os in omega (arith, rest)
+pub after_short : (os : List TOp) → cut_after_distinct os ≤ length os
+after_short [] = omega arith
+after_short (ops.Filter conds ∷ os) = let rest = after_short os in omega (arith, rest)
+after_short (ops.Map exprs ∷ os) = let rest = after_short os in omega (arith, rest)
+after_short (ops.Distinct ∷ os) = omega arith
+after_short (ops.Reduce r ∷ os) = let rest = filters_short os in omega (arith, rest)
 
 pub cut_short : (os : List TOp) → greatest_cut os ≤ length os
 cut_short [] = omega arith
 cut_short (ops.Filter conds ∷ os) = let rest = cut_short os in omega (arith, rest)
 cut_short (ops.Map exprs ∷ os) = let rest = cut_short os in omega (arith, rest)
-cut_short (ops.Distinct ∷ os) = let rest = behind_short os in omega (arith, rest)
+cut_short (ops.Distinct ∷ os) = let rest = after_short os in omega (arith, rest)
 cut_short (ops.Reduce r ∷ os) = let rest = filters_short os in omega (arith, rest)
 
 pub cut_within : (window : ℕ) (queries : List TypedQuery) (q b : ℕ) → ∥ IsTyped window queries ∥₁ → q < length queries → b < length (query_at queries q).branches → (branch_at queries q b).max_cut ≤ length (branch_at queries q b).ops

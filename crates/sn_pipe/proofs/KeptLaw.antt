@@ -3,11 +3,11 @@ use Rattle.std.proofs.Common.{◌≡◌, ℕ, List, [], ◌∷◌, ◌∙◌, ma
 use Rattle.std.specs.FinSet as set
 use Rattle.std.specs.List.{list_any}
 use Rattle.std.specs.Ordering.{nat_cmp}
-use Rattle.sn_engine_split.specs.Opened.{Prefixes, is_open, let_in, lets_in}
+use Rattle.sn_engine_split.specs.Opened.{Prefixes, is_open, tuples_admitted, admits}
 use Rattle.sn_fields.specs.declared.field.Field.{Field}
 use Rattle.sn_ops.specs.Packets.{is_kept, packet_rows}
 use Rattle.sn_ops.specs.declared.packets.Kept.{Kept}
-use Rattle.sn_pipe.specs.Pipes.{IsCoarser, asking, bits_of, passing, rows_let_in}
+use Rattle.sn_pipe.specs.Pipes.{IsCoarser, asking, bits_of, passing, rows_admitted}
 use Rattle.sn_pipe.specs.declared.gate.Gate.{Gate}
 use Rattle.sn_types.specs.Typed.{branch_of, packet_row}
 use Rattle.sn_types.specs.declared.typed_query.TypedQuery.{TypedQuery}
@@ -24,36 +24,36 @@ all_pass (x ∷ xs) = ap (λ ys. x ∷ ys) (all_pass xs)
 
 module _ (query : TypedQuery) (b level : ℕ) where
   abbrev rows_of : Option Prefixes → List (List ℕ) → List (List ℕ)
-  rows_of ps tuples = map (packet_row query.field level (branch_of query b).fields) (let_in query ps tuples)
+  rows_of ps tuples = map (packet_row query.field level (branch_of query b).fields) (tuples_admitted query ps tuples)
 
   -- without prefixes all tuples pass
   all_rows : (tuples : List (List ℕ)) → rows_of None tuples ≡ packet_rows query b level None tuples
   all_rows tuples =
-      ap (map (packet_row query.field level (branch_of query b).fields)) (same_filter (lets_in query.field None) (is_kept query.field None) (λ tuple. refl) tuples)
+      ap (map (packet_row query.field level (branch_of query b).fields)) (same_filter (admits query.field None) (is_kept query.field None) (λ tuple. refl) tuples)
 
-  pub all_kept : (members : set.FinSet nat_cmp) (tuples : List (List ℕ)) → rows_let_in query b level None members tuples ≡ packet_rows query b level None tuples
+  pub all_kept : (members : set.FinSet nat_cmp) (tuples : List (List ℕ)) → rows_admitted query b level None members tuples ≡ packet_rows query b level None tuples
   all_kept members tuples = all_rows tuples
 
   pub open_kept : (gate : Gate) (members : set.FinSet nat_cmp) (tuples : List (List ℕ)) → is_open gate.entries members ≡ true →
-      rows_let_in query b level (Some gate) members tuples ≡ packet_rows query b level None tuples
+      rows_admitted query b level (Some gate) members tuples ≡ packet_rows query b level None tuples
   open_kept gate members tuples is = ap (λ b. rows_of (cond b None (Some (gate.bits, members))) tuples) is ∙ all_rows tuples
 
-  one_kept : (field : Option Field) (kept : Kept) (tuple : List ℕ) → lets_in field (Some (kept.bits, kept.members.now)) tuple ≡ is_kept field (Some kept) tuple
+  one_kept : (field : Option Field) (kept : Kept) (tuple : List ℕ) → admits field (Some (kept.bits, kept.members.now)) tuple ≡ is_kept field (Some kept) tuple
   one_kept None kept tuple = refl
   one_kept (Some field) kept tuple = refl
 
   pub same_kept : (gate : Gate) (kept : Kept) (tuples : List (List ℕ)) → gate.bits ≡ kept.bits → is_open gate.entries kept.members.now ≡ false →
-      rows_let_in query b level (Some gate) kept.members.now tuples ≡ packet_rows query b level (Some kept) tuples
+      rows_admitted query b level (Some gate) kept.members.now tuples ≡ packet_rows query b level (Some kept) tuples
   same_kept gate kept tuples bits isnt =
       ap (λ b. rows_of (cond b None (Some (gate.bits, kept.members.now))) tuples) isnt
       ∙ ap (λ n. rows_of (Some (n, kept.members.now)) tuples) bits
       ∙ ap (map (packet_row query.field level (branch_of query b).fields))
-      (same_filter (lets_in query.field (Some (kept.bits, kept.members.now))) (is_kept query.field (Some kept)) (one_kept query.field kept) tuples)
+      (same_filter (admits query.field (Some (kept.bits, kept.members.now))) (is_kept query.field (Some kept)) (one_kept query.field kept) tuples)
 
   pub passing_kept : (coarser : Option Gate) (members : set.FinSet nat_cmp) (tuples : List (List ℕ)) →
-      rows_let_in query b level coarser members tuples ≡ packet_rows query b level None (let_in query (passing coarser members) tuples)
+      rows_admitted query b level coarser members tuples ≡ packet_rows query b level None (tuples_admitted query (passing coarser members) tuples)
   passing_kept coarser members tuples =
-      let let_through : List (List ℕ) = let_in query (passing coarser members) tuples in
+      let let_through : List (List ℕ) = tuples_admitted query (passing coarser members) tuples in
       ap (map (packet_row query.field level (branch_of query b).fields))
       (sym (same_filter (is_kept query.field None) (λ tuple. true) (λ tuple. refl) let_through ∙ all_pass let_through))
 

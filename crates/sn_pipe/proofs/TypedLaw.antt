@@ -18,7 +18,7 @@ use Rattle.sn_types.specs.declared.typed_op.TOp.{TOp}
 use Rattle.sn_types.specs.declared.typed_op.TOp.TheVariants as ops
 use Rattle.sn_types.specs.declared.typed_query.TypedQuery.{TypedQuery}
 use Rattle.sn_types.specs.declared.typed_query.TypedBranch.{TypedBranch}
-use Rattle.sn_types.specs.Cuts.{cut_behind_distinct, filters_ahead, greatest_cut}
+use Rattle.sn_types.specs.Cuts.{cut_after_distinct, filters_ahead, greatest_cut}
 use Rattle.sn_types.specs.Typed.{HasWidths, IsTyped, branch_at, branch_of, packet_row, query_at}
 use Rattle.sn_fields.specs.declared.field.Field.{Field}
 use Rattle.sn_types_faults.specs.Columns.{packet_columns}
@@ -31,7 +31,7 @@ use Rattle.sn_pipe.specs.AnyStage.{Stage}
 use Rattle.sn_pipe.specs.declared.gate.Gate.{Gate}
 use Rattle.sn_pipe.specs.declared.stage.Stage.TheVariants.{Filter, Map, Distinct, Reduce}
 use Rattle.sn_types.specs.Cuts.{size_at, stateful}
-use Rattle.sn_pipe.specs.Pipes.{IsNewPipe, PipeState, after_packets, at_start, packets_give, lets_in, row_in, rows_in, rows_let_in}
+use Rattle.sn_pipe.specs.Pipes.{IsNewPipe, PipeState, after_packets, at_start, packets_give, admits, row_in, rows_in, rows_admitted}
 use Rattle.sn_pipe.specs.Prefixes.{left_in}
 use Rattle.sn_pipe.specs.Stages.{ops_of, top_of}
 use Rattle.sn_pipe.specs.Windows.{AreFilters, HasRegisters, HaveSizes, IsPrefix}
@@ -62,20 +62,20 @@ filters_front (suc n) (ops.Map exprs ∷ os) le = absurd (omega (arith, le))
 filters_front (suc n) (ops.Distinct ∷ os) le = absurd (omega (arith, le))
 filters_front (suc n) (ops.Reduce r ∷ os) le = absurd (omega (arith, le))
 
-behind_front : (cut : ℕ) (os : List TOp) → cut ≤ cut_behind_distinct os → IsFront (take cut os)
-behind_front zero os le = tt
-behind_front (suc n) [] le = tt
-behind_front (suc n) (ops.Filter conds ∷ os) le = behind_front n os (omega (arith, le))
-behind_front (suc n) (ops.Map exprs ∷ os) le = behind_front n os (omega (arith, le))
-behind_front (suc n) (ops.Distinct ∷ os) le = absurd (omega (arith, le))
-behind_front (suc n) (ops.Reduce r ∷ os) le = filters_front n os (omega (arith, le))
+after_front : (cut : ℕ) (os : List TOp) → cut ≤ cut_after_distinct os → IsFront (take cut os)
+after_front zero os le = tt
+after_front (suc n) [] le = tt
+after_front (suc n) (ops.Filter conds ∷ os) le = after_front n os (omega (arith, le))
+after_front (suc n) (ops.Map exprs ∷ os) le = after_front n os (omega (arith, le))
+after_front (suc n) (ops.Distinct ∷ os) le = absurd (omega (arith, le))
+after_front (suc n) (ops.Reduce r ∷ os) le = filters_front n os (omega (arith, le))
 
 cut_front : (cut : ℕ) (os : List TOp) → cut ≤ greatest_cut os → IsFront (take cut os)
 cut_front zero os le = tt
 cut_front (suc n) [] le = tt
 cut_front (suc n) (ops.Filter conds ∷ os) le = cut_front n os (omega (arith, le))
 cut_front (suc n) (ops.Map exprs ∷ os) le = cut_front n os (omega (arith, le))
-cut_front (suc n) (ops.Distinct ∷ os) le = behind_front n os (omega (arith, le))
+cut_front (suc n) (ops.Distinct ∷ os) le = after_front n os (omega (arith, le))
 cut_front (suc n) (ops.Reduce r ∷ os) le = filters_front n os (omega (arith, le))
 
 filters_prefix : (ss : List Stage) → OnlyFilters (map top_of ss) → AreFilters ss
@@ -180,8 +180,8 @@ module _ (window : ℕ) (queries : List TypedQuery) (q b level cut depth : ℕ) 
     had_rows : AllByRecursion HasWidths tuples → AllByRecursion (Had (ops_of pipe.prefix.level stages)) (rows_in (at_start pipe kept) tuples)
     had_rows widths =
         let start : PipeState = at_start pipe kept in
-        all_map (Had (ops_of pipe.prefix.level stages)) (row_in start) (filter (lets_in start) tuples)
-        (all_weaker HasWidths (λ tuple. Had (ops_of pipe.prefix.level stages) (row_in start tuple)) had_row (filter (lets_in start) tuples) (all_filter HasWidths (lets_in start) tuples widths))
+        all_map (Had (ops_of pipe.prefix.level stages)) (row_in start) (filter (admits start) tuples)
+        (all_weaker HasWidths (λ tuple. Had (ops_of pipe.prefix.level stages) (row_in start tuple)) had_row (filter (admits start) tuples) (all_filter HasWidths (admits start) tuples widths))
 
     ops_are : take (length stages) (ops_of pipe.prefix.level stages) ≡ take cut (map (op_at level) branch_ops)
     ops_are =
@@ -192,15 +192,15 @@ module _ (window : ℕ) (queries : List TypedQuery) (q b level cut depth : ℕ) 
         ∙ ap (λ n. map (op_at n) (take cut branch_ops)) new.same_level
         ∙ map_front (op_at level) cut branch_ops
 
-    rows_are : rows_in (at_start pipe kept) tuples ≡ rows_let_in (query_at queries q) b level coarser kept tuples
+    rows_are : rows_in (at_start pipe kept) tuples ≡ rows_admitted (query_at queries q) b level coarser kept tuples
     rows_are =
-        ap (λ (x : TypedQuery). rows_let_in x pipe.branch pipe.prefix.level pipe.coarser kept tuples) new.same_query
-        ∙ ap (λ n. rows_let_in (query_at queries q) n pipe.prefix.level pipe.coarser kept tuples) new.same_branch
-        ∙ ap (λ n. rows_let_in (query_at queries q) b n pipe.coarser kept tuples) new.same_level
-        ∙ ap (λ o. rows_let_in (query_at queries q) b level o kept tuples) new.same_coarser
+        ap (λ (x : TypedQuery). rows_admitted x pipe.branch pipe.prefix.level pipe.coarser kept tuples) new.same_query
+        ∙ ap (λ n. rows_admitted (query_at queries q) n pipe.prefix.level pipe.coarser kept tuples) new.same_branch
+        ∙ ap (λ n. rows_admitted (query_at queries q) b n pipe.coarser kept tuples) new.same_level
+        ∙ ap (λ o. rows_admitted (query_at queries q) b level o kept tuples) new.same_coarser
 
     pub typed_items : AllByRecursion HasWidths tuples →
-        packets_give (at_start pipe kept) tuples ++ left_in (after_packets (at_start pipe kept) tuples).prefix ≡ items depth (size_at branch_ops sizes) cut (map (op_at level) branch_ops) (rows_let_in (query_at queries q) b level coarser kept tuples)
+        packets_give (at_start pipe kept) tuples ++ left_in (after_packets (at_start pipe kept) tuples).prefix ≡ items depth (size_at branch_ops sizes) cut (map (op_at level) branch_ops) (rows_admitted (query_at queries q) b level coarser kept tuples)
     typed_items widths =
         tuple_items pipe kept depth (size_at branch_ops sizes) tuples prefix_is sized_is (had_rows widths)
         ∙ items_by depth (size_at branch_ops sizes) (length stages) cut (ops_of pipe.prefix.level stages) (map (op_at level) branch_ops) (rows_in (at_start pipe kept) tuples) ops_are

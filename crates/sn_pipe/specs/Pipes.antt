@@ -8,7 +8,7 @@ use Rattle.std.specs.FinSet as set
 use Rattle.sn_base.specs.Groups.{Row}
 use Rattle.sn_fields.specs.declared.field.Field.{Field}
 use Rattle.sn_engine_split.specs.Opened as opened
-use Rattle.sn_engine_split.specs.Opened.{Prefixes, let_in, tabled}
+use Rattle.sn_engine_split.specs.Opened.{Prefixes, tuples_admitted, tabled}
 use Rattle.sn_report.specs.Items.{Item}
 use Rattle.sn_types.specs.declared.typed_op.TOp.{TOp}
 use Rattle.sn_types.specs.declared.typed_query.TypedQuery.{TypedQuery}
@@ -47,11 +47,11 @@ passing None members = None
 passing (Some gate) members = tabled gate.entries (Some (gate.bits, members))
 
 -- a tuple is admitted
-abbrev pub is_let_in : Option Field → Option Gate → set.FinSet nat_cmp → List ℕ → Bool
-is_let_in field coarser members tuple = opened.lets_in field (passing coarser members) tuple
+abbrev pub is_admitted : Option Field → Option Gate → set.FinSet nat_cmp → List ℕ → Bool
+is_admitted field coarser members tuple = opened.admits field (passing coarser members) tuple
 
-abbrev pub lets_in : PipeState → List ℕ → Bool
-lets_in p tuple = is_let_in p.query.field p.coarser p.members tuple
+abbrev pub admits : PipeState → List ℕ → Bool
+admits p tuple = is_admitted p.query.field p.coarser p.members tuple
 
 -- the packet row of a tuple
 abbrev pub row_in : PipeState → List ℕ → Row
@@ -59,11 +59,11 @@ row_in p tuple = packet_row p.query.field p.prefix.level (branch_of p.query p.br
 
 -- the item that a tuple gives
 abbrev pub item_of : PipeState → List ℕ → Option Item
-item_of p tuple = if lets_in p tuple then item_from p.prefix.level 0 p.prefix.stages (row_in p tuple) else None
+item_of p tuple = if admits p tuple then item_from p.prefix.level 0 p.prefix.stages (row_in p tuple) else None
 
 -- the stages after a tuple
 abbrev pub after_tuple : PipeState → List ℕ → List Stage
-after_tuple p tuple = if lets_in p tuple then stages_after p.prefix.level p.prefix.stages (row_in p tuple) else p.prefix.stages
+after_tuple p tuple = if admits p tuple then stages_after p.prefix.level p.prefix.stages (row_in p tuple) else p.prefix.stages
 
 -- the registers of a reduce have its fold
 abbrev pub FoldsAgree : List Stage → Type 0
@@ -106,7 +106,7 @@ pub record IsNewPipe (query : TypedQuery) (branch level : ℕ) (coarser : Option
 
 -- the rows of the tuples that are admitted
 abbrev pub rows_in : PipeState → List (List ℕ) → List Row
-rows_in p tuples = map (row_in p) (filter (lets_in p) tuples)
+rows_in p tuples = map (row_in p) (filter (admits p) tuples)
 
 abbrev pub after_packet : PipeState → List ℕ → PipeState
 after_packet p tuple = record p { prefix = record p.prefix { stages = after_tuple p tuple } }
@@ -124,6 +124,6 @@ abbrev pub at_start : PipeState → set.FinSet nat_cmp → PipeState
 at_start p kept = record p { members = kept; prefix = record p.prefix { stages = map cleared p.prefix.stages; place = 0 } }
 
 -- the packet rows of the tuples that a pipe with these prefixes admits
-abbrev pub rows_let_in : TypedQuery → ℕ → ℕ → Option Gate → set.FinSet nat_cmp → List (List ℕ) → List Row
-rows_let_in query b level coarser members tuples =
-    map (packet_row query.field level (branch_of query b).fields) (let_in query (passing coarser members) tuples)
+abbrev pub rows_admitted : TypedQuery → ℕ → ℕ → Option Gate → set.FinSet nat_cmp → List (List ℕ) → List Row
+rows_admitted query b level coarser members tuples =
+    map (packet_row query.field level (branch_of query b).fields) (tuples_admitted query (passing coarser members) tuples)

@@ -1,6 +1,6 @@
 //! Which tuples a pipe admits.
 ghost use Rattle.std.specs.Prelude.{◌≡◌, ◌<◌, length};
-ghost use Rattle.sn_engine_split.specs.Opened.{is_open, lets_in};
+ghost use Rattle.sn_engine_split.specs.Opened.{is_open, admits};
 ghost use Rattle.sn_pipe.specs.Pipes.{IsCoarser, asking, passing};
 ghost use Rattle.sn_types.specs.Typed.{query_at};
 
@@ -42,16 +42,10 @@ pub(crate) fn asks(coarser: Option<Gate>, members: &Members) -> Option<u32>
 
 /// Whether a tuple passes: where it is asked for a prefix of these bits, this is one of these prefixes.
 #[inline(always)]
-pub(crate) fn lets_in(
-    t: &Typed,
-    q: u32,
-    asks: Option<u32>,
-    members: &Members,
-    tuple: &Tuple,
-) -> bool
+pub(crate) fn admits(t: &Typed, q: u32, asks: Option<u32>, members: &Members, tuple: &Tuple) -> bool
     requires query { q < length t.now.queries }
     requires asks { IsCoarser (query_at t.now.queries q) asks }
-    ensures { result ≡ lets_in (query_at t.now.queries q).field (asking asks members.now) tuple.now }
+    ensures { result ≡ admits (query_at t.now.queries q).field (asking asks members.now) tuple.now }
 {
     match asks {
         Some(bits) => is_kept(t, q, Some(Kept { members, bits }), tuple),

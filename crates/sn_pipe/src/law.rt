@@ -4,7 +4,7 @@ ghost use Rattle.std.specs.Prelude.{◌≡◌, ℕ, ◌<◌, ◌≤◌, ◌++◌
 ghost use Rattle.std.specs.FinSet as set;
 ghost use Rattle.std.specs.List.{AllByRecursion};
 ghost use Rattle.std.specs.Ordering.{nat_cmp};
-ghost use Rattle.sn_pipe.specs.Pipes.{IsNewPipe, PipeState, after_packet, after_packets, at_start, packets_give, passing, rows_in, rows_let_in};
+ghost use Rattle.sn_pipe.specs.Pipes.{IsNewPipe, PipeState, after_packet, after_packets, at_start, packets_give, passing, rows_in, rows_admitted};
 ghost use Rattle.sn_types.specs.Cuts.{size_at};
 ghost use Rattle.sn_pipe.specs.Prefixes.{left_in};
 ghost use Rattle.sn_ops.specs.Packets.{packet_rows};
@@ -15,10 +15,10 @@ ghost use Rattle.sn_types.specs.Values.{op_at};
 ghost use Rattle.sn_types.specs.declared.typed_query.TypedQuery.{TypedQuery};
 ghost use Rattle.sn_base.specs.Groups.{Row};
 ghost use Rattle.sn_base.specs.Operators.{Had};
-ghost use Rattle.sn_engine_split.specs.Opened.{is_open, let_in};
+ghost use Rattle.sn_engine_split.specs.Opened.{is_open, tuples_admitted};
 ghost use Rattle.sn_pipe.specs.AnyStage.{Stage};
 ghost use Rattle.sn_pipe.specs.declared.gate.Gate.{Gate};
-ghost use Rattle.sn_pipe.specs.Stages.{cleared, item_from, ops_of, stages_behind};
+ghost use Rattle.sn_pipe.specs.Stages.{cleared, item_from, ops_of, stages_after_all};
 ghost use Rattle.sn_pipe.specs.Windows.{HaveSizes, IsPrefix, given, left_from};
 ghost use Rattle.sn_pipe_items.specs.Items.{at_packet, items, sent};
 ghost use Rattle.std.specs.Option.{option_to_list};
@@ -28,11 +28,11 @@ ghost use Rattle.std.specs.Option.{option_to_list};
 pub fn pipes_give_the_items()
     ensures window { (level depth : ℕ) (size : ℕ → ℕ) (stages : List Stage) (rows : List Row) →
         IsPrefix stages → HaveSizes depth size 0 stages → AllByRecursion (Had (ops_of level stages)) rows →
-        given level (map cleared stages) rows ++ left_from level 0 false 0 (stages_behind level (map cleared stages) rows)
+        given level (map cleared stages) rows ++ left_from level 0 false 0 (stages_after_all level (map cleared stages) rows)
         ≡ items depth size (length stages) (ops_of level stages) rows }
     ensures packet { (level depth : ℕ) (size : ℕ → ℕ) (stages : List Stage) (before later : List Row) (row : Row) →
         HaveSizes depth size 0 stages → AllByRecursion (Had (ops_of level stages)) (before ++ row ∷ later) →
-        option_to_list (item_from level 0 (stages_behind level (map cleared stages) before) row)
+        option_to_list (item_from level 0 (stages_after_all level (map cleared stages) before) row)
         ≡ at_packet (sent depth size (length stages) (ops_of level stages) (before ++ row ∷ later)) (length before) }
 {}
 
@@ -58,7 +58,7 @@ pub fn new_pipes_give_the_items()
         ∥ IsTyped window queries ∥₁ → q < length queries → b < length query.branches → cut ≤ (branch_at queries q b).max_cut →
         IsNewPipe query b level coarser (take cut ops) depth sizes pipe → AllByRecursion HasWidths tuples →
         packets_give (at_start pipe kept) tuples ++ left_in (after_packets (at_start pipe kept) tuples).prefix
-        ≡ items depth (size_at ops sizes) cut (map (op_at level) ops) (rows_let_in query b level coarser kept tuples) }
+        ≡ items depth (size_at ops sizes) cut (map (op_at level) ops) (rows_admitted query b level coarser kept tuples) }
 {}
 
 /// The start of a window is the same whatever came before it: tuples, read-outs and other windows. So what is said of a
@@ -73,16 +73,16 @@ pub fn windows_start_afresh()
 /// The rows that a pipe admits are the packet rows of the tuples that pass: of those whose refinement field is a prefix of
 /// the set, where a level stands before it and its table has an entry for each prefix, and else of all. With as many prefixes as
 /// entries the table isn't open yet.
-pub fn pipes_let_in_the_kept()
+pub fn pipes_admit_the_kept()
     ensures all { (query : TypedQuery) (b level : ℕ) (members : set.FinSet nat_cmp) (tuples : List (List ℕ)) →
-        rows_let_in query b level None members tuples ≡ packet_rows query b level None tuples }
+        rows_admitted query b level None members tuples ≡ packet_rows query b level None tuples }
     ensures kept { (query : TypedQuery) (b level : ℕ) (gate : Gate) (kept : Kept) (tuples : List (List ℕ)) →
         gate.bits ≡ kept.bits → is_open gate.entries kept.members.now ≡ false →
-        rows_let_in query b level (Some gate) kept.members.now tuples ≡ packet_rows query b level (Some kept) tuples }
+        rows_admitted query b level (Some gate) kept.members.now tuples ≡ packet_rows query b level (Some kept) tuples }
     ensures opened { (query : TypedQuery) (b level : ℕ) (gate : Gate) (members : set.FinSet nat_cmp) (tuples : List (List ℕ)) →
-        is_open gate.entries members ≡ true → rows_let_in query b level (Some gate) members tuples ≡ packet_rows query b level None tuples }
+        is_open gate.entries members ≡ true → rows_admitted query b level (Some gate) members tuples ≡ packet_rows query b level None tuples }
     ensures passing { (query : TypedQuery) (b level : ℕ) (coarser : Option Gate) (members : set.FinSet nat_cmp) (tuples : List (List ℕ)) →
-        rows_let_in query b level coarser members tuples ≡ packet_rows query b level None (let_in query (passing coarser members) tuples) }
+        rows_admitted query b level coarser members tuples ≡ packet_rows query b level None (tuples_admitted query (passing coarser members) tuples) }
 {}
 
 /// The items of the prefix of a branch have the columns of their tags, and tags of that prefix: an engine that knows the

@@ -13,7 +13,7 @@ ghost use Rattle.sn_types.specs.Kinds.{AreBelow};
 ghost use Rattle.sn_types.specs.Typed.{branch_at, query_at};
 ghost use Rattle.sn_chain.specs.Limits.{largest_register};
 
-use crate::gate::{Gate, asks, lets_in};
+use crate::gate::{Gate, admits, asks};
 use crate::prefix::Prefix;
 use crate::rows::PacketRows;
 use sn_base::any_row::AnyRow;
@@ -126,7 +126,7 @@ impl<R: AnyRow> Pipe<R> {
         ensures after { self.new ≡ record self.old { prefix = record self.old.prefix { stages = after_tuple self.old tuple.now } } }
         ensures operator { IfSome result (λ i. i ≤ 12) }
     {
-        if !lets_in(&self.t, self.q, self.asks, &self.members, tuple) {
+        if !admits(&self.t, self.q, self.asks, &self.members, tuple) {
             return None;
         }
         let packet = self.rows.row(tuple);

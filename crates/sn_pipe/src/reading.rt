@@ -23,31 +23,31 @@ fn passes<R: AnyRow>(stages: &[StageOf<R>], level: u32, row: &R) -> bool
 {
     match stages.split_first() {
         None => true,
-        Some((Stage::Filter(conds), behind)) => {
-            evaluate::passes(conds.as_slice(), level, row) && passes(behind, level, row)
+        Some((Stage::Filter(conds), following)) => {
+            evaluate::passes(conds.as_slice(), level, row) && passes(following, level, row)
         }
         Some(_) => false,
     }
 }
 
 /// Whether a held row goes up: as it is where the distinct overflowed, and else where it passes the filters.
-fn goes_up<R: AnyRow>(behind: &[StageOf<R>], level: u32, spilled: bool, row: &R) -> bool
-    requires { CanTest (length (R.columns row.now)) behind.now }
-    ensures { result ≡ goes_up level spilled behind.now (R.columns row.now) }
+fn goes_up<R: AnyRow>(following: &[StageOf<R>], level: u32, spilled: bool, row: &R) -> bool
+    requires { CanTest (length (R.columns row.now)) following.now }
+    ensures { result ≡ goes_up level spilled following.now (R.columns row.now) }
 {
-    spilled || passes(behind, level, row)
+    spilled || passes(following, level, row)
 }
 
 /// With which tag held rows of the reduce of number `first` go up.
-fn tag_up<R: AnyRow>(first: u8, spilled: bool, behind: &[StageOf<R>]) -> Tag
-    requires { first + length behind.now < 12 }
-    ensures tag { result ≡ tag_up first spilled behind.now }
+fn tag_up<R: AnyRow>(first: u8, spilled: bool, following: &[StageOf<R>]) -> Tag
+    requires { first + length following.now < 12 }
+    ensures tag { result ≡ tag_up first spilled following.now }
     ensures operator { operator_of result ≤ 12 }
 {
     if spilled {
         Tag::Partial(first)
     } else {
-        Tag::At(first + 1 + behind.len() as u8)
+        Tag::At(first + 1 + following.len() as u8)
     }
 }
 
@@ -77,7 +77,7 @@ fn row_at<R: AnyRow>(chain: &Chain<AnyFold, R>, at: u32, columns: usize) -> Opti
 /// The row at a place, if it goes up.
 fn up_at<R: AnyRow>(
     chain: &Chain<AnyFold, R>,
-    behind: &[StageOf<R>],
+    following: &[StageOf<R>],
     level: u32,
     spilled: bool,
     at: u32,
@@ -85,13 +85,13 @@ fn up_at<R: AnyRow>(
 ) -> Option<R>
     requires few { columns < 8 }
     requires keys { HoldKeys columns chain.now.cells }
-    requires test { CanTest (columns + 1) behind.now }
+    requires test { CanTest (columns + 1) following.now }
     requires within { at < length chain.now.cells }
-    ensures { filter (goes_up level spilled behind.now) (rows_left chain.now at) ≡ option_to_list (option_map R.columns result) ++
-        filter (goes_up level spilled behind.now) (rows_left chain.now (at + 1)) }
+    ensures { filter (goes_up level spilled following.now) (rows_left chain.now at) ≡ option_to_list (option_map R.columns result) ++
+        filter (goes_up level spilled following.now) (rows_left chain.now (at + 1)) }
 {
     let row = row_at(chain, at, columns)?;
-    if goes_up(behind, level, spilled, &row) {
+    if goes_up(following, level, spilled, &row) {
         Some(row)
     } else {
         None
@@ -101,7 +101,7 @@ fn up_at<R: AnyRow>(
 /// The first row from a place on that goes up, and the place after it.
 fn first_up<R: AnyRow>(
     chain: &Chain<AnyFold, R>,
-    behind: &[StageOf<R>],
+    following: &[StageOf<R>],
     level: u32,
     spilled: bool,
     place: u32,
@@ -109,14 +109,14 @@ fn first_up<R: AnyRow>(
 ) -> (Option<R>, u32)
     requires few { columns < 8 }
     requires keys { HoldKeys columns chain.now.cells }
-    requires test { CanTest (columns + 1) behind.now }
-    ensures row { option_map R.columns result.0 ≡ slice_get (filter (goes_up level spilled behind.now) (rows_left chain.now place)) 0 }
-    ensures left { filter (goes_up level spilled behind.now) (rows_left chain.now result.1) ≡
-        drop 1 (filter (goes_up level spilled behind.now) (rows_left chain.now place)) }
+    requires test { CanTest (columns + 1) following.now }
+    ensures row { option_map R.columns result.0 ≡ slice_get (filter (goes_up level spilled following.now) (rows_left chain.now place)) 0 }
+    ensures left { filter (goes_up level spilled following.now) (rows_left chain.now result.1) ≡
+        drop 1 (filter (goes_up level spilled following.now) (rows_left chain.now place)) }
 {
     let mut at = chain.next_held(place);
     while at < chain.places() {
-        let row = up_at(chain, behind, level, spilled, at, columns);
+        let row = up_at(chain, following, level, spilled, at, columns);
         if row.is_some() {
             return (row, at + 1);
         }
@@ -142,14 +142,14 @@ pub(crate) fn next_item<R: AnyRow>(
 {
     match stages.split_first() {
         None => (None, place),
-        Some((Stage::Filter(_) | Stage::Map(_), behind)) => {
-            next_item(behind, level, first + 1, spilled, place)
+        Some((Stage::Filter(_) | Stage::Map(_), following)) => {
+            next_item(following, level, first + 1, spilled, place)
         }
-        Some((Stage::Distinct(_, over), behind)) => {
-            next_item(behind, level, first + 1, spilled || *over, place)
+        Some((Stage::Distinct(_, over), following)) => {
+            next_item(following, level, first + 1, spilled || *over, place)
         }
-        Some((Stage::Reduce(r, chain), behind)) => {
-            next_held(r, chain, behind, level, first, spilled, place)
+        Some((Stage::Reduce(r, chain), following)) => {
+            next_held(r, chain, following, level, first, spilled, place)
         }
     }
 }
@@ -158,24 +158,24 @@ pub(crate) fn next_item<R: AnyRow>(
 fn next_held<R: AnyRow>(
     r: &TReduce,
     chain: &Chain<AnyFold, R>,
-    behind: &[StageOf<R>],
+    following: &[StageOf<R>],
     level: u32,
     first: u8,
     spilled: bool,
     place: u32,
 ) -> (Option<Item<R>>, u32)
-    requires few { first + length behind.now < 12 }
+    requires few { first + length following.now < 12 }
     requires columns { length r.now.keys < 8 }
     requires keys { HoldKeys (length r.now.keys) chain.now.cells }
-    requires test { CanTest (length r.now.keys + 1) behind.now }
-    ensures item { option_map (item_by R.columns) result.0 ≡ slice_get (left_from level first spilled place (Stage.Reduce r.now chain.now ∷ behind.now)) 0 }
-    ensures left { left_from level first spilled result.1 (Stage.Reduce r.now chain.now ∷ behind.now) ≡
-        drop 1 (left_from level first spilled place (Stage.Reduce r.now chain.now ∷ behind.now)) }
+    requires test { CanTest (length r.now.keys + 1) following.now }
+    ensures item { option_map (item_by R.columns) result.0 ≡ slice_get (left_from level first spilled place (Stage.Reduce r.now chain.now ∷ following.now)) 0 }
+    ensures left { left_from level first spilled result.1 (Stage.Reduce r.now chain.now ∷ following.now) ≡
+        drop 1 (left_from level first spilled place (Stage.Reduce r.now chain.now ∷ following.now)) }
     ensures operator { IfSome result.0 (λ item. operator_of item.tag ≤ 12) }
 {
     let columns = r.keys.as_slice().len();
-    let (row, after) = first_up(chain, behind, level, spilled, place, columns);
-    (with_tag(tag_up(first, spilled, behind), row), after)
+    let (row, after) = first_up(chain, following, level, spilled, place, columns);
+    (with_tag(tag_up(first, spilled, following), row), after)
 }
 
 fn with_tag<R: AnyRow>(tag: Tag, row: Option<R>) -> Option<Item<R>>

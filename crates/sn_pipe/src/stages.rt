@@ -22,14 +22,14 @@ pub(crate) fn pass<R: AnyRow>(
     ensures stages { stages.new ≡ stages_after level stages.old (R.columns row.old) }
     ensures operator { IfSome result (λ i. i ≤ 12) }
 {
-    let Some((stage, behind)) = stages.split_first_mut() else {
+    let Some((stage, following)) = stages.split_first_mut() else {
         return Some(first);
     };
     let mut other = R::empty();
     match stage.pass(level, row, &mut other) {
-        Passage::Same => pass(behind, level, first + 1, row),
+        Passage::Same => pass(following, level, first + 1, row),
         Passage::Other => {
-            let operator = pass(behind, level, first + 1, &mut other)?;
+            let operator = pass(following, level, first + 1, &mut other)?;
             *row = other;
             Some(operator)
         }

@@ -50,13 +50,13 @@ fn enter<R: AnyRow>(
     ensures stages { stages.new ≡ stages_after level stages.old packet.now }
     ensures operator { IfSome result (λ i. i ≤ 12) }
 {
-    let Some((stage, behind)) = stages.split_first_mut() else {
+    let Some((stage, following)) = stages.split_first_mut() else {
         packet.put_into(row);
         return Some(first);
     };
     match stage.begin(level, packet, row) {
-        Passage::Same => enter(behind, level, first + 1, packet, row),
-        Passage::Other => pass(behind, level, first + 1, row),
+        Passage::Same => enter(following, level, first + 1, packet, row),
+        Passage::Other => pass(following, level, first + 1, row),
         Passage::Stays => None,
         Passage::Over => {
             packet.put_into(row);

@@ -35,8 +35,8 @@ rows_none t tag isnt (row ∷ rows) =
     ∙ rows_none t tag isnt rows
 
 -- after rows of another tag
-pub rows_behind : (t : Tag → Bool) (tag : Tag) → t tag ≡ false → (rows : List Row) (xs : List Item) → rows_with t (tagged tag rows ++ xs) ≡ rows_with t xs
-rows_behind t tag isnt rows xs = rows_append t (tagged tag rows) xs ∙ ap (λ ys. ys ++ rows_with t xs) (rows_none t tag isnt rows)
+pub rows_after : (t : Tag → Bool) (tag : Tag) → t tag ≡ false → (rows : List Row) (xs : List Item) → rows_with t (tagged tag rows ++ xs) ≡ rows_with t xs
+rows_after t tag isnt rows xs = rows_append t (tagged tag rows) xs ∙ ap (λ ys. ys ++ rows_with t xs) (rows_none t tag isnt rows)
 
 -- before rows of another tag
 pub rows_front : (t : Tag → Bool) (tag : Tag) → t tag ≡ true → (rows : List Row) (xs : List Item) → rows_with t xs ≡ [] → rows_with t (tagged tag rows ++ xs) ≡ rows
@@ -48,15 +48,15 @@ rows_front t tag is rows xs none = rows_append t (tagged tag rows) xs ∙ ap (λ
 pub finish_past : (i d : ℕ) → d ≤ i → (ops : List Op) (rows : List Row) (xs : List Item) (into : List Row) → finish i ops (tagged (At d) rows ++ xs) into ≡ finish i ops xs into
 finish_past i d le [] rows xs into = refl
 finish_past i d le (op ∷ ops) rows xs into =
-    ap (λ ps. finish (suc i) ops (tagged (At d) rows ++ xs) (taken op into ps ++ rows_with (is_at (suc i)) (tagged (At d) rows ++ xs))) (rows_behind (is_partial i) (At d) refl rows xs)
-    ∙ ap (λ ys. finish (suc i) ops (tagged (At d) rows ++ xs) (taken op into (rows_with (is_partial i) xs) ++ ys)) (rows_behind (is_at (suc i)) (At d) (nat_apart (suc i) d (λ e. omega arith)) rows xs)
+    ap (λ ps. finish (suc i) ops (tagged (At d) rows ++ xs) (taken op into ps ++ rows_with (is_at (suc i)) (tagged (At d) rows ++ xs))) (rows_after (is_partial i) (At d) refl rows xs)
+    ∙ ap (λ ys. finish (suc i) ops (tagged (At d) rows ++ xs) (taken op into (rows_with (is_partial i) xs) ++ ys)) (rows_after (is_at (suc i)) (At d) (nat_apart (suc i) d (λ e. omega arith)) rows xs)
     ∙ finish_past (suc i) d (omega arith) ops rows xs (taken op into (rows_with (is_partial i) xs) ++ rows_with (is_at (suc i)) xs)
 
 pub finish_past_partial : (i d : ℕ) → d < i → (ops : List Op) (rows : List Row) (xs : List Item) (into : List Row) → finish i ops (tagged (Partial d) rows ++ xs) into ≡ finish i ops xs into
 finish_past_partial i d lt [] rows xs into = refl
 finish_past_partial i d lt (op ∷ ops) rows xs into =
-    ap (λ ps. finish (suc i) ops (tagged (Partial d) rows ++ xs) (taken op into ps ++ rows_with (is_at (suc i)) (tagged (Partial d) rows ++ xs))) (rows_behind (is_partial i) (Partial d) (nat_apart i d (λ e. omega arith)) rows xs)
-    ∙ ap (λ ys. finish (suc i) ops (tagged (Partial d) rows ++ xs) (taken op into (rows_with (is_partial i) xs) ++ ys)) (rows_behind (is_at (suc i)) (Partial d) refl rows xs)
+    ap (λ ps. finish (suc i) ops (tagged (Partial d) rows ++ xs) (taken op into ps ++ rows_with (is_at (suc i)) (tagged (Partial d) rows ++ xs))) (rows_after (is_partial i) (Partial d) (nat_apart i d (λ e. omega arith)) rows xs)
+    ∙ ap (λ ys. finish (suc i) ops (tagged (Partial d) rows ++ xs) (taken op into (rows_with (is_partial i) xs) ++ ys)) (rows_after (is_at (suc i)) (Partial d) refl rows xs)
     ∙ finish_past_partial (suc i) d (omega arith) ops rows xs (taken op into (rows_with (is_partial i) xs) ++ rows_with (is_at (suc i)) xs)
 
 -- with no Partial rows an operator is as ever
@@ -87,10 +87,10 @@ module _ (depth : ℕ) (size : ℕ → ℕ) where
   none_before t i ats pts sp (Filter p ∷ ops) flow = none_before t (suc i) (λ j le. ats j (omega arith)) (λ j le. pts j (omega arith)) sp ops (filter p flow)
   none_before t i ats pts sp (Map f ∷ ops) flow = none_before t (suc i) (λ j le. ats j (omega arith)) (λ j le. pts j (omega arith)) sp ops (map f flow)
   none_before t i ats pts sp (Distinct ∷ ops) flow =
-      rows_behind t (At i) (ats i (omega arith)) (over_distinct depth size i flow) (items_from depth size (suc i) (sp || some_row (over_distinct depth size i flow)) ops (once same_row (filter (resides depth size i flow) flow)))
+      rows_after t (At i) (ats i (omega arith)) (over_distinct depth size i flow) (items_from depth size (suc i) (sp || some_row (over_distinct depth size i flow)) ops (once same_row (filter (resides depth size i flow) flow)))
       ∙ none_before t (suc i) (λ j le. ats j (omega arith)) (λ j le. pts j (omega arith)) (sp || some_row (over_distinct depth size i flow)) ops (once same_row (filter (resides depth size i flow) flow))
   none_before t i ats pts sp (Reduce g ∷ ops) flow =
-      rows_behind t (At i) (ats i (omega arith)) (over_reduce depth size i g flow) (cond sp (tagged (Partial i) (held depth size i g flow)) (items_from depth size (suc i) sp ops (held depth size i g flow)))
+      rows_after t (At i) (ats i (omega arith)) (over_reduce depth size i g flow) (cond sp (tagged (Partial i) (held depth size i g flow)) (items_from depth size (suc i) sp ops (held depth size i g flow)))
       ∙ (elim sp as (λ b. rows_with t (cond b (tagged (Partial i) (held depth size i g flow)) (items_from depth size (suc i) b ops (held depth size i g flow))) ≡ []) [
         | true ↦ rows_none t (Partial i) (pts i (omega arith)) (held depth size i g flow)
         | false ↦ none_before t (suc i) (λ j le. ats j (omega arith)) (λ j le. pts j (omega arith)) false ops (held depth size i g flow)

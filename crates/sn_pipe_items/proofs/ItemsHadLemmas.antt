@@ -21,7 +21,7 @@ use Rattle.sn_pipe_items.specs.Value.{is_at, is_partial, rows_with, value}
 use Rattle.sn_pipe_items.proofs.Bagged.{some_row, resides, over_distinct, over_reduce, items_from, bagged}
 use Rattle.sn_pipe_items.proofs.Cuts.{IsCut}
 use Rattle.sn_pipe_items.proofs.Homes.{member, all_members}
-use Rattle.sn_pipe_items.proofs.ItemLemmas.{rows_all, rows_none, rows_behind, rows_front, no_at, no_partial}
+use Rattle.sn_pipe_items.proofs.ItemLemmas.{rows_all, rows_none, rows_after, rows_front, no_at, no_partial}
 use Rattle.sn_pipe_items.proofs.ValueBag.{IsHeld, PartialHad, ItemsHad, value_bag}
 use Rattle.sn_pipe_items.proofs.SplitLaw as law
 use Rattle.sn_base.proofs.Tests.{nat_apart as at_other}
@@ -41,12 +41,12 @@ had_none i (op ∷ ops) xs none_partial none = (
   had_none (suc i) ops xs (λ j le. none_partial j (omega arith)) (λ j lt. none j (omega arith)),
 )
 
-had_behind : (i d : ℕ) → d ≤ i → (ops : List Op) (rows : List Row) (xs : List Item) → ItemsHad i ops xs → ItemsHad i ops (tagged (At d) rows ++ xs)
-had_behind i d le [] rows xs h = tt
-had_behind i d le (op ∷ ops) rows xs h = (
-  subst (PartialHad op ops) (sym (rows_behind (is_partial i) (At d) refl rows xs)) h.0,
-  subst (AllByRecursion (Had ops)) (sym (rows_behind (is_at (suc i)) (At d) (at_other (suc i) d (λ e. omega arith)) rows xs)) h.1,
-  had_behind (suc i) d (omega arith) ops rows xs h.2,
+had_following : (i d : ℕ) → d ≤ i → (ops : List Op) (rows : List Row) (xs : List Item) → ItemsHad i ops xs → ItemsHad i ops (tagged (At d) rows ++ xs)
+had_following i d le [] rows xs h = tt
+had_following i d le (op ∷ ops) rows xs h = (
+  subst (PartialHad op ops) (sym (rows_after (is_partial i) (At d) refl rows xs)) h.0,
+  subst (AllByRecursion (Had ops)) (sym (rows_after (is_at (suc i)) (At d) (at_other (suc i) d (λ e. omega arith)) rows xs)) h.1,
+  had_following (suc i) d (omega arith) ops rows xs h.2,
 )
 
 module _ (depth : ℕ) (size : ℕ → ℕ) where
@@ -114,17 +114,17 @@ module _ (depth : ℕ) (size : ℕ → ℕ) where
       let rest = items_from depth size (suc i) b front stay in
       let next = all_once same_row (Had ops) (filter (resides depth size i flow) flow) (all_filter (Had ops) (resides depth size i flow) flow had) in (
         tt,
-        subst (AllByRecursion (Had ops)) (sym (rows_behind (is_at (suc i)) (At i) (at_other (suc i) i (λ e. omega arith)) over rest)) (at_had (suc i) b front back stay next),
-        had_behind (suc i) i (omega arith) ops over rest (items_had (suc i) b front back stay next),
+        subst (AllByRecursion (Had ops)) (sym (rows_after (is_at (suc i)) (At i) (at_other (suc i) i (λ e. omega arith)) over rest)) (at_had (suc i) b front back stay next),
+        had_following (suc i) i (omega arith) ops over rest (items_had (suc i) b front back stay next),
       )
   items_had i true (Reduce g ∷ front) back flow had =
       let ops = front ++ back in
       let over = over_reduce depth size i g flow in
       let kept = held depth size i g flow in
       let rest = tagged (Partial i) kept in (
-        subst (AllByRecursion (IsHeld g ops)) (sym (rows_behind (is_partial i) (At i) refl over rest ∙ rows_all (is_partial i) (Partial i) (at_self i) kept)) (held_are i g ops flow had),
-        subst (AllByRecursion (Had ops)) (sym (rows_behind (is_at (suc i)) (At i) (at_other (suc i) i (λ e. omega arith)) over rest ∙ rows_none (is_at (suc i)) (Partial i) refl kept)) tt,
-        had_behind (suc i) i (omega arith) ops over rest
+        subst (AllByRecursion (IsHeld g ops)) (sym (rows_after (is_partial i) (At i) refl over rest ∙ rows_all (is_partial i) (Partial i) (at_self i) kept)) (held_are i g ops flow had),
+        subst (AllByRecursion (Had ops)) (sym (rows_after (is_at (suc i)) (At i) (at_other (suc i) i (λ e. omega arith)) over rest ∙ rows_none (is_at (suc i)) (Partial i) refl kept)) tt,
+        had_following (suc i) i (omega arith) ops over rest
             (had_none (suc i) ops rest (λ j le. rows_none (is_partial j) (Partial i) (at_other j i (λ e. omega arith)) kept) (λ j lt. rows_none (is_at j) (Partial i) refl kept)),
       )
   items_had i false (Reduce g ∷ front) back flow had =
@@ -133,9 +133,9 @@ module _ (depth : ℕ) (size : ℕ → ℕ) where
       let kept = held depth size i g flow in
       let rest = items_from depth size (suc i) false front kept in
       let next = held_all i g ops flow had in (
-        subst (AllByRecursion (IsHeld g ops)) (sym (rows_behind (is_partial i) (At i) refl over rest ∙ no_partial depth size i (suc i) (omega arith) false front kept)) tt,
-        subst (AllByRecursion (Had ops)) (sym (rows_behind (is_at (suc i)) (At i) (at_other (suc i) i (λ e. omega arith)) over rest)) (at_had (suc i) false front back kept next),
-        had_behind (suc i) i (omega arith) ops over rest (items_had (suc i) false front back kept next),
+        subst (AllByRecursion (IsHeld g ops)) (sym (rows_after (is_partial i) (At i) refl over rest ∙ no_partial depth size i (suc i) (omega arith) false front kept)) tt,
+        subst (AllByRecursion (Had ops)) (sym (rows_after (is_at (suc i)) (At i) (at_other (suc i) i (λ e. omega arith)) over rest)) (at_had (suc i) false front back kept next),
+        had_following (suc i) i (omega arith) ops over rest (items_had (suc i) false front back kept next),
       )
 
   pub items_had_all : (ops : List Op) (cut : ℕ) (rows : List Row) → AllOf ops rows → ItemsHad 0 ops (bagged depth size cut ops rows)

@@ -72,7 +72,7 @@ module _ (keeps : ℕ → Row → Bool) where
   pub record IsKeyed (i : ℕ) (g : Grouping) : Type 0 where
     pub key : Row → Bool
     pub before : (row : Row) → key (key_of g row) ≡ keeps i row
-    pub behind : (k : Row) (a : ℕ) → length k ≡ length g.places → keeps (suc i) (k ++ a ∷ []) ≡ key k
+    pub following : (k : Row) (a : ℕ) → length k ≡ length g.places → keeps (suc i) (k ++ a ∷ []) ≡ key k
     pub in_parts : (row : Row) → suc (length g.places) ≤ length row → keeps (suc i) row ≡ key (take (length g.places) row)
 
   abbrev pub CarriesOne : ℕ → Op → Type 0
@@ -122,7 +122,7 @@ taken_left keeps i (Reduce g) ops c into partial h =
     let t = keeps (suc i) in
     let own = map (pair_of g) into in
     let others = map (parted g) partial in
-    sym (grouped_left g q t (own ++ others) c.behind (subst (λ (ks : List Row). AllByRecursion (λ k. length k ≡ length g.places) ks) (sym (map-append (λ (p : Row × ℕ). p.0) own others))
+    sym (grouped_left g q t (own ++ others) c.following (subst (λ (ks : List Row). AllByRecursion (λ k. length k ≡ length g.places) ks) (sym (map-append (λ (p : Row × ℕ). p.0) own others))
     (all_append (λ (k : Row). length k ≡ length g.places) (keys own) (keys others) (keys_long g into) (parted_long g ops partial h)))
     ∙ ap (grouped g) (filter-append (λ (p : Row × ℕ). q p.0) own others
     ∙ ap (λ ps. ps ++ filter (λ (p : Row × ℕ). q p.0) others) (sym (filter_map (pair_of g) (λ p. q p.0) into) ∙ ap (map (pair_of g)) (filter_agree (λ row. q (key_of g row)) (keeps i) c.before into))

@@ -4,7 +4,7 @@ use Rattle.std.specs.List.{flat_map, range_with_len, AllByRecursion}
 use Rattle.std.proofs.lemmas.Bool.{false≢true}
 use Rattle.std.proofs.lemmas.List.{map-append}
 use Rattle.sn_base.specs.Bags.{SameBag}
-use Rattle.sn_base.specs.Bags.SameBag.{behind}
+use Rattle.sn_base.specs.Bags.SameBag.{following}
 use Rattle.sn_base.specs.Groups.{Row, once, same_row}
 use Rattle.sn_base.specs.Operators.{Op, key_of, through}
 use Rattle.sn_base.specs.Operators.Op.{Filter, Map, Distinct, Reduce}
@@ -25,11 +25,11 @@ abbrev Stands : Type 0
 Stands = List (ℕ × Item)
 
 -- one that stands before the packets that are walked over
-walk_behind : (x : ℕ × Item) (xs : Stands) (a n : ℕ) → x.0 < a → flat_map (at_packet (x ∷ xs)) (range_with_len a n) ≡ flat_map (at_packet xs) (range_with_len a n)
-walk_behind x xs a zero low = refl
-walk_behind x xs a (suc n) low =
+walk_after : (x : ℕ × Item) (xs : Stands) (a n : ℕ) → x.0 < a → flat_map (at_packet (x ∷ xs)) (range_with_len a n) ≡ flat_map (at_packet xs) (range_with_len a n)
+walk_after x xs a zero low = refl
+walk_after x xs a (suc n) low =
     ap (λ b. map (λ (y : ℕ × Item). y.1) (cond b (x ∷ filter (λ y. nat_eq a y.0) xs) (filter (λ y. nat_eq a y.0) xs)) ++ flat_map (at_packet (x ∷ xs)) (range_with_len (a + 1) n)) (at_other a x.0 (λ e. omega arith))
-    ∙ ap (λ ys. at_packet xs a ++ ys) (walk_behind x xs (a + 1) n (omega arith))
+    ∙ ap (λ ys. at_packet xs a ++ ys) (walk_after x xs (a + 1) n (omega arith))
 
 -- one more among them
 walk_more : (x : ℕ × Item) (xs : Stands) (a n : ℕ) → a ≤ x.0 → x.0 < a + n → SameBag (flat_map (at_packet (x ∷ xs)) (range_with_len a n)) (x.1 ∷ flat_map (at_packet xs) (range_with_len a n))
@@ -39,7 +39,7 @@ walk_more x xs a (suc n) low high =
     let front : Bool → List Item = λ b. map (λ (y : ℕ × Item). y.1) (cond b (x ∷ filter (λ y. nat_eq a y.0) xs) (filter (λ y. nat_eq a y.0) xs)) in
     by_test (nat_eq a x.0)
     (λ is. let same : a ≡ x.0 = nat_same a x.0 is in
-    bag_same (ap (λ b. front b ++ rest) is ∙ ap (λ ys. x.1 ∷ (at_packet xs a ++ ys)) (walk_behind x xs (a + 1) n (omega arith))))
+    bag_same (ap (λ b. front b ++ rest) is ∙ ap (λ ys. x.1 ∷ (at_packet xs a ++ ys)) (walk_after x xs (a + 1) n (omega arith))))
     (λ isnt. let above : a < x.0 = past isnt in
     bag_then (bag_same (ap (λ b. front b ++ rest) isnt))
     (bag_then (bag_before (at_packet xs a) rest (x.1 ∷ flat_map (at_packet xs) (range_with_len (a + 1) n)) (walk_more x xs (a + 1) n (omega arith) (omega arith)))
@@ -59,7 +59,7 @@ packet_bag : (count : ℕ) (xs : Stands) → Below count xs → SameBag (map (λ
 packet_bag count [] h = bag_same (sym (walk_none 0 count))
 packet_bag count (x ∷ xs) h =
     let low : x.0 < count = h.0 in
-    bag_then (behind x.1 (map (λ (y : ℕ × Item). y.1) xs) (by_packet count xs) (packet_bag count xs h.1))
+    bag_then (following x.1 (map (λ (y : ℕ × Item). y.1) xs) (by_packet count xs) (packet_bag count xs h.1))
     (bag_back (by_packet count (x ∷ xs)) (x.1 ∷ by_packet count xs) (walk_more x xs 0 count (omega arith) (omega arith)))
 
 -- ---- the numbers of a window's packets

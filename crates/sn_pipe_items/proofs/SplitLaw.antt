@@ -21,9 +21,9 @@ use Rattle.sn_chain.proofs.HomeLemmas.{homes_test, homes_known}
 use Rattle.sn_pipe_items.specs.Items.{tagged, held}
 use Rattle.sn_pipe_items.specs.Value.{is_at, is_partial, rows_with, taken, finish, value}
 use Rattle.sn_pipe_items.proofs.Bagged.{some_row, resides, over_distinct, over_reduce, items_from, bagged}
-use Rattle.sn_pipe_items.proofs.Cuts.{OnlyFilters, IsCutBehindDistinct, IsCut, cut_later}
+use Rattle.sn_pipe_items.proofs.Cuts.{OnlyFilters, IsCutAfterDistinct, IsCut, cut_later}
 use Rattle.sn_pipe_items.proofs.Homes.{homes_apart_any}
-use Rattle.sn_pipe_items.proofs.ItemLemmas.{rows_all, rows_none, rows_behind, rows_front, finish_past, taken_none, finish_alone, finish_alone_partial, no_at, no_partial}
+use Rattle.sn_pipe_items.proofs.ItemLemmas.{rows_all, rows_none, rows_after, rows_front, finish_past, taken_none, finish_alone, finish_alone_partial, no_at, no_partial}
 use Rattle.sn_base.proofs.Tests.{nat_apart as at_other}
 
 -- an operator over the rows that came to it and the overflow rows tagged At it
@@ -32,9 +32,9 @@ after_over : (i : ℕ) (op : Op) (ops : List Op) (over : List Row) (rest : List 
 after_over i op ops over rest extra none none_partial =
     let xs = tagged (At i) over ++ rest in
     ap (λ ys. finish (suc i) ops xs (taken op (extra ++ ys) (rows_with (is_partial i) xs) ++ rows_with (is_at (suc i)) xs)) (rows_front (is_at i) (At i) (at_self i) over rest none)
-    ∙ ap (λ ps. finish (suc i) ops xs (taken op (extra ++ over) ps ++ rows_with (is_at (suc i)) xs)) (rows_behind (is_partial i) (At i) refl over rest ∙ none_partial)
+    ∙ ap (λ ps. finish (suc i) ops xs (taken op (extra ++ over) ps ++ rows_with (is_at (suc i)) xs)) (rows_after (is_partial i) (At i) refl over rest ∙ none_partial)
     ∙ ap (λ ys. finish (suc i) ops xs (ys ++ rows_with (is_at (suc i)) xs)) (taken_none op (extra ++ over))
-    ∙ ap (λ ys. finish (suc i) ops xs (apply op (extra ++ over) ++ ys)) (rows_behind (is_at (suc i)) (At i) (at_other (suc i) i (λ e. omega arith)) over rest)
+    ∙ ap (λ ys. finish (suc i) ops xs (apply op (extra ++ over) ++ ys)) (rows_after (is_at (suc i)) (At i) (at_other (suc i) i (λ e. omega arith)) over rest)
     ∙ finish_past (suc i) i (omega arith) ops over rest (apply op (extra ++ over) ++ rows_with (is_at (suc i)) rest)
 
 -- an operator at which nothing overflows
@@ -97,7 +97,7 @@ module _ (depth : ℕ) (size : ℕ → ℕ) where
 
   -- ---- after a distinct that has overflowed: rows come to the engine's operators beside the pipe's
 
-  spilled : (i : ℕ) (front back : List Op) → IsCutBehindDistinct front → (flow extra : List Row) → AllOf (front ++ back) flow → AllOf (front ++ back) extra →
+  spilled : (i : ℕ) (front back : List Op) → IsCutAfterDistinct front → (flow extra : List Row) → AllOf (front ++ back) flow → AllOf (front ++ back) extra →
       SameBag (finish i (front ++ back) (items_from depth size i true front flow) (extra ++ rows_with (is_at i) (items_from depth size i true front flow))) (through (front ++ back) (extra ++ flow))
   spilled i [] back c flow extra had had_extra = bag_same (at_cut i back flow extra)
   spilled i (Filter t ∷ front) back c flow extra had had_extra =
@@ -126,8 +126,8 @@ module _ (depth : ℕ) (size : ℕ → ℕ) where
       let whole_rows = apply (Reduce g) (extra ++ flow) in
       let engine : finish i (Reduce g ∷ ops) xs (extra ++ rows_with (is_at i) xs) ≡ through ops (taken (Reduce g) (extra ++ over) kept) =
       ap (λ ys. finish (suc i) ops xs (taken (Reduce g) (extra ++ ys) (rows_with (is_partial i) xs) ++ rows_with (is_at (suc i)) xs)) (rows_front (is_at i) (At i) (at_self i) over rest (rows_none (is_at i) (Partial i) refl kept))
-      ∙ ap (λ ps. finish (suc i) ops xs (taken (Reduce g) (extra ++ over) ps ++ rows_with (is_at (suc i)) xs)) (rows_behind (is_partial i) (At i) refl over rest ∙ rows_all (is_partial i) (Partial i) (at_self i) kept)
-      ∙ ap (λ ys. finish (suc i) ops xs (taken (Reduce g) (extra ++ over) kept ++ ys)) (rows_behind (is_at (suc i)) (At i) (at_other (suc i) i (λ e. omega arith)) over rest ∙ rows_none (is_at (suc i)) (Partial i) refl kept)
+      ∙ ap (λ ps. finish (suc i) ops xs (taken (Reduce g) (extra ++ over) ps ++ rows_with (is_at (suc i)) xs)) (rows_after (is_partial i) (At i) refl over rest ∙ rows_all (is_partial i) (Partial i) (at_self i) kept)
+      ∙ ap (λ ys. finish (suc i) ops xs (taken (Reduce g) (extra ++ over) kept ++ ys)) (rows_after (is_at (suc i)) (At i) (at_other (suc i) i (λ e. omega arith)) over rest ∙ rows_none (is_at (suc i)) (Partial i) refl kept)
       ∙ ap (finish (suc i) ops xs) (append-nil (taken (Reduce g) (extra ++ over) kept))
       ∙ finish_past (suc i) i (omega arith) ops over rest (taken (Reduce g) (extra ++ over) kept)
       ∙ finish_alone_partial (suc i) i (omega arith) ops kept (taken (Reduce g) (extra ++ over) kept) in

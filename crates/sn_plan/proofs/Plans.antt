@@ -8,7 +8,7 @@ use Rattle.sn_text_rules.specs.Rules.{kept, FirstFault}
 use Rattle.sn_text_rules.specs.Words.{judged_by}
 use Rattle.sn_text_rules.proofs.Common.{same_value, same_rest, respelled, spelled_append}
 use Rattle.sn_text_rules.proofs.Faults.{fault_of as first_fault}
-use Rattle.sn_text_rules.proofs.Bounded.{told_ok}
+use Rattle.sn_text_rules.proofs.Bounded.{reported_ok}
 use Rattle.sn_text.specs.Cutting.{is_last, tokens_of}
 use Rattle.sn_text.proofs.Ends.{tokens_ended}
 use Rattle.sn_text.specs.Lexing.{left}
@@ -157,7 +157,7 @@ fault_so text ls (stops.Fault x l) f g h k =
     let ts : List Tok = tokens_of text in
     let e = here ts ls (fails x (left l)) g h in
     let s = file_good.stands kept ts (left l) x e in
-    let ok = told_ok file_telling ts (left l) x (tokens_ended text) e in
+    let ok = reported_ok file_telling ts (left l) x (tokens_ended text) e in
     subst (λ (r : PlanFault). IsFault ts r) (sym (k ∙ ap (λ (us : List Tok). fault_of x (first_line us)) s.head)) (shown ts x s.at.line s.at.column ok (first_fault file_rule file_good file_starts ends ts (left l) s.rest s.at x e s.head))
 
 pub none_so : (ts ls : List Tok) (e : Stop) (f : PlanFault) (p : Plan) (byte : ℕ) → ls ≡ ts → Halts e (file_rule.read kept ls) → Answers e f → StandsFor ts p byte → f ≡ faults.Memory

@@ -59,7 +59,7 @@ reading text (fails x us) e d =
 reading text short e d = absurd d
 
 pub reading_some : (text : List ℕ) → HasReading text
-reading_some text = reading text (file_rule.read kept (tokens_of text)) refl (file_telling.told (tokens_of text) (tokens_ended text))
+reading_some text = reading text (file_rule.read kept (tokens_of text)) refl (file_telling.reported (tokens_of text) (tokens_ended text))
 
 record Named (ts : List Tok) (e : PlanFault) : Type 0 where
   flaw : Flaw

@@ -6,7 +6,7 @@ use Rattle.sn_types.specs.declared.typed_op.TOp.{TOp}
 use Rattle.sn_types.specs.declared.typed_op.TOp.TheVariants.{Filter, Map, Distinct, Reduce as Reduced}
 use Rattle.sn_types.specs.declared.typed_query.TypedQuery.{TypedQuery}
 use Rattle.sn_types.specs.declared.typed_query.TypedBranch.{TypedBranch}
-use Rattle.sn_types.specs.Cuts.{stateful, filters_ahead, cut_behind_distinct, greatest_cut}
+use Rattle.sn_types.specs.Cuts.{stateful, filters_ahead, cut_after_distinct, greatest_cut}
 use Rattle.sn_types.specs.Typed.{IsTyped, query_at, branch_at}
 use Rattle.sn_types_faults.specs.Columns.{packet_columns}
 use Rattle.sn_types.specs.Typing.{typed_ops}
@@ -22,7 +22,7 @@ no_state (Map exprs ∷ ops) (suc k) h = absurd (omega arith)
 no_state (Distinct ∷ ops) (suc k) h = absurd (omega arith)
 no_state (Reduced r ∷ ops) (suc k) h = absurd (omega arith)
 
-one_state : (ops : List TOp) (k : ℕ) → k ≤ cut_behind_distinct ops → stateful (take k ops) ≤ 1
+one_state : (ops : List TOp) (k : ℕ) → k ≤ cut_after_distinct ops → stateful (take k ops) ≤ 1
 one_state [] zero h = omega arith
 one_state [] (suc k) h = omega arith
 one_state (op ∷ ops) zero h = omega arith
@@ -47,18 +47,18 @@ filters_within (Map exprs ∷ ops) = omega arith
 filters_within (Distinct ∷ ops) = omega arith
 filters_within (Reduced r ∷ ops) = omega arith
 
-behind_within : (ops : List TOp) → cut_behind_distinct ops ≤ length ops
-behind_within [] = omega arith
-behind_within (Filter conds ∷ ops) = let e = behind_within ops in omega arith
-behind_within (Map exprs ∷ ops) = let e = behind_within ops in omega arith
-behind_within (Distinct ∷ ops) = omega arith
-behind_within (Reduced r ∷ ops) = let e = filters_within ops in omega arith
+after_within : (ops : List TOp) → cut_after_distinct ops ≤ length ops
+after_within [] = omega arith
+after_within (Filter conds ∷ ops) = let e = after_within ops in omega arith
+after_within (Map exprs ∷ ops) = let e = after_within ops in omega arith
+after_within (Distinct ∷ ops) = omega arith
+after_within (Reduced r ∷ ops) = let e = filters_within ops in omega arith
 
 cut_within : (ops : List TOp) → greatest_cut ops ≤ length ops
 cut_within [] = omega arith
 cut_within (Filter conds ∷ ops) = let e = cut_within ops in omega arith
 cut_within (Map exprs ∷ ops) = let e = cut_within ops in omega arith
-cut_within (Distinct ∷ ops) = let e = behind_within ops in omega arith
+cut_within (Distinct ∷ ops) = let e = after_within ops in omega arith
 cut_within (Reduced r ∷ ops) = let e = filters_within ops in omega arith
 
 pub typed_narrow : (window : ℕ) (queries : List TypedQuery) (q b : ℕ) → ∥ IsTyped window queries ∥₁ → q < length queries → b < length (query_at queries q).branches → IsNarrow (branch_at queries q b)

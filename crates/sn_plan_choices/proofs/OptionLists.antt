@@ -101,8 +101,8 @@ cut_miss s b cut n h k =
     sym (get_or-append-add (of_cut s b cut) (from_cut s b (cut + 1)) (n - w) (0, []))
     ∙ ap (λ i. get_or (of_cut s b cut ++ from_cut s b (cut + 1)) i (0, [])) e ∙ ap (λ l. get_or l n (0, [])) (sym (cut_more s b cut h))
 
-pub none_behind : (s : Switch) (b : TypedBranch) (cut : ℕ) → b.max_cut + 1 ≤ cut → from_cut s b cut ≡ []
-none_behind s b cut h = let e : b.max_cut + 1 - cut ≡ 0 = omega arith in ap (λ n. flat_map (of_cut s b) (range_with_len cut n)) e
+pub none_after : (s : Switch) (b : TypedBranch) (cut : ℕ) → b.max_cut + 1 ≤ cut → from_cut s b cut ≡ []
+none_after s b cut h = let e : b.max_cut + 1 - cut ≡ 0 = omega arith in ap (λ n. flat_map (of_cut s b) (range_with_len cut n)) e
 
 pub option_is : (s : Switch) (b : TypedBranch) (n : ℕ) → option_at s b n ≡ get_or (from_cut s b 0) n (0, [])
 option_is s b n = unwrap_or-slice_get (options s b) n (0, []) ∙ ap (λ k. get_or (flat_map (of_cut s b) (range_with_len 0 k)) n (0, [])) (let e : b.max_cut + 1 ≡ b.max_cut + 1 - 0 = omega arith in e)
@@ -158,9 +158,9 @@ here_is s b cut n left sizes ops count known h a o k w less e =
     (unwrap_or-slice_get (size_lists sizes count) left [] ∙ ap (λ l. get_or (size_lists l count) left []) a ∙ ap (λ j. get_or (size_lists s.slots j) left []) (k ∙ ap stateful o))
     ∙ ap written (sym (cut_hit s b cut left h (omega arith)) ∙ e)
 
-pub behind_is : (s : Switch) (b : TypedBranch) (cut n left : ℕ) (sizes : List ℕ) (ops : List TOp) (count known : ℕ) → cut < b.max_cut + 1 → sizes ≡ s.slots → ops ≡ take cut b.ops
+pub after_is : (s : Switch) (b : TypedBranch) (cut n left : ℕ) (sizes : List ℕ) (ops : List TOp) (count known : ℕ) → cut < b.max_cut + 1 → sizes ≡ s.slots → ops ≡ take cut b.ops
     → count ≡ stateful ops → known ≡ length (size_lists sizes count) → known ≤ left → get_or (from_cut s b cut) left (0, []) ≡ option_at s b n
     → get_or (from_cut s b (cut + 1)) (left - known) (0, []) ≡ option_at s b n
-behind_is s b cut n left sizes ops count known h a o k w more e =
+after_is s b cut n left sizes ops count known h a o k w more e =
     let at = ways_at s b cut sizes ops count known a o k w in
     ap (λ j. get_or (from_cut s b (cut + 1)) (left - j) (0, [])) at ∙ cut_miss s b cut left h (omega arith) ∙ e

@@ -48,8 +48,8 @@ module _ (s : Switch) (entry : ℕ → ℕ → ℕ → ℕ → ℕ) where
       let left = stages_left 0 (slots_of s entry t x) in
       let most = greatest_at (λ k. registers_among (slots_of s entry t k)) (settings s entry t) x (let h = m.1 in omega arith) in omega arith
   fewer (for_stage t) x m =
-      let all = sum_of_map (most_of s entry) for_stage (next_stage (x + 1) t.behind) in
-      let left = stages_left (x + 1) t.behind in omega arith
+      let all = sum_of_map (most_of s entry) for_stage (next_stage (x + 1) t.following) in
+      let left = stages_left (x + 1) t.following in omega arith
 
   dearer : (t : Task) (x : ℕ) → MayFollow (choices_of s entry t) x → least_of s entry t ≤ cost_of s entry t x + sum_by (least_of s entry) (leaves_of s entry t x)
   dearer (for_path t) x m =

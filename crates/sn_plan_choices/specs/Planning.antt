@@ -52,7 +52,7 @@ is_too_much s taken = list_any is_past taken || (list_any (is_full s taken) (ran
 pub record StageTask : Type 0 where
   pub least : ℕ
   pub bits : ℕ
-  pub behind : List Slot
+  pub following : List Slot
 
 -- the option of a piece: of a query, on a path through these levels (bit i for its level i), of a branch, the first of its path or not
 pub record PieceTask : Type 0 where
@@ -75,7 +75,7 @@ pub data Task : Type 0 where
 abbrev pub next_stage : ℕ → List Slot → List StageTask
 next_stage least [] = []
 next_stage least (plain ∷ slots) = next_stage (least + 1) slots
-next_stage least (keyed bits ∷ slots) = record { least = least; bits = bits; behind = slots } ∷ []
+next_stage least (keyed bits ∷ slots) = record { least = least; bits = bits; following = slots } ∷ []
 
 -- after the last register no table may be past the last stage
 abbrev pub past_by : ℕ → ℕ → List Slot → List Taken
@@ -127,7 +127,7 @@ module _ (s : Switch) (entry : ℕ → ℕ → ℕ → ℕ → ℕ) where
   -- ---- how many choices a task takes at most, with all that it leaves
 
   abbrev pub most_stage : StageTask → ℕ
-  most_stage t = 1 + registers_among t.behind
+  most_stage t = 1 + registers_among t.following
 
   abbrev pub most_piece : PieceTask → ℕ
   most_piece t = 1 + greatest_below (λ x. registers_among (slots_of t x)) (settings t)
@@ -150,7 +150,7 @@ module _ (s : Switch) (entry : ℕ → ℕ → ℕ → ℕ → ℕ) where
   abbrev pub leaves_of : Task → ℕ → List Task
   leaves_of (for_path t) x = map for_piece (pieces_of t x)
   leaves_of (for_piece t) x = map for_stage (next_stage 0 (slots_of t x))
-  leaves_of (for_stage t) x = map for_stage (next_stage (x + 1) t.behind)
+  leaves_of (for_stage t) x = map for_stage (next_stage (x + 1) t.following)
 
   abbrev pub cost_of : Task → ℕ → ℕ
   cost_of (for_path t) x = 0
@@ -161,7 +161,7 @@ module _ (s : Switch) (entry : ℕ → ℕ → ℕ → ℕ → ℕ) where
   takes_of (for_path t) x = []
   takes_of (for_piece t) x =
       in_metadata (metadata t.branch.schemas false 0 (take (option_at s t.branch x).0 t.branch.ops)) ∷ past_by s.stages 0 (slots_of t x)
-  takes_of (for_stage t) x = in_register x t.bits ∷ past_by s.stages (x + 1) t.behind
+  takes_of (for_stage t) x = in_register x t.bits ∷ past_by s.stages (x + 1) t.following
 
   abbrev pub planning : Tasks Task Taken
   planning = record { choices = choices_of; leaves = leaves_of; cost = cost_of; takes = takes_of; least = least_of; most = most_of; too_much = is_too_much s }

@@ -10,30 +10,30 @@ use Rattle.sn_plan_fit.specs.Placing.{Table, stateless, register}
 use Rattle.sn_types.specs.Cuts.{is_stateful, stateful}
 use Rattle.sn_plan_fit.specs.Tables.{op_tables, is_first, membership, end_of, past_end, stage_misfit, order_misfit}
 use Rattle.sn_plan_fit.specs.Pieces.{tables_misfit}
-use Rattle.sn_plan_fit.specs.Gaps.{least_behind, end_misfit}
+use Rattle.sn_plan_fit.specs.Gaps.{least_after, end_misfit}
 
 -- what the end says of the least stage after the tables
-abbrev Behind : ℕ → List Table → Option ℕ → ℕ → Type 0
-Behind least ts None n = n ≡ least + length ts
-Behind least ts (Some e) n = n ≡ e + 1
+abbrev After : ℕ → List Table → Option ℕ → ℕ → Type 0
+After least ts None n = n ≡ least + length ts
+After least ts (Some e) n = n ≡ e + 1
 
-behind_some : (least : ℕ) (s : ℕ) (ts : List Table) (e : Option ℕ) (n : ℕ) → Behind (s + 1) ts e n → n ≡ unwrap_or e (s + length ts) + 1
-behind_some least s ts None n h = omega (arith, h)
-behind_some least s ts (Some e) n h = h
+after_some : (least : ℕ) (s : ℕ) (ts : List Table) (e : Option ℕ) (n : ℕ) → After (s + 1) ts e n → n ≡ unwrap_or e (s + length ts) + 1
+after_some least s ts None n h = omega (arith, h)
+after_some least s ts (Some e) n h = h
 
-behind_stateless : (least : ℕ) (ts : List Table) (e : Option ℕ) (n : ℕ) → Behind (least + 1) ts e n → Behind least (stateless ∷ ts) e n
-behind_stateless least ts None n h = omega (arith, h)
-behind_stateless least ts (Some e) n h = h
+after_stateless : (least : ℕ) (ts : List Table) (e : Option ℕ) (n : ℕ) → After (least + 1) ts e n → After least (stateless ∷ ts) e n
+after_stateless least ts None n h = omega (arith, h)
+after_stateless least ts (Some e) n h = h
 
-pub behind : (least : ℕ) (ts : List Table) → Behind least ts (end_of ts) (least_behind least ts)
-behind least [] = omega arith
-behind least (stateless ∷ ts) = behind_stateless least ts (end_of ts) (least_behind (least + 1) ts) (behind (least + 1) ts)
-behind least (register s ∷ ts) = behind_some least s ts (end_of ts) (least_behind (s + 1) ts) (behind (s + 1) ts)
+pub following : (least : ℕ) (ts : List Table) → After least ts (end_of ts) (least_after least ts)
+following least [] = omega arith
+following least (stateless ∷ ts) = after_stateless least ts (end_of ts) (least_after (least + 1) ts) (following (least + 1) ts)
+following least (register s ∷ ts) = after_some least s ts (end_of ts) (least_after (s + 1) ts) (following (s + 1) ts)
 
 same_test : (a b c d : ℕ) → (a < b → c < d) → (c < d → a < b) → nat_lt a b ≡ nat_lt c d
 same_test a b c d f g = grind (arith, f, g)
 
-end_same : (stages : ℕ) (ts : List Table) (e : Option ℕ) (n : ℕ) → 1 ≤ stages → Behind 0 ts e n → past_end stages ts e ≡ end_misfit stages (is_some e) n
+end_same : (stages : ℕ) (ts : List Table) (e : Option ℕ) (n : ℕ) → 1 ≤ stages → After 0 ts e n → past_end stages ts e ≡ end_misfit stages (is_some e) n
 end_same stages ts None n h b =
     let same : length ts ≡ n = omega (arith, b) in
     ap (λ (k : ℕ). failing (nat_lt stages k) Stage stages k) same
@@ -42,8 +42,8 @@ end_same stages ts (Some e) n h b =
     let test : nat_lt (stages - 1) e ≡ nat_lt stages n = same_test (stages - 1) e stages n (λ k. omega (arith, h, b, k)) (λ k. omega (arith, h, b, k)) in
     ap (λ (t : Bool). failing t Stage (stages - 1) e) test ∙ ap (λ (k : ℕ). failing (nat_lt stages n) Stage (stages - 1) k) same
 
-pub stage_misfit_is : (stages : ℕ) (ts : List Table) → 1 ≤ stages → stage_misfit stages ts ≡ end_misfit stages (is_some (end_of ts)) (least_behind 0 ts)
-stage_misfit_is stages ts h = end_same stages ts (end_of ts) (least_behind 0 ts) h (behind 0 ts)
+pub stage_misfit_is : (stages : ℕ) (ts : List Table) → 1 ≤ stages → stage_misfit stages ts ≡ end_misfit stages (is_some (end_of ts)) (least_after 0 ts)
+stage_misfit_is stages ts h = end_same stages ts (end_of ts) (least_after 0 ts) h (following 0 ts)
 
 -- a membership table is no register
 pub no_member : (level : ℕ) (path : List ℕ) (ts : List Table) → end_of (membership level path ++ ts) ≡ end_of ts
@@ -95,11 +95,11 @@ registers_written d ops (s ∷ written) h e =
 -- the answer of all tables
 pub tables_end : (x : Option Misfit) (stages least d level : ℕ) (path : List ℕ) (ops : List TOp) (written : List ℕ) → 1 ≤ stages → 1 ≤ d → length written ≡ d * stateful ops
     → order_misfit 0 (membership level path ++ op_tables d ops written) ≡ None
-    → least ≡ least_behind 0 (membership level path ++ op_tables d ops written)
+    → least ≡ least_after 0 (membership level path ++ op_tables d ops written)
     → x ≡ end_misfit stages (not (length written == 0)) least
     → x ≡ tables_misfit stages (membership level path ++ op_tables d ops written)
 tables_end x stages least d level path ops written s h e order is given =
     let ts : List Table = membership level path ++ op_tables d ops written in
     let some : is_some (end_of ts) ≡ not (length written == 0) = ap (λ (o : Option ℕ). is_some o) (no_member level path (op_tables d ops written)) ∙ registers_written d ops written h e in
-    given ∙ ap (λ (n : ℕ). end_misfit stages (not (length written == 0)) n) is ∙ ap (λ (b : Bool). end_misfit stages b (least_behind 0 ts)) (sym some) ∙ sym (stage_misfit_is stages ts s)
+    given ∙ ap (λ (n : ℕ). end_misfit stages (not (length written == 0)) n) is ∙ ap (λ (b : Bool). end_misfit stages b (least_after 0 ts)) (sym some) ∙ sym (stage_misfit_is stages ts s)
     ∙ ap (λ (o : Option Misfit). or_else o (stage_misfit stages ts)) (sym order)

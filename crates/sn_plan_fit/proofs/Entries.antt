@@ -94,9 +94,9 @@ entry_is q e = (
       ((and_true (same_name e.name q.name) (is_path q.levels e.levels)).1 ((name_is e.name q.name).1 h.name, (path_is q.levels e.levels).1 h.path), (pieces_are (places q.branches e.levels) e.pieces).1 h.pieces),
 )
 
-next_entry : (b : Bool) (n : ℕ) (behind : Option Misfit) → (cond b behind (wrong_entry n) ≡ None) ↔ ((b ≡ true) × (behind ≡ None))
-next_entry true n behind = (λ e. (refl, e), λ e. e.1)
-next_entry false n behind = (λ e. cc, λ e. cc)
+next_entry : (b : Bool) (n : ℕ) (following : Option Misfit) → (cond b following (wrong_entry n) ≡ None) ↔ ((b ≡ true) × (following ≡ None))
+next_entry true n following = (λ e. (refl, e), λ e. e.1)
+next_entry false n following = (λ e. cc, λ e. cc)
 
 pub entries_are : (n : ℕ) (qs : List TypedQuery) (es : List Entry) → (path_misfit n qs es ≡ None) ↔ AreEntriesOf qs es
 entries_are n [] [] = (λ e. tt, λ h. refl)

@@ -7,7 +7,7 @@ use Rattle.sn_switch.specs.declared.switch.Switch.{Switch}
 use Rattle.sn_types.specs.declared.typed_query.TypedQuery.{TypedQuery}
 use Rattle.sn_plan_fit.specs.declared.misfit.Misfit.{Misfit}
 use Rattle.sn_plan_fit.specs.declared.misfit.MisfitKind.TheVariants.{Actions, Bits, Meta}
-use Rattle.sn_plan_fit.specs.Checks.{failing, or_else, told}
+use Rattle.sn_plan_fit.specs.Checks.{failing, or_else, reported}
 use Rattle.sn_plan_fit.specs.Paths.{path_misfit}
 use Rattle.sn_plan_fit.specs.Registers.{Register, count_in, bits_in}
 use Rattle.sn_plan_fit.specs.Pieces.{cut_misfit, piece_misfit, first_misfit, all_registers, all_metadata, load_misfit, loads_misfit, shape_misfit, fit_misfit}
@@ -63,14 +63,14 @@ shape_none qs es =
     (λ e. let k = parts.0 e in record { paths = k.0; cuts = k.1 }, λ h. parts.1 (h.paths, h.cuts))
 
 -- an answer is Ok exactly where no misfit is reported
-ok_is : (r : Result (Unit {0}) Misfit) → IsOk r ↔ (told r ≡ None)
+ok_is : (r : Result (Unit {0}) Misfit) → IsOk r ↔ (reported r ≡ None)
 ok_is (Ok u) = (λ h. refl, λ e. refl)
 ok_is (Err m) = (λ h. cc, λ e. cc)
 
-pub fits_decided : (r : Result (Unit {0}) Misfit) (qs : List TypedQuery) (s : Switch) (es : List Entry) → 1 ≤ s.stages → told r ≡ fit_misfit qs s es → IsOk r ↔ Fits qs s es
+pub fits_decided : (r : Result (Unit {0}) Misfit) (qs : List TypedQuery) (s : Switch) (es : List Entry) → 1 ≤ s.stages → reported r ≡ fit_misfit qs s es → IsOk r ↔ Fits qs s es
 fits_decided r qs s es h is = then (ok_is r) (then (λ e. sym is ∙ e, λ e. is ∙ e) (fits_none qs s es h))
 
-pub shape_decided : (r : Result (Unit {0}) Misfit) (qs : List TypedQuery) (es : List Entry) → told r ≡ shape_misfit qs es → IsOk r ↔ HasShape qs es
+pub shape_decided : (r : Result (Unit {0}) Misfit) (qs : List TypedQuery) (es : List Entry) → reported r ≡ shape_misfit qs es → IsOk r ↔ HasShape qs es
 shape_decided r qs es is = then (ok_is r) (then (λ e. sym is ∙ e, λ e. is ∙ e) (shape_none qs es))
 
 -- a stage that keeps the limits

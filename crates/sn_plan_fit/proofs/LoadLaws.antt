@@ -163,15 +163,15 @@ chain_more stages i stage all h is a adds = more_added (moved (ap (λ (xs : List
 pub chain_ends : {before now : List Load} (stages : List ℕ) (i all : ℕ) → length stages ≤ i → Adding before now (map (in_stage all) (drop i stages)) (map (in_stage all) stages) → Adds before now (map (in_stage all) stages)
 chain_ends stages i all h a = all_added (moved (ap (λ (xs : List ℕ). map (in_stage all) xs) (none_left stages i h)) a)
 
-pub op_more : {before now later : List Load} {whole : List Register} (d : ℕ) (schemas : List (List Column)) (n : ℕ) (ops : List TOp) (op : TOp) (sizes written : List ℕ) (size : ℕ) (columns : List Column) (own sizes_behind behind : List ℕ)
+pub op_more : {before now later : List Load} {whole : List Register} (d : ℕ) (schemas : List (List Column)) (n : ℕ) (ops : List TOp) (op : TOp) (sizes written : List ℕ) (size : ℕ) (columns : List Column) (own sizes_after following : List ℕ)
     → n < length ops → op ≡ get_or ops n op → size ≡ slice_index sizes 0 → columns ≡ schema_at schemas n
-    → own ≡ take (taken op d) written → sizes_behind ≡ drop (taken op 1) sizes → behind ≡ drop (taken op d) written
+    → own ≡ take (taken op d) written → sizes_after ≡ drop (taken op 1) sizes → following ≡ drop (taken op d) written
     → Adding before now (op_registers d schemas n (drop n ops) sizes written) whole → Adds now later (map (in_stage (register_bits size columns op)) own)
-    → Adding before later (op_registers d schemas (n + 1) (drop (n + 1) ops) sizes_behind behind) whole
-op_more d schemas n ops op sizes written size columns own sizes_behind behind h is first schema front back after a adds =
+    → Adding before later (op_registers d schemas (n + 1) (drop (n + 1) ops) sizes_after following) whole
+op_more d schemas n ops op sizes written size columns own sizes_after following h is first schema front back after a adds =
     let cut = ap (λ (xs : List TOp). op_registers d schemas n xs sizes written) (next_item ops n op op h is) in
     let named : map (in_stage (register_bits (slice_index sizes 0) (schema_at schemas n) op)) (take (taken op d) written) ++ op_registers d schemas (n + 1) (drop (n + 1) ops) (drop (taken op 1) sizes) (drop (taken op d) written)
-    ≡ map (in_stage (register_bits size columns op)) own ++ op_registers d schemas (n + 1) (drop (n + 1) ops) sizes_behind behind = cc in
+    ≡ map (in_stage (register_bits size columns op)) own ++ op_registers d schemas (n + 1) (drop (n + 1) ops) sizes_after following = cc in
     more_added (moved (cut ∙ named) a) adds
 
 pub ops_end : {before now : List Load} {whole : List Register} (d : ℕ) (schemas : List (List Column)) (n : ℕ) (ops : List TOp) (sizes written : List ℕ) → length ops ≤ n
@@ -187,11 +187,11 @@ pub pieces_end : {before now : List Load} {whole : List Register} (d : ℕ) (que
     → Adding before now (entry_registers d query (drop i pieces)) whole → Adds before now whole
 pieces_end d query pieces i h a = all_added (moved (ap (λ (xs : List Piece). entry_registers d query xs) (none_left pieces i h)) a)
 
-pub entry_more : {before now later : List Load} {whole : List Register} (d : ℕ) (queries : List TypedQuery) (i : ℕ) (query : TypedQuery) (rest : List Entry) (entry : Entry) (behind : List Entry) → i < length queries → query ≡ get_or queries i query → rest ≡ entry ∷ behind
+pub entry_more : {before now later : List Load} {whole : List Register} (d : ℕ) (queries : List TypedQuery) (i : ℕ) (query : TypedQuery) (rest : List Entry) (entry : Entry) (following : List Entry) → i < length queries → query ≡ get_or queries i query → rest ≡ entry ∷ following
     → Adding before now (all_registers d (drop i queries) rest) whole → Adds now later (entry_registers d query entry.pieces)
-    → Adding before later (all_registers d (drop (i + 1) queries) behind) whole
-entry_more d queries i query rest entry behind h is e a adds =
-    let cut : all_registers d (drop i queries) rest ≡ all_registers d (query ∷ drop (i + 1) queries) (entry ∷ behind) = ap (λ (xs : List TypedQuery). all_registers d xs rest) (next_item queries i query query h is) ∙ ap (λ (es : List Entry). all_registers d (query ∷ drop (i + 1) queries) es) e in
+    → Adding before later (all_registers d (drop (i + 1) queries) following) whole
+entry_more d queries i query rest entry following h is e a adds =
+    let cut : all_registers d (drop i queries) rest ≡ all_registers d (query ∷ drop (i + 1) queries) (entry ∷ following) = ap (λ (xs : List TypedQuery). all_registers d xs rest) (next_item queries i query query h is) ∙ ap (λ (es : List Entry). all_registers d (query ∷ drop (i + 1) queries) es) e in
     more_added (moved cut a) adds
 
 pub queries_end : {before now : List Load} {whole : List Register} (d : ℕ) (queries : List TypedQuery) (i : ℕ) (rest : List Entry) → length queries ≤ i

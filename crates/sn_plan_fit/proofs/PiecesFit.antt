@@ -15,7 +15,7 @@ use Rattle.sn_plan_fit.specs.Placing.{Table, stateless, register, HasPlacing, Ha
 use Rattle.sn_plan_fit.specs.Paths.{is_among}
 use Rattle.sn_types.specs.Cuts.{stateful}
 use Rattle.sn_plan_fit.specs.Tables.{order_misfit, stage_misfit, end_of}
-use Rattle.sn_plan_fit.specs.Gaps.{least_behind, end_misfit}
+use Rattle.sn_plan_fit.specs.Gaps.{least_after, end_misfit}
 use Rattle.sn_plan_fit.specs.Pieces.{prefix_of, tables_of, cut_misfit, strange_size, count_misfit, slots_misfit, stages_misfit, tables_misfit, piece_misfit, on_branch, piece_branch, first_piece, first_misfit}
 use Rattle.sn_plan_fit.specs.Fits.{PieceFits, OnBranch, PiecesFit}
 use Rattle.sn_plan_fit.proofs.Ends.{stage_misfit_is}
@@ -24,20 +24,20 @@ use Rattle.sn_plan_fit.proofs.Tests.{failing_none, or_none, both, then, not_abov
 
 -- ---- gaps
 
-gap_parts : (stages least : ℕ) (ts : List Table) → HasGaps stages least ts ↔ ((order_misfit least ts ≡ None) × (least_behind least ts ≤ stages))
+gap_parts : (stages least : ℕ) (ts : List Table) → HasGaps stages least ts ↔ ((order_misfit least ts ≡ None) × (least_after least ts ≤ stages))
 gap_parts stages least [] = (λ h. (refl, h), λ h. h.1)
 gap_parts stages least (stateless ∷ ts) = next (least + 1) (add-one least) (gap_parts stages (least + 1) ts)
   where
-    next : (n : ℕ) → n ≡ suc least → HasGaps stages n ts ↔ ((order_misfit n ts ≡ None) × (least_behind n ts ≤ stages))
-        → HasGaps stages (suc least) ts ↔ ((order_misfit n ts ≡ None) × (least_behind n ts ≤ stages))
+    next : (n : ℕ) → n ≡ suc least → HasGaps stages n ts ↔ ((order_misfit n ts ≡ None) × (least_after n ts ≤ stages))
+        → HasGaps stages (suc least) ts ↔ ((order_misfit n ts ≡ None) × (least_after n ts ≤ stages))
     next n e h = (λ k. h.0 (subst (λ (m : ℕ). HasGaps stages m ts) (sym e) k), λ k. subst (λ (m : ℕ). HasGaps stages m ts) e (h.1 k))
 gap_parts stages least (register s ∷ ts) = next (s + 1) (add-one s) (gap_parts stages (s + 1) ts)
   where
     here : (failing (nat_lt s least) Order least s ≡ None) ↔ (least ≤ s)
     here = then (failing_none (nat_lt s least) Order least s) (not_above s least)
 
-    next : (n : ℕ) → n ≡ suc s → HasGaps stages n ts ↔ ((order_misfit n ts ≡ None) × (least_behind n ts ≤ stages))
-        → ((least ≤ s) × HasGaps stages (suc s) ts) ↔ ((or_else (failing (nat_lt s least) Order least s) (order_misfit n ts) ≡ None) × (least_behind n ts ≤ stages))
+    next : (n : ℕ) → n ≡ suc s → HasGaps stages n ts ↔ ((order_misfit n ts ≡ None) × (least_after n ts ≤ stages))
+        → ((least ≤ s) × HasGaps stages (suc s) ts) ↔ ((or_else (failing (nat_lt s least) Order least s) (order_misfit n ts) ≡ None) × (least_after n ts ≤ stages))
     next n e h = (
       λ k. let rest = h.0 (subst (λ (m : ℕ). HasGaps stages m ts) (sym e) k.1) in
           ((or_none (failing (nat_lt s least) Order least s) (order_misfit n ts)).1 (here.1 k.0, rest.0), rest.1),
@@ -49,10 +49,10 @@ end_none : (stages : ℕ) (registers : Bool) (least : ℕ) → (end_misfit stage
 end_none stages true least = then (failing_none (nat_lt stages least) Stage (stages - 1) (least - 1)) (not_above stages least)
 end_none stages false least = then (failing_none (nat_lt stages least) Stage stages least) (not_above stages least)
 
-stage_none : (stages : ℕ) (ts : List Table) → 1 ≤ stages → (stage_misfit stages ts ≡ None) ↔ (least_behind 0 ts ≤ stages)
+stage_none : (stages : ℕ) (ts : List Table) → 1 ≤ stages → (stage_misfit stages ts ≡ None) ↔ (least_after 0 ts ≤ stages)
 stage_none stages ts h =
     let is = stage_misfit_is stages ts h in
-    let end = end_none stages (is_some (end_of ts)) (least_behind 0 ts) in
+    let end = end_none stages (is_some (end_of ts)) (least_after 0 ts) in
     (λ e. end.0 (sym is ∙ e), λ k. is ∙ end.1 k)
 
 tables_none : (stages : ℕ) (ts : List Table) → 1 ≤ stages → (tables_misfit stages ts ≡ None) ↔ HasPlacing stages ts

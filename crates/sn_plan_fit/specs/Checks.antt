@@ -10,10 +10,10 @@ failing fails kind want got = if fails then Some (record { kind = kind; want = w
 
 -- the first check that fails, of one and those after it
 abbrev pub or_else : Option Misfit → Option Misfit → Option Misfit
-or_else None behind = behind
-or_else (Some misfit) behind = Some misfit
+or_else None following = following
+or_else (Some misfit) following = Some misfit
 
 -- the misfit that is answered, if any
-abbrev pub told : {A : Type 0} → Result A Misfit → Option Misfit
-told (Ok a) = None
-told (Err misfit) = Some misfit
+abbrev pub reported : {A : Type 0} → Result A Misfit → Option Misfit
+reported (Ok a) = None
+reported (Err misfit) = Some misfit

@@ -8,15 +8,15 @@ use Rattle.sn_plan_fit.specs.Placing.{Table, stateless, register}
 use Rattle.sn_plan_fit.specs.Tables.{order_misfit}
 
 -- after these tables, of which the first may stand in stage `least`
-abbrev pub least_behind : ℕ → List Table → ℕ
-least_behind least [] = least
-least_behind least (stateless ∷ ts) = least_behind (least + 1) ts
-least_behind least (register s ∷ ts) = least_behind (s + 1) ts
+abbrev pub least_after : ℕ → List Table → ℕ
+least_after least [] = least
+least_after least (stateless ∷ ts) = least_after (least + 1) ts
+least_after least (register s ∷ ts) = least_after (s + 1) ts
 
 -- the order of the tables after some, whose answer this is
 abbrev pub goes_on : Result ℕ Misfit → List Table → Option Misfit
-goes_on (Ok least) behind = order_misfit least behind
-goes_on (Err misfit) behind = Some misfit
+goes_on (Ok least) following = order_misfit least following
+goes_on (Err misfit) following = Some misfit
 
 -- the last stage is passed, by the least stage after all tables
 abbrev pub end_misfit : ℕ → Bool → ℕ → Option Misfit

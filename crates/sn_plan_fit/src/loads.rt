@@ -101,7 +101,7 @@ fn add_chain(loads: &mut Loads, bits: u64, stages: &[u32])
 /// The first n numbers, or all of them, and the rest.
 fn split<'a>(numbers: &'a [u32], count: usize) -> (&'a [u32], &'a [u32])
     ensures front { result.0.now ≡ take count numbers.now }
-    ensures behind { result.1.now ≡ drop count numbers.now }
+    ensures following { result.1.now ≡ drop count numbers.now }
 {
     numbers.split_at(count.min(numbers.len()))
 }

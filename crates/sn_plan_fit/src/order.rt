@@ -1,19 +1,19 @@
 //! Whether the tables of a piece have a place in the stages of a switch.
 ghost use Rattle.std.specs.Prelude.{◌≡◌, ◌≤◌, ◌^◌, List, ◌++◌, map, length, max, IfOk};
-ghost use Rattle.sn_plan_fit.specs.Checks.{told};
+ghost use Rattle.sn_plan_fit.specs.Checks.{reported};
 ghost use Rattle.sn_plan_fit.specs.Placing.{Table, register};
 ghost use Rattle.sn_types.specs.Cuts.{is_stateful, stateful};
 ghost use Rattle.sn_plan_fit.specs.Tables.{op_tables, order_misfit};
-ghost use Rattle.sn_plan_fit.specs.Gaps.{least_behind, goes_on, end_misfit};
+ghost use Rattle.sn_plan_fit.specs.Gaps.{least_after, goes_on, end_misfit};
 
 use crate::misfit::{Misfit, MisfitKind};
 use sn_types::cuts::is_stateful;
 use sn_types::typed_op::TOp;
 
 /// The least stage after a chain of registers, of which the first may stand in stage `least`.
-fn behind_chain(least: u64, stages: &[u32]) -> Result<u64, Misfit>
-    ensures goes_on { (behind : List Table) → order_misfit least (map register stages.now ++ behind) ≡ goes_on result behind }
-    ensures least { (behind : List Table) → IfOk result (λ n. least_behind least (map register stages.now ++ behind) ≡ least_behind n behind) }
+fn after_chain(least: u64, stages: &[u32]) -> Result<u64, Misfit>
+    ensures goes_on { (following : List Table) → order_misfit least (map register stages.now ++ following) ≡ goes_on result following }
+    ensures least { (following : List Table) → IfOk result (λ n. least_after least (map register stages.now ++ following) ≡ least_after n following) }
     ensures most { IfOk result (λ n. n ≤ max least (2 ^ 32)) }
 {
     let mut least = least;
@@ -35,15 +35,15 @@ fn behind_chain(least: u64, stages: &[u32]) -> Result<u64, Misfit>
 pub(crate) fn order(least: u64, depth: usize, ops: &[TOp], stages: &[u32]) -> Result<u64, Misfit>
     requires few { length ops.now ≤ 2 ^ 32 }
     requires low { least ≤ 1 }
-    ensures misfit { told result ≡ order_misfit least (op_tables depth ops.now stages.now) }
-    ensures least { IfOk result (λ n. n ≡ least_behind least (op_tables depth ops.now stages.now)) }
+    ensures misfit { reported result ≡ order_misfit least (op_tables depth ops.now stages.now) }
+    ensures least { IfOk result (λ n. n ≡ least_after least (op_tables depth ops.now stages.now)) }
 {
     let mut least = least;
     let mut rest = stages;
     for op in ops {
         if is_stateful(op) {
             let (own, after) = rest.split_at(depth.min(rest.len()));
-            least = behind_chain(least, own)?;
+            least = after_chain(least, own)?;
             rest = after;
         } else {
             least += 1;
@@ -54,7 +54,7 @@ pub(crate) fn order(least: u64, depth: usize, ops: &[TOp], stages: &[u32]) -> Re
 
 /// Whether the last stage is passed, by the least stage after all tables.
 pub(crate) fn end(stages: u32, registers: bool, least: u64) -> Result<(), Misfit>
-    ensures { told result ≡ end_misfit stages registers least }
+    ensures { reported result ≡ end_misfit stages registers least }
 {
     let stages = u64::from(stages);
     if least <= stages {

@@ -1,7 +1,7 @@
 //! Paths of queries, and the pieces along them.
 ghost use Rattle.std.specs.Prelude.{◌≡◌, ◌==◌, ◌≤◌, ◌<◌, List, ◌++◌, false, length, position, IfSome, MatchOption};
 ghost use Rattle.std.specs.List.{list_all};
-ghost use Rattle.sn_plan_fit.specs.Checks.{told};
+ghost use Rattle.sn_plan_fit.specs.Checks.{reported};
 ghost use Rattle.sn_plan_fit.specs.declared.misfit.MisfitKind.TheVariants as MisfitKind;
 ghost use Rattle.sn_plan_fit.specs.Paths.{rises, is_among, last_of, same_level, is_path, place_in, level_before, Place, level_places, places, are_at};
 ghost use Rattle.sn_plan_fit.specs.Paths.{is_entry, path_misfit};
@@ -101,11 +101,7 @@ fn is_path(levels: &[u32], path: &[u32]) -> bool
 }
 
 /// The pieces after those of a level, if each branch has its piece.
-fn behind_level<'a>(
-    level: u32,
-    branches: &[TypedBranch],
-    pieces: &'a [Piece],
-) -> Option<&'a [Piece]>
+fn after_level<'a>(level: u32, branches: &[TypedBranch], pieces: &'a [Piece]) -> Option<&'a [Piece]>
     ensures { (later : List Place) → MatchOption result (are_at (level_places level 0 branches.now ++ later) pieces.now ≡ false)
         (λ after. are_at (level_places level 0 branches.now ++ later) pieces.now ≡ are_at later after.now) }
 {
@@ -128,7 +124,7 @@ fn are_pieces(branches: &[TypedBranch], path: &[u32], pieces: &[Piece]) -> bool
 {
     let mut rest = pieces;
     for level in path {
-        let Some(after) = behind_level(*level, branches, rest) else {
+        let Some(after) = after_level(*level, branches, rest) else {
             return false;
         };
         rest = after;
@@ -160,7 +156,7 @@ fn wrong_entry(number: usize) -> Misfit
 
 /// Whether the entries are those of the queries.
 pub(crate) fn paths(queries: &[TypedQuery], entries: &[Entry]) -> Result<(), Misfit>
-    ensures { told result ≡ path_misfit 0 queries.now entries.now }
+    ensures { reported result ≡ path_misfit 0 queries.now entries.now }
 {
     let mut rest = entries;
     for (number, query) in queries.iter().enumerate() {

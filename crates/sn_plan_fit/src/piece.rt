@@ -1,9 +1,9 @@
 //! A piece by itself.
 ghost use Rattle.std.specs.Prelude.{◌≡◌, ◌≤◌, ◌*◌, ◌^◌, ◌++◌, List, take, length, MatchOption, Some, None};
 ghost use Rattle.sn_switch.specs.Texts.{IsSwitch};
-ghost use Rattle.sn_plan_fit.specs.Checks.{told};
+ghost use Rattle.sn_plan_fit.specs.Checks.{reported};
 ghost use Rattle.sn_plan_fit.specs.Placing.{Table};
-ghost use Rattle.sn_plan_fit.specs.Gaps.{least_behind};
+ghost use Rattle.sn_plan_fit.specs.Gaps.{least_after};
 ghost use Rattle.sn_types.specs.Cuts.{stateful};
 ghost use Rattle.sn_plan_fit.specs.Tables.{is_first, membership, order_misfit};
 ghost use Rattle.sn_plan_fit.specs.Pieces.{piece_branch, tables_of, cut_misfit, strange_size, count_misfit, slots_misfit, stages_misfit, tables_misfit};
@@ -36,7 +36,7 @@ pub fn branch_of<'a>(query: &'a TypedQuery, piece: &Piece) -> Option<&'a TypedBr
 
 /// Whether the cut is one of the branch.
 pub(crate) fn cut(branch: &TypedBranch, piece: &Piece) -> Result<(), Misfit>
-    ensures { told result ≡ cut_misfit branch.now piece.now }
+    ensures { reported result ≡ cut_misfit branch.now piece.now }
 {
     if piece.cut <= branch.max_cut {
         return Ok(());
@@ -49,7 +49,7 @@ pub(crate) fn cut(branch: &TypedBranch, piece: &Piece) -> Result<(), Misfit>
 }
 
 fn known_sizes(known: &[u32], sizes: &[u32]) -> Result<(), Misfit>
-    ensures { told result ≡ strange_size known.now sizes.now }
+    ensures { reported result ≡ strange_size known.now sizes.now }
 {
     for size in sizes {
         if !is_among(known, *size) {
@@ -64,7 +64,7 @@ fn known_sizes(known: &[u32], sizes: &[u32]) -> Result<(), Misfit>
 }
 
 fn number_of(kind: MisfitKind, want: u64, got: usize) -> Result<(), Misfit>
-    ensures { told result ≡ count_misfit kind want got }
+    ensures { reported result ≡ count_misfit kind want got }
 {
     let got = got as u64;
     if got == want {
@@ -74,7 +74,7 @@ fn number_of(kind: MisfitKind, want: u64, got: usize) -> Result<(), Misfit>
 }
 
 fn slots(switch: &Switch, branch: &TypedBranch, piece: &Piece) -> Result<(), Misfit>
-    ensures { told result ≡ slots_misfit switch.now.slots branch.now piece.now }
+    ensures { reported result ≡ slots_misfit switch.now.slots branch.now piece.now }
 {
     let sizes = piece.slots.as_slice();
     let wanted = stateful(prefix(branch, piece.cut));
@@ -85,7 +85,7 @@ fn slots(switch: &Switch, branch: &TypedBranch, piece: &Piece) -> Result<(), Mis
 /// Whether there are as many stages as registers, where there are as many sizes as operators that have them.
 fn stages(switch: &Switch, branch: &TypedBranch, piece: &Piece) -> Result<(), Misfit>
     requires { length piece.now.slots ≡ stateful (take piece.now.cut branch.now.ops) }
-    ensures { told result ≡ stages_misfit switch.now.chain branch.now piece.now }
+    ensures { reported result ≡ stages_misfit switch.now.chain branch.now piece.now }
 {
     let wanted = u64::from(switch.chain) * piece.slots.as_slice().len() as u64;
     number_of(MisfitKind::Order, wanted, piece.stages.as_slice().len())
@@ -102,8 +102,8 @@ fn is_first(level: u32, path: &[u32]) -> bool
 
 /// The least stage after the membership table, if there is one.
 fn least_first(level: u32, path: &[u32]) -> u64
-    ensures order { (behind : List Table) → order_misfit 0 (membership level path.now ++ behind) ≡ order_misfit result behind }
-    ensures least { (behind : List Table) → least_behind 0 (membership level path.now ++ behind) ≡ least_behind result behind }
+    ensures order { (following : List Table) → order_misfit 0 (membership level path.now ++ following) ≡ order_misfit result following }
+    ensures least { (following : List Table) → least_after 0 (membership level path.now ++ following) ≡ least_after result following }
     ensures low { result ≤ 1 }
 {
     if is_first(level, path) { 0 } else { 1 }
@@ -114,7 +114,7 @@ fn tables(switch: &Switch, path: &[u32], branch: &TypedBranch, piece: &Piece) ->
     requires stages { 1 ≤ switch.now.stages }
     requires chain { 1 ≤ switch.now.chain }
     requires count { length piece.now.stages ≡ switch.now.chain * stateful (take piece.now.cut branch.now.ops) }
-    ensures { told result ≡ tables_misfit switch.now.stages (tables_of switch.now.chain path.now branch.now piece.now) }
+    ensures { reported result ≡ tables_misfit switch.now.stages (tables_of switch.now.chain path.now branch.now piece.now) }
 {
     let written = piece.stages.as_slice();
     let least = order(
@@ -134,7 +134,7 @@ pub(crate) fn piece(
     piece: &Piece,
 ) -> Result<(), Misfit>
     requires { IsSwitch switch.now }
-    ensures { told result ≡ piece_misfit switch.now path.now branch.now piece.now }
+    ensures { reported result ≡ piece_misfit switch.now path.now branch.now piece.now }
 {
     cut(branch, piece)?;
     slots(switch, branch, piece)?;

@@ -2,7 +2,7 @@
 ghost use Rattle.std.specs.Prelude.{◌≡◌, ◌↔◌, ℕ, ◌<◌, ◌≤◌, ◌^◌, List, IsOk, None, nat_lt};
 ghost use Rattle.sn_switch.specs.Texts.{IsSwitch};
 ghost use Rattle.sn_plan_fit.specs.Capped.{AreSmall};
-ghost use Rattle.sn_plan_fit.specs.Checks.{told, failing};
+ghost use Rattle.sn_plan_fit.specs.Checks.{reported, failing};
 ghost use Rattle.sn_plan_fit.specs.Fits.{Fits, HasShape};
 ghost use Rattle.sn_plan_fit.specs.Loads.{load_in};
 ghost use Rattle.sn_plan_fit.specs.Registers.{Register};
@@ -27,7 +27,7 @@ fn query_piece(
     piece_of: &Piece,
 ) -> Result<(), Misfit>
     requires { IsSwitch switch.now }
-    ensures { told result ≡ on_branch None (λ b. piece_misfit switch.now path.now b piece_of.now) (piece_branch query.now piece_of.now) }
+    ensures { reported result ≡ on_branch None (λ b. piece_misfit switch.now path.now b piece_of.now) (piece_branch query.now piece_of.now) }
 {
     match branch_of(query, piece_of) {
         None => Ok(()),
@@ -37,7 +37,7 @@ fn query_piece(
 
 fn entry_pieces(switch: &Switch, query: &TypedQuery, entry: &Entry) -> Result<(), Misfit>
     requires { IsSwitch switch.now }
-    ensures { told result ≡ first_piece (piece_misfit switch.now entry.now.levels) query.now entry.now.pieces }
+    ensures { reported result ≡ first_piece (piece_misfit switch.now entry.now.levels) query.now entry.now.pieces }
 {
     let path = entry.levels.as_slice();
     let pieces = entry.pieces.as_slice();
@@ -50,7 +50,7 @@ fn entry_pieces(switch: &Switch, query: &TypedQuery, entry: &Entry) -> Result<()
 /// Whether each piece fits by itself.
 fn plan_pieces(switch: &Switch, queries: &[TypedQuery], entries: &[Entry]) -> Result<(), Misfit>
     requires { IsSwitch switch.now }
-    ensures { told result ≡ first_misfit (piece_misfit switch.now) queries.now entries.now }
+    ensures { reported result ≡ first_misfit (piece_misfit switch.now) queries.now entries.now }
 {
     let mut rest = entries;
     for query in queries {
@@ -65,7 +65,7 @@ fn plan_pieces(switch: &Switch, queries: &[TypedQuery], entries: &[Entry]) -> Re
 
 /// Whether the cut of a piece of a query is one of its branch.
 fn query_cut(query: &TypedQuery, piece: &Piece) -> Result<(), Misfit>
-    ensures { told result ≡ on_branch None (λ b. cut_misfit b piece.now) (piece_branch query.now piece.now) }
+    ensures { reported result ≡ on_branch None (λ b. cut_misfit b piece.now) (piece_branch query.now piece.now) }
 {
     match branch_of(query, piece) {
         None => Ok(()),
@@ -74,7 +74,7 @@ fn query_cut(query: &TypedQuery, piece: &Piece) -> Result<(), Misfit>
 }
 
 fn entry_cuts(query: &TypedQuery, pieces: &[Piece]) -> Result<(), Misfit>
-    ensures { told result ≡ first_piece (λ b p. cut_misfit b p) query.now pieces.now }
+    ensures { reported result ≡ first_piece (λ b p. cut_misfit b p) query.now pieces.now }
 {
     for piece in pieces {
         query_cut(query, piece)?;
@@ -83,7 +83,7 @@ fn entry_cuts(query: &TypedQuery, pieces: &[Piece]) -> Result<(), Misfit>
 }
 
 fn plan_cuts(queries: &[TypedQuery], entries: &[Entry]) -> Result<(), Misfit>
-    ensures { told result ≡ first_misfit (λ path b p. cut_misfit b p) queries.now entries.now }
+    ensures { reported result ≡ first_misfit (λ path b p. cut_misfit b p) queries.now entries.now }
 {
     let mut rest = entries;
     for query in queries {
@@ -97,7 +97,7 @@ fn plan_cuts(queries: &[TypedQuery], entries: &[Entry]) -> Result<(), Misfit>
 }
 
 fn at_most(kind: MisfitKind, want: u64, got: u64) -> Result<(), Misfit>
-    ensures { told result ≡ failing (nat_lt want got) kind want got }
+    ensures { reported result ≡ failing (nat_lt want got) kind want got }
 {
     if got <= want {
         Ok(())
@@ -109,7 +109,7 @@ fn at_most(kind: MisfitKind, want: u64, got: u64) -> Result<(), Misfit>
 /// Whether the registers of a stage keep the limits.
 fn stage_fits(switch: &Switch, load: Load) -> Result<(), Misfit>
     ensures { (registers : List Register) (stage : ℕ) → AreSmall switch.now registers → load ≡ load_in registers stage →
-        told result ≡ load_misfit switch.now registers stage }
+        reported result ≡ load_misfit switch.now registers stage }
 {
     at_most(
         MisfitKind::Actions,
@@ -123,7 +123,7 @@ fn stage_fits(switch: &Switch, load: Load) -> Result<(), Misfit>
 fn stages_fit(switch: &Switch, queries: &[TypedQuery], entries: &[Entry]) -> Result<(), Misfit>
     requires few { switch.now.stages ≤ 32 }
     requires small { AreSmall switch.now (all_registers switch.now.chain queries.now entries.now) }
-    ensures { told result ≡ loads_misfit switch.now (all_registers switch.now.chain queries.now entries.now) 0 switch.now.stages }
+    ensures { reported result ≡ loads_misfit switch.now (all_registers switch.now.chain queries.now entries.now) 0 switch.now.stages }
 {
     let loads = plan_loads(switch.chain as usize, queries, entries);
     for stage in 0..switch.stages {
@@ -135,7 +135,7 @@ fn stages_fit(switch: &Switch, queries: &[TypedQuery], entries: &[Entry]) -> Res
 /// Whether the metadata of all pieces keeps the limit.
 fn metadata_fits(switch: &Switch, queries: &[TypedQuery], entries: &[Entry]) -> Result<(), Misfit>
     requires { all_metadata queries.now entries.now < 2 ^ 64 }
-    ensures { told result ≡ meta_misfit switch.now (all_metadata queries.now entries.now) }
+    ensures { reported result ≡ meta_misfit switch.now (all_metadata queries.now entries.now) }
 {
     at_most(
         MisfitKind::Meta,
@@ -147,7 +147,7 @@ fn metadata_fits(switch: &Switch, queries: &[TypedQuery], entries: &[Entry]) -> 
 /// The checks one after another.
 fn checked(t: &Typed, s: &Switch, plan: &Plan) -> Result<(), Misfit>
     requires { IsSwitch s.now }
-    ensures { told result ≡ fit_misfit t.now.queries s.now plan.now.entries }
+    ensures { reported result ≡ fit_misfit t.now.queries s.now plan.now.entries }
 {
     let queries = t.queries.as_slice();
     let entries = plan.entries.as_slice();
@@ -169,14 +169,14 @@ pub fn fits(t: &Typed, s: &Switch, plan: &Plan) -> Result<(), Misfit>
     // A plan is answered `Ok` exactly where it fits.
     ensures fits { IsOk result ↔ Fits t.now.queries s.now plan.now.entries }
     // Else the first check that fails is answered.
-    ensures misfit { told result ≡ fit_misfit t.now.queries s.now plan.now.entries }
+    ensures misfit { reported result ≡ fit_misfit t.now.queries s.now plan.now.entries }
 {
     checked(t, s, plan)
 }
 
 /// Whether every path, and then every cut, is one of its query.
 fn shaped(t: &Typed, plan: &Plan) -> Result<(), Misfit>
-    ensures { told result ≡ shape_misfit t.now.queries plan.now.entries }
+    ensures { reported result ≡ shape_misfit t.now.queries plan.now.entries }
 {
     let queries = t.queries.as_slice();
     let entries = plan.entries.as_slice();
@@ -193,7 +193,7 @@ pub fn shape(t: &Typed, plan: &Plan) -> Result<(), Misfit>
     // A plan is answered `Ok` exactly where it has the shape.
     ensures shape { IsOk result ↔ HasShape t.now.queries plan.now.entries }
     // Else the first check that fails is answered.
-    ensures misfit { told result ≡ shape_misfit t.now.queries plan.now.entries }
+    ensures misfit { reported result ≡ shape_misfit t.now.queries plan.now.entries }
 {
     shaped(t, plan)
 }

@@ -4,7 +4,7 @@ use Rattle.std.specs.Prelude.{codes}
 use Rattle.sn_text_rules.specs.declared.Flaw.{Flaw}
 use Rattle.sn_text_rules.specs.declared.Flaw.TheVariants.{Lex, Expected}
 use Rattle.sn_text_rules.specs.Words.{is_word, any_number}
-use Rattle.sn_text_rules.proofs.Bounded.{Flaws, Bounded, Whole, number_in_bounded, keyword_bounded, sign_bounded, pair_whole, renamed_bounded, behind_bounded, before_bounded, either_bounded, many_bounded, the_end_whole, behind_whole, before_whole}
+use Rattle.sn_text_rules.proofs.Bounded.{Flaws, Bounded, Whole, number_in_bounded, keyword_bounded, sign_bounded, pair_whole, renamed_bounded, after_bounded, before_bounded, either_bounded, many_bounded, the_end_whole, after_whole, before_whole}
 use Rattle.sn_plan_grammar.specs.TreeGrammar.{to_node, from_node, node_rule, nodes_rule, tree_rule}
 use Rattle.sn_plan_grammar.proofs.TreeGoods.{nodes_alike}
 
@@ -22,8 +22,8 @@ any_bounded = number_in_bounded flaws 0 18446744073709551615
 node_bounded : Bounded flaws node_rule
 unfolding node_rule
 node_bounded = renamed_bounded to_node from_node (either_bounded (is_word (codes "X")) (keyword_bounded flaws (codes "X"))
-    (either_bounded (is_word (codes "E")) (behind_bounded (keyword_bounded flaws (codes "E")) any_bounded)
-    (either_bounded (is_word (codes "B")) (behind_bounded (keyword_bounded flaws (codes "B")) any_bounded) (behind_bounded (keyword_bounded flaws (codes "P")) any_bounded))))
+    (either_bounded (is_word (codes "E")) (after_bounded (keyword_bounded flaws (codes "E")) any_bounded)
+    (either_bounded (is_word (codes "B")) (after_bounded (keyword_bounded flaws (codes "B")) any_bounded) (after_bounded (keyword_bounded flaws (codes "P")) any_bounded))))
 
 nodes_bounded : Bounded flaws nodes_rule
 unfolding nodes_rule
@@ -31,5 +31,5 @@ nodes_bounded = many_bounded nodes_alike (λ seen. tt) (λ seen. node_bounded)
 
 pub tree_whole : Whole flaws tree_rule
 unfolding tree_rule
-tree_whole = behind_whole (keyword_bounded flaws (codes "cost")) (pair_whole (before_bounded any_bounded (sign_bounded flaws 2))
-    (behind_whole (keyword_bounded flaws (codes "tree")) (before_whole (before_bounded nodes_bounded (keyword_bounded flaws (codes "done"))) (the_end_whole flaws))))
+tree_whole = after_whole (keyword_bounded flaws (codes "cost")) (pair_whole (before_bounded any_bounded (sign_bounded flaws 2))
+    (after_whole (keyword_bounded flaws (codes "tree")) (before_whole (before_bounded nodes_bounded (keyword_bounded flaws (codes "done"))) (the_end_whole flaws))))

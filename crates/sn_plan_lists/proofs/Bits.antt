@@ -14,7 +14,7 @@ use Rattle.sn_plan_choices.specs.Options.{Setting, options, option_at}
 use Rattle.sn_plan_lists.specs.Numbers.{path_number, is_setting, option_number}
 use Rattle.sn_plan_lists.specs.Costs.{bits_of}
 use Rattle.sn_plan_lists.proofs.Seats.{next_power}
-use Rattle.sn_plan_lists.proofs.NamedPieces.{drop_next, left_behind, sizes_back}
+use Rattle.sn_plan_lists.proofs.NamedPieces.{drop_next, left_after, sizes_back}
 
 abbrev bit_if : Bool → ℕ
 bit_if b = if b then 1 else 0
@@ -64,7 +64,7 @@ number_more path ls i number bit number' all b some lt e is whole small power =
     let j : i - 1 + 1 ≡ i = omega arith in
     let k : i + 1 - 1 ≡ i = omega arith in
     let before : drop (i - 1) ls ≡ slice_index ls (i - 1) ∷ drop i ls = drop_next ls (i - 1) (omega arith) ∙ ap (λ (n : ℕ). slice_index ls (i - 1) ∷ drop n ls) j in
-    let long : 1 ≤ length (drop i ls) = let m = left_behind ls i in omega arith in (
+    let long : 1 ≤ length (drop i ls) = let m = left_after ls i in omega arith in (
       more_bits b number bit number' (path_number (drop (i + 1 - 1) ls) path) is
           ∙ ap (λ (n : ℕ). number + bit * (bit_if b + 2 * path_number (drop n ls) path)) k
           ∙ ap (λ c. number + bit * (bit_if c + 2 * path_number (drop i ls) path)) (sym e)
@@ -76,7 +76,7 @@ number_more path ls i number bit number' all b some lt e is whole small power =
 
 pub number_done : (path ls : List ℕ) (i number bit : ℕ) → length ls ≤ i → number + bit * path_number (drop (i - 1) ls) path ≡ path_number ls path → number ≡ path_number ls path
 number_done path ls i number bit over whole =
-    let none : path_number (drop (i - 1) ls) path ≡ 0 = last_number path (drop (i - 1) ls) (let m = left_behind ls (i - 1) in omega (arith, over, m)) in
+    let none : path_number (drop (i - 1) ls) path ≡ 0 = last_number path (drop (i - 1) ls) (let m = left_after ls (i - 1) in omega (arith, over, m)) in
     let zero_times : number + bit * 0 ≡ number = omega arith in
     sym (ap (λ (n : ℕ). number + bit * n) none ∙ zero_times) ∙ whole
 
@@ -88,9 +88,9 @@ written_back o w e few =
     ap (λ (x : code.Setting). (x.cut, take x.used x.sizes)) e ∙ ap (λ (l : List ℕ). (o.0, l)) (sizes_back o.1 (omega arith))
 
 module _ (s : Switch) (b : TypedBranch) (o : Setting) (n : ℕ) (w : code.Setting) (result : Bool) (lt : n < length (options s b)) (is : w ≡ written (option_at s b n)) (few : w.used ≤ 2)
-    (told : result ≡ is_setting o (w.cut, take w.used w.sizes)) (so_far : n + position_or_len (is_setting o) (drop n (options s b)) ≡ option_number s b o) where
+    (reported : result ≡ is_setting o (w.cut, take w.used w.sizes)) (so_far : n + position_or_len (is_setting o) (drop n (options s b)) ≡ option_number s b o) where
   tells : result ≡ is_setting o (option_at s b n)
-  tells = told ∙ ap (is_setting o) (written_back (option_at s b n) w is few)
+  tells = reported ∙ ap (is_setting o) (written_back (option_at s b n) w is few)
 
   split_here : drop n (options s b) ≡ option_at s b n ∷ drop (suc n) (options s b)
   split_here = drop-cons (options s b) n (0, []) lt ∙ ap (λ x. x ∷ drop (suc n) (options s b)) (sym (unwrap_or-slice_get (options s b) n (0, [])))

@@ -12,7 +12,7 @@ use Rattle.sn_types.specs.Cuts.{stateful}
 use Rattle.sn_plan_choices.specs.declared.setting.Setting as code
 use Rattle.sn_plan_choices.specs.Settings.{written}
 use Rattle.sn_plan_choices.specs.Options.{option_at, path_of}
-use Rattle.sn_plan_lists.specs.Chosen.{Seat, level_seats, path_seats, registers_with, piece_with, first_option, piece_at, behind_piece, pieces_at, behind_pieces}
+use Rattle.sn_plan_lists.specs.Chosen.{Seat, level_seats, path_seats, registers_with, piece_with, first_option, piece_at, after_piece, pieces_at, after_pieces}
 
 -- ---- items
 
@@ -25,52 +25,52 @@ sizes_back (x ∷ y ∷ []) h = refl
 sizes_back (x ∷ y ∷ z ∷ sizes) h = absurd (omega arith)
 
 -- the piece that the code makes is the one that choices name
-pub piece_is : (s : Switch) (seat : Seat) (choices : List ℕ) (x count : ℕ) (option : code.Setting) (ops : List TOp) (slots stages behind : List ℕ)
-    → x ≡ slice_index choices 0 → option ≡ written (option_at s seat.branch x) → option.used ≤ 2 → ops ≡ take option.cut seat.branch.ops → count ≡ stateful ops → behind ≡ drop 1 choices
-    → stages ≡ take (s.chain * count) behind → slots ≡ take option.used option.sizes
+pub piece_is : (s : Switch) (seat : Seat) (choices : List ℕ) (x count : ℕ) (option : code.Setting) (ops : List TOp) (slots stages following : List ℕ)
+    → x ≡ slice_index choices 0 → option ≡ written (option_at s seat.branch x) → option.used ≤ 2 → ops ≡ take option.cut seat.branch.ops → count ≡ stateful ops → following ≡ drop 1 choices
+    → stages ≡ take (s.chain * count) following → slots ≡ take option.used option.sizes
     → record { level = seat.level; branch = seat.number; cut = option.cut; slots = slots; stages = stages } ≡ piece_at s seat choices
-piece_is s seat choices x count option ops slots stages behind ex eo few ep ec eb es ez =
+piece_is s seat choices x count option ops slots stages following ex eo few ep ec eb es ez =
     let o = first_option s seat choices in
     let is : option ≡ written o = eo ∙ ap (λ (n : ℕ). written (option_at s seat.branch n)) ex in
     let used = ap (λ (w : code.Setting). w.used) is in
     let cut : option.cut ≡ o.0 = ap (λ (w : code.Setting). w.cut) is in
     let sizes : slots ≡ o.1 = ez ∙ ap (λ (w : code.Setting). take w.used w.sizes) is ∙ sizes_back o.1 (omega arith) in
     let number : count ≡ stateful (take o.0 seat.branch.ops) = ec ∙ ap stateful ep ∙ ap (λ (n : ℕ). stateful (take n seat.branch.ops)) cut in
-    let held : stages ≡ take (registers_with s seat.branch o) (drop 1 choices) = es ∙ ap (λ (n : ℕ). take (s.chain * n) behind) number ∙ ap (take (registers_with s seat.branch o)) eb in
+    let held : stages ≡ take (registers_with s seat.branch o) (drop 1 choices) = es ∙ ap (λ (n : ℕ). take (s.chain * n) following) number ∙ ap (take (registers_with s seat.branch o)) eb in
     ap (λ (n : ℕ). record { level = seat.level; branch = seat.number; cut = n; slots = slots; stages = stages }) cut
     ∙ ap (λ (l : List ℕ). record { level = seat.level; branch = seat.number; cut = o.0; slots = l; stages = stages }) sizes
     ∙ ap (piece_with seat o) held
 
 -- ---- pieces one after another
 
-pub pieces_two : (s : Switch) (a b : List Seat) (choices : List ℕ) → pieces_at s (a ++ b) choices ≡ pieces_at s a choices ++ pieces_at s b (behind_pieces s a choices)
+pub pieces_two : (s : Switch) (a b : List Seat) (choices : List ℕ) → pieces_at s (a ++ b) choices ≡ pieces_at s a choices ++ pieces_at s b (after_pieces s a choices)
 pieces_two s [] b choices = refl
-pieces_two s (seat ∷ a) b choices = ap (λ l. piece_at s seat choices ∷ l) (pieces_two s a b (behind_piece s seat choices))
+pieces_two s (seat ∷ a) b choices = ap (λ l. piece_at s seat choices ∷ l) (pieces_two s a b (after_piece s seat choices))
 
-pub behind_two : (s : Switch) (a b : List Seat) (choices : List ℕ) → behind_pieces s (a ++ b) choices ≡ behind_pieces s b (behind_pieces s a choices)
-behind_two s [] b choices = refl
-behind_two s (seat ∷ a) b choices = behind_two s a b (behind_piece s seat choices)
+pub after_two : (s : Switch) (a b : List Seat) (choices : List ℕ) → after_pieces s (a ++ b) choices ≡ after_pieces s b (after_pieces s a choices)
+after_two s [] b choices = refl
+after_two s (seat ∷ a) b choices = after_two s a b (after_piece s seat choices)
 
 pub drop_next : (path : List ℕ) (i : ℕ) → i < length path → drop i path ≡ slice_index path i ∷ drop (i + 1) path
 drop_next path i h = drop-cons path i 0 h ∙ ap (λ (k : ℕ). slice_index path i ∷ drop k path) (sym (add-one i))
 
 -- the pieces of one more level, with those so far
 pub level_more : (s : Switch) (bs : List TypedBranch) (path : List ℕ) (i : ℕ) (pieces added all : List Piece) (rest after : List ℕ) → i < length path
-    → added ≡ pieces ++ pieces_at s (level_seats (slice_index path i) 0 bs) rest → after ≡ behind_pieces s (level_seats (slice_index path i) 0 bs) rest
+    → added ≡ pieces ++ pieces_at s (level_seats (slice_index path i) 0 bs) rest → after ≡ after_pieces s (level_seats (slice_index path i) 0 bs) rest
     → pieces ++ pieces_at s (path_seats bs (drop i path)) rest ≡ all → added ++ pieces_at s (path_seats bs (drop (i + 1) path)) after ≡ all
 level_more s bs path i pieces added all rest after lt e f h =
     let here = level_seats (slice_index path i) 0 bs in
     let more = path_seats bs (drop (i + 1) path) in
     ap (λ l. l ++ pieces_at s more after) e ∙ ap (λ c. (pieces ++ pieces_at s here rest) ++ pieces_at s more c) f
-    ∙ append_assoc pieces (pieces_at s here rest) (pieces_at s more (behind_pieces s here rest)) ∙ ap (λ l. pieces ++ l) (sym (pieces_two s here more rest))
+    ∙ append_assoc pieces (pieces_at s here rest) (pieces_at s more (after_pieces s here rest)) ∙ ap (λ l. pieces ++ l) (sym (pieces_two s here more rest))
     ∙ ap (λ l. pieces ++ pieces_at s (path_seats bs l) rest) (sym (drop_next path i lt)) ∙ h
 
-pub level_behind : (s : Switch) (bs : List TypedBranch) (path : List ℕ) (i : ℕ) (rest after all : List ℕ) → i < length path
-    → after ≡ behind_pieces s (level_seats (slice_index path i) 0 bs) rest → behind_pieces s (path_seats bs (drop i path)) rest ≡ all → behind_pieces s (path_seats bs (drop (i + 1) path)) after ≡ all
-level_behind s bs path i rest after all lt f h =
+pub level_after : (s : Switch) (bs : List TypedBranch) (path : List ℕ) (i : ℕ) (rest after all : List ℕ) → i < length path
+    → after ≡ after_pieces s (level_seats (slice_index path i) 0 bs) rest → after_pieces s (path_seats bs (drop i path)) rest ≡ all → after_pieces s (path_seats bs (drop (i + 1) path)) after ≡ all
+level_after s bs path i rest after all lt f h =
     let here = level_seats (slice_index path i) 0 bs in
     let more = path_seats bs (drop (i + 1) path) in
-    ap (behind_pieces s more) f ∙ sym (behind_two s here more rest) ∙ ap (λ l. behind_pieces s (path_seats bs l) rest) (sym (drop_next path i lt)) ∙ h
+    ap (after_pieces s more) f ∙ sym (after_two s here more rest) ∙ ap (λ l. after_pieces s (path_seats bs l) rest) (sym (drop_next path i lt)) ∙ h
 
 -- ---- a path
 
@@ -90,10 +90,10 @@ length_next : (path : List ℕ) (l : ℕ) → length (path ++ l ∷ []) ≡ leng
 length_next [] l = refl
 length_next (k ∷ path) l = let e = length_next path l in omega arith
 
-pub left_behind : (levels : List ℕ) (i : ℕ) → length (drop i levels) ≡ length levels - i
-left_behind levels zero = omega arith
-left_behind [] (suc i) = omega arith
-left_behind (l ∷ levels) (suc i) = let e = left_behind levels i in omega arith
+pub left_after : (levels : List ℕ) (i : ℕ) → length (drop i levels) ≡ length levels - i
+left_after levels zero = omega arith
+left_after [] (suc i) = omega arith
+left_after (l ∷ levels) (suc i) = let e = left_after levels i in omega arith
 
 -- one more level is looked at: it stands on the path, or is left out
 pub path_pushed : (bits i : ℕ) (levels path more all : List ℕ) → (bits % 2 ≡ 1) ⊎ (i + 1 ≡ length levels) → i < length levels → more ≡ path ++ slice_index levels i ∷ []
@@ -101,7 +101,7 @@ pub path_pushed : (bits i : ℕ) (levels path more all : List ℕ) → (bits % 2
 path_pushed bits i levels path more all stand lt e h few =
     let l = slice_index levels i in
     let rest = drop (i + 1) levels in
-    let none : i + 1 ≡ length levels → length (drop (i + 1) levels) ≡ 0 = λ k. let e = left_behind levels (i + 1) in omega (arith, k, e) in
+    let none : i + 1 ≡ length levels → length (drop (i + 1) levels) ≡ 0 = λ k. let e = left_after levels (i + 1) in omega (arith, k, e) in
     let step : path_of bits (l ∷ rest) ≡ l ∷ path_of (bits / 2) rest = elim stand [ inl odd ↦ stands bits l rest odd | inr last ↦ finest bits l rest (none last) ] in
     let long = ap length e ∙ length_next path l in (
       ap (λ p. p ++ path_of (bits / 2) rest) e ∙ append_assoc path (l ∷ []) (path_of (bits / 2) rest) ∙ ap (λ p. path ++ p) (sym step) ∙ ap (λ p. path ++ path_of bits p) (sym (drop_next levels i lt)) ∙ h,
@@ -113,7 +113,7 @@ pub path_left : (bits i : ℕ) (levels path more all : List ℕ) → (bits % 2 �
 path_left bits i levels path more all even further lt e h few =
     let l = slice_index levels i in
     let rest = drop (i + 1) levels in
-    let some : 1 ≤ length (drop (i + 1) levels) = let k = left_behind levels (i + 1) in omega (arith, further, k) in
+    let some : 1 ≤ length (drop (i + 1) levels) = let k = left_after levels (i + 1) in omega (arith, further, k) in
     let long = ap length e in
     (ap (λ p. p ++ path_of (bits / 2) rest) e ∙ ap (λ p. path ++ p) (sym (left_out bits l rest even some)) ∙ ap (λ p. path ++ path_of bits p) (sym (drop_next levels i lt)) ∙ h, omega arith)
 

@@ -179,9 +179,9 @@ last_above l k level (j ∷ ls) h e = last_above l j level ls h.1 e
 pub known_rest : (l : ℕ) (ls path : List ℕ) → AllByRecursion (λ x. l < x) path → AllByRecursion (λ x. is_among (l ∷ ls) x ≡ true) path → AllByRecursion (λ x. is_among ls x ≡ true) path
 known_rest l ls path = all_two (λ x. l < x) (λ x. is_among (l ∷ ls) x ≡ true) (λ x. is_among ls x ≡ true) (λ x a b. sym (among_rest l x ls a) ∙ b) path
 
-path_behind : (l k : ℕ) (ls path : List ℕ) → AllByRecursion (λ q. l < q) (k ∷ ls) → IsPath (l ∷ k ∷ ls) (l ∷ path) → IsPath (k ∷ ls) path
-path_behind l k ls [] h p = let a = last_above l k p.finest.0 ls h p.finest.2 in let b = some_same l p.finest.0 p.finest.1 in absurd (omega arith)
-path_behind l k ls (y ∷ path) h p = record { rising = p.rising.1; known = known_rest l (k ∷ ls) (y ∷ path) p.rising.0 p.known.1; finest = p.finest }
+path_after : (l k : ℕ) (ls path : List ℕ) → AllByRecursion (λ q. l < q) (k ∷ ls) → IsPath (l ∷ k ∷ ls) (l ∷ path) → IsPath (k ∷ ls) path
+path_after l k ls [] h p = let a = last_above l k p.finest.0 ls h p.finest.2 in let b = some_same l p.finest.0 p.finest.1 in absurd (omega arith)
+path_after l k ls (y ∷ path) h p = record { rising = p.rising.1; known = known_rest l (k ∷ ls) (y ∷ path) p.rising.0 p.known.1; finest = p.finest }
 
 all_above : (l x : ℕ) (path : List ℕ) → l < x → AllByRecursion (λ q. x < q) path → AllByRecursion (λ q. l < q) (x ∷ path)
 all_above l x path h more = (h, all_each (λ q. x < q) (λ q. l < q) (λ q k. omega arith) path more)
@@ -196,7 +196,7 @@ take_first l k x ls path e h p rest = subst (λ (y : ℕ). path_of (path_number 
     (ap (λ b. path_of ((if b then 1 else 0) + 2 * path_number (k ∷ ls) (l ∷ path)) (l ∷ k ∷ ls)) (among_head l path)
     ∙ take_level (path_number (k ∷ ls) (l ∷ path)) l k ls
     ∙ ap (λ (n : ℕ). l ∷ path_of n (k ∷ ls)) (number_skips (k ∷ ls) path l h)
-    ∙ ap (λ q. l ∷ q) (rest (path_behind l k ls path h (subst (λ (y : ℕ). IsPath (l ∷ k ∷ ls) (y ∷ path)) e p))))
+    ∙ ap (λ q. l ∷ q) (rest (path_after l k ls path h (subst (λ (y : ℕ). IsPath (l ∷ k ∷ ls) (y ∷ path)) e p))))
 
 skip_first : (l k : ℕ) (ls path : List ℕ) → AllByRecursion (λ q. l < q) path → IsPath (l ∷ k ∷ ls) path → (IsPath (k ∷ ls) path → path_of (path_number (k ∷ ls) path) (k ∷ ls) ≡ path)
     → path_of (path_number (l ∷ k ∷ ls) path) (l ∷ k ∷ ls) ≡ path
@@ -217,6 +217,6 @@ path_of_number (l ∷ k ∷ ls) (x ∷ path) h p = by_head l k x ls path h p (or
         → (IsPath (k ∷ ls) path → path_of (path_number (k ∷ ls) path) (k ∷ ls) ≡ path)
         → (IsPath (k ∷ ls) (x ∷ path) → path_of (path_number (k ∷ ls) (x ∷ path)) (k ∷ ls) ≡ x ∷ path)
         → path_of (path_number (l ∷ k ∷ ls) (x ∷ path)) (l ∷ k ∷ ls) ≡ x ∷ path
-    by_head l k x ls path h p (inl e) behind beside = take_first l k x ls path (nat_same x l e) h.0 p behind
-    by_head l k x ls path h p (inr e) behind beside =
+    by_head l k x ls path h p (inl e) following beside = take_first l k x ls path (nat_same x l e) h.0 p following
+    by_head l k x ls path h p (inr e) following beside =
         skip_first l k ls (x ∷ path) (all_above l x path (among_all (λ q. l < q) x (k ∷ ls) e h.0) p.rising.0) p beside

@@ -12,7 +12,7 @@ use Rattle.sn_types.specs.Typed.{branch_of, blank_branch}
 use Rattle.sn_plan_fit.specs.Paths.{Place, at_place, piece_place, level_places, places}
 use Rattle.sn_plan_fit.specs.Pieces.{piece_branch}
 use Rattle.sn_plan_fit.specs.Fits.{IsEntryOf, AreEntriesOf, PieceFits, OnBranch, PiecesFit}
-use Rattle.sn_plan_lists.specs.Chosen.{Seat, level_seats, path_seats, registers_with, piece_with, piece_at, behind_piece, pieces_at, behind_pieces, entry_at, behind_entry, plan_at, option_of, piece_choices, entry_choices, plan_choices, HasLevels}
+use Rattle.sn_plan_lists.specs.Chosen.{Seat, level_seats, path_seats, registers_with, piece_with, piece_at, after_piece, pieces_at, after_pieces, entry_at, after_entry, plan_at, option_of, piece_choices, entry_choices, plan_choices, HasLevels}
 use Rattle.sn_plan_lists.proofs.OptionNumbers.{number_of_option}
 use Rattle.sn_plan_lists.proofs.PathNumbers.{path_of_number}
 use Rattle.sn_plan_lists.proofs.Seats.{seat_place}
@@ -120,8 +120,8 @@ module _ (s : Switch) (q : TypedQuery) (path : List ℕ) where
       ap (λ o. piece_with (seat_of q p) o (take (registers_with s b o) (p.stages ++ rest))) option
       ∙ ap (λ ss. piece_with (seat_of q p) (p.cut, p.slots) ss) (take_front (registers_with s b (p.cut, p.slots)) p.stages rest g.fits.stages)
 
-  behind_read : (p : Piece) (rest : List ℕ) → GoodPiece s q path p → behind_piece s (seat_of q p) (option_of s q p ∷ (p.stages ++ rest)) ≡ rest
-  behind_read p rest g =
+  after_read : (p : Piece) (rest : List ℕ) → GoodPiece s q path p → after_piece s (seat_of q p) (option_of s q p ∷ (p.stages ++ rest)) ≡ rest
+  after_read p rest g =
       let b = branch_of q p.branch in
       let option = (number_of_option s b (p.cut, p.slots) (is_option s q path p g)).1 in
       ap (λ o. drop (registers_with s b o) (p.stages ++ rest)) option ∙ drop_front (registers_with s b (p.cut, p.slots)) p.stages rest g.fits.stages
@@ -133,16 +133,16 @@ module _ (s : Switch) (q : TypedQuery) (path : List ℕ) where
   pieces_read [] rest g = refl
   pieces_read (p ∷ ps) rest g =
       ap (pieces_at s (map (seat_of q) (p ∷ ps))) (open_choices p ps rest)
-      ∙ ap (λ x. x ∷ pieces_at s (map (seat_of q) ps) (behind_piece s (seat_of q p) (option_of s q p ∷ (p.stages ++ (flat_map (piece_choices s q) ps ++ rest))))) (piece_read p (flat_map (piece_choices s q) ps ++ rest) g.0)
-      ∙ ap (λ l. p ∷ pieces_at s (map (seat_of q) ps) l) (behind_read p (flat_map (piece_choices s q) ps ++ rest) g.0)
+      ∙ ap (λ x. x ∷ pieces_at s (map (seat_of q) ps) (after_piece s (seat_of q p) (option_of s q p ∷ (p.stages ++ (flat_map (piece_choices s q) ps ++ rest))))) (piece_read p (flat_map (piece_choices s q) ps ++ rest) g.0)
+      ∙ ap (λ l. p ∷ pieces_at s (map (seat_of q) ps) l) (after_read p (flat_map (piece_choices s q) ps ++ rest) g.0)
       ∙ ap (λ l. p ∷ l) (pieces_read ps rest g.1)
 
-  pieces_behind : (ps : List Piece) (rest : List ℕ) → AllByRecursion (GoodPiece s q path) ps → behind_pieces s (map (seat_of q) ps) (flat_map (piece_choices s q) ps ++ rest) ≡ rest
-  pieces_behind [] rest g = refl
-  pieces_behind (p ∷ ps) rest g =
-      ap (behind_pieces s (map (seat_of q) (p ∷ ps))) (open_choices p ps rest)
-      ∙ ap (behind_pieces s (map (seat_of q) ps)) (behind_read p (flat_map (piece_choices s q) ps ++ rest) g.0)
-      ∙ pieces_behind ps rest g.1
+  pieces_after : (ps : List Piece) (rest : List ℕ) → AllByRecursion (GoodPiece s q path) ps → after_pieces s (map (seat_of q) ps) (flat_map (piece_choices s q) ps ++ rest) ≡ rest
+  pieces_after [] rest g = refl
+  pieces_after (p ∷ ps) rest g =
+      ap (after_pieces s (map (seat_of q) (p ∷ ps))) (open_choices p ps rest)
+      ∙ ap (after_pieces s (map (seat_of q) ps)) (after_read p (flat_map (piece_choices s q) ps ++ rest) g.0)
+      ∙ pieces_after ps rest g.1
 
 entry_read : (s : Switch) (q : TypedQuery) (e : Entry) (rest : List ℕ) → HasLevels q → IsEntryOf q e → GoodEntry s q e → entry_at s q (entry_choices s q e ++ rest) ≡ e
 entry_read s q e rest h is g =
@@ -152,12 +152,12 @@ entry_read s q e rest h is g =
     ∙ ap (λ ps. record { name = q.name; levels = e.levels; pieces = ps }) (pieces_read s q e.levels e.pieces rest g.good)
     ∙ ap (λ n. record { name = n; levels = e.levels; pieces = e.pieces }) (sym is.name)
 
-entry_behind : (s : Switch) (q : TypedQuery) (e : Entry) (rest : List ℕ) → HasLevels q → IsEntryOf q e → GoodEntry s q e → behind_entry s q (entry_choices s q e ++ rest) ≡ rest
-entry_behind s q e rest h is g =
+entry_after : (s : Switch) (q : TypedQuery) (e : Entry) (rest : List ℕ) → HasLevels q → IsEntryOf q e → GoodEntry s q e → after_entry s q (entry_choices s q e ++ rest) ≡ rest
+entry_after s q e rest h is g =
     let path = path_of_number q.levels e.levels h.rising is.path in
-    ap (λ l. behind_pieces s (path_seats q.branches l) (flat_map (piece_choices s q) e.pieces ++ rest)) path
-    ∙ ap (λ seats. behind_pieces s seats (flat_map (piece_choices s q) e.pieces ++ rest)) (sym g.seats)
-    ∙ pieces_behind s q e.levels e.pieces rest g.good
+    ap (λ l. after_pieces s (path_seats q.branches l) (flat_map (piece_choices s q) e.pieces ++ rest)) path
+    ∙ ap (λ seats. after_pieces s seats (flat_map (piece_choices s q) e.pieces ++ rest)) (sym g.seats)
+    ∙ pieces_after s q e.levels e.pieces rest g.good
 
 pub plan_read : (s : Switch) (qs : List TypedQuery) (es : List Entry) → AllByRecursion HasLevels qs → AreEntriesOf qs es → PiecesFit (PieceFits s) qs es → plan_at s qs (plan_choices s qs es) ≡ es
 plan_read s [] [] h is fits = refl
@@ -165,6 +165,6 @@ plan_read s [] (e ∷ es) h is fits = absurd is
 plan_read s (q ∷ qs) [] h is fits = absurd is
 plan_read s (q ∷ qs) (e ∷ es) h is fits =
     let g = good_entry s q e is.0 fits.0 in
-    ap (λ x. x ∷ plan_at s qs (behind_entry s q (entry_choices s q e ++ plan_choices s qs es))) (entry_read s q e (plan_choices s qs es) h.0 is.0 g)
-    ∙ ap (λ l. e ∷ plan_at s qs l) (entry_behind s q e (plan_choices s qs es) h.0 is.0 g)
+    ap (λ x. x ∷ plan_at s qs (after_entry s q (entry_choices s q e ++ plan_choices s qs es))) (entry_read s q e (plan_choices s qs es) h.0 is.0 g)
+    ∙ ap (λ l. e ∷ plan_at s qs l) (entry_after s q e (plan_choices s qs es) h.0 is.0 g)
     ∙ ap (λ l. e ∷ l) (plan_read s qs es h.1 is.1 fits.1)

@@ -120,9 +120,9 @@ module _ (n : ℕ) (bs : List TypedBranch) where
   other_level a level l h = ap (λ b. a && b) (let e : (level == l) ≡ false = grind (arith, nat_tests) in e) ∙ and_never a
 
   -- a piece after the first level of a path
-  behind_task : (i before l : ℕ) (path rest : List ℕ) → AllByRecursion (λ k. l < k) rest → (seat : Seat) → l < seat.level
+  after_task : (i before l : ℕ) (path rest : List ℕ) → AllByRecursion (λ k. l < k) rest → (seat : Seat) → l < seat.level
       → task_from (i + 1) (before + 2 ^ i) rest path seat ≡ task_from i before (l ∷ rest) (l ∷ path) seat
-  behind_task i before l path rest h seat k =
+  after_task i before l path rest h seat k =
       let power = pow_pos i in
       let levels : before + 2 ^ i + 2 ^ (i + 1) * bits_of (is_upto path seat.level) rest ≡ before + 2 ^ i * bits_of (is_upto (l ∷ path) seat.level) (l ∷ rest) =
       ap (λ (p : ℕ). before + 2 ^ i + p * bits_of (is_upto path seat.level) rest) (next_power i)
@@ -157,7 +157,7 @@ module _ (n : ℕ) (bs : List TypedBranch) where
           let f = task_from i before (l ∷ k ∷ ls) (l ∷ path_of (m / 2) (k ∷ ls)) in
           ap (λ x. x ++ path_pieces n bs (m / 2) (i + 1) (before + 2 ^ i) (k ∷ ls)) (level_tasks (before + 2 ^ i) l 0 (before == 0) bs f (head_task i before l path (k ∷ ls) h.0))
           ∙ ap (λ x. map f (level_seats l 0 bs) ++ x)
-          (a ∙ map_same (λ seat. l < seat.level) (task_from (i + 1) (before + 2 ^ i) (k ∷ ls) path) f (behind_task i before l path (k ∷ ls) h.0) (path_seats bs path)
+          (a ∙ map_same (λ seat. l < seat.level) (task_from (i + 1) (before + 2 ^ i) (k ∷ ls) path) f (after_task i before l path (k ∷ ls) h.0) (path_seats bs path)
           (seats_at (λ x. l < x) bs path (path_all (λ x. l < x) (m / 2) (k ∷ ls) h.0)))
           ∙ sym (map-append f (level_seats l 0 bs) (path_seats bs path))
       by_bit false a c =

@@ -49,10 +49,10 @@ chain_stand zero bits slots ss h = refl
 chain_stand (suc d) bits slots [] h = absurd (omega arith)
 chain_stand (suc d) bits slots (x ∷ ss) h = ap (λ l. in_stage bits x ∷ l) (chain_stand d bits slots ss (omega arith))
 
-left_behind : (d n : ℕ) (ss : List ℕ) → length ss ≡ d + n → length (drop d ss) ≡ n
-left_behind zero n ss e = omega arith
-left_behind (suc d) n [] e = absurd (omega arith)
-left_behind (suc d) n (x ∷ ss) e = left_behind d n ss (omega arith)
+left_after : (d n : ℕ) (ss : List ℕ) → length ss ≡ d + n → length (drop d ss) ≡ n
+left_after zero n ss e = omega arith
+left_after (suc d) n [] e = absurd (omega arith)
+left_after (suc d) n (x ∷ ss) e = left_after d n ss (omega arith)
 
 pub times_next : (d n : ℕ) → d * (1 + n) ≡ d + d * n
 times_next d n = ap (λ (k : ℕ). d * k) (let e : 1 + n ≡ suc n = omega arith in e) ∙ mul-suc d n ∙ (let e : d * n + d ≡ d + d * n = omega arith in e)
@@ -80,7 +80,7 @@ op_fill d schemas n (op ∷ ops) sizes ss e =
         ≡ (if b then map register (take d ss) ++ op_tables d ops (drop d ss) else stateless ∷ op_tables d ops ss)
     by_kind true bits e a b =
         let long = e ∙ times_next d (stateful ops) in
-        chain_tables d bits (op_slots d schemas (n + 1) ops (drop 1 sizes)) ss (omega arith) ∙ ap (λ l. map register (take d ss) ++ l) (a (left_behind d (d * stateful ops) ss long))
+        chain_tables d bits (op_slots d schemas (n + 1) ops (drop 1 sizes)) ss (omega arith) ∙ ap (λ l. map register (take d ss) ++ l) (a (left_after d (d * stateful ops) ss long))
     by_kind false bits e a b = ap (λ l. stateless ∷ l) (b e)
 
 pub op_stand : (d : ℕ) (schemas : List (List Column)) (n : ℕ) (ops : List TOp) (sizes ss : List ℕ) → length ss ≡ d * stateful ops → stand (op_slots d schemas n ops sizes) ss ≡ op_registers d schemas n ops sizes ss
@@ -95,7 +95,7 @@ op_stand d schemas n (op ∷ ops) sizes ss e =
         ≡ map (in_stage bits) (take (if b then d else 0) ss) ++ op_registers d schemas (n + 1) ops (drop (if b then 1 else 0) sizes) (drop (if b then d else 0) ss)
     by_kind true bits e a b =
         let long = e ∙ times_next d (stateful ops) in
-        chain_stand d bits (op_slots d schemas (n + 1) ops (drop 1 sizes)) ss (omega arith) ∙ ap (λ l. map (in_stage bits) (take d ss) ++ l) (a (left_behind d (d * stateful ops) ss long))
+        chain_stand d bits (op_slots d schemas (n + 1) ops (drop 1 sizes)) ss (omega arith) ∙ ap (λ l. map (in_stage bits) (take d ss) ++ l) (a (left_after d (d * stateful ops) ss long))
     by_kind false bits e a b = b e
 
 -- ---- stages are chosen

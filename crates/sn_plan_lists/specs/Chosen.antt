@@ -49,17 +49,17 @@ abbrev pub piece_at : Switch → Seat → List ℕ → Piece
 piece_at s seat choices = piece_with seat (first_option s seat choices) (take (registers_with s seat.branch (first_option s seat choices)) (drop 1 choices))
 
 -- the choices after those of a piece
-abbrev pub behind_piece : Switch → Seat → List ℕ → List ℕ
-behind_piece s seat choices = drop (registers_with s seat.branch (first_option s seat choices)) (drop 1 choices)
+abbrev pub after_piece : Switch → Seat → List ℕ → List ℕ
+after_piece s seat choices = drop (registers_with s seat.branch (first_option s seat choices)) (drop 1 choices)
 
 -- the pieces that choices name, one after another
 abbrev pub pieces_at : Switch → List Seat → List ℕ → List Piece
 pieces_at s [] choices = []
-pieces_at s (seat ∷ seats) choices = piece_at s seat choices ∷ pieces_at s seats (behind_piece s seat choices)
+pieces_at s (seat ∷ seats) choices = piece_at s seat choices ∷ pieces_at s seats (after_piece s seat choices)
 
-abbrev pub behind_pieces : Switch → List Seat → List ℕ → List ℕ
-behind_pieces s [] choices = choices
-behind_pieces s (seat ∷ seats) choices = behind_pieces s seats (behind_piece s seat choices)
+abbrev pub after_pieces : Switch → List Seat → List ℕ → List ℕ
+after_pieces s [] choices = choices
+after_pieces s (seat ∷ seats) choices = after_pieces s seats (after_piece s seat choices)
 
 abbrev pub first_path : TypedQuery → List ℕ → List ℕ
 first_path q choices = path_of (slice_index choices 0) q.levels
@@ -73,13 +73,13 @@ entry_at s q choices = record {
       (drop 1 choices);
 }
 
-abbrev pub behind_entry : Switch → TypedQuery → List ℕ → List ℕ
-behind_entry s q choices = behind_pieces s (path_seats q.branches (first_path q choices)) (drop 1 choices)
+abbrev pub after_entry : Switch → TypedQuery → List ℕ → List ℕ
+after_entry s q choices = after_pieces s (path_seats q.branches (first_path q choices)) (drop 1 choices)
 
 -- the plan that choices name, query by query
 abbrev pub plan_at : Switch → List TypedQuery → List ℕ → List Entry
 plan_at s [] choices = []
-plan_at s (q ∷ qs) choices = entry_at s q choices ∷ plan_at s qs (behind_entry s q choices)
+plan_at s (q ∷ qs) choices = entry_at s q choices ∷ plan_at s qs (after_entry s q choices)
 
 -- ---- the choices of a plan
 

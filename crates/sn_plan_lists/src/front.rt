@@ -17,7 +17,7 @@ pub(crate) fn first(numbers: &[u32]) -> u32
 /// The first n numbers, or all of them, and the rest.
 pub(crate) fn split<'a>(numbers: &'a [u32], count: usize) -> (&'a [u32], &'a [u32])
     ensures front { result.0.now ≡ take count numbers.now }
-    ensures behind { result.1.now ≡ drop count numbers.now }
+    ensures following { result.1.now ≡ drop count numbers.now }
 {
     numbers.split_at(count.min(numbers.len()))
 }

@@ -7,7 +7,7 @@ ghost use Rattle.sn_tree_space.specs.Space.{IsPlan};
 ghost use Rattle.sn_plan_choices.specs.Options.{path_of};
 ghost use Rattle.sn_plan_choices.specs.Settings.{IsNarrow};
 ghost use Rattle.sn_plan_lists.specs.Bounds.{HasBounds};
-ghost use Rattle.sn_plan_lists.specs.Chosen.{Seat, seat_at, level_seats, path_seats, piece_at, behind_piece, pieces_at, behind_pieces, entry_at, behind_entry};
+ghost use Rattle.sn_plan_lists.specs.Chosen.{Seat, seat_at, level_seats, path_seats, piece_at, after_piece, pieces_at, after_pieces, entry_at, after_entry};
 ghost use Rattle.sn_plan_lists.specs.Chosen.{plan_at};
 ghost use Rattle.sn_plan_lists.specs.Theorems.{plans_of};
 
@@ -60,12 +60,12 @@ fn piece_at<'a>(
     requires switch { IsSwitch s.now }
     requires narrow { IsNarrow branch.now }
     ensures piece { result.0 ≡ piece_at s.now (seat_at level number branch.now) choices.now }
-    ensures rest { result.1.now ≡ behind_piece s.now (seat_at level number branch.now) choices.now }
+    ensures rest { result.1.now ≡ after_piece s.now (seat_at level number branch.now) choices.now }
 {
     let option = branch_option(s, branch, first(choices));
     let registers = s.chain as usize * stateful(prefix(branch, option.cut));
-    let behind = split(choices, 1).1;
-    let (stages, rest) = split(behind, registers);
+    let following = split(choices, 1).1;
+    let (stages, rest) = split(following, registers);
     let piece = Piece {
         level,
         branch: number,
@@ -89,7 +89,7 @@ fn add_level<'a>(
     requires few { length branches.now ≤ 2 }
     requires narrow { AllByRecursion IsNarrow branches.now }
     ensures pieces { IfOk result (λ rest. pieces.new ≡ pieces.old ++ pieces_at s.now (level_seats level 0 branches.now) choices.now) }
-    ensures rest { IfOk result (λ rest. rest.now ≡ behind_pieces s.now (level_seats level 0 branches.now) choices.now) }
+    ensures rest { IfOk result (λ rest. rest.now ≡ after_pieces s.now (level_seats level 0 branches.now) choices.now) }
 {
     let mut rest = choices;
     let mut number = 0;
@@ -114,7 +114,7 @@ fn path_pieces<'a>(
     requires few { length branches.now ≤ 2 }
     requires narrow { AllByRecursion IsNarrow branches.now }
     ensures pieces { IfOk result (λ found. found.0 ≡ pieces_at s.now (path_seats branches.now path.now) choices.now) }
-    ensures rest { IfOk result (λ found. found.1.now ≡ behind_pieces s.now (path_seats branches.now path.now) choices.now) }
+    ensures rest { IfOk result (λ found. found.1.now ≡ after_pieces s.now (path_seats branches.now path.now) choices.now) }
 {
     let mut pieces = Seq::new(alloc);
     let mut rest = choices;
@@ -134,12 +134,12 @@ fn entry_at<'a>(
     requires switch { IsSwitch s.now }
     requires bounds { HasBounds query.now }
     ensures entry { IfOk result (λ found. found.0 ≡ entry_at s.now query.now choices.now) }
-    ensures rest { IfOk result (λ found. found.1.now ≡ behind_entry s.now query.now choices.now) }
+    ensures rest { IfOk result (λ found. found.1.now ≡ after_entry s.now query.now choices.now) }
 {
     let levels = path_of(alloc, query.levels.as_slice(), first(choices))?;
-    let behind = split(choices, 1).1;
+    let following = split(choices, 1).1;
     let branches = query.branches.as_slice();
-    let (pieces, rest) = path_pieces(alloc, s, branches, levels.as_slice(), behind)?;
+    let (pieces, rest) = path_pieces(alloc, s, branches, levels.as_slice(), following)?;
     let entry = Entry {
         name: query.name,
         levels,

@@ -14,7 +14,7 @@ use Rattle.sn_plan_choices.specs.Options.{paths}
 use Rattle.sn_plan_choices.specs.Within.{least_below}
 use Rattle.sn_plan_choices.specs.Planning.{Task, for_path, for_piece, for_stage, StageTask, PieceTask, Taken, level_pieces, path_pieces, pieces_of, slots_of, next_stage, settings, entry_of, least_entry, least_of, leaves_of, cost_of, planning, first_tasks}
 use Rattle.sn_plan_space.specs.Readable.{AreReadable}
-use Rattle.sn_plan_space.specs.Reading.{behind_choices}
+use Rattle.sn_plan_space.specs.Reading.{after_choices}
 use Rattle.sn_plan_space.proofs.Following.{partial_follows, kept_along}
 use Rattle.sn_base.proofs.Lists.{all_append}
 
@@ -92,12 +92,12 @@ module _ (s : Switch) (entry : ℕ → ℕ → ℕ → ℕ → ℕ) (E : (q pref
   choice_weighs (for_path t) x h =
       let a = pieces_weigh (pieces_of t x) in let b = path_long t.query t.typed.branches x 0 0 t.typed.levels h.1 in let c = h.0 in omega arith
   choice_weighs (for_piece t) x h = let a = stages_weigh (next_stage 0 (slots_of s entry t x)) in let b = E t.query t.levels t.number x in omega arith
-  choice_weighs (for_stage t) x h = let a = stages_weigh (next_stage (x + 1) t.behind) in omega arith
+  choice_weighs (for_stage t) x h = let a = stages_weigh (next_stage (x + 1) t.following) in omega arith
 
   leaves_small : (t : Task) (x : ℕ) → AllByRecursion IsSmallTask (leaves_of s entry t x)
   leaves_small (for_path t) x = pieces_small (pieces_of t x)
   leaves_small (for_piece t) x = stages_small (next_stage 0 (slots_of s entry t x))
-  leaves_small (for_stage t) x = stages_small (next_stage (x + 1) t.behind)
+  leaves_small (for_stage t) x = stages_small (next_stage (x + 1) t.following)
 
   keeps_at : (a : Agenda Task Taken) (left : List Task) (x : ℕ) → AllByRecursion IsSmallTask left → a.spent + sum_by weight left ≤ 64 * 2 ^ 56
       → MayFollow (first_choices (planning s entry) left) x → IsBounded (after_choice (planning s entry) a left x)
@@ -121,13 +121,13 @@ module _ (s : Switch) (entry : ℕ → ℕ → ℕ → ℕ → ℕ) (E : (q pref
   first_weigh n (q ∷ qs) = let one = sum_by-cons weight (for_path (record { query = n; typed = q })) (first_tasks (n + 1) qs) in let rest = first_weigh (n + 1) qs in omega arith
 
   pub lower_fits : (queries : List TypedQuery) (partial : List ℕ) → AreReadable queries → length queries ≤ 8 → IsPartial (agenda_space (planning s entry) (first_tasks 0 queries)) partial
-      → capped ((behind_choices s entry queries partial).spent + sum_by (least_of s entry) (behind_choices s entry queries partial).left)
-      ≡ (behind_choices s entry queries partial).spent + sum_by (least_of s entry) (behind_choices s entry queries partial).left
+      → capped ((after_choices s entry queries partial).spent + sum_by (least_of s entry) (after_choices s entry queries partial).left)
+      ≡ (after_choices s entry queries partial).spent + sum_by (least_of s entry) (after_choices s entry queries partial).left
   lower_fits queries partial r few part =
       let reader = agenda_reader (planning s entry) (first_tasks 0 queries) in
       let begin : IsBounded reader.start = record { small = first_small 0 queries r; room = (let e = first_weigh 0 queries in omega arith) } in
-      let end : IsBounded (behind_choices s entry queries partial) =
+      let end : IsBounded (after_choices s entry queries partial) =
       kept_along reader (sum_by (planning s entry).most (first_tasks 0 queries)) IsBounded (λ a x h m. keeps_at a a.left x h.small h.room m) reader.start partial begin
       (partial_follows reader (sum_by (planning s entry).most (first_tasks 0 queries)) partial part) in
-      let low = lows_weigh (behind_choices s entry queries partial).left end.small in
+      let low = lows_weigh (after_choices s entry queries partial).left end.small in
       let room = end.room in omega arith

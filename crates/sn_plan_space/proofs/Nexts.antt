@@ -21,28 +21,28 @@ pub record Left (stages least at : ℕ) (rest : List known.Slot) (tables : List 
 pub all_left : (stages least : ℕ) (rest : List known.Slot) (tables : List Slot) → rest ≡ map known_slot tables → Left stages least least rest tables
 all_left stages least rest tables e = record { some = tables; same = e; next = refl; past = refl }
 
-one_less : (stages least at : ℕ) (rest behind : List known.Slot) (tables some : List Slot) → Plain ∷ behind ≡ map known_slot some
-    → next_stage least tables ≡ next_stage at some → past_by stages least tables ≡ past_by stages at some → Left stages least (at + 1) behind tables
-one_less stages least at rest behind tables [] e n p = cc
-one_less stages least at rest behind tables (plain ∷ some) e n p = record { some = some; same = cc; next = n; past = p }
-one_less stages least at rest behind tables (keyed bits ∷ some) e n p = cc
+one_less : (stages least at : ℕ) (rest following : List known.Slot) (tables some : List Slot) → Plain ∷ following ≡ map known_slot some
+    → next_stage least tables ≡ next_stage at some → past_by stages least tables ≡ past_by stages at some → Left stages least (at + 1) following tables
+one_less stages least at rest following tables [] e n p = cc
+one_less stages least at rest following tables (plain ∷ some) e n p = record { some = some; same = cc; next = n; past = p }
+one_less stages least at rest following tables (keyed bits ∷ some) e n p = cc
 
-pub less_left : (stages least at : ℕ) (rest behind : List known.Slot) (tables : List Slot) → rest ≡ Plain ∷ behind → Left stages least at rest tables → Left stages least (at + 1) behind tables
-less_left stages least at rest behind tables e l = one_less stages least at rest behind tables l.some (sym e ∙ l.same) l.next l.past
+pub less_left : (stages least at : ℕ) (rest following : List known.Slot) (tables : List Slot) → rest ≡ Plain ∷ following → Left stages least at rest tables → Left stages least (at + 1) following tables
+less_left stages least at rest following tables e l = one_less stages least at rest following tables l.some (sym e ∙ l.same) l.next l.past
 
-found : (stages least at bits : ℕ) (w : Waiting) (behind : List known.Slot) (tables some : List Slot) → Keyed bits ∷ behind ≡ map known_slot some
-    → next_stage least tables ≡ next_stage at some → past_by stages least tables ≡ past_by stages at some → w.least ≡ at → w.bits ≡ bits → w.behind.now ≡ behind
+found : (stages least at bits : ℕ) (w : Waiting) (following : List known.Slot) (tables some : List Slot) → Keyed bits ∷ following ≡ map known_slot some
+    → next_stage least tables ≡ next_stage at some → past_by stages least tables ≡ past_by stages at some → w.least ≡ at → w.bits ≡ bits → w.following.now ≡ following
     → IsNext stages least tables (Some w) false
-found stages least at bits w behind tables [] e n p a b c = cc
-found stages least at bits w behind tables (plain ∷ some) e n p a b c = cc
-found stages least at bits w behind tables (keyed all ∷ some) e n p a b c = record {
-  waits = subst (λ l. WaitsFor (Some w) l) (sym n) (refl, a, (let k : bits ≡ capped all = cc in b ∙ k), (let k : behind ≡ map known_slot some = cc in c ∙ k));
+found stages least at bits w following tables [] e n p a b c = cc
+found stages least at bits w following tables (plain ∷ some) e n p a b c = cc
+found stages least at bits w following tables (keyed all ∷ some) e n p a b c = record {
+  waits = subst (λ l. WaitsFor (Some w) l) (sym n) (refl, a, (let k : bits ≡ capped all = cc in b ∙ k), (let k : following ≡ map known_slot some = cc in c ∙ k));
   is_past = sym (ap (λ l. list_any is_past l) p);
 }
 
-pub found_next : (stages least at bits : ℕ) (w : Waiting) (rest behind : List known.Slot) (tables : List Slot) → rest ≡ Keyed bits ∷ behind → Left stages least at rest tables
-    → w.least ≡ at → w.bits ≡ bits → w.behind.now ≡ behind → IsNext stages least tables (Some w) false
-found_next stages least at bits w rest behind tables e l a b c = found stages least at bits w behind tables l.some (sym e ∙ l.same) l.next l.past a b c
+pub found_next : (stages least at bits : ℕ) (w : Waiting) (rest following : List known.Slot) (tables : List Slot) → rest ≡ Keyed bits ∷ following → Left stages least at rest tables
+    → w.least ≡ at → w.bits ≡ bits → w.following.now ≡ following → IsNext stages least tables (Some w) false
+found_next stages least at bits w rest following tables e l a b c = found stages least at bits w following tables l.some (sym e ∙ l.same) l.next l.past a b c
 
 ended : (stages least at : ℕ) (tables some : List Slot) (past : Bool) → [] ≡ map known_slot some → next_stage least tables ≡ next_stage at some
     → past_by stages least tables ≡ past_by stages at some → past ≡ nat_lt stages at → IsNext stages least tables None past

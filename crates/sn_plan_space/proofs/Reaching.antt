@@ -21,7 +21,7 @@ use Rattle.sn_plan_space.specs.declared.position.Took.{Took}
 use Rattle.sn_plan_space.specs.declared.totals.Totals.{Totals}
 use Rattle.sn_plan_space.specs.Known.{known_piece, known_query, numbered}
 use Rattle.sn_plan_space.specs.Positions.{WaitsFor, IsTook, Stands, GoesTo}
-use Rattle.sn_plan_space.specs.Reading.{Follows, behind_choices}
+use Rattle.sn_plan_space.specs.Reading.{Follows, after_choices}
 use Rattle.sn_plan_space.specs.Totals.{AreTotals}
 use Rattle.sn_plan_space.proofs.Following.{partial_follows, from_place}
 use Rattle.sn_plan_space.proofs.Making.{leasts}
@@ -35,19 +35,19 @@ module _ (s : Switch) (entry : ℕ → ℕ → ℕ → ℕ → ℕ) (queries : L
     pub at : Agenda Task Taken
     pub stands : Stands s entry p at
     pub follows : Follows plan_reader at left
-    pub ends : fold plan_reader.step at left ≡ behind_choices s entry queries whole
+    pub ends : fold plan_reader.step at left ≡ after_choices s entry queries whole
 
   pub record ReachesWith (p : Position) (totals : Totals) (left whole : List ℕ) : Type 0 where
     pub at : Agenda Task Taken
     pub stands : Stands s entry p at
     pub follows : Follows plan_reader at left
-    pub ends : fold plan_reader.step at left ≡ behind_choices s entry queries whole
+    pub ends : fold plan_reader.step at left ≡ after_choices s entry queries whole
     pub totals_at : AreTotals totals at.taken
 
-  pub begins : (p : Position) (whole : List ℕ) → Stands s entry p (behind_choices s entry queries []) → IsPartial (agenda_space (planning s entry) (first_tasks 0 queries)) whole → Reaches p whole whole
+  pub begins : (p : Position) (whole : List ℕ) → Stands s entry p (after_choices s entry queries []) → IsPartial (agenda_space (planning s entry) (first_tasks 0 queries)) whole → Reaches p whole whole
   begins p whole stands part = record { at = plan_reader.start; stands = stands; follows = partial_follows plan_reader (sum_by (planning s entry).most (first_tasks 0 queries)) whole part; ends = refl }
 
-  pub begins_with : (p : Position) (totals : Totals) (whole : List ℕ) → Stands s entry p (behind_choices s entry queries []) → AreTotals totals []
+  pub begins_with : (p : Position) (totals : Totals) (whole : List ℕ) → Stands s entry p (after_choices s entry queries []) → AreTotals totals []
       → IsPartial (agenda_space (planning s entry) (first_tasks 0 queries)) whole → ReachesWith p totals whole whole
   begins_with p totals whole stands are part =
       record { at = plan_reader.start; stands = stands; follows = partial_follows plan_reader (sum_by (planning s entry).most (first_tasks 0 queries)) whole part; ends = refl; totals_at = are }
@@ -70,11 +70,11 @@ module _ (s : Switch) (entry : ℕ → ℕ → ℕ → ℕ → ℕ) (queries : L
   steps_with stages p next totals later took i whole e h goes adds r =
       step_with stages p next totals later took (get_or whole i 0) (drop (i + 1) whole) whole e goes adds (subst (λ l. ReachesWith p totals l whole) (from_place whole i h) r)
 
-  pub arrives : (p : Position) (i : ℕ) (whole : List ℕ) → drop i whole ≡ [] → Reaches p (drop i whole) whole → Stands s entry p (behind_choices s entry queries whole)
+  pub arrives : (p : Position) (i : ℕ) (whole : List ℕ) → drop i whole ≡ [] → Reaches p (drop i whole) whole → Stands s entry p (after_choices s entry queries whole)
   arrives p i whole e r = let k : Reaches p [] whole = subst (λ l. Reaches p l whole) e r in subst (Stands s entry p) k.ends k.stands
 
   pub arrives_with : (p : Position) (totals : Totals) (i : ℕ) (whole : List ℕ) → drop i whole ≡ [] → ReachesWith p totals (drop i whole) whole
-      → AreTotals totals (behind_choices s entry queries whole).taken
+      → AreTotals totals (after_choices s entry queries whole).taken
   arrives_with p totals i whole e r =
       let k : ReachesWith p totals [] whole = subst (λ l. ReachesWith p totals l whole) e r in subst (λ (a : Agenda Task Taken). AreTotals totals a.taken) k.ends k.totals_at
 
@@ -83,7 +83,7 @@ first_numbered n [] = refl
 first_numbered n (q ∷ qs) = ap (λ l. for_path (record { query = n; typed = q }) ∷ l) (first_numbered (n + 1) qs)
 
 pub starts : (s : Switch) (entry : ℕ → ℕ → ℕ → ℕ → ℕ) (queries : List TypedQuery) (p : Position) → p.waiting ≡ None → p.pieces.now ≡ [] → p.queries.now ≡ map (known_query s entry) (numbered 0 queries)
-    → p.spent ≡ 0 → Stands s entry p (behind_choices s entry queries [])
+    → p.spent ≡ 0 → Stands s entry p (after_choices s entry queries [])
 starts s entry queries p w x y z = record {
   stages = [];
   some_pieces = [];
@@ -109,14 +109,14 @@ module _ (s : Switch) (entry : ℕ → ℕ → ℕ → ℕ → ℕ) (a : Agenda 
   left_pieces : (p : Position) → p.waiting ≡ None → (h : Stands s entry p a) → a.left ≡ map for_piece h.some_pieces ++ map for_path h.some_paths
   left_pieces p e h = h.left ∙ ap (λ l. map for_stage l ++ (map for_piece h.some_pieces ++ map for_path h.some_paths)) (subst (λ o. WaitsFor o h.stages) e h.waits)
 
-  follow_piece_at : (piece : KnownPiece) (behind : List KnownPiece) (pieces : List PieceTask) (rest : List Task) → a.left ≡ map for_piece pieces ++ rest → piece ∷ behind ≡ map (known_piece s entry) pieces
+  follow_piece_at : (piece : KnownPiece) (following : List KnownPiece) (pieces : List PieceTask) (rest : List Task) → a.left ≡ map for_piece pieces ++ rest → piece ∷ following ≡ map (known_piece s entry) pieces
       → Choices 0 piece.count ≡ first_choices (planning s entry) a.left
-  follow_piece_at piece behind [] rest l e = cc
-  follow_piece_at piece behind (t ∷ ts) rest l e = let here : piece ≡ known_piece s entry t = cc in ap (λ (k : KnownPiece). Choices 0 k.count) here ∙ sym (ap (first_choices (planning s entry)) l)
+  follow_piece_at piece following [] rest l e = cc
+  follow_piece_at piece following (t ∷ ts) rest l e = let here : piece ≡ known_piece s entry t = cc in ap (λ (k : KnownPiece). Choices 0 k.count) here ∙ sym (ap (first_choices (planning s entry)) l)
 
-  pub follow_piece : (p : Position) (piece : KnownPiece) (behind : List KnownPiece) → p.waiting ≡ None → p.pieces.now ≡ piece ∷ behind → Stands s entry p a
+  pub follow_piece : (p : Position) (piece : KnownPiece) (following : List KnownPiece) → p.waiting ≡ None → p.pieces.now ≡ piece ∷ following → Stands s entry p a
       → Choices 0 piece.count ≡ first_choices (planning s entry) a.left
-  follow_piece p piece behind e u h = follow_piece_at piece behind h.some_pieces (map for_path h.some_paths) (left_pieces p e h) (sym u ∙ h.of_pieces)
+  follow_piece p piece following e u h = follow_piece_at piece following h.some_pieces (map for_path h.some_paths) (left_pieces p e h) (sym u ∙ h.of_pieces)
 
   no_pieces : (pieces : List PieceTask) (known : List KnownPiece) → known ≡ [] → known ≡ map (known_piece s entry) pieces → pieces ≡ []
   no_pieces [] known e f = refl
@@ -125,14 +125,14 @@ module _ (s : Switch) (entry : ℕ → ℕ → ℕ → ℕ → ℕ) (a : Agenda 
   left_paths : (p : Position) → p.waiting ≡ None → p.pieces.now ≡ [] → (h : Stands s entry p a) → a.left ≡ map for_path h.some_paths
   left_paths p e u h = left_pieces p e h ∙ ap (λ l. map for_piece l ++ map for_path h.some_paths) (no_pieces h.some_pieces p.pieces.now u h.of_pieces)
 
-  follow_query_at : (query : KnownQuery) (behind : List KnownQuery) (queries : List PathTask) → a.left ≡ map for_path queries → query ∷ behind ≡ map (known_query s entry) queries
+  follow_query_at : (query : KnownQuery) (following : List KnownQuery) (queries : List PathTask) → a.left ≡ map for_path queries → query ∷ following ≡ map (known_query s entry) queries
       → Choices 0 query.count ≡ first_choices (planning s entry) a.left
-  follow_query_at query behind [] l e = cc
-  follow_query_at query behind (t ∷ ts) l e = let here : query ≡ known_query s entry t = cc in ap (λ (k : KnownQuery). Choices 0 k.count) here ∙ sym (ap (first_choices (planning s entry)) l)
+  follow_query_at query following [] l e = cc
+  follow_query_at query following (t ∷ ts) l e = let here : query ≡ known_query s entry t = cc in ap (λ (k : KnownQuery). Choices 0 k.count) here ∙ sym (ap (first_choices (planning s entry)) l)
 
-  pub follow_query : (p : Position) (query : KnownQuery) (behind : List KnownQuery) → p.waiting ≡ None → p.pieces.now ≡ [] → p.queries.now ≡ query ∷ behind → Stands s entry p a
+  pub follow_query : (p : Position) (query : KnownQuery) (following : List KnownQuery) → p.waiting ≡ None → p.pieces.now ≡ [] → p.queries.now ≡ query ∷ following → Stands s entry p a
       → Choices 0 query.count ≡ first_choices (planning s entry) a.left
-  follow_query p query behind e u v h = follow_query_at query behind h.some_paths (left_paths p e u h) (sym v ∙ h.of_queries)
+  follow_query p query following e u v h = follow_query_at query following h.some_paths (left_paths p e u h) (sym v ∙ h.of_queries)
 
   no_queries : (queries : List PathTask) (known : List KnownQuery) → known ≡ [] → known ≡ map (known_query s entry) queries → queries ≡ []
   no_queries [] known e f = refl

@@ -64,7 +64,7 @@ module _ (s : Switch) (entry : ℕ → ℕ → ℕ → ℕ → ℕ) (a : Agenda 
   placed_at : (p : Position) (w : Waiting) (x : ℕ) (next : Option Waiting) (past : Bool) (stages : List StageTask) (pieces : List PieceTask) (queries : List PathTask)
       → a.left ≡ map for_stage stages ++ (map for_piece pieces ++ map for_path queries) → WaitsFor (Some w) stages → p.pieces.now ≡ map (known_piece s entry) pieces
       → p.queries.now ≡ map (known_query s entry) queries → p.spent ≡ capped a.spent
-      → ((tables : List Slot) → w.behind.now ≡ map known_slot tables → IsNext s.stages (x + 1) tables next past)
+      → ((tables : List Slot) → w.following.now ≡ map known_slot tables → IsNext s.stages (x + 1) tables next past)
       → IsAfter s entry a x (record { waiting = next; pieces = p.pieces; queries = p.queries; spent = p.spent })
       (record { register = Some (record { stage = x; bits = w.bits }); metadata = 0; is_past = past })
   unfolding made
@@ -72,14 +72,14 @@ module _ (s : Switch) (entry : ℕ → ℕ → ℕ → ℕ → ℕ) (a : Agenda 
   placed_at p w x next past (t ∷ ts) pieces queries l h b c d f =
       let rest : List Task = map for_piece pieces ++ map for_path queries in
       let first : a.left ≡ for_stage t ∷ rest = l ∙ ap (λ k. for_stage t ∷ (map for_stage k ++ rest)) h.0 in
-      let n = f t.behind h.3 in
-      let none = past_registers s.stages (x + 1) t.behind in
-      let zero = past_metadata s.stages (x + 1) t.behind in
+      let n = f t.following h.3 in
+      let none = past_registers s.stages (x + 1) t.following in
+      let zero = past_metadata s.stages (x + 1) t.following in
       record {
         next = made (for_stage t) rest x;
         is_next = after_first (for_stage t) rest x first;
         stands = record {
-          stages = next_stage (x + 1) t.behind;
+          stages = next_stage (x + 1) t.following;
           some_pieces = pieces;
           some_paths = queries;
           left = refl;
@@ -92,13 +92,13 @@ module _ (s : Switch) (entry : ℕ → ℕ → ℕ → ℕ → ℕ) (a : Agenda 
         adds = refl;
         is_took = record {
           of_register = (t.bits, h.2, ap (λ r. record { stage = x; bits = t.bits } ∷ r) none);
-          of_metadata = sym (sum_by-cons metadata_of (in_register x t.bits) (past_by s.stages (x + 1) t.behind) ∙ (let e : 0 + sum_by metadata_of (past_by s.stages (x + 1) t.behind) ≡ 0 = omega arith in e));
+          of_metadata = sym (sum_by-cons metadata_of (in_register x t.bits) (past_by s.stages (x + 1) t.following) ∙ (let e : 0 + sum_by metadata_of (past_by s.stages (x + 1) t.following) ≡ 0 = omega arith in e));
           of_past = n.is_past;
         };
       }
 
   pub placed : (p : Position) (w : Waiting) (x : ℕ) (next : Option Waiting) (past : Bool) → p.waiting ≡ Some w → Stands s entry p a
-      → ((tables : List Slot) → w.behind.now ≡ map known_slot tables → IsNext s.stages (x + 1) tables next past)
+      → ((tables : List Slot) → w.following.now ≡ map known_slot tables → IsNext s.stages (x + 1) tables next past)
       → IsAfter s entry a x (record { waiting = next; pieces = p.pieces; queries = p.queries; spent = p.spent })
       (record { register = Some (record { stage = x; bits = w.bits }); metadata = 0; is_past = past })
   placed p w x next past e h f =
@@ -117,18 +117,18 @@ module _ (s : Switch) (entry : ℕ → ℕ → ℕ → ℕ → ℕ) (a : Agenda 
   left_pieces : (p : Position) → p.waiting ≡ None → (h : Stands s entry p a) → a.left ≡ map for_piece h.some_pieces ++ map for_path h.some_paths
   left_pieces p e h = h.left ∙ ap (λ l. map for_stage l ++ (map for_piece h.some_pieces ++ map for_path h.some_paths)) (subst (λ o. WaitsFor o h.stages) e h.waits)
 
-  chosen_at : (p : Position) (piece : KnownPiece) (behind : List KnownPiece) (n : ℕ) (o : KnownOption) (q : Position) (past : Bool) (pieces : List PieceTask) (queries : List PathTask)
-      → a.left ≡ map for_piece pieces ++ map for_path queries → piece ∷ behind ≡ map (known_piece s entry) pieces → p.queries.now ≡ map (known_query s entry) queries
+  chosen_at : (p : Position) (piece : KnownPiece) (following : List KnownPiece) (n : ℕ) (o : KnownOption) (q : Position) (past : Bool) (pieces : List PieceTask) (queries : List PathTask)
+      → a.left ≡ map for_piece pieces ++ map for_path queries → piece ∷ following ≡ map (known_piece s entry) pieces → p.queries.now ≡ map (known_query s entry) queries
       → p.spent ≡ capped a.spent → MayFollow (first_choices (planning s entry) a.left) n → slice_get piece.options n ≡ Some o
-      → ((tables : List Slot) → o.slots ≡ map known_slot tables → IsNext s.stages 0 tables q.waiting past) → q.pieces.now ≡ behind → q.queries.now ≡ p.queries.now → q.spent ≡ capped (p.spent + o.cost)
+      → ((tables : List Slot) → o.slots ≡ map known_slot tables → IsNext s.stages 0 tables q.waiting past) → q.pieces.now ≡ following → q.queries.now ≡ p.queries.now → q.spent ≡ capped (p.spent + o.cost)
       → IsAfter s entry a n q (record { register = None; metadata = o.metadata; is_past = past })
   unfolding made
-  chosen_at p piece behind n o q past [] queries l b c d m g f x y z = cc
-  chosen_at p piece behind n o q past (t ∷ ts) queries l b c d m g f x y z =
+  chosen_at p piece following n o q past [] queries l b c d m g f x y z = cc
+  chosen_at p piece following n o q past (t ∷ ts) queries l b c d m g f x y z =
       let rest : List Task = map for_piece ts ++ map for_path queries in
       let may = may_first (for_piece t) rest n l m in
       let here : piece ≡ known_piece s entry t = cc in
-      let there : behind ≡ map (known_piece s entry) ts = cc in
+      let there : following ≡ map (known_piece s entry) ts = cc in
       let at = mapped_at (known_option s entry t) (settings s entry t) n (let k = may.1 in omega arith) in
       let got : slice_get piece.options n ≡ Some (known_option s entry t n) = ap (λ (k : KnownPiece). slice_get k.options n) here ∙ at in
       let is : o ≡ known_option s entry t n = cc in
@@ -158,25 +158,25 @@ module _ (s : Switch) (entry : ℕ → ℕ → ℕ → ℕ → ℕ) (a : Agenda 
         };
       }
 
-  pub chosen : (p : Position) (piece : KnownPiece) (behind : List KnownPiece) (n : ℕ) (o : KnownOption) (q : Position) (past : Bool) → p.waiting ≡ None → p.pieces.now ≡ piece ∷ behind
+  pub chosen : (p : Position) (piece : KnownPiece) (following : List KnownPiece) (n : ℕ) (o : KnownOption) (q : Position) (past : Bool) → p.waiting ≡ None → p.pieces.now ≡ piece ∷ following
       → Stands s entry p a → MayFollow (first_choices (planning s entry) a.left) n → slice_get piece.options n ≡ Some o
-      → ((tables : List Slot) → o.slots ≡ map known_slot tables → IsNext s.stages 0 tables q.waiting past) → q.pieces.now ≡ behind → q.queries.now ≡ p.queries.now → q.spent ≡ capped (p.spent + o.cost)
+      → ((tables : List Slot) → o.slots ≡ map known_slot tables → IsNext s.stages 0 tables q.waiting past) → q.pieces.now ≡ following → q.queries.now ≡ p.queries.now → q.spent ≡ capped (p.spent + o.cost)
       → IsAfter s entry a n q (record { register = None; metadata = o.metadata; is_past = past })
-  chosen p piece behind n o q past e u h m g f x y z =
-      chosen_at p piece behind n o q past h.some_pieces h.some_paths (left_pieces p e h) (sym u ∙ h.of_pieces) h.of_queries h.of_spent m g f x y z
+  chosen p piece following n o q past e u h m g f x y z =
+      chosen_at p piece following n o q past h.some_pieces h.some_paths (left_pieces p e h) (sym u ∙ h.of_pieces) h.of_queries h.of_spent m g f x y z
 
-  some_at : (piece : KnownPiece) (behind : List KnownPiece) (n : ℕ) (pieces : List PieceTask) (rest : List Task) → a.left ≡ map for_piece pieces ++ rest
-      → piece ∷ behind ≡ map (known_piece s entry) pieces → MayFollow (first_choices (planning s entry) a.left) n → slice_get piece.options n ≡ None → ⊥
-  some_at piece behind n [] rest l b m g = cc
-  some_at piece behind n (t ∷ ts) rest l b m g =
+  some_at : (piece : KnownPiece) (following : List KnownPiece) (n : ℕ) (pieces : List PieceTask) (rest : List Task) → a.left ≡ map for_piece pieces ++ rest
+      → piece ∷ following ≡ map (known_piece s entry) pieces → MayFollow (first_choices (planning s entry) a.left) n → slice_get piece.options n ≡ None → ⊥
+  some_at piece following n [] rest l b m g = cc
+  some_at piece following n (t ∷ ts) rest l b m g =
       let may = may_first (for_piece t) (map for_piece ts ++ rest) n l m in
       let here : piece ≡ known_piece s entry t = cc in
       let at = mapped_at (known_option s entry t) (settings s entry t) n (let k = may.1 in omega arith) in
       let got : slice_get piece.options n ≡ Some (known_option s entry t n) = ap (λ (k : KnownPiece). slice_get k.options n) here ∙ at in cc
 
-  pub may_option : (p : Position) (piece : KnownPiece) (behind : List KnownPiece) (n : ℕ) → p.waiting ≡ None → p.pieces.now ≡ piece ∷ behind → Stands s entry p a
+  pub may_option : (p : Position) (piece : KnownPiece) (following : List KnownPiece) (n : ℕ) → p.waiting ≡ None → p.pieces.now ≡ piece ∷ following → Stands s entry p a
       → MayFollow (first_choices (planning s entry) a.left) n → slice_get piece.options n ≡ None → ⊥
-  may_option p piece behind n e u h m g = some_at piece behind n h.some_pieces (map for_path h.some_paths) (left_pieces p e h) (sym u ∙ h.of_pieces) m g
+  may_option p piece following n e u h m g = some_at piece following n h.some_pieces (map for_path h.some_paths) (left_pieces p e h) (sym u ∙ h.of_pieces) m g
 
   -- ---- a path
 
@@ -187,15 +187,15 @@ module _ (s : Switch) (entry : ℕ → ℕ → ℕ → ℕ → ℕ) (a : Agenda 
   left_paths : (p : Position) → p.waiting ≡ None → p.pieces.now ≡ [] → (h : Stands s entry p a) → a.left ≡ map for_path h.some_paths
   left_paths p e u h = left_pieces p e h ∙ ap (λ l. map for_piece l ++ map for_path h.some_paths) (no_pieces h.some_pieces p.pieces.now u h.of_pieces)
 
-  gone_at : (query : KnownQuery) (behind : List KnownQuery) (m : ℕ) (path : List KnownPiece) (q : Position) (queries : List PathTask)
-      → a.left ≡ map for_path queries → query ∷ behind ≡ map (known_query s entry) queries → MayFollow (first_choices (planning s entry) a.left) m → slice_get query.paths m ≡ Some path
-      → q.waiting ≡ None → q.pieces.now ≡ path → q.queries.now ≡ behind → q.spent ≡ capped a.spent → IsAfter s entry a m q (record { register = None; metadata = 0; is_past = false })
+  gone_at : (query : KnownQuery) (following : List KnownQuery) (m : ℕ) (path : List KnownPiece) (q : Position) (queries : List PathTask)
+      → a.left ≡ map for_path queries → query ∷ following ≡ map (known_query s entry) queries → MayFollow (first_choices (planning s entry) a.left) m → slice_get query.paths m ≡ Some path
+      → q.waiting ≡ None → q.pieces.now ≡ path → q.queries.now ≡ following → q.spent ≡ capped a.spent → IsAfter s entry a m q (record { register = None; metadata = 0; is_past = false })
   unfolding made
-  gone_at query behind m path q [] l b may g w x y z = cc
-  gone_at query behind m path q (t ∷ ts) l b may g w x y z =
+  gone_at query following m path q [] l b may g w x y z = cc
+  gone_at query following m path q (t ∷ ts) l b may g w x y z =
       let can = may_first (for_path t) (map for_path ts) m l may in
       let here : query ≡ known_query s entry t = cc in
-      let there : behind ≡ map (known_query s entry) ts = cc in
+      let there : following ≡ map (known_query s entry) ts = cc in
       let at = mapped_at (known_path s entry t) (paths t.typed.levels) m (let k = can.1 in omega arith) in
       let got : slice_get query.paths m ≡ Some (known_path s entry t m) = ap (λ (k : KnownQuery). slice_get k.paths m) here ∙ at in
       let is : path ≡ known_path s entry t m = cc in
@@ -217,24 +217,24 @@ module _ (s : Switch) (entry : ℕ → ℕ → ℕ → ℕ → ℕ) (a : Agenda 
         is_took = record { of_register = refl; of_metadata = refl; of_past = refl };
       }
 
-  pub gone : (p : Position) (query : KnownQuery) (behind : List KnownQuery) (m : ℕ) (path : List KnownPiece) (q : Position) → p.waiting ≡ None → p.pieces.now ≡ [] → p.queries.now ≡ query ∷ behind
+  pub gone : (p : Position) (query : KnownQuery) (following : List KnownQuery) (m : ℕ) (path : List KnownPiece) (q : Position) → p.waiting ≡ None → p.pieces.now ≡ [] → p.queries.now ≡ query ∷ following
       → Stands s entry p a → MayFollow (first_choices (planning s entry) a.left) m → slice_get query.paths m ≡ Some path
-      → q.waiting ≡ None → q.pieces.now ≡ path → q.queries.now ≡ behind → q.spent ≡ p.spent → IsAfter s entry a m q (record { register = None; metadata = 0; is_past = false })
-  gone p query behind m path q e u v h may g w x y z =
-      gone_at query behind m path q h.some_paths (left_paths p e u h) (sym v ∙ h.of_queries) may g w x y (z ∙ h.of_spent)
+      → q.waiting ≡ None → q.pieces.now ≡ path → q.queries.now ≡ following → q.spent ≡ p.spent → IsAfter s entry a m q (record { register = None; metadata = 0; is_past = false })
+  gone p query following m path q e u v h may g w x y z =
+      gone_at query following m path q h.some_paths (left_paths p e u h) (sym v ∙ h.of_queries) may g w x y (z ∙ h.of_spent)
 
-  path_at : (query : KnownQuery) (behind : List KnownQuery) (m : ℕ) (queries : List PathTask) → a.left ≡ map for_path queries → query ∷ behind ≡ map (known_query s entry) queries
+  path_at : (query : KnownQuery) (following : List KnownQuery) (m : ℕ) (queries : List PathTask) → a.left ≡ map for_path queries → query ∷ following ≡ map (known_query s entry) queries
       → MayFollow (first_choices (planning s entry) a.left) m → slice_get query.paths m ≡ None → ⊥
-  path_at query behind m [] l b may g = cc
-  path_at query behind m (t ∷ ts) l b may g =
+  path_at query following m [] l b may g = cc
+  path_at query following m (t ∷ ts) l b may g =
       let can = may_first (for_path t) (map for_path ts) m l may in
       let here : query ≡ known_query s entry t = cc in
       let at = mapped_at (known_path s entry t) (paths t.typed.levels) m (let k = can.1 in omega arith) in
       let got : slice_get query.paths m ≡ Some (known_path s entry t m) = ap (λ (k : KnownQuery). slice_get k.paths m) here ∙ at in cc
 
-  pub may_path : (p : Position) (query : KnownQuery) (behind : List KnownQuery) (m : ℕ) → p.waiting ≡ None → p.pieces.now ≡ [] → p.queries.now ≡ query ∷ behind → Stands s entry p a
+  pub may_path : (p : Position) (query : KnownQuery) (following : List KnownQuery) (m : ℕ) → p.waiting ≡ None → p.pieces.now ≡ [] → p.queries.now ≡ query ∷ following → Stands s entry p a
       → MayFollow (first_choices (planning s entry) a.left) m → slice_get query.paths m ≡ None → ⊥
-  may_path p query behind m e u v h may g = path_at query behind m h.some_paths (left_paths p e u h) (sym v ∙ h.of_queries) may g
+  may_path p query following m e u v h may g = path_at query following m h.some_paths (left_paths p e u h) (sym v ∙ h.of_queries) may g
 
   -- ---- nothing is left
 

@@ -67,9 +67,9 @@ full_here s taken stage whole h f e =
     let k : s.stages - stage ≡ suc (s.stages - (stage + 1)) = omega arith in
     sym (ap (λ n. list_any (is_full s taken) (range_with_len stage n)) k ∙ ap (λ t. t || list_any (is_full s taken) (range_with_len (stage + 1) (s.stages - (stage + 1)))) f) ∙ e
 
-pub full_behind : (s : Switch) (taken : List Taken) (stage : ℕ) (whole : Bool) → stage < s.stages → is_full s taken stage ≡ false
+pub full_after : (s : Switch) (taken : List Taken) (stage : ℕ) (whole : Bool) → stage < s.stages → is_full s taken stage ≡ false
     → list_any (is_full s taken) (range_with_len stage (s.stages - stage)) ≡ whole → list_any (is_full s taken) (range_with_len (stage + 1) (s.stages - (stage + 1))) ≡ whole
-full_behind s taken stage whole h f e =
+full_after s taken stage whole h f e =
     let k : s.stages - stage ≡ suc (s.stages - (stage + 1)) = omega arith in
     sym (ap (λ n. list_any (is_full s taken) (range_with_len stage n)) k ∙ ap (λ t. t || list_any (is_full s taken) (range_with_len (stage + 1) (s.stages - (stage + 1)))) f) ∙ e
 

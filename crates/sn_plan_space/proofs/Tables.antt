@@ -20,7 +20,7 @@ use Rattle.sn_plan_choices.specs.Settings.{written}
 use Rattle.sn_plan_space.specs.declared.known.Slot as known
 use Rattle.sn_plan_space.specs.declared.known.Slot.TheVariants.{Keyed}
 use Rattle.sn_plan_space.specs.Known.{known_slot}
-use Rattle.sn_plan_space.specs.Made.{op_table, sizes_behind, membership}
+use Rattle.sn_plan_space.specs.Made.{op_table, sizes_after, membership}
 
 pub chain_more : {A : Type 0} (slots : List A) (x : A) (d k : ℕ) → k < d → (slots ++ x ∷ []) ++ replicate (d - (k + 1)) x ≡ slots ++ replicate (d - k) x
 chain_more slots x d k h =
@@ -32,7 +32,7 @@ chain_done slots x d k h = let e : 0 ≡ d - k = omega arith in sym (append-nil 
 
 -- the tables of the first operator, and of those after it
 op_first : (d : ℕ) (schemas : List (List Column)) (n : ℕ) (op : TOp) (ops : List TOp) (sizes : List ℕ)
-    → op_slots d schemas n (op ∷ ops) sizes ≡ op_table d (schema_at schemas n) op (slice_index sizes 0) ++ op_slots d schemas (n + 1) ops (sizes_behind op sizes)
+    → op_slots d schemas n (op ∷ ops) sizes ≡ op_table d (schema_at schemas n) op (slice_index sizes 0) ++ op_slots d schemas (n + 1) ops (sizes_after op sizes)
 op_first d schemas n op ops sizes =
     of_test (is_stateful op) (replicate d (keyed (register_bits (slice_index sizes 0) (schema_at schemas n) op))) (λ l. op_slots d schemas (n + 1) ops l)
   where
@@ -41,12 +41,12 @@ op_first d schemas n op ops sizes =
     of_test true chain f = refl
     of_test false chain f = refl
 
-pub ops_more : (d : ℕ) (schemas : List (List Column)) (n : ℕ) (op : TOp) (ops : List TOp) (sizes behind : List ℕ) (columns : List Column) (size : ℕ) (old now whole : List known.Slot)
-    → n < length ops → op ≡ get_or ops n op → columns ≡ schema_at schemas n → size ≡ slice_index sizes 0 → behind ≡ sizes_behind op sizes
+pub ops_more : (d : ℕ) (schemas : List (List Column)) (n : ℕ) (op : TOp) (ops : List TOp) (sizes following : List ℕ) (columns : List Column) (size : ℕ) (old now whole : List known.Slot)
+    → n < length ops → op ≡ get_or ops n op → columns ≡ schema_at schemas n → size ≡ slice_index sizes 0 → following ≡ sizes_after op sizes
     → now ≡ old ++ map known_slot (op_table d columns op size) → old ++ map known_slot (op_slots d schemas n (drop n ops) sizes) ≡ whole
-    → now ++ map known_slot (op_slots d schemas (n + 1) (drop (n + 1) ops) behind) ≡ whole
-ops_more d schemas n op ops sizes behind columns size old now whole h o a b k e w =
-    let rest : List Slot = op_slots d schemas (n + 1) (drop (n + 1) ops) (sizes_behind op sizes) in
+    → now ++ map known_slot (op_slots d schemas (n + 1) (drop (n + 1) ops) following) ≡ whole
+ops_more d schemas n op ops sizes following columns size old now whole h o a b k e w =
+    let rest : List Slot = op_slots d schemas (n + 1) (drop (n + 1) ops) (sizes_after op sizes) in
     let table : List Slot = op_table d (schema_at schemas n) op (slice_index sizes 0) in
     let cons : drop n ops ≡ op ∷ drop (n + 1) ops = drop-cons ops n op h ∙ ap (λ f. f ∷ drop (suc n) ops) (sym o) ∙ ap (λ j. op ∷ drop j ops) (sym (add-one n)) in
     let whole_is : map known_slot (op_slots d schemas n (drop n ops) sizes) ≡ map known_slot table ++ map known_slot rest =

@@ -15,8 +15,8 @@ abbrev pub op_table : ℕ → List Column → TOp → ℕ → List Slot
 op_table d columns op size = if is_stateful op then replicate d (keyed (register_bits size columns op)) else plain ∷ []
 
 -- the sizes after the one that a stateful operator takes
-abbrev pub sizes_behind : TOp → List ℕ → List ℕ
-sizes_behind op sizes = if is_stateful op then drop 1 sizes else sizes
+abbrev pub sizes_after : TOp → List ℕ → List ℕ
+sizes_after op sizes = if is_stateful op then drop 1 sizes else sizes
 
 -- the membership table of a piece that isn't the first of its path
 abbrev pub membership : Bool → List Slot

@@ -20,7 +20,7 @@ use Rattle.sn_plan_space.specs.Known.{known_slot, known_piece, known_query}
 abbrev pub WaitsFor : Option Waiting → List StageTask → Type 0
 WaitsFor None tasks = tasks ≡ []
 WaitsFor (Some w) [] = ⊥
-WaitsFor (Some w) (t ∷ ts) = (ts ≡ []) × (w.least ≡ t.least) × (w.bits ≡ capped t.bits) × (w.behind.now ≡ map known_slot t.behind)
+WaitsFor (Some w) (t ∷ ts) = (ts ≡ []) × (w.least ≡ t.least) × (w.bits ≡ capped t.bits) × (w.following.now ≡ map known_slot t.following)
 
 -- the first register of these tables, and whether the last table is past the last stage
 pub record IsNext (stages least : ℕ) (tables : List choices.Slot) (w : Option Waiting) (past : Bool) : Type 0 where

@@ -15,8 +15,8 @@ abbrev pub plan_space : List TypedQuery → Switch → CostTable → Space
 plan_space queries s c = agenda_space (planning s (entry_in c)) (first_tasks 0 queries)
 
 -- what is left, spent and taken after a list of choices
-abbrev pub behind_choices : Switch → (ℕ → ℕ → ℕ → ℕ → ℕ) → List TypedQuery → List ℕ → Agenda Task Taken
-behind_choices s entry queries choices = read (agenda_reader (planning s entry) (first_tasks 0 queries)) choices
+abbrev pub after_choices : Switch → (ℕ → ℕ → ℕ → ℕ → ℕ) → List TypedQuery → List ℕ → Agenda Task Taken
+after_choices s entry queries choices = read (agenda_reader (planning s entry) (first_tasks 0 queries)) choices
 
 -- each of these choices may be made in its turn
 abbrev pub Follows : {S : Type 0} → Reader S → S → List ℕ → Type 0

@@ -15,19 +15,19 @@ pub fn next_waiting<'a>(stages: u32, least: u32, slots: &'a [Slot]) -> (Option<W
 {
     let mut at = least;
     let mut rest = slots;
-    while let Some((slot, behind)) = rest.split_first() {
+    while let Some((slot, following)) = rest.split_first() {
         match slot {
             Slot::Plain => at += 1,
             Slot::Keyed(bits) => {
                 let waiting = Waiting {
                     least: at,
                     bits: *bits,
-                    behind,
+                    following,
                 };
                 return (Some(waiting), false);
             }
         }
-        rest = behind;
+        rest = following;
     }
     (None, at > stages)
 }

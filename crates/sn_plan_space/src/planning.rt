@@ -10,7 +10,7 @@ ghost use Rattle.sn_plan_space.specs.Totals.{HasLimits};
 
 use crate::known::KnownQuery;
 use crate::queries::queries_of;
-use crate::reading::{follow_at, lower_at, position_behind, totals_behind};
+use crate::reading::{follow_at, lower_at, position_after, totals_after};
 use sn_base::memory::Memory;
 use sn_base::seq::Seq;
 use sn_plan_choices::costs::CostTable;
@@ -49,16 +49,16 @@ impl Plans for Planning<'_> {
     ghost space = { λ p. plan_space p.t.now.queries p.s.now p.c.now };
 
     fn next_choices(&self, partial: &[u32]) -> Follow {
-        let position = position_behind(self.s.stages, self.known.as_slice(), partial);
+        let position = position_after(self.s.stages, self.known.as_slice(), partial);
         follow_at(position, self.s.stages)
     }
 
     fn is_broken(&self, partial: &[u32]) -> bool {
-        totals_behind(self.s.stages, self.known.as_slice(), partial).is_too_much(self.s)
+        totals_after(self.s.stages, self.known.as_slice(), partial).is_too_much(self.s)
     }
 
     fn lower(&self, partial: &[u32]) -> u64 {
-        lower_at(position_behind(self.s.stages, self.known.as_slice(), partial))
+        lower_at(position_after(self.s.stages, self.known.as_slice(), partial))
     }
 
     ghost laws = { λ p. plans_laws p.s.now (entry_in p.c.now) p.t.now.queries };

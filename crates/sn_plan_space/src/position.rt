@@ -62,7 +62,7 @@ fn place<'a>(
     if stage >= stages {
         return (position, NOTHING);
     }
-    let (next, is_past) = next_waiting(stages, stage + 1, waiting.behind);
+    let (next, is_past) = next_waiting(stages, stage + 1, waiting.following);
     let register = Some(Standing {
         stage,
         bits: waiting.bits,
@@ -86,12 +86,12 @@ fn place<'a>(
 fn choose_option<'a>(
     position: Position<'a>,
     piece: &'a KnownPiece,
-    behind: &'a [KnownPiece],
+    following: &'a [KnownPiece],
     stages: u32,
     n: u32,
 ) -> (Position<'a>, Took)
     requires waits { position.waiting ≡ None }
-    requires pieces { position.pieces.now ≡ piece.now ∷ behind.now }
+    requires pieces { position.pieces.now ≡ piece.now ∷ following.now }
     ensures { GoesTo stages position.entry n result.0 result.1 }
 {
     let Some(option) = piece.options.as_slice().get(n as usize) else {
@@ -101,7 +101,7 @@ fn choose_option<'a>(
     (
         Position {
             waiting,
-            pieces: behind,
+            pieces: following,
             queries: position.queries,
             spent: position.spent.saturating_add(option.cost),
         },
@@ -117,12 +117,12 @@ fn choose_option<'a>(
 fn choose_path<'a>(
     position: Position<'a>,
     query: &'a KnownQuery,
-    behind: &'a [KnownQuery],
+    following: &'a [KnownQuery],
     m: u32,
 ) -> (Position<'a>, Took)
     requires waits { position.waiting ≡ None }
     requires pieces { position.pieces.now ≡ [] }
-    requires queries { position.queries.now ≡ query.now ∷ behind.now }
+    requires queries { position.queries.now ≡ query.now ∷ following.now }
     ensures { (stages : ℕ) → GoesTo stages position.entry m result.0 result.1 }
 {
     let Some(path) = query.paths.as_slice().get(m as usize) else {
@@ -132,7 +132,7 @@ fn choose_path<'a>(
         Position {
             waiting: None,
             pieces: path.as_slice(),
-            queries: behind,
+            queries: following,
             spent: position.spent,
         },
         NOTHING,
@@ -147,11 +147,11 @@ pub fn after<'a>(position: Position<'a>, stages: u32, choice: u32) -> (Position<
     if let Some(waiting) = position.waiting {
         return place(position, waiting, stages, choice);
     }
-    if let Some((piece, behind)) = position.pieces.split_first() {
-        return choose_option(position, piece, behind, stages, choice);
+    if let Some((piece, following)) = position.pieces.split_first() {
+        return choose_option(position, piece, following, stages, choice);
     }
-    if let Some((query, behind)) = position.queries.split_first() {
-        return choose_path(position, query, behind, choice);
+    if let Some((query, following)) = position.queries.split_first() {
+        return choose_path(position, query, following, choice);
     }
     (position, NOTHING)
 }

@@ -73,17 +73,17 @@ fn add_chosen(
 }
 
 /// Whether a level, with these after it, is one of the path: the lowest bit says so, and the finest always is.
-fn is_chosen(behind: &[u32], left: u32) -> bool
-    ensures { result ≡ (is_none behind.now || (left % 2 == 1)) }
+fn is_chosen(following: &[u32], left: u32) -> bool
+    ensures { result ≡ (is_none following.now || (left % 2 == 1)) }
 {
-    match behind {
+    match following {
         [] => true,
         [_, ..] => left % 2 == 1,
     }
 }
 
 /// The levels of a path after one that is chosen or not.
-fn behind_level(chosen: bool, front: u32, before: u32) -> u32
+fn after_level(chosen: bool, front: u32, before: u32) -> u32
     ensures { result ≡ (if chosen then front else before) }
 {
     if chosen { front } else { before }
@@ -108,8 +108,8 @@ fn path_of(
     let mut i = 0;
     let mut left = m;
     let mut before = 0;
-    while let Some((_, behind)) = levels.split_first() {
-        let chosen = is_chosen(behind, left);
+    while let Some((_, following)) = levels.split_first() {
+        let chosen = is_chosen(following, left);
         let front = before + bit_of(i);
         let at = PieceAt {
             query,
@@ -126,10 +126,10 @@ fn path_of(
             at,
             typed.branches.as_slice(),
         )?;
-        before = behind_level(chosen, front, before);
+        before = after_level(chosen, front, before);
         left /= 2;
         i += 1;
-        levels = behind;
+        levels = following;
     }
     Ok(pieces)
 }

@@ -11,7 +11,7 @@ ghost use Rattle.sn_plan_choices.specs.Planning.{Task, Taken, planning, first_ta
 ghost use Rattle.sn_plan_space.specs.declared.known.KnownQuery.{KnownQuery};
 ghost use Rattle.sn_plan_space.specs.Known.{known_query, numbered};
 ghost use Rattle.sn_plan_space.specs.Positions.{Stands};
-ghost use Rattle.sn_plan_space.specs.Reading.{behind_choices};
+ghost use Rattle.sn_plan_space.specs.Reading.{after_choices};
 ghost use Rattle.sn_plan_space.specs.Totals.{AreTotals};
 
 use crate::known::{KnownPiece, KnownQuery};
@@ -23,7 +23,7 @@ use sn_tree_space::follow::Follow;
 /// Where a reader stands before the first choice.
 fn start<'a>(known: &'a [KnownQuery]) -> Position<'a>
     ensures { (s : Switch) (entry : ℕ → ℕ → ℕ → ℕ → ℕ) (queries : List TypedQuery) → known.now ≡ map (known_query s entry) (numbered 0 queries) →
-        Stands s entry result (behind_choices s entry queries []) }
+        Stands s entry result (after_choices s entry queries []) }
 {
     Position {
         waiting: None,
@@ -34,11 +34,11 @@ fn start<'a>(known: &'a [KnownQuery]) -> Position<'a>
 }
 
 /// Where a reader stands after a partial plan.
-pub fn position_behind<'a>(stages: u32, known: &'a [KnownQuery], partial: &[u32]) -> Position<'a>
+pub fn position_after<'a>(stages: u32, known: &'a [KnownQuery], partial: &[u32]) -> Position<'a>
     requires { stages ≤ 32 }
     ensures { (s : Switch) (entry : ℕ → ℕ → ℕ → ℕ → ℕ) (queries : List TypedQuery) → s.stages ≡ stages →
         known.now ≡ map (known_query s entry) (numbered 0 queries)
-        → IsPartial (agenda_space (planning s entry) (first_tasks 0 queries)) partial.now → Stands s entry result (behind_choices s entry queries partial.now) }
+        → IsPartial (agenda_space (planning s entry) (first_tasks 0 queries)) partial.now → Stands s entry result (after_choices s entry queries partial.now) }
 {
     let mut position = start(known);
     for choice in partial {
@@ -48,12 +48,12 @@ pub fn position_behind<'a>(stages: u32, known: &'a [KnownQuery], partial: &[u32]
 }
 
 /// What a partial plan takes up.
-pub fn totals_behind(stages: u32, known: &[KnownQuery], partial: &[u32]) -> Totals
+pub fn totals_after(stages: u32, known: &[KnownQuery], partial: &[u32]) -> Totals
     requires { stages ≤ 32 }
     ensures { (s : Switch) (entry : ℕ → ℕ → ℕ → ℕ → ℕ) (queries : List TypedQuery) → s.stages ≡ stages →
         known.now ≡ map (known_query s entry) (numbered 0 queries)
         → IsPartial (agenda_space (planning s entry) (first_tasks 0 queries)) partial.now →
-        AreTotals result (behind_choices s entry queries partial.now).taken }
+        AreTotals result (after_choices s entry queries partial.now).taken }
 {
     let mut position = start(known);
     let mut totals = Totals::new();

@@ -6,7 +6,7 @@ ghost use Rattle.sn_plan_fit.specs.Capped.{capped};
 ghost use Rattle.sn_plan_choices.specs.Options as choices;
 ghost use Rattle.sn_plan_choices.specs.Settings.{written};
 ghost use Rattle.sn_plan_space.specs.Known.{known_slot};
-ghost use Rattle.sn_plan_space.specs.Made.{op_table, sizes_behind, membership};
+ghost use Rattle.sn_plan_space.specs.Made.{op_table, sizes_after, membership};
 
 use crate::known::{Slot, Slots};
 use sn_base::memory::Memory;
@@ -69,8 +69,8 @@ fn first(sizes: &[u32]) -> u32
 }
 
 /// The sizes after the one that an operator takes, if it takes one.
-fn behind<'a>(sizes: &'a [u32], op: &TOp) -> &'a [u32]
-    ensures { result.now ≡ sizes_behind op.now sizes.now }
+fn following<'a>(sizes: &'a [u32], op: &TOp) -> &'a [u32]
+    ensures { result.now ≡ sizes_after op.now sizes.now }
 {
     if !is_stateful(op) {
         return sizes;
@@ -94,7 +94,7 @@ fn add_ops(
     let mut left = sizes;
     for (n, op) in ops.iter().enumerate() {
         add_op(slots, depth, &columns_at(schemas, n), op, first(left))?;
-        left = behind(left, op);
+        left = following(left, op);
     }
     Ok(())
 }

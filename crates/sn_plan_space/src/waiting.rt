@@ -10,6 +10,6 @@ pub struct Waiting<'a> {
     pub least: u32,
     pub bits: u64,
     /// The tables of its piece after it.
-    pub behind: &'a [Slot],
-    ghost few: { length behind.now ≤ 64 },
+    pub following: &'a [Slot],
+    ghost few: { length following.now ≤ 64 },
 }

@@ -34,7 +34,7 @@ module _ (s : Switch) (entry : ℕ → ℕ → ℕ → ℕ → ℕ) (p : Prices)
   abbrev pub least_of : Task → ℕ
   least_of (for_path t) = least_query s entry p t
   least_of (for_piece t) = least_piece s entry p t
-  least_of (for_stage t) = least_stages s p t.least (keyed t.bits ∷ t.behind)
+  least_of (for_stage t) = least_stages s p t.least (keyed t.bits ∷ t.following)
 
   abbrev pub pricing : Pricing Task Taken
   pricing = record { scale = p.scale; price = price_of s p; paid = worth s p; least = least_of }
@@ -65,10 +65,10 @@ module _ (s : Switch) (entry : ℕ → ℕ → ℕ → ℕ → ℕ) (p : Prices)
       let a = m.0 in
       let b = m.1 in
       let e : t.least + (x - t.least) ≡ x = omega arith in
-      let k = least_or_at forbidden (λ k. register_price s p (record { stage = t.least + k; bits = t.bits }) + least_stages s p (t.least + k + 1) t.behind) (s.stages - t.least) (x - t.least) (omega arith) in
-      let same = ap (λ n. register_price s p (record { stage = n; bits = t.bits }) + least_stages s p (n + 1) t.behind) e in
-      let rest = placed (x + 1) t.behind in
-      let first = sum_by-cons (price_of s p) (in_register x t.bits) (past_by s.stages (x + 1) t.behind) in omega arith
+      let k = least_or_at forbidden (λ k. register_price s p (record { stage = t.least + k; bits = t.bits }) + least_stages s p (t.least + k + 1) t.following) (s.stages - t.least) (x - t.least) (omega arith) in
+      let same = ap (λ n. register_price s p (record { stage = n; bits = t.bits }) + least_stages s p (n + 1) t.following) e in
+      let rest = placed (x + 1) t.following in
+      let first = sum_by-cons (price_of s p) (in_register x t.bits) (past_by s.stages (x + 1) t.following) in omega arith
 
   chosen : (t : Task) → choices_of s entry t ≡ Complete → ⊥
   chosen (for_path t) e = cc

@@ -7,7 +7,7 @@ use sn_prices_offers::offers::Offers;
 use sn_prices_offers::walk::walk_size;
 use std::alloc::Global;
 
-/// The most parts of an item in which prices may be told.
+/// The most parts of an item in which prices may be reported.
 const FINEST: u64 = 65536;
 /// The greatest price of a unit of a limit, in parts of an item.
 pub const DEAREST: u64 = 4294967295;
@@ -77,7 +77,7 @@ pub fn weight(form: Form, bits: u64, registers: u64) -> u64 {
     }
 }
 
-/// In how many parts of an item prices are told where a plan may cost this much: a price of all of it stays in its bounds.
+/// In how many parts of an item prices are reported where a plan may cost this much: a price of all of it stays in its bounds.
 fn scale_for(cost: u64) -> u64 {
     let mut scale = FINEST;
     for _ in 0..16 {

@@ -5,7 +5,7 @@ use Rattle.sn_text_rules.specs.declared.Flaw.{Flaw}
 use Rattle.sn_text_rules.specs.declared.Flaw.TheVariants.{Lex, Expected}
 use Rattle.sn_text_rules.specs.Rules.{anything}
 use Rattle.sn_text_rules.specs.Words.{is_word}
-use Rattle.sn_text_rules.proofs.Bounded.{Flaws, Bounded, Whole, full_allows, number_in_bounded, keyword_bounded, sign_bounded, pair_on_bounded, pair_bounded, pair_whole, renamed_bounded, renamed_whole, behind_bounded, before_bounded, maybe_bounded, either_bounded, many_bounded, the_end_whole, behind_whole, before_whole}
+use Rattle.sn_text_rules.proofs.Bounded.{Flaws, Bounded, Whole, full_allows, number_in_bounded, keyword_bounded, sign_bounded, pair_on_bounded, pair_bounded, pair_whole, renamed_bounded, renamed_whole, after_bounded, before_bounded, maybe_bounded, either_bounded, many_bounded, the_end_whole, after_whole, before_whole}
 use Rattle.sn_prices_grammar.specs.PricesGrammar.{most, count_rule, some_rule, total_rule, to_mix, from_mix, mix_rule, maybe_mix_rule, span_rule, worth_rule, to_stages, from_stages, stages_rule, to_meta, from_meta, meta_rule, to_limit, from_limit, kind_rule, limit_rule, limits_rule, to_shown, from_shown, least_rule, shown_rule}
 use Rattle.sn_prices_grammar.proofs.Goods.{limits_alike}
 
@@ -29,26 +29,26 @@ total_bounded = before_bounded (number_in_bounded flaws 0 18446744073709551615) 
 maybe_mix_bounded : Bounded flaws maybe_mix_rule
 unfolding maybe_mix_rule mix_rule
 maybe_mix_bounded = maybe_bounded (is_word (codes "bits")) (renamed_bounded to_mix from_mix
-    (behind_bounded (keyword_bounded flaws (codes "bits")) (pair_bounded count_bounded (behind_bounded (keyword_bounded flaws (codes "plus")) count_bounded))))
+    (after_bounded (keyword_bounded flaws (codes "bits")) (pair_bounded count_bounded (after_bounded (keyword_bounded flaws (codes "plus")) count_bounded))))
 
 span_bounded : Bounded flaws span_rule
 unfolding span_rule
-span_bounded = pair_on_bounded anything (number_in_bounded flaws 0 31) (λ first. behind_bounded (sign_bounded flaws 3) (number_in_bounded flaws first (max first 31)))
+span_bounded = pair_on_bounded anything (number_in_bounded flaws 0 31) (λ first. after_bounded (sign_bounded flaws 3) (number_in_bounded flaws first (max first 31)))
 
 worth_bounded : Bounded flaws worth_rule
 unfolding worth_rule
-worth_bounded = behind_bounded (keyword_bounded flaws (codes "divisor")) (pair_bounded some_bounded
-    (behind_bounded (keyword_bounded flaws (codes "price")) (before_bounded count_bounded (sign_bounded flaws 2))))
+worth_bounded = after_bounded (keyword_bounded flaws (codes "divisor")) (pair_bounded some_bounded
+    (after_bounded (keyword_bounded flaws (codes "price")) (before_bounded count_bounded (sign_bounded flaws 2))))
 
 kind_bounded : Bounded flaws kind_rule
 unfolding kind_rule stages_rule meta_rule
 kind_bounded = renamed_bounded to_limit from_limit (either_bounded (is_word (codes "stages"))
-    (renamed_bounded to_stages from_stages (behind_bounded (keyword_bounded flaws (codes "stages")) (pair_bounded span_bounded (pair_bounded maybe_mix_bounded worth_bounded))))
-    (renamed_bounded to_meta from_meta (behind_bounded (keyword_bounded flaws (codes "meta")) worth_bounded)))
+    (renamed_bounded to_stages from_stages (after_bounded (keyword_bounded flaws (codes "stages")) (pair_bounded span_bounded (pair_bounded maybe_mix_bounded worth_bounded))))
+    (renamed_bounded to_meta from_meta (after_bounded (keyword_bounded flaws (codes "meta")) worth_bounded)))
 
 limit_bounded : Bounded flaws limit_rule
 unfolding limit_rule
-limit_bounded = behind_bounded (keyword_bounded flaws (codes "limit")) kind_bounded
+limit_bounded = after_bounded (keyword_bounded flaws (codes "limit")) kind_bounded
 
 limits_bounded : Bounded flaws limits_rule
 unfolding limits_rule
@@ -56,9 +56,9 @@ limits_bounded = many_bounded limits_alike (full_allows flaws 64 Expected refl) 
 
 least_whole : Whole flaws least_rule
 unfolding least_rule
-least_whole = behind_whole (keyword_bounded flaws (codes "least")) (before_whole (before_bounded total_bounded (keyword_bounded flaws (codes "done"))) (the_end_whole flaws))
+least_whole = after_whole (keyword_bounded flaws (codes "least")) (before_whole (before_bounded total_bounded (keyword_bounded flaws (codes "done"))) (the_end_whole flaws))
 
 pub shown_whole : Whole flaws shown_rule
 unfolding shown_rule
-shown_whole = renamed_whole to_shown from_shown (behind_whole (keyword_bounded flaws (codes "cost")) (pair_whole total_bounded
-    (behind_whole (keyword_bounded flaws (codes "prices")) (pair_whole (before_bounded some_bounded (sign_bounded flaws 2)) (pair_whole limits_bounded least_whole)))))
+shown_whole = renamed_whole to_shown from_shown (after_whole (keyword_bounded flaws (codes "cost")) (pair_whole total_bounded
+    (after_whole (keyword_bounded flaws (codes "prices")) (pair_whole (before_bounded some_bounded (sign_bounded flaws 2)) (pair_whole limits_bounded least_whole)))))

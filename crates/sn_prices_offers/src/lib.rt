@@ -1,4 +1,4 @@
-//! What the pieces of a plan may take of a switch, in plain numbers, and where the least of prices lets it stand.
+//! What the pieces of a plan may take of a switch, in plain numbers, and where it stands at the least prices.
 #![tactic(auto)]
 
 pub mod beaten;

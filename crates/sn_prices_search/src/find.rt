@@ -2,12 +2,12 @@
 ghost use Rattle.std.specs.Prelude.{length, IfOk};
 ghost use Rattle.sn_switch.specs.Texts.{IsSwitch};
 ghost use Rattle.sn_plan_choices.specs.Costs.{HasPlaces};
-ghost use Rattle.sn_prices_search.specs.Told.{AreTold};
+ghost use Rattle.sn_prices_search.specs.Writable.{AreWritable};
 
 use crate::board::Stand;
 use crate::choice::Choice;
 use crate::search::search;
-use crate::told::told;
+use crate::writable::writable;
 use sn_base::memory::Memory;
 use sn_base::seq::Seq;
 use sn_plan_choices::costs::CostTable;
@@ -80,7 +80,7 @@ fn least_of(o: &Offers, sheet: &mut Sheet) -> u64 {
 /// names: each query at its finest level alone, with cut 0. Such pieces take up nothing of a switch, so that this comes only where
 /// what a piece costs, in parts of an item, reaches 2^64 - 1.
 ///
-/// The prices' numbers are in the text's ranges (`AreTold`). Nothing else is promised: that the plan fits, what it costs and what the prices show is tested by
+/// The prices' numbers are in the text's ranges (`AreWritable`). Nothing else is promised: that the plan fits, what it costs and what the prices show is tested by
 /// whoever writes them.
 ///
 /// # Errors
@@ -88,7 +88,7 @@ fn least_of(o: &Offers, sheet: &mut Sheet) -> u64 {
 pub fn find(t: &Typed, s: &Switch, c: &CostTable) -> Result<Found, Memory>
     requires switch { IsSwitch s.now }
     requires places { HasPlaces c.now (length t.now.queries) }
-    ensures { IfOk result (λ found. AreTold found.prices) }
+    ensures { IfOk result (λ found. AreWritable found.prices) }
 {
     let known = queries_of(t.alloc, s, c, t.queries.as_slice())?;
     let o = gather(t.alloc, s, known.as_slice())?;
@@ -97,6 +97,6 @@ pub fn find(t: &Typed, s: &Switch, c: &CostTable) -> Result<Found, Memory>
     let found = search(t.alloc, &o, &sheet, least)?;
     let choices = choices_of(t.alloc, &o, found.as_slice())?;
     let plan = plan_of(t, s, choices.as_slice())?;
-    let prices = told(t.alloc, &sheet)?;
+    let prices = writable(t.alloc, &sheet)?;
     Ok(Found { plan, prices })
 }

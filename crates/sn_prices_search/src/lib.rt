@@ -8,5 +8,5 @@ pub mod find;
 pub mod insert;
 pub mod search;
 pub mod step;
-pub mod told;
 pub mod widen;
+pub mod writable;

@@ -5,10 +5,10 @@ ghost use Rattle.sn_text.specs.Lexing.{left};
 ghost use Rattle.sn_tree_text.specs.Places.{from_byte};
 ghost use Rattle.sn_prices_text.specs.Announced.{after_first, has_prices};
 
-use crate::place::{is_last, lexer_at};
 use sn_text::place::Lexer;
 use sn_text::scan::scan;
 use sn_text::words::next_is_word;
+use sn_tree_text::place::{is_last, lexer_at};
 
 /// The place after the next token. `None` where the next one is the last.
 fn after_first(at: Lexer<'_>) -> Option<Lexer<'_>>

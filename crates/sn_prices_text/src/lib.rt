@@ -7,7 +7,6 @@ mod canonical;
 pub mod fault;
 pub mod law;
 mod limits;
-mod place;
 mod text;
 
 pub use announced::has_prices;

@@ -9,12 +9,12 @@ ghost use Rattle.sn_prices_text.specs.PricesTexts.{StandsFor, IsFault, IsValue, 
 
 use crate::fault::PricesFault;
 use crate::limits::read;
-use crate::place::lexer_at;
 use sn_prices_grammar::prices::Shown;
 use sn_text::place::Lexer;
 use sn_text::scan::scan;
 use sn_text::stop::Stop;
 use sn_text_rules::Flaw;
+use sn_tree_text::place::lexer_at;
 use std::alloc::Global;
 
 fn fault(flaw: Flaw, line: u32) -> PricesFault

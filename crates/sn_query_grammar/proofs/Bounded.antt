@@ -7,7 +7,7 @@ use Rattle.sn_text_rules.specs.declared.Flaw.TheVariants.{Expected, TooMany, Ran
 use Rattle.sn_text_rules.specs.Tokens.{Lexeme, word, number, symbol, finish, bad}
 use Rattle.sn_text_rules.specs.Rules.{anything}
 use Rattle.sn_text_rules.specs.Words.{same, is_word, is_symbol, is_number, keyword, sign, number_in, ◌▸◌, ◌◂◌, any_number}
-use Rattle.sn_text_rules.proofs.Bounded.{Flaws, Bounded, Whole, Allows, if_allows, full_allows, leaf_bounded, word_by_bounded, number_in_bounded, keyword_bounded, sign_bounded, line_of_word_bounded, line_of_sign_bounded, pair_on_bounded, pair_bounded, embedded_bounded, renamed_bounded, behind_bounded, before_bounded, maybe_bounded, either_bounded, many_bounded, series_bounded, commas_bounded, the_end_whole, pair_whole, renamed_whole, behind_whole, before_whole}
+use Rattle.sn_text_rules.proofs.Bounded.{Flaws, Bounded, Whole, Allows, if_allows, full_allows, leaf_bounded, word_by_bounded, number_in_bounded, keyword_bounded, sign_bounded, line_of_word_bounded, line_of_sign_bounded, pair_on_bounded, pair_bounded, embedded_bounded, renamed_bounded, after_bounded, before_bounded, maybe_bounded, either_bounded, many_bounded, series_bounded, commas_bounded, the_end_whole, pair_whole, renamed_whole, after_whole, before_whole}
 use Rattle.sn_query_grammar.specs.declared.ast.FoldWord.{FoldWord}
 use Rattle.sn_query_grammar.specs.declared.ast.FoldWord.TheVariants as folds
 use Rattle.sn_query_grammar.specs.Names.{is_keyword, name_test, name_not, name, past_name, past_number, cmp_face, cmp_in, any_cmp, comparison, fold_face, fold_in, no_sum, plain_fold}
@@ -46,13 +46,13 @@ plain_fold_bounded = leaf_bounded flaws fold_face fold_in no_sum folds_stand (λ
 
 -- a sign, and a number or a name after it
 signed_any : (k : ℕ) → Bounded flaws (sign k ▸ any_number)
-signed_any k = behind_bounded (sign_bounded flaws k) any_bounded
+signed_any k = after_bounded (sign_bounded flaws k) any_bounded
 
 signed_shift : Bounded flaws (sign 18 ▸ number_in 0 63)
-signed_shift = behind_bounded (sign_bounded flaws 18) (number_in_bounded flaws 0 63)
+signed_shift = after_bounded (sign_bounded flaws 18) (number_in_bounded flaws 0 63)
 
 signed_name : (k : ℕ) → Bounded flaws (sign k ▸ name)
-signed_name k = behind_bounded (sign_bounded flaws k) (name_bounded [])
+signed_name k = after_bounded (sign_bounded flaws k) (name_bounded [])
 
 -- ---- past a limit
 
@@ -92,7 +92,7 @@ relax_bounded = renamed_bounded to_relax from_relax (pair_bounded (number_in_bou
 
 relaxes_bounded : Bounded flaws relaxes_rule
 unfolding relaxes_rule
-relaxes_bounded = embedded_bounded to_relaxes from_relaxes (maybe_bounded (is_word (codes "at")) (behind_bounded (keyword_bounded flaws (codes "at")) (behind_bounded (sign_bounded flaws 5)
+relaxes_bounded = embedded_bounded to_relaxes from_relaxes (maybe_bounded (is_word (codes "at")) (after_bounded (keyword_bounded flaws (codes "at")) (after_bounded (sign_bounded flaws 5)
     (before_bounded (commas_bounded 4 relax_listed (past_number_ok 0 128) (λ seen. relax_bounded)) (sign_bounded flaws 6)))))
 
 cond_bounded : Bounded flaws cond_rule
@@ -101,7 +101,7 @@ cond_bounded = renamed_bounded to_cond from_cond (pair_bounded (name_bounded [])
 
 filter_bounded : Bounded flaws filter_rule
 unfolding filter_rule
-filter_bounded = behind_bounded (keyword_bounded flaws (codes "filter")) (commas_bounded 8 cond_listed past_name_ok (λ seen. cond_bounded))
+filter_bounded = after_bounded (keyword_bounded flaws (codes "filter")) (commas_bounded 8 cond_listed past_name_ok (λ seen. cond_bounded))
 
 -- ---- maps
 
@@ -110,7 +110,7 @@ unfolding expr_rule
 expr_bounded = embedded_bounded to_expr from_expr (either_bounded is_number any_bounded (pair_bounded (name_bounded []) (maybe_bounded goes_tail (either_bounded (is_symbol 8) (signed_any 8) signed_shift))))
 
 as_bounded : (seen : List Name) → Bounded flaws (keyword (codes "as") ▸ name_not seen)
-as_bounded seen = behind_bounded (keyword_bounded flaws (codes "as")) (name_bounded seen)
+as_bounded seen = after_bounded (keyword_bounded flaws (codes "as")) (name_bounded seen)
 
 col_bounded : (seen : List Name) → Bounded flaws (col_rule seen)
 unfolding col_rule
@@ -118,12 +118,12 @@ col_bounded seen = renamed_bounded to_col from_col (pair_bounded expr_bounded (a
 
 map_bounded : Bounded flaws map_rule
 unfolding map_rule
-map_bounded = behind_bounded (keyword_bounded flaws (codes "map")) (commas_bounded 8 col_listed past_col_ok (λ seen. col_bounded (col_names seen)))
+map_bounded = after_bounded (keyword_bounded flaws (codes "map")) (commas_bounded 8 col_listed past_col_ok (λ seen. col_bounded (col_names seen)))
 
 post_expr_bounded : Bounded flaws post_expr_rule
 unfolding post_expr_rule
 post_expr_bounded = renamed_bounded to_post_expr from_post_expr (either_bounded is_number any_bounded (pair_bounded (name_bounded []) (maybe_bounded goes_post_tail
-    (either_bounded (is_symbol 8) (signed_any 8) (either_bounded (is_symbol 18) signed_shift (either_bounded (is_symbol 9) (signed_name 9) (behind_bounded (sign_bounded flaws 10) (pair_bounded any_bounded (signed_name 11)))))))))
+    (either_bounded (is_symbol 8) (signed_any 8) (either_bounded (is_symbol 18) signed_shift (either_bounded (is_symbol 9) (signed_name 9) (after_bounded (sign_bounded flaws 10) (pair_bounded any_bounded (signed_name 11)))))))))
 
 post_col_bounded : (seen : List Name) → Bounded flaws (post_col_rule seen)
 unfolding post_col_rule
@@ -131,7 +131,7 @@ post_col_bounded seen = renamed_bounded to_col from_col (pair_bounded post_expr_
 
 post_map_bounded : Bounded flaws post_map_rule
 unfolding post_map_rule
-post_map_bounded = behind_bounded (keyword_bounded flaws (codes "map")) (commas_bounded 8 post_col_listed past_col_ok (λ seen. post_col_bounded (col_names seen)))
+post_map_bounded = after_bounded (keyword_bounded flaws (codes "map")) (commas_bounded 8 post_col_listed past_col_ok (λ seen. post_col_bounded (col_names seen)))
 
 -- ---- folds
 
@@ -140,16 +140,16 @@ unfolding keys_rule
 keys_bounded = commas_bounded 8 keys_listed past_name_ok name_bounded
 
 column_bounded : (keys : List Name) → Bounded flaws (sign 5 ▸ (name_not keys ◂ sign 6))
-column_bounded keys = behind_bounded (sign_bounded flaws 5) (before_bounded (name_bounded keys) (sign_bounded flaws 6))
+column_bounded keys = after_bounded (sign_bounded flaws 5) (before_bounded (name_bounded keys) (sign_bounded flaws 6))
 
 fold_bounded : (keys : List Name) → Bounded flaws (fold_rule keys)
 unfolding fold_rule
-fold_bounded keys = either_bounded (is_word (codes "sum")) (behind_bounded (keyword_bounded flaws (codes "sum")) (pair_bounded (column_bounded keys) (behind_bounded (keyword_bounded flaws (codes "width")) (number_in_bounded flaws 1 64))))
+fold_bounded keys = either_bounded (is_word (codes "sum")) (after_bounded (keyword_bounded flaws (codes "sum")) (pair_bounded (column_bounded keys) (after_bounded (keyword_bounded flaws (codes "width")) (number_in_bounded flaws 1 64))))
     (pair_bounded plain_fold_bounded (column_bounded keys))
 
 reduce_bounded : Bounded flaws reduce_rule
 unfolding reduce_rule
-reduce_bounded = behind_bounded (keyword_bounded flaws (codes "reduce")) (embedded_bounded to_reduce from_reduce (pair_on_bounded anything keys_bounded (λ keys. behind_bounded (sign_bounded flaws 7) (fold_bounded keys))))
+reduce_bounded = after_bounded (keyword_bounded flaws (codes "reduce")) (embedded_bounded to_reduce from_reduce (pair_on_bounded anything keys_bounded (λ keys. after_bounded (sign_bounded flaws 7) (fold_bounded keys))))
 
 -- ---- operators
 
@@ -170,11 +170,11 @@ post_op_bounded = renamed_bounded to_op from_op (pair_bounded (line_of_sign_boun
 refine_bounded : Bounded flaws refine_rule
 unfolding refine_rule levels_rule
 refine_bounded = renamed_bounded to_refine from_refine (pair_bounded (line_of_word_bounded flaws (codes "refine")) (pair_bounded (name_bounded [])
-    (behind_bounded (sign_bounded flaws 7) (before_bounded (commas_bounded 4 levels_listed (past_number_ok 0 128) (λ seen. number_in_bounded flaws 0 128)) (sign_bounded flaws 2)))))
+    (after_bounded (sign_bounded flaws 7) (before_bounded (commas_bounded 4 levels_listed (past_number_ok 0 128) (λ seen. number_in_bounded flaws 0 128)) (sign_bounded flaws 2)))))
 
 branch_bounded : Bounded flaws branch_rule
 unfolding branch_rule
-branch_bounded = renamed_bounded to_branch from_branch (behind_bounded (keyword_bounded flaws (codes "packets")) (before_bounded (series_bounded ops_alike (full_allows flaws 12 TooMany refl) (λ seen. op_bounded) op_bounded) (sign_bounded flaws 2)))
+branch_bounded = renamed_bounded to_branch from_branch (after_bounded (keyword_bounded flaws (codes "packets")) (before_bounded (series_bounded ops_alike (full_allows flaws 12 TooMany refl) (λ seen. op_bounded) op_bounded) (sign_bounded flaws 2)))
 
 join_bounded : Bounded flaws join_rule
 unfolding join_rule
@@ -186,12 +186,12 @@ body_bounded = pair_bounded branch_bounded (maybe_bounded (is_word (codes "packe
 
 query_bounded : (names : List Name) → Bounded flaws (query_rule names)
 unfolding query_rule
-query_bounded names = embedded_bounded to_query from_query (behind_bounded (keyword_bounded flaws (codes "query")) (pair_bounded (name_bounded names)
-    (behind_bounded (sign_bounded flaws 0) (before_bounded (pair_bounded (maybe_bounded (is_word (codes "refine")) refine_bounded) body_bounded) (sign_bounded flaws 1)))))
+query_bounded names = embedded_bounded to_query from_query (after_bounded (keyword_bounded flaws (codes "query")) (pair_bounded (name_bounded names)
+    (after_bounded (sign_bounded flaws 0) (before_bounded (pair_bounded (maybe_bounded (is_word (codes "refine")) refine_bounded) body_bounded) (sign_bounded flaws 1)))))
 
 -- ---- the file
 
 pub file_whole : Whole flaws file_rule
 unfolding file_rule
-file_whole = renamed_whole to_file from_file (behind_whole (keyword_bounded flaws (codes "window")) (pair_whole (number_in_bounded flaws 1 3600000000)
+file_whole = renamed_whole to_file from_file (after_whole (keyword_bounded flaws (codes "window")) (pair_whole (number_in_bounded flaws 1 3600000000)
     (before_whole (series_bounded queries_alike (full_allows flaws 8 TooMany refl) (λ seen. query_bounded (query_names seen)) (query_bounded [])) (the_end_whole flaws))))

@@ -20,18 +20,18 @@ other : List ℕ → ℕ
 other [] = 120
 other (b ∷ w) = cond (b == 120) 121 120
 
-behind_first : List ℕ → List ℕ
-behind_first [] = []
-behind_first (b ∷ w) = w
+after_first : List ℕ → List ℕ
+after_first [] = []
+after_first (b ∷ w) = w
 
-behind : ℕ → List ℕ → List ℕ
-behind zero w = w
-behind (suc n) w = behind_first (behind n w)
+following : ℕ → List ℕ → List ℕ
+following zero w = w
+following (suc n) w = after_first (following n w)
 
 -- At each place stands another letter than in the word at that place of the list. The places are counted from n.
 apart : ℕ → List (List ℕ) → List ℕ
 apart n [] = []
-apart n (w ∷ ws) = other (behind n w) ∷ apart (suc n) ws
+apart n (w ∷ ws) = other (following n w) ∷ apart (suc n) ws
 
 other_letter : (b : ℕ) (c : Bool) → (b == 120) ≡ c → (cond c 121 120 == b) ≡ false
 other_letter b true e = let h : b ≡ 120 = eqb-true b 120 e in rw h refl
@@ -45,26 +45,26 @@ unfolding other
 other_differs [] d = refl
 other_differs (b ∷ v) d = and_false_left (cond (b == 120) 121 120 == b) (same d v) (other_letter b (b == 120) refl)
 
-tail_differs : (x : ℕ) (d v : List ℕ) → same d (behind_first v) ≡ false → same (x ∷ d) v ≡ false
-unfolding behind_first
+tail_differs : (x : ℕ) (d v : List ℕ) → same d (after_first v) ≡ false → same (x ∷ d) v ≡ false
+unfolding after_first
 tail_differs x d [] h = refl
 tail_differs x d (b ∷ v) h = and_false_right (x == b) (same d v) h
 
-none_longer : (x : ℕ) (d : List ℕ) (n : ℕ) (ws : List (List ℕ)) → list_any (λ w. same d (behind (suc n) w)) ws ≡ false → list_any (λ w. same (x ∷ d) (behind n w)) ws ≡ false
-unfolding behind
+none_longer : (x : ℕ) (d : List ℕ) (n : ℕ) (ws : List (List ℕ)) → list_any (λ w. same d (following (suc n) w)) ws ≡ false → list_any (λ w. same (x ∷ d) (following n w)) ws ≡ false
+unfolding following
 none_longer x d n [] h = refl
 none_longer x d n (w ∷ ws) h =
-    let k = or_false (same d (behind_first (behind n w))) (list_any (λ w. same d (behind (suc n) w)) ws) h in
-    rw (tail_differs x d (behind n w) k.0, none_longer x d n ws k.1) refl
+    let k = or_false (same d (after_first (following n w))) (list_any (λ w. same d (following (suc n) w)) ws) h in
+    rw (tail_differs x d (following n w) k.0, none_longer x d n ws k.1) refl
   where
     or_false : (a b : Bool) → (a || b) ≡ false → (a ≡ false) × (b ≡ false)
     or_false true b e = absurd cc
     or_false false b e = (refl, e)
 
-none_same : (n : ℕ) (ws : List (List ℕ)) → list_any (λ w. same (apart n ws) (behind n w)) ws ≡ false
+none_same : (n : ℕ) (ws : List (List ℕ)) → list_any (λ w. same (apart n ws) (following n w)) ws ≡ false
 unfolding apart
 none_same n [] = refl
-none_same n (w ∷ ws) = rw (other_differs (behind n w) (apart (suc n) ws), none_longer (other (behind n w)) (apart (suc n) ws) n ws (none_same (suc n) ws)) refl
+none_same n (w ∷ ws) = rw (other_differs (following n w) (apart (suc n) ws), none_longer (other (following n w)) (apart (suc n) ws) n ws (none_same (suc n) ws)) refl
 
 apart_length : (n : ℕ) (ws : List (List ℕ)) → length (apart n ws) ≡ length ws
 unfolding apart
@@ -77,7 +77,7 @@ abbrev fresh : List (List ℕ) → List ℕ
 fresh seen = 120 ∷ apart 1 seen
 
 not_seen : (seen : List (List ℕ)) → list_any (same (fresh seen)) seen ≡ false
-unfolding apart behind other
+unfolding apart following other
 not_seen seen = none_same 0 ([] ∷ seen)
 
 abbrev some_flaw : Flaw → Option Flaw

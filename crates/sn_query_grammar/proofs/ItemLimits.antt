@@ -6,7 +6,7 @@ use Rattle.std.proofs.lemmas.List.{append-nil, append_assoc, map-append}
 use Rattle.sn_base.proofs.Lists.{or_none}
 use Rattle.sn_base.specs.Groups.{Apart, same_row}
 use Rattle.sn_text_rules.specs.Rules.{kept, Rule}
-use Rattle.sn_text_rules.proofs.Items.{Behind, Item, IsListOf}
+use Rattle.sn_text_rules.proofs.Items.{After, Item, IsListOf}
 use Rattle.sn_query_grammar.specs.Limits.{Within}
 
 pub counted : {A : Type 0} {limit : ℕ} {p : List A → Rule A} {xs : List A} → IsListOf limit p xs → Within 1 limit (length xs)
@@ -25,13 +25,13 @@ apart_push (q ∷ ks) k apart fresh =
     let parts = or_none (same_row k q) (list_any (same_row k) ks) fresh in
     (all_push (λ x. same_row q x ≡ false) ks k apart.0 (turned k q parts.0), apart_push ks k apart.1 parts.1)
 
-pub apart_behind : {A : Type 0} (F : List A → A → Type 0) (key : A → List ℕ) → ((seen : List A) (a : A) → F seen a → list_any (same_row (key a)) (map key seen) ≡ false)
-    → (seen rest : List A) → Apart same_row (map key seen) → Behind F seen rest → Apart same_row (map key (seen ++ rest))
-apart_behind F key fresh seen [] apart h = subst (λ xs. Apart same_row (map key xs)) (sym (append-nil seen)) apart
-apart_behind F key fresh seen (a ∷ rest) apart h =
+pub apart_after : {A : Type 0} (F : List A → A → Type 0) (key : A → List ℕ) → ((seen : List A) (a : A) → F seen a → list_any (same_row (key a)) (map key seen) ≡ false)
+    → (seen rest : List A) → Apart same_row (map key seen) → After F seen rest → Apart same_row (map key (seen ++ rest))
+apart_after F key fresh seen [] apart h = subst (λ xs. Apart same_row (map key xs)) (sym (append-nil seen)) apart
+apart_after F key fresh seen (a ∷ rest) apart h =
     let pushed : Apart same_row (map key (seen ++ a ∷ [])) = subst (λ ks. Apart same_row ks) (sym (map-append key seen (a ∷ []))) (apart_push (map key seen) (key a) apart (fresh seen a h.0)) in
-    subst (λ xs. Apart same_row (map key xs)) (append_assoc seen (a ∷ []) rest) (apart_behind F key fresh (seen ++ a ∷ []) rest pushed h.1)
+    subst (λ xs. Apart same_row (map key xs)) (append_assoc seen (a ∷ []) rest) (apart_after F key fresh (seen ++ a ∷ []) rest pushed h.1)
 
 pub items_apart : {A : Type 0} (limit : ℕ) (p : List A → Rule A) (key : A → List ℕ) (xs : List A) → ((seen : List A) (a : A) → (p seen).fits kept a → list_any (same_row (key a)) (map key seen) ≡ false)
-    → Behind (Item limit p) [] xs → Apart same_row (map key xs)
-items_apart limit p key xs fresh h = apart_behind (Item limit p) key (λ seen a f. fresh seen a f.1) [] xs tt h
+    → After (Item limit p) [] xs → Apart same_row (map key xs)
+items_apart limit p key xs fresh h = apart_after (Item limit p) key (λ seen a f. fresh seen a f.1) [] xs tt h

@@ -4,7 +4,7 @@ use Rattle.std.specs.Prelude.{codes, not, ◌||◌, ◌==◌}
 use Rattle.sn_text_rules.specs.declared.Flaw.TheVariants.{Expected, TooMany}
 use Rattle.sn_text_rules.specs.Tokens.{Lexeme, word, number, symbol, finish, bad, Tok, Mark, plain, Spelled}
 use Rattle.sn_text_rules.specs.Rules.{kept, aside, Rule, anything, pair, pair_on, maybe, either, many, series, holds_of, spelled_as, bared_as}
-use Rattle.sn_text_rules.specs.Words.{is_word, is_symbol, keyword, sign, the_end, number_in, ◌▸◌, ◌◂◌, full, commas, behind_comma}
+use Rattle.sn_text_rules.specs.Words.{is_word, is_symbol, keyword, sign, the_end, number_in, ◌▸◌, ◌◂◌, full, commas, after_comma}
 use Rattle.sn_text_rules.proofs.Common.{Heads, either_way, bearers, bearers_spelled, heads_append, both_made}
 use Rattle.std.proofs.lemmas.Bool.{eqb-true}
 use Rattle.sn_text_rules.proofs.Laws.{Good, pair_on_good, Follows, pair_good, free_pair, headed_follows, headed_pair}
@@ -58,7 +58,7 @@ keys_end k n t us e = commas_sign 8 past_name (λ seen. name_not seen) t us (ap 
 
 keys_same : (a b : List Name) → keys_rule.bare a ≡ keys_rule.bare b → a ≡ b
 unfolding keys_rule
-keys_same a b e = unmapped (behind_comma 8 past_name (λ seen. name_not seen) []).bare (λ n. refl) a b e
+keys_same a b e = unmapped (after_comma 8 past_name (λ seen. name_not seen) []).bare (λ n. refl) a b e
 
 abbrev pub column_rule : List Name → Rule Name
 column_rule seen = sign 5 ▸ (name_not seen ◂ sign 6)
@@ -466,10 +466,10 @@ query_forth n r (b ∷ c ∷ []) (Some j) a e = let h : (n, (r, (b, Some (c, j))
 query_forth n r (b ∷ c ∷ d ∷ bs) None a e = absurd cc
 query_forth n r (b ∷ c ∷ d ∷ bs) (Some j) a e = absurd cc
 
-abbrev pub behind_query : List Name → Rule Named
-behind_query names = keyword (codes "query") ▸ named_rule names
+abbrev pub after_query : List Name → Rule Named
+after_query names = keyword (codes "query") ▸ named_rule names
 
-pub query_undone : (names : List Name) → Undoes to_query from_query (behind_query names)
+pub query_undone : (names : List Name) → Undoes to_query from_query (after_query names)
 query_undone names = record { back = λ a f. query_back a.0 a.1.0 a.1.1.0 a.1.1.1; forth = λ b a e. query_forth b.name b.refine b.branches b.join a e }
 
 pub query_good : (names : List Name) → Good (query_rule names)
@@ -480,7 +480,7 @@ query_heads : (names : List Name) (q : Query) → (query_rule names).fits aside 
 unfolding query_rule
 query_heads names q f = go (from_query q) f
   where
-    go : (o : Option Named) → holds_of ((behind_query names).fits aside) o → Heads (is_word (codes "query")) (spelled_as (behind_query names).spell o)
+    go : (o : Option Named) → holds_of ((after_query names).fits aside) o → Heads (is_word (codes "query")) (spelled_as (after_query names).spell o)
     go None h = absurd h
     go (Some a) h = refl
 
@@ -492,15 +492,15 @@ query_opens names t e =
     let ms = (named_rule names).spell b.0 in (
       to_query b.0,
       bearers ms,
-      subst (λ o. holds_of ((behind_query names).fits aside) o) (sym a) (tt, b.1),
-      subst (λ o. Spelled (t ∷ bearers ms) (spelled_as (behind_query []).spell o)) (sym a) (((word_mark (codes "query")).only t.face e, tt), bearers_spelled ms),
+      subst (λ o. holds_of ((after_query names).fits aside) o) (sym a) (tt, b.1),
+      subst (λ o. Spelled (t ∷ bearers ms) (spelled_as (after_query []).spell o)) (sym a) (((word_mark (codes "query")).only t.face e, tt), bearers_spelled ms),
     )
 
 query_name_bare : (q : Query) → query_name ((query_rule []).bare q) ≡ query_name q
 unfolding query_rule body_rule
 query_name_bare q = go q.name q.refine (body_of q.branches q.join) refl
   where
-    go : (n : Name) (r : Option Refine) (b : Option Body) → q.name ≡ n → query_name (bared_as to_query (behind_query []).bare q (with_name n r b)) ≡ q.name
+    go : (n : Name) (r : Option Refine) (b : Option Body) → q.name ≡ n → query_name (bared_as to_query (after_query []).bare q (with_name n r b)) ≡ q.name
     go n r None e = refl
     go n r (Some (b, None)) e = sym e
     go n r (Some (b, Some x)) e = sym e

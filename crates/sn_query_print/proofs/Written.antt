@@ -49,11 +49,11 @@ gap_blank lasts.Other bad = tt
 
 -- ---- what follows a token makes it no longer
 
-abbrev Behind : Last → Type 0
-Behind lasts.Begin = ⊥
-Behind lasts.Opening = ⊥
-Behind lasts.At = Unit {0}
-Behind lasts.Other = Unit {0}
+abbrev After : Last → Type 0
+After lasts.Begin = ⊥
+After lasts.Opening = ⊥
+After lasts.At = Unit {0}
+After lasts.Other = Unit {0}
 
 word_head : (a b c d : Bool) (t : List ℕ) → HeadOk (cond a new_line (cond ((b || c) || d) (new_line ++ codes "  ") space) ++ t)
 word_head true b c d t = (refl, refl, refl)
@@ -92,7 +92,7 @@ sign_head k t false false false e = (refl, refl, refl)
 wordy_head : (w t : List ℕ) → HeadOk (word_gap w ++ t)
 wordy_head w t = word_head (same w (codes "query")) (same w (codes "refine")) (same w (codes "packets")) (same w (codes "join")) t
 
-head_ok : (last : Last) (y : Lexeme) (t : List ℕ) → Behind last → Fine y → HeadOk (layouts.gap last y ++ (lexeme_text y ++ t))
+head_ok : (last : Last) (y : Lexeme) (t : List ℕ) → After last → Fine y → HeadOk (layouts.gap last y ++ (lexeme_text y ++ t))
 head_ok lasts.Begin y t b f = absurd b
 head_ok lasts.Opening y t b f = absurd b
 head_ok lasts.At (word w) t b f = wordy_head w (w ++ t)
@@ -104,26 +104,26 @@ head_ok lasts.Other (symbol k) t b f = sign_head k t (k == 1) (k == 4) (tight k)
 head_ok last finish t b f = absurd f
 head_ok last bad t b f = absurd f
 
-end_ok : (last : Last) (t : List ℕ) → Behind last → HeadOk (layouts.gap last finish ++ t)
+end_ok : (last : Last) (t : List ℕ) → After last → HeadOk (layouts.gap last finish ++ t)
 end_ok lasts.Begin t b = absurd b
 end_ok lasts.Opening t b = absurd b
 end_ok lasts.At t b = (refl, refl, refl)
 end_ok lasts.Other t b = (refl, refl, refl)
 
-behind_word : (b : Bool) → Behind (cond b lasts.At lasts.Other)
-behind_word true = tt
-behind_word false = tt
+after_word : (b : Bool) → After (cond b lasts.At lasts.Other)
+after_word true = tt
+after_word false = tt
 
-behind_sign : (b : Bool) → b ≡ false → Behind (cond b lasts.Opening lasts.Other)
-behind_sign true e = absurd cc
-behind_sign false e = tt
+after_sign : (b : Bool) → b ≡ false → After (cond b lasts.Opening lasts.Other)
+after_sign true e = absurd cc
+after_sign false e = tt
 
-parted : (x : Lexeme) (t : List ℕ) → Fine x → (Behind (last_of x) → HeadOk t) → Parts x t
-parted (word w) t f h = inl (h (behind_word (same w (codes "at"))))
+parted : (x : Lexeme) (t : List ℕ) → Fine x → (After (last_of x) → HeadOk t) → Parts x t
+parted (word w) t f h = inl (h (after_word (same w (codes "at"))))
 parted (number n) t f h = inl (h tt)
 parted (symbol k) t f h = elim (either_way (k == 5)) [
   | inl e ↦ inr (ap symbol (eqb-true k 5 e))
-  | inr e ↦ inl (h (behind_sign (k == 5) e))
+  | inr e ↦ inl (h (after_sign (k == 5) e))
 ]
 parted finish t f h = absurd f
 parted bad t f h = absurd f

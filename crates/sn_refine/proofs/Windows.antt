@@ -66,7 +66,7 @@ seen_from query windows path (Some last) kept (suc v) j within above between rem
     ap (λ b. cond b (unwrap_or (slice_get kept j) set.empty) set.empty) is ∙ remembers j within
     ∙ ap (λ n. prefixes_of query (refined_rows query windows path j n)) (back e))
     (λ isnt. ap (λ b. cond b (unwrap_or (slice_get kept j) set.empty) set.empty) isnt
-    ∙ no_prefixes query (refined_rows query windows path j v) (no_rows query windows path j v (between v (behind isnt) (omega arith))))
+    ∙ no_prefixes query (refined_rows query windows path j v) (no_rows query windows path j v (between v (following isnt) (omega arith))))
   where
     back : last + 1 ≡ suc v → last ≡ v
     back e = omega (arith, e)
@@ -81,8 +81,8 @@ seen_from query windows path (Some last) kept (suc v) j within above between rem
     order : last ≤ v → (last ≡ v) ⊎ (last < v)
     order le = eq-or-lt_of_le le
 
-    behind : (last + 1 == suc v) ≡ false → last < v
-    behind isnt = by_order (order (omega (arith, above))) isnt
+    following : (last + 1 == suc v) ≡ false → last < v
+    following isnt = by_order (order (omega (arith, above))) isnt
 
 -- ---- one window
 

@@ -1,5 +1,5 @@
 -- to be believed
--- The tuples that a switch lets a level have: those that it sees, or all of them where the table stays open that should hold their
+-- The tuples that a switch gives to a level: those that it sees, or all of them where the table stays open that should hold their
 -- prefixes.
 use Rattle.std.specs.Prelude.{ℕ, zero, suc, List, Option, if◌then◌else◌}
 use Rattle.std.specs.FinSet as set

@@ -17,7 +17,7 @@ use Rattle.sn_types.specs.declared.typed_query.TypedBranch.{TypedBranch}
 use Rattle.sn_types.specs.declared.typed_query.TypedQuery.{TypedQuery}
 use Rattle.sn_types.specs.Typed.{IsTyped}
 use Rattle.sn_base.specs.declared.column.Column.{Column}
-use Rattle.sn_types.specs.Typing.{behind_branches, field_of, levels_of, posts_of, typed_branch, typed_ops, typed_query}
+use Rattle.sn_types.specs.Typing.{after_branches, field_of, levels_of, posts_of, typed_branch, typed_ops, typed_query}
 use Rattle.sn_types.proofs.Facts.{if_none, length-typed_ops, parts_of, posts_few}
 use Rattle.sn_types.proofs.RefinedLemmas.{refined_alike}
 use Rattle.sn_types.proofs.Sources.{later_none, none_in_each}
@@ -119,7 +119,7 @@ refined_or_not (Some r) t limits none levels field some_field some_column =
 
 query_counts : (q : Query) → QueryLimits q → first_fault (query_places q) ≡ None → KeepsQueryCounts (typed_query q)
 query_counts q limits none =
-    let columns : List Column = (behind_branches q.refine q.branches q.join).columns in
+    let columns : List Column = (after_branches q.refine q.branches q.join).columns in
     let count = length-map q.branches (λ (b : Branch). typed_branch b.ops) in
     let alike = refined_alike q none in
     record {

@@ -1,4 +1,4 @@
--- Filters by the numbers of a carried column, before and behind operators.
+-- Filters by the numbers of a carried column, before and after operators.
 use Rattle.std.proofs.Common.{◌≡◌, ℕ, ◌<◌, List, [], ◌∷◌, ◌++◌, map, filter, fold, length, slice_index, Bool, cond, refl, ap, sym, ◌∙◌, subst}
 use Rattle.std.specs.List.{AllByRecursion}
 use Rattle.std.specs.Cmp.Lexicographic.{nat_list_eq_equiv}

@@ -68,12 +68,12 @@ module _ (keep : ℕ → Bool) where
         let right : Bool → List Row = λ c. filter (passes keep p) (row_of (cond c (item ∷ filter (λ x. t x.tag) found) (filter (λ x. t x.tag) found))) in
         by_test (t item.tag)
         (λ is. let same : stays item ≡ passes keep p item.row = ap (λ n. keep (slice_index item.row n)) (at item.tag is) in
-        let told : (b : Bool) → left b ≡ cond b (item.row ∷ filter (passes keep p) rows) (filter (passes keep p) rows) =
+        let reported : (b : Bool) → left b ≡ cond b (item.row ∷ filter (passes keep p) rows) (filter (passes keep p) rows) =
         λ b. elim b as (λ b. left b ≡ cond b (item.row ∷ filter (passes keep p) rows) (filter (passes keep p) rows)) [
           | true ↦ ap (λ c. row_of (cond c (item ∷ filter (λ x. t x.tag) rest) (filter (λ x. t x.tag) rest))) is ∙ ap (λ xs. item.row ∷ xs) h
           | false ↦ h
         ] in
-        told (stays item) ∙ ap (λ b. cond b (item.row ∷ filter (passes keep p) rows) (filter (passes keep p) rows)) same ∙ sym (ap right is))
+        reported (stays item) ∙ ap (λ b. cond b (item.row ∷ filter (passes keep p) rows) (filter (passes keep p) rows)) same ∙ sym (ap right is))
         (λ isnt. (elim (stays item) as (λ b. left b ≡ filter (passes keep p) rows) [
           | true ↦ ap (λ c. row_of (cond c (item ∷ filter (λ x. t x.tag) rest) (filter (λ x. t x.tag) rest))) isnt ∙ h
           | false ↦ h

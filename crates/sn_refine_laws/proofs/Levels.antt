@@ -27,7 +27,7 @@ use Rattle.sn_refine_laws.proofs.Within.{IsWithin, within_map, within_same}
 pub masked_zero : (w keep : ℕ) → masked w keep 0 ≡ 0
 masked_zero w keep = ap (λ n. n * 2 ^ (w - keep)) (zero-div (2 ^ (w - keep))) ∙ omega arith
 
--- a coarser mask behind a finer one
+-- a coarser mask after a finer one
 pub masked_twice : (w coarse fine x : ℕ) → coarse ≤ fine → fine ≤ w → masked w coarse (masked w fine x) ≡ masked w coarse x
 masked_twice w coarse fine x le within =
     let a : ℕ = 2 ^ (w - fine) in
@@ -98,15 +98,15 @@ module _ (field : Field) (F r : ℕ) (some : 1 ≤ r) (le : r ≤ F) (within : F
   row_coarser tuple name is_field own (g ∷ gs) apart known =
       let ns : Row = map (read_at (Some field) F tuple) gs in
       let n : ℕ = read_at (Some field) F tuple g in
-      let behind : List Column = map field_column gs in
+      let following : List Column = map field_column gs in
       by_test (same_name (name_of g) name)
       (λ is. let same : field ≡ g = some_same field g (with_name_all name (Some field) (sym is_field) g (same_row_exact (name_of g) name is)) in
-      ap (changed_at mask (n ∷ ns)) (here name (field_column g) behind is)
+      ap (changed_at mask (n ∷ ns)) (here name (field_column g) following is)
       ∙ ap (λ x. x ∷ ns) (subst (λ (f : Field). mask (read_at (Some field) F tuple f) ≡ read_at (Some field) r tuple f) same (read_coarser tuple))
       ∙ ap (λ xs. read_at (Some field) r tuple g ∷ xs) (rest_alike tuple gs (subst (λ (f : Field). AllByRecursion (λ x. same_row (name_of f) x ≡ false) (map name_of gs)) (sym same) apart.0)))
-      (λ isnt. ap (changed_at mask (n ∷ ns)) (later name (field_column g) behind isnt)
-      ∙ ap (λ x. x ∷ changed_at mask ns (at_name behind name)) (read_alike field g F r tuple (ap (same_name (name_of g)) own ∙ isnt))
-      ∙ ap (λ xs. read_at (Some field) r tuple g ∷ xs) (row_coarser tuple name is_field own gs apart.1 (sym (ap (λ b. b || has_column behind name) isnt) ∙ known)))
+      (λ isnt. ap (changed_at mask (n ∷ ns)) (later name (field_column g) following isnt)
+      ∙ ap (λ x. x ∷ changed_at mask ns (at_name following name)) (read_alike field g F r tuple (ap (same_name (name_of g)) own ∙ isnt))
+      ∙ ap (λ xs. read_at (Some field) r tuple g ∷ xs) (row_coarser tuple name is_field own gs apart.1 (sym (ap (λ b. b || has_column following name) isnt) ∙ known)))
 
   module _ (name : Name) (is_field : with_name name ≡ Some field) (own : name_of field ≡ name) (gs : List Field) (apart : Apart same_row (map name_of gs)) (known : IsKnown (map field_column gs) name) (a : ℕ) where
     abbrev place : ℕ

@@ -5,7 +5,7 @@ pub mod Filtering
 pub mod Within
 pub mod Changed
 pub mod Coarser
-pub mod Behind
+pub mod After
 pub mod Reading
 pub mod Thresholds
 pub mod Splitting

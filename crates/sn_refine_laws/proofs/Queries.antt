@@ -48,7 +48,7 @@ use Rattle.sn_types.proofs.NotLost.{known_first}
 use Rattle.sn_types.proofs.CarriedPlaces.{at_name, named}
 use Rattle.sn_refine_laws.specs.Masking.{shown}
 use Rattle.sn_refine_laws.specs.Monotone.{is_monotone}
-use Rattle.sn_refine_laws.proofs.Behind.{coarser_answers}
+use Rattle.sn_refine_laws.proofs.After.{coarser_answers}
 use Rattle.sn_refine_laws.proofs.Levels.{masked_zero, rows_within}
 use Rattle.sn_refine_laws.proofs.Splitting.{split_along}
 use Rattle.sn_refine_laws.proofs.Within.{IsWithin}
@@ -107,22 +107,22 @@ module _ (field : Field) (r a : ℕ) (some : 1 ≤ r) (tuples seen : List (List 
       let acts : ℕ → List Acting = λ level. map (op_at level) (typed_ops (packet_columns ops) ops) in
       let folds : AllOf (acts r) coarse = subst (λ (ts : List (List ℕ)). AllOf (acts r) (map (packet_row (Some field) r gs) ts)) (kept_all seen) (subst (λ (o : Option Field). AllOf (acts r) (map (packet_row o r gs) (filter (is_kept o None) seen))) is_field had) in
       let reduced : AllHad s.group (map (pair_of s.group) (through s.coarser coarse)) =
-      pairs_had s.group s.behind_coarser (through s.coarser coarse) (had_through s.coarser (Reduced s.group ∷ s.behind_coarser) coarse (subst (λ (os : List Acting). AllOf os coarse) s.is_coarser folds)) in
+      pairs_had s.group s.after_coarser (through s.coarser coarse) (had_through s.coarser (Reduced s.group ∷ s.after_coarser) coarse (subst (λ (os : List Acting). AllOf os coarse) s.is_coarser folds)) in
       let column : unwrap_or t.column 0 ≡ s.last =
       ap (λ o. unwrap_or (option_map (place_of (branch_end (Some rf) ops).columns) o) 0) s.is_name
       ∙ ap (λ (xs : List Column). place_of xs s.name) (scope_along (scope_before (Some rf) ops) ops)
       ∙ place_is (named s.name) (columns_along (packet_columns ops) ops) s.known ∙ s.place in
-      let told : ℕ → ℕ → List Acting → List Row → Bool = λ n q os rows. list_any (nat_eq n) (map (λ row. slice_index row q) (through os rows)) in
-      let from : told a s.last (s.finer ++ Reduced s.group ∷ s.behind) fine ≡ true =
-      sym (ap (λ q. told a q (acts F) (map (packet_row t.field F gs) (filter (is_kept t.field None) tuples))) column
-      ∙ ap (λ (o : Option Field). told a s.last (acts F) (map (packet_row o F gs) (filter (is_kept o None) tuples))) is_field
-      ∙ ap (λ ts. told a s.last (acts F) (map (packet_row (Some field) F gs) ts)) (kept_all tuples)
-      ∙ ap (λ os. told a s.last os fine) s.is_finer) ∙ is in
-      ap (λ q. told (coarsely a) q (acts r) (map (packet_row t.field r gs) (filter (is_kept t.field None) seen))) column
-      ∙ ap (λ (o : Option Field). told (coarsely a) s.last (acts r) (map (packet_row o r gs) (filter (is_kept o None) seen))) is_field
-      ∙ ap (λ ts. told (coarsely a) s.last (acts r) (map (packet_row (Some field) r gs) ts)) (kept_all seen)
-      ∙ ap (λ os. told (coarsely a) s.last os coarse) s.is_coarser
-      ∙ coarser_answers coarsely (masked_zero (width_of field) r) a s.finer s.coarser s.group s.behind s.behind_coarser p s.middle s.last s.follows s.carries s.key s.rises s.filters s.filters_coarser s.passes fine coarse rows reduced from
+      let reported : ℕ → ℕ → List Acting → List Row → Bool = λ n q os rows. list_any (nat_eq n) (map (λ row. slice_index row q) (through os rows)) in
+      let from : reported a s.last (s.finer ++ Reduced s.group ∷ s.following) fine ≡ true =
+      sym (ap (λ q. reported a q (acts F) (map (packet_row t.field F gs) (filter (is_kept t.field None) tuples))) column
+      ∙ ap (λ (o : Option Field). reported a s.last (acts F) (map (packet_row o F gs) (filter (is_kept o None) tuples))) is_field
+      ∙ ap (λ ts. reported a s.last (acts F) (map (packet_row (Some field) F gs) ts)) (kept_all tuples)
+      ∙ ap (λ os. reported a s.last os fine) s.is_finer) ∙ is in
+      ap (λ q. reported (coarsely a) q (acts r) (map (packet_row t.field r gs) (filter (is_kept t.field None) seen))) column
+      ∙ ap (λ (o : Option Field). reported (coarsely a) s.last (acts r) (map (packet_row o r gs) (filter (is_kept o None) seen))) is_field
+      ∙ ap (λ ts. reported (coarsely a) s.last (acts r) (map (packet_row (Some field) r gs) ts)) (kept_all seen)
+      ∙ ap (λ os. reported (coarsely a) s.last os coarse) s.is_coarser
+      ∙ coarser_answers coarsely (masked_zero (width_of field) r) a s.finer s.coarser s.group s.following s.after_coarser p s.middle s.last s.follows s.carries s.key s.rises s.filters s.filters_coarser s.passes fine coarse rows reduced from
     where
       kept_all : (xs : List (List ℕ)) → filter (is_kept (Some field) None) xs ≡ xs
       kept_all [] = refl

@@ -136,18 +136,18 @@ module _ (m : ℕ → ℕ) (zeros : m 0 ≡ 0) (cs : List Column) (name : Name) 
   key_turned row [] rest apart among k = absurd (false≢true among)
   key_turned row (n ∷ keys) rest apart among k =
       let own : (column_named cs n).name ≡ n = found_name n (record { name = n; width = 1; address = false }) cs refl in
-      let behind : List Column = map (column_named cs) keys ++ rest in
+      let following : List Column = map (column_named cs) keys ++ rest in
       let v : ℕ = slice_index row (place_of cs n) in
       let vs : Row = columns_at (map (place_of cs) keys) row in
       by_test (same_name n name)
       (λ is. let same : n ≡ name = same_row_exact n name is in
-      let first : at_name (map (column_named cs) (n ∷ keys) ++ rest) name ≡ 0 = here name (column_named cs n) behind (ap (λ x. same_name x name) own ∙ is) in
+      let first : at_name (map (column_named cs) (n ∷ keys) ++ rest) name ≡ 0 = here name (column_named cs n) following (ap (λ x. same_name x name) own ∙ is) in
       let spot_is : place_of cs n ≡ spot = ap (place_of cs) same ∙ place_at cs name known in
       let number : slice_index (turned row) (place_of cs n) ≡ m v = ap (slice_index (turned row)) spot_is ∙ read_changed m zeros row spot ∙ ap m (ap (slice_index row) (sym spot_is)) in
       ap (λ x. x ∷ columns_at (map (place_of cs) keys) (turned row)) number
       ∙ ap (λ xs. m v ∷ xs) (others_same row keys (subst (λ (x : Name). AllByRecursion (λ y. same_row x y ≡ false) keys) same apart.0) k.1)
       ∙ ap (changed_at m (v ∷ vs)) (sym first))
-      (λ isnt. let next : at_name (map (column_named cs) (n ∷ keys) ++ rest) name ≡ suc (at_name behind name) = later name (column_named cs n) behind (ap (λ x. same_name x name) own ∙ isnt) in
+      (λ isnt. let next : at_name (map (column_named cs) (n ∷ keys) ++ rest) name ≡ suc (at_name following name) = later name (column_named cs n) following (ap (λ x. same_name x name) own ∙ isnt) in
       ap (λ x. x ∷ columns_at (map (place_of cs) keys) (turned row)) (number_same row n k.0 isnt)
       ∙ ap (λ xs. v ∷ xs) (key_turned row keys rest apart.1 (sym (ap (λ b. b || is_in name keys) isnt) ∙ among) k.1)
       ∙ ap (changed_at m (v ∷ vs)) (sym next))
@@ -181,7 +181,7 @@ module _ (m : ℕ → ℕ) (zeros : m 0 ≡ 0) (cs : List Column) (name : Name) 
 
 -- ---- one operator
 
--- where the carried column stands behind an operator
+-- where the carried column stands after an operator
 pub record TakesOn (level : ℕ) (cs : List Column) (w : What) (name : Name) : Type 0 where
   pub to : Name
   pub is : carried_after name w ≡ Some to
@@ -193,14 +193,14 @@ pub key_place : (cs : List Column) (name : Name) (keys : List Name) (rest : List
 key_place cs name [] rest among = absurd (false≢true among)
 key_place cs name (n ∷ keys) rest among =
     let own : (column_named cs n).name ≡ n = found_name n (record { name = n; width = 1; address = false }) cs refl in
-    let behind : List Column = map (column_named cs) keys ++ rest in
+    let following : List Column = map (column_named cs) keys ++ rest in
     let places : List ℕ = map (place_of cs) keys in
     let P : ℕ → Type 0 = λ i. (i < suc (length places)) × (slice_index (place_of cs n ∷ places) i ≡ place_of cs name) in
     by_test (same_name n name)
-    (λ is. subst P (sym (here name (column_named cs n) behind (ap (λ x. same_name x name) own ∙ is))) (omega arith, ap (place_of cs) (same_row_exact n name is)))
+    (λ is. subst P (sym (here name (column_named cs n) following (ap (λ x. same_name x name) own ∙ is))) (omega arith, ap (place_of cs) (same_row_exact n name is)))
     (λ isnt. let next = key_place cs name keys rest (sym (ap (λ b. b || is_in name keys) isnt) ∙ among) in
     let lt = next.0 in
-    subst P (sym (later name (column_named cs n) behind (ap (λ x. same_name x name) own ∙ isnt))) (omega (arith, lt), next.1))
+    subst P (sym (later name (column_named cs n) following (ap (λ x. same_name x name) own ∙ isnt))) (omega (arith, lt), next.1))
 
 pub takes_on : (level : ℕ) (cs : List Column) (w : What) (name : Name) → IsSchema cs → IsSound cs w → loses name w ≡ false → IsKnown cs name → TakesOn level cs w name
 takes_on level cs (what.Filter conds) name schema s kept known = record { to = name; is = refl; known = known; carries = refl }

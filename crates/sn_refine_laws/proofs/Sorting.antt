@@ -6,7 +6,7 @@ use Rattle.std.specs.Cmp.Lexicographic.{slice_cmp, nat_list_cmp_total}
 use Rattle.std.proofs.lemmas.Bool.{false≢true}
 use Rattle.std.proofs.lemmas.Cmp.{upto}
 use Rattle.sn_base.specs.Bags.{SameBag}
-use Rattle.sn_base.specs.Bags.SameBag.{stays, behind, turned}
+use Rattle.sn_base.specs.Bags.SameBag.{stays, following, turned}
 use Rattle.sn_base.specs.Groups.{Row}
 use Rattle.sn_base.specs.Sorted.{put_row, sorted_rows}
 use Rattle.sn_base.proofs.BagLemmas.{bag_back, bag_filter, bag_then}
@@ -16,7 +16,7 @@ use Rattle.sn_base.proofs.SortLemmas.{sort_bag}
 abbrev pub gt : Row → Row → Bool
 gt x y = is_gt (slice_cmp nat_cmp x y)
 
--- no row is above one behind it
+-- no row is above one after it
 abbrev pub AreOrdered : List Row → Type 0
 AreOrdered [] = Unit {0}
 AreOrdered (x ∷ xs) = AllByRecursion (λ y. gt x y ≡ false) xs × AreOrdered xs
@@ -70,15 +70,15 @@ put_bag : (x : Row) (ys : List Row) → SameBag (put_row x ys) (x ∷ ys)
 put_bag x [] = stays (x ∷ [])
 put_bag x (y ∷ ys) =
     elim (gt x y) as (λ b. SameBag (cond b (y ∷ put_row x ys) (x ∷ y ∷ ys)) (x ∷ y ∷ ys)) [
-      | true ↦ bag_then (behind y (put_row x ys) (x ∷ ys) (put_bag x ys)) (turned y x ys)
+      | true ↦ bag_then (following y (put_row x ys) (x ∷ ys) (put_bag x ys)) (turned y x ys)
       | false ↦ stays (x ∷ y ∷ ys)
     ]
 
 pub sorted_bag : (xs : List Row) → SameBag (sorted_rows xs) xs
 sorted_bag [] = stays []
-sorted_bag (x ∷ xs) = bag_then (put_bag x (sorted_rows xs)) (behind x (sorted_rows xs) xs (sorted_bag xs))
+sorted_bag (x ∷ xs) = bag_then (put_bag x (sorted_rows xs)) (following x (sorted_rows xs) xs (sorted_bag xs))
 
--- rows may be kept before they are sorted or behind it
+-- rows may be kept before they are sorted or after it
 pub sorted_filter : (t : Row → Bool) (xs : List Row) → sorted_rows (filter t xs) ≡ filter t (sorted_rows xs)
 sorted_filter t xs =
     sort_bag (filter t xs) (filter t (sorted_rows xs)) (bag_filter t xs (sorted_rows xs) (bag_back (sorted_rows xs) xs (sorted_bag xs)))

@@ -57,42 +57,42 @@ not_filtered levels scope op last name carried none =
     let test : Option Name → Bool = λ o. option_map_or (λ n. filters n op.what) o false in
     sym (ap test carried) ∙ plain
 
--- a branch up to its reduce, the reduce, and what stands behind it, at two levels; where the carried column stands at the end
+-- a branch up to its reduce, the reduce, and what stands after it, at two levels; where the carried column stands at the end
 pub record IsSplit (m : ℕ → ℕ) (F r : ℕ) (os : List TOp) (end : List Column) (carried : Option Name) (p : ℕ) : Type 0 where
   pub finer : List Acting
   pub coarser : List Acting
   pub group : Grouping
-  pub behind : List Acting
-  pub behind_coarser : List Acting
+  pub following : List Acting
+  pub after_coarser : List Acting
   pub middle : ℕ
   pub last : ℕ
-  pub is_finer : map (op_at F) os ≡ finer ++ Reduced group ∷ behind
-  pub is_coarser : map (op_at r) os ≡ coarser ++ Reduced group ∷ behind_coarser
+  pub is_finer : map (op_at F) os ≡ finer ++ Reduced group ∷ following
+  pub is_coarser : map (op_at r) os ≡ coarser ++ Reduced group ∷ after_coarser
   pub follows : AllFollow m finer coarser p middle
   pub carries : CarriesTo (Reduced group) middle last
   pub key : KeyFollows m group middle last
   pub rises : Rises group.by
-  pub filters : AreThresholds behind
-  pub filters_coarser : AreThresholds behind_coarser
-  pub passes : (k l : Row) (v w : ℕ) → length k ≡ length group.places → length l ≡ length group.places → v ≤ w → any_has group.by w → keeps_row behind (k ++ v ∷ []) ≡ true → keeps_row behind_coarser (l ++ w ∷ []) ≡ true
+  pub filters : AreThresholds following
+  pub filters_coarser : AreThresholds after_coarser
+  pub passes : (k l : Row) (v w : ℕ) → length k ≡ length group.places → length l ≡ length group.places → v ≤ w → any_has group.by w → keeps_row following (k ++ v ∷ []) ≡ true → keeps_row after_coarser (l ++ w ∷ []) ≡ true
   pub name : Name
   pub is_name : carried ≡ Some name
   pub known : IsKnown end name
   pub place : at_name end name ≡ last
 
 module _ (m : ℕ → ℕ) (zeros : m 0 ≡ 0) (levels : List ℕ) (F r : ℕ) (among : list_any (nat_eq r) levels ≡ true) where
-  -- behind a reduce the columns stay
+  -- after a reduce the columns stay
   one_filter : (n : ℕ) (cs : List Column) (w : What) (os : List TOp) → are_thresholds levels F n (typed_op cs w ∷ os) ≡ true → (columns_after cs w ≡ cs) × ((name : Name) → carried_after name w ≡ Some name) × (are_thresholds levels F n os ≡ true)
   one_filter n cs (what.Filter conds) os is = (refl, λ name. refl, (and_parts _ (are_thresholds levels F n os) is).1)
   one_filter n cs (what.Map cols) os is = absurd (false≢true is)
   one_filter n cs what.Distinct os is = absurd (false≢true is)
   one_filter n cs (what.Reduce d) os is = absurd (false≢true is)
 
-  behind_stays : (n : ℕ) (scope : Scope) (ops : List Op) (name : Name) → scope.carried ≡ Some name → are_thresholds levels F n (typed_ops scope.columns ops) ≡ true → ((scope_end scope ops).carried ≡ Some name) × (columns_along scope.columns ops ≡ scope.columns)
-  behind_stays n scope [] name carried is = (carried, refl)
-  behind_stays n scope (op ∷ ops) name carried is =
+  after_stays : (n : ℕ) (scope : Scope) (ops : List Op) (name : Name) → scope.carried ≡ Some name → are_thresholds levels F n (typed_ops scope.columns ops) ≡ true → ((scope_end scope ops).carried ≡ Some name) × (columns_along scope.columns ops ≡ scope.columns)
+  after_stays n scope [] name carried is = (carried, refl)
+  after_stays n scope (op ∷ ops) name carried is =
       let one = one_filter n scope.columns op.what (typed_ops (columns_after scope.columns op.what) ops) is in
-      let rest = behind_stays n (scope_after scope op.what) ops name (ap (λ o. carried_along o op.what) carried ∙ one.1 name) one.2 in
+      let rest = after_stays n (scope_after scope op.what) ops name (ap (λ o. carried_along o op.what) carried ∙ one.1 name) one.2 in
       (rest.0, rest.1 ∙ one.0)
 
   at_reduce : (cs : List Column) (d : Reduce) (os : List TOp) (end : List Column) (carried : Option Name) (name : Name) → IsSchema cs → IsSound cs (what.Reduce d) → loses name (what.Reduce d) ≡ false → filters name (what.Reduce d) ≡ false → IsKnown cs name →
@@ -105,8 +105,8 @@ module _ (m : ℕ → ℕ) (zeros : m 0 ≡ 0) (levels : List ℕ) (F r : ℕ) (
         finer = [];
         coarser = [];
         group = record { places = t.keys; value = t.value; by = t.fold };
-        behind = map (op_at F) os;
-        behind_coarser = map (op_at r) os;
+        following = map (op_at F) os;
+        after_coarser = map (op_at r) os;
         middle = at_name cs name;
         last = at_name (columns_after cs (what.Reduce d)) name;
         is_finer = refl;
@@ -130,8 +130,8 @@ module _ (m : ℕ → ℕ) (zeros : m 0 ≡ 0) (levels : List ℕ) (F r : ℕ) (
     finer = op_at F o ∷ h.finer;
     coarser = op_at r o ∷ h.coarser;
     group = h.group;
-    behind = h.behind;
-    behind_coarser = h.behind_coarser;
+    following = h.following;
+    after_coarser = h.after_coarser;
     middle = h.middle;
     last = h.last;
     is_finer = ap (λ (xs : List Acting). op_at F o ∷ xs) h.is_finer;
@@ -177,4 +177,4 @@ module _ (m : ℕ → ℕ) (zeros : m 0 ≡ 0) (levels : List ℕ) (F r : ℕ) (
       let next : List Column = columns_after cs op.what in
       one cs op.what (typed_ops next ops) (columns_along next ops) (scope_end (scope_after scope op.what) ops).carried name may schema s.0 lost.0 (not_filtered levels scope op (is_end ops) name carried parts.0) known is
       (λ may to rest kept there. split_along (scope_after scope op.what) ops to may (ap (λ o. carried_along o op.what) carried ∙ kept) parts.1 (schema_after cs op.what schema s.0) s.1 there rest)
-      (λ n to above kept. behind_stays n (scope_after scope op.what) ops to (ap (λ o. carried_along o op.what) carried ∙ kept) above)
+      (λ n to above kept. after_stays n (scope_after scope op.what) ops to (ap (λ o. carried_along o op.what) carried ∙ kept) above)

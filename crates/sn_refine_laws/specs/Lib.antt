@@ -3,5 +3,5 @@ pub mod Carried
 pub mod Carrying
 pub mod Masking
 pub mod Monotone
-pub mod Told
+pub mod Reported
 pub mod Dropping

@@ -9,7 +9,7 @@ ghost use Rattle.sn_refine_laws.specs.Dropping.{AllPartsLong, CarryAlong, passin
 ghost use Rattle.sn_pipe_items.specs.Value.{value};
 ghost use Rattle.sn_report.specs.Items.{Item};
 ghost use Rattle.sn_refine_laws.specs.Monotone.{is_monotone};
-ghost use Rattle.sn_refine_laws.specs.Told.{EndsFinest, IsToldInTime, has_prefix};
+ghost use Rattle.sn_refine_laws.specs.Reported.{EndsFinest, IsReportedInTime, has_prefix};
 ghost use Rattle.sn_fields.specs.Fields.{number_of, width_of};
 ghost use Rattle.sn_fields.specs.declared.field.Field.{Field};
 ghost use Rattle.sn_ops.specs.Plain.{query_rows};
@@ -52,7 +52,7 @@ pub fn monotone_queries_answer_in_time()
     ensures { (window q w a : ℕ) (queries : List TypedQuery) (field : Field) (windows : Windows) (path : List ℕ) →
         IsTyped window queries → q < length queries → (query_at queries q).field ≡ Some field → is_monotone (query_at queries q) ≡ true →
         EndsFinest (query_at queries q) path → ((v : ℕ) (tuples : List (List ℕ)) → windows v ≡ Some tuples → AllByRecursion HasWidths tuples) →
-        IsToldInTime (query_at queries q) windows path w a }
+        IsReportedInTime (query_at queries q) windows path w a }
 {}
 
 /// Items may be dropped for the number in their carried column before the engine takes them: it makes of those that pass

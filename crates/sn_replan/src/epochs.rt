@@ -9,7 +9,7 @@ use sn_types::typed::Typed;
 
 /// Epochs one after another. Each is a run of windows under one plan, and begins without answers before its first window.
 ///
-/// The caller is told where a window was over, and may then put another plan in place.
+/// The caller is reported where a window was over, and may then put another plan in place.
 #[derive(Drop)]
 pub struct Epochs {
     /// The current one. `None` once memory ran out: then each call answers `Memory`.

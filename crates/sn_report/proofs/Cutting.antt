@@ -36,7 +36,7 @@ pub record Begins (bytes : List ℕ) (frame : Frame) (len : ℕ) (frames : List 
 rest_of : (bytes : List ℕ) (w : Written) (ws : List Written) (left : Decoded) (len : ℕ) → len ≡ length (bytes_in w) → AreReports bytes (w ∷ ws) left → AreReports (drop len bytes) ws left
 rest_of bytes w ws left len long r =
     let parts : bytes ≡ bytes_in w ++ (bytes_of ws ++ r.rest) = r.cut ∙ append_assoc (bytes_in w) (bytes_of ws) r.rest in
-    record { each = r.each.1; rest = r.rest; cut = ap (drop len) parts ∙ drop_at (bytes_in w) (bytes_of ws ++ r.rest) len (sym long); behind = r.behind; no_frame = r.no_frame }
+    record { each = r.each.1; rest = r.rest; cut = ap (drop len) parts ∙ drop_at (bytes_in w) (bytes_of ws ++ r.rest) len (sym long); following = r.following; no_frame = r.no_frame }
 
 -- their first frame stands at the front
 stands_first : (bytes : List ℕ) (w : Written) (ws : List Written) (left : Decoded) → AreReports bytes (w ∷ ws) left → Stands bytes (Whole w.frame (length (bytes_in w)))
@@ -55,7 +55,7 @@ begins_so bytes w ws left r frame len same long =
 
 pub first_frame : (bytes : List ℕ) (frame : Frame) (len : ℕ) (frames : List Written) (left : Decoded) → Stands bytes (Whole frame len) → AreReports bytes frames left → Begins bytes frame len frames left
 first_frame bytes frame len [] left h r =
-    absurd (whole_no_frame left frame len (one_outcome bytes (Whole frame len) left h (subst (λ xs. Stands xs left) (sym r.cut) r.behind)) r.no_frame)
+    absurd (whole_no_frame left frame len (one_outcome bytes (Whole frame len) left h (subst (λ xs. Stands xs left) (sym r.cut) r.following)) r.no_frame)
 first_frame bytes frame len (w ∷ ws) left h r =
     let same = whole_frame frame w.frame len (length (bytes_in w)) (one_outcome bytes (Whole w.frame (length (bytes_in w))) (Whole frame len) (stands_first bytes w ws left r) h) in
     begins_so bytes w ws left r frame len same.0 same.1
@@ -67,7 +67,7 @@ version_of bytes w ws left r =
 
 -- where no frame stands at the front, there are none
 pub no_frames : (bytes : List ℕ) (d : Decoded) (frames : List Written) (left : Decoded) → Stands bytes d → IsNoFrame d → AreReports bytes frames left → (frames ≡ []) × (left ≡ d)
-no_frames bytes d [] left h none r = (refl, one_outcome bytes d left h (subst (λ xs. Stands xs left) (sym r.cut) r.behind))
+no_frames bytes d [] left h none r = (refl, one_outcome bytes d left h (subst (λ xs. Stands xs left) (sym r.cut) r.following))
 no_frames bytes d (w ∷ ws) left h none r =
     absurd (whole_no_frame d w.frame (length (bytes_in w)) (one_outcome bytes (Whole w.frame (length (bytes_in w))) d (stands_first bytes w ws left r) h) none)
 
@@ -77,7 +77,7 @@ same_written : (w : Written) (version : ℕ) → version ≡ w.version → ◌�
 same_written w version same = ap (λ (v : ℕ). record { version = v; frame = w.frame }) same
 
 once : (frames others : List Written) (bytes : List ℕ) (left right : Decoded) → AreReports bytes frames left → AreReports bytes others right → (others ≡ frames) × (right ≡ left)
-once [] others bytes left right r s = no_frames bytes left others right (subst (λ xs. Stands xs left) (sym r.cut) r.behind) r.no_frame s
+once [] others bytes left right r s = no_frames bytes left others right (subst (λ xs. Stands xs left) (sym r.cut) r.following) r.no_frame s
 once (w ∷ ws) others bytes left right r s =
     let len : ℕ = length (bytes_in w) in
     let b = first_frame bytes w.frame len others right (stands_first bytes w ws left r) s in
@@ -96,8 +96,8 @@ record HasCutting (bytes : List ℕ) : Type 0 where
   is : AreReports bytes framed.frames framed.left
 
 -- a frame before what is cut
-behind_frame : (bytes : List ℕ) (frame : Frame) (len : ℕ) → Stands bytes (Whole frame len) → HasCutting (drop len bytes) → HasCutting bytes
-behind_frame bytes frame len h c =
+after_frame : (bytes : List ℕ) (frame : Frame) (len : ℕ) → Stands bytes (Whole frame len) → HasCutting (drop len bytes) → HasCutting bytes
+after_frame bytes frame len h c =
     let r = c.is in
     record {
       framed = record { frames = record { version = h.1; frame = frame } ∷ c.framed.frames; left = c.framed.left };
@@ -106,7 +106,7 @@ behind_frame bytes frame len h c =
         rest = r.rest;
         cut = sym (take-append-drop len bytes) ∙ ap (λ xs. xs ++ drop len bytes) h.2.spelled ∙ ap (λ xs. spelling h.1 frame ++ xs) r.cut
             ∙ sym (append_assoc (spelling h.1 frame) (bytes_of c.framed.frames) r.rest);
-        behind = r.behind;
+        following = r.following;
         no_frame = r.no_frame;
       };
     }
@@ -128,9 +128,9 @@ cut_of (suc fuel) bytes few (Whole frame len) h =
     let long = len_long bytes frame len h in
     let within = h.0 in
     let next = some_outcome (drop len bytes) in
-    behind_frame bytes frame len h (cut_of fuel (drop len bytes) (omega (arith, few, long, within, length-drop len bytes)) next.outcome next.stands)
-cut_of fuel bytes few More h = record { framed = record { frames = []; left = More }; is = record { each = tt; rest = bytes; cut = refl; behind = h; no_frame = tt } }
-cut_of fuel bytes few (Bad n) h = record { framed = record { frames = []; left = Bad n }; is = record { each = tt; rest = bytes; cut = refl; behind = h; no_frame = tt } }
+    after_frame bytes frame len h (cut_of fuel (drop len bytes) (omega (arith, few, long, within, length-drop len bytes)) next.outcome next.stands)
+cut_of fuel bytes few More h = record { framed = record { frames = []; left = More }; is = record { each = tt; rest = bytes; cut = refl; following = h; no_frame = tt } }
+cut_of fuel bytes few (Bad n) h = record { framed = record { frames = []; left = Bad n }; is = record { each = tt; rest = bytes; cut = refl; following = h; no_frame = tt } }
 
 pub one_cutting : (bytes : List ℕ) → HasOneCutting bytes
 one_cutting bytes =
@@ -148,4 +148,4 @@ pub nothing_left : Stands [] More
 nothing_left = goes_on [] (λ i. omega arith) (λ i few within. absurd (no_numbers i few within)) (inl (omega arith))
 
 pub frames_again : (frames : List Written) → AllByRecursion IsWritten frames → AreReports (bytes_of frames) frames More
-frames_again frames each = record { each = each; rest = []; cut = sym (append-nil (bytes_of frames)); behind = nothing_left; no_frame = tt }
+frames_again frames each = record { each = each; rest = []; cut = sym (append-nil (bytes_of frames)); following = nothing_left; no_frame = tt }

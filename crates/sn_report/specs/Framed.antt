@@ -36,7 +36,7 @@ pub record AreReports (bytes : List ℕ) (frames : List Written) (left : Decoded
   pub each : AllByRecursion IsWritten frames
   pub rest : List ℕ
   pub cut : bytes ≡ bytes_of frames ++ rest
-  pub behind : Stands rest left
+  pub following : Stands rest left
   pub no_frame : IsNoFrame left
 
 -- frames, and what stands after them

@@ -1,4 +1,4 @@
 pub mod RangeLemmas
 mod RestLemmas
-mod ToldLemmas
+mod ReportedLemmas
 mod StepLemmas

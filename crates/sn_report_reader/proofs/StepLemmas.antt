@@ -28,9 +28,9 @@ rest_held : (file : List ℕ) (s : ReaderState) → Follows file s → length (w
 rest_held file s f past = f.held ∙ ap (λ (xs : List ℕ). s.held ++ xs) (drop_all (place_of s) (within file) past) ∙ append-nil s.held
 
 -- the front of what is held is taken off
-pub follows_passed : (told now_told : Option (List ℕ)) (before now : ReaderState) (len : ℕ) → now_told ≡ told → IfSome told (λ file. Follows file before) → len ≤ length before.held → now ≡ record { offset = before.offset + len; held = drop len before.held } → IfSome now_told (λ file. Follows file now)
-follows_passed told now_told before now len same follows le is =
-    subst (λ (t : Option (List ℕ)). IfSome t (λ file. Follows file now)) (sym same) (subst (λ (r : ReaderState). IfSome told (λ file. Follows file r)) (sym is) (of told follows))
+pub follows_passed : (reported now_reported : Option (List ℕ)) (before now : ReaderState) (len : ℕ) → now_reported ≡ reported → IfSome reported (λ file. Follows file before) → len ≤ length before.held → now ≡ record { offset = before.offset + len; held = drop len before.held } → IfSome now_reported (λ file. Follows file now)
+follows_passed reported now_reported before now len same follows le is =
+    subst (λ (t : Option (List ℕ)). IfSome t (λ file. Follows file now)) (sym same) (subst (λ (r : ReaderState). IfSome reported (λ file. Follows file r)) (sym is) (of reported follows))
   where
     of : (t : Option (List ℕ)) → IfSome t (λ file. Follows file before) → IfSome t (λ file. Follows file (record { offset = before.offset + len; held = drop len before.held }))
     of None f = tt
@@ -45,13 +45,13 @@ follows_passed told now_told before now len same follows le is =
               ∙ ap (λ (n : ℕ). drop len held ++ drop n (within file)) (sym place);
         }
 
-module _ (told : Option (List ℕ)) (old before now : ReaderState) (at : before.offset ≡ old.offset) (follows : IfSome told (λ file. Follows file before)) where
+module _ (reported : Option (List ℕ)) (old before now : ReaderState) (at : before.offset ≡ old.offset) (follows : IfSome reported (λ file. Follows file before)) where
   rest_is : (file : List ℕ) → rest_of file before ≡ rest_of file old
   rest_is file = ap (λ (n : ℕ). drop n (within file)) at
 
   -- a frame stands first
-  pub step_frame : (frame : Frame) (len : ℕ) → Stands before.held (decoded.Whole frame len) → now.offset ≡ before.offset + len → IfSome told (λ file. IsStep file old (Ok (next.Frame frame)) now)
-  step_frame frame len stands moved = of told follows
+  pub step_frame : (frame : Frame) (len : ℕ) → Stands before.held (decoded.Whole frame len) → now.offset ≡ before.offset + len → IfSome reported (λ file. IsStep file old (Ok (next.Frame frame)) now)
+  step_frame frame len stands moved = of reported follows
     where
       of : (t : Option (List ℕ)) → IfSome t (λ file. Follows file before) → IfSome t (λ file. IsStep file old (Ok (next.Frame frame)) now)
       of None f = tt
@@ -60,8 +60,8 @@ module _ (told : Option (List ℕ)) (old before now : ReaderState) (at : before.
           (len, there, omega (arith, moved, at))
 
   -- a byte shows that none does
-  pub step_bad : (n place : ℕ) → Stands before.held (decoded.Bad n) → place ≡ before.offset + n → IfSome told (λ file. IsStep file old (Ok (next.Bad place)) now)
-  step_bad n place stands is = of told follows
+  pub step_bad : (n place : ℕ) → Stands before.held (decoded.Bad n) → place ≡ before.offset + n → IfSome reported (λ file. IsStep file old (Ok (next.Bad place)) now)
+  step_bad n place stands is = of reported follows
     where
       of : (t : Option (List ℕ)) → IfSome t (λ file. Follows file before) → IfSome t (λ file. IsStep file old (Ok (next.Bad place)) now)
       of None f = tt
@@ -69,10 +69,10 @@ module _ (told : Option (List ℕ)) (old before now : ReaderState) (at : before.
           let there = subst (λ (xs : List ℕ). Stands xs (decoded.Bad n)) (sym f.held ∙ rest_is file) (bad_stays before.held (drop (place_of before) (within file)) n stands) in
           (n, there, omega (arith, is, at))
 
-  module _ (now_told : Option (List ℕ)) (r : Reached) (same : now_told ≡ told) (stands : Stands before.held decoded.More) (reaches : IfSome now_told (λ file. Follows file before → Reaches file before r now)) where
-    here : (due : Reached) → r ≡ due → IfSome told (λ file. Follows file before → Reaches file before due now)
+  module _ (now_reported : Option (List ℕ)) (r : Reached) (same : now_reported ≡ reported) (stands : Stands before.held decoded.More) (reaches : IfSome now_reported (λ file. Follows file before → Reaches file before r now)) where
+    here : (due : Reached) → r ≡ due → IfSome reported (λ file. Follows file before → Reaches file before due now)
     here due is =
-        subst (λ (d : Reached). IfSome told (λ file. Follows file before → Reaches file before d now)) is (subst (λ (t : Option (List ℕ)). IfSome t (λ file. Follows file before → Reaches file before r now)) same reaches)
+        subst (λ (d : Reached). IfSome reported (λ file. Follows file before → Reaches file before d now)) is (subst (λ (t : Option (List ℕ)). IfSome t (λ file. Follows file before → Reaches file before r now)) same reaches)
 
     more_there : (file : List ℕ) → Follows file before → length (within file) ≤ place_of before → Stands (rest_of file old) decoded.More
     more_there file f past = subst (λ (xs : List ℕ). Stands xs decoded.More) (sym (rest_held file before f past) ∙ rest_is file) stands
@@ -85,16 +85,16 @@ module _ (told : Option (List ℕ)) (old before now : ReaderState) (at : before.
         subst (λ (a : Next). IsStep file old (Ok a) now) (sym (ap (λ b. cond b next.End next.Cut) (ne_eqb (length (x ∷ xs)) 0 (λ e. omega (arith, e))))) cut
 
     -- the file ends
-    pub step_end : (answer : Next) → r ≡ reached.End → answer ≡ ending_of before → IfSome told (λ file. IsStep file old (Ok answer) now)
-    step_end answer is ending = subst (λ (a : Next). IfSome told (λ file. IsStep file old (Ok a) now)) (sym ending) (of told follows (here reached.End is))
+    pub step_end : (answer : Next) → r ≡ reached.End → answer ≡ ending_of before → IfSome reported (λ file. IsStep file old (Ok answer) now)
+    step_end answer is ending = subst (λ (a : Next). IfSome reported (λ file. IsStep file old (Ok a) now)) (sym ending) (of reported follows (here reached.End is))
       where
         of : (t : Option (List ℕ)) → IfSome t (λ file. Follows file before) → IfSome t (λ file. Follows file before → Reaches file before reached.End now) → IfSome t (λ file. IsStep file old (Ok (ending_of before)) now)
         of None f reach = tt
         of (Some file) f reach = let e = reach f in ended_so before.held refl file f e.0 e.1
 
     -- it goes on past the bytes that are read
-    pub step_past : r ≡ reached.Past → IfSome told (λ file. IsStep file old (Err errors.TooLarge) now)
-    step_past is = of told follows (here reached.Past is)
+    pub step_past : r ≡ reached.Past → IfSome reported (λ file. IsStep file old (Err errors.TooLarge) now)
+    step_past is = of reported follows (here reached.Past is)
       where
         of : (t : Option (List ℕ)) → IfSome t (λ file. Follows file before) → IfSome t (λ file. Follows file before → Reaches file before reached.Past now) → IfSome t (λ file. IsStep file old (Err errors.TooLarge) now)
         of None f reach = tt

@@ -2,7 +2,7 @@
 ghost use Rattle.std.specs.Prelude.{◌≡◌, ◌<◌, ◌≤◌, ◌+◌, ◌^◌, ◌↔◌, None, Ok, true, length, drop, is_some, IfOk, IfSome, IsErrOf};
 ghost use Rattle.std.specs.FinMap.{get};
 ghost use Rattle.sn_io.specs.Counts.{OnlyRises, RoseAt};
-ghost use Rattle.sn_io.specs.Inputs.{told_file};
+ghost use Rattle.sn_io.specs.Inputs.{stated_file};
 ghost use Rattle.sn_report_reader.specs.declared.room.Reached.TheVariants as Reached;
 ghost use Rattle.sn_report_reader.specs.declared.room.TheConstants.{BUFFER_BYTES};
 ghost use Rattle.sn_report_reader.specs.Reading.{ReaderState, Follows, IsStep, Moves, Reaches, ending_of, made, place_of};
@@ -66,8 +66,8 @@ fn room_after(held: usize, place: u64) -> usize
 
 /// Whether a file goes on past the bytes that are read.
 fn goes_past<I: Inputs>(files: &mut I, name: &str) -> Result<bool, ReadError>
-    ensures past { IfOk result (λ past. IfSome (told_file (I.told files.old) name.now) (λ file. (past ≡ true) ↔ (2 ^ 30 < length file))) }
-    ensures told { I.told files.new ≡ I.told files.old }
+    ensures past { IfOk result (λ past. IfSome (stated_file (I.reported files.old) name.now) (λ file. (past ≡ true) ↔ (2 ^ 30 < length file))) }
+    ensures reported { I.reported files.new ≡ I.reported files.old }
     ensures faults { OnlyRises name.now (I.faults files.old) (I.faults files.new) }
     ensures missing { IsErrOf result ReadError.Missing ↔ (get (I.faults files.old) name.now ≡ None) }
     ensures fault { IsErrOf result ReadError.ReadFault → RoseAt name.now (I.faults files.old) (I.faults files.new) }
@@ -126,7 +126,7 @@ impl Reader {
     /// Reads bytes of the file after those that are held.
     fn read_on<I: Inputs>(&mut self, files: &mut I, name: &str) -> Result<Reached, ReadError>
         requires { length self.old.held < 136 }
-        ensures reached { IfOk result (λ reached. IfSome (told_file (I.told files.old) name.now) (λ file. Follows file self.old →
+        ensures reached { IfOk result (λ reached. IfSome (stated_file (I.reported files.old) name.now) (λ file. Follows file self.old →
             Reaches file self.old reached self.new)) }
         ensures offset { self.new.offset ≡ self.old.offset }
         ensures most { place_of self.new ≤ 2 ^ 30 }
@@ -135,7 +135,7 @@ impl Reader {
         ensures missing { IsErrOf result ReadError.Missing ↔ (get (I.faults files.old) name.now ≡ None) }
         ensures fault { IsErrOf result ReadError.ReadFault → RoseAt name.now (I.faults files.old) (I.faults files.new) }
         ensures not_large { ¬ IsErrOf result ReadError.TooLarge }
-        ensures told { I.told files.new ≡ I.told files.old }
+        ensures reported { I.reported files.new ≡ I.reported files.old }
         ensures faults { OnlyRises name.now (I.faults files.old) (I.faults files.new) }
     {
         move_front(&mut self.bytes, self.start, self.end);
@@ -173,19 +173,19 @@ impl Reader {
     /// it. The file is read from front to back, each byte once, so it may be a pipe. `Missing` comes exactly where the name isn't
     /// known, and `ReadFault` only where its count rose. No memory is asked for.
     pub fn next<I: Inputs>(&mut self, files: &mut I, name: &str) -> Result<Next, ReadError>
-        requires follows { IfSome (told_file (I.told files.old) name.now) (λ file. Follows file self.old) }
+        requires follows { IfSome (stated_file (I.reported files.old) name.now) (λ file. Follows file self.old) }
         requires known { 0 < length self.old.held → is_some (get (I.faults files.old) name.now) ≡ true }
 
         // Where contents are known: the exact answer, and that the reader goes on following the file.
-        ensures step { IfSome (told_file (I.told files.old) name.now) (λ file. IsStep file self.old result self.new) }
-        ensures follows { IfSome (told_file (I.told files.new) name.now) (λ file. Follows file self.new) }
+        ensures step { IfSome (stated_file (I.reported files.old) name.now) (λ file. IsStep file self.old result self.new) }
+        ensures follows { IfSome (stated_file (I.reported files.new) name.now) (λ file. Follows file self.new) }
 
         // Over any files.
         ensures moves { Moves self.old result self.new }
         ensures known { 0 < length self.new.held → is_some (get (I.faults files.new) name.now) ≡ true }
         ensures missing { IsErrOf result ReadError.Missing ↔ (get (I.faults files.old) name.now ≡ None) }
         ensures fault { IsErrOf result ReadError.ReadFault → RoseAt name.now (I.faults files.old) (I.faults files.new) }
-        ensures told { I.told files.new ≡ I.told files.old }
+        ensures reported { I.reported files.new ≡ I.reported files.old }
         ensures faults { OnlyRises name.now (I.faults files.old) (I.faults files.new) }
     {
         'reading: loop {

@@ -2,7 +2,7 @@
 ghost use Rattle.std.specs.Prelude.{◌≡◌, ◌<◌, ◌≤◌, ◌+◌, ◌-◌, ◌↔◌, None, length, take, drop, IfOk, IfSome, IsErrOf};
 ghost use Rattle.std.specs.FinMap.{get};
 ghost use Rattle.sn_io.specs.Counts.{OnlyRises, RoseAt};
-ghost use Rattle.sn_io.specs.Inputs.{told_file};
+ghost use Rattle.sn_io.specs.Inputs.{stated_file};
 
 use sn_io::inputs::{InputFault, Inputs, ReadError};
 
@@ -44,10 +44,10 @@ pub(crate) fn read_piece<I: Inputs>(
     ensures len { length bytes.new ≡ length bytes.old }
     ensures kept { take held bytes.new ≡ take held bytes.old }
     ensures within { IfOk result (λ n. n ≤ room) }
-    ensures bytes { IfOk result (λ n. IfSome (told_file (I.told files.old) name.now) (λ file. take n (drop held bytes.new) ≡ take n (drop at file))) }
-    ensures stand { IfOk result (λ n. IfSome (told_file (I.told files.old) name.now) (λ file. n ≤ length file - at)) }
-    ensures none { IfOk result (λ n. IfSome (told_file (I.told files.old) name.now) (λ file. (n ≡ 0) ↔ (length file ≤ at))) }
-    ensures told { I.told files.new ≡ I.told files.old }
+    ensures bytes { IfOk result (λ n. IfSome (stated_file (I.reported files.old) name.now) (λ file. take n (drop held bytes.new) ≡ take n (drop at file))) }
+    ensures stand { IfOk result (λ n. IfSome (stated_file (I.reported files.old) name.now) (λ file. n ≤ length file - at)) }
+    ensures none { IfOk result (λ n. IfSome (stated_file (I.reported files.old) name.now) (λ file. (n ≡ 0) ↔ (length file ≤ at))) }
+    ensures reported { I.reported files.new ≡ I.reported files.old }
     ensures faults { OnlyRises name.now (I.faults files.old) (I.faults files.new) }
     ensures not_large { ¬ IsErrOf result ReadError.TooLarge }
     ensures missing { IsErrOf result ReadError.Missing ↔ (get (I.faults files.old) name.now ≡ None) }

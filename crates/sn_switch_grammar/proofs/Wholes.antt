@@ -8,7 +8,7 @@ use Rattle.sn_base.proofs.Lists.{and_parts, or_none, or_right}
 use Rattle.sn_text_rules.specs.declared.Flaw.{Flaw}
 use Rattle.sn_text_rules.specs.declared.Flaw.TheVariants.{Range, Twice, Missing}
 use Rattle.sn_text_rules.specs.Rules.{kept, closed, fit_from}
-use Rattle.sn_text_rules.specs.Words.{never, behind_comma}
+use Rattle.sn_text_rules.specs.Words.{never, after_comma}
 use Rattle.sn_text_rules.proofs.Common.{either_way}
 use Rattle.sn_switch_grammar.specs.declared.item.Setting.{Setting}
 use Rattle.sn_switch_grammar.specs.declared.item.Setting.TheVariants as settings
@@ -225,11 +225,11 @@ no_above : (seen : List ℕ) → AllByRecursion (λ m. AllByRecursion (λ n. m <
 no_above [] = tt
 no_above (m ∷ seen) = (tt, no_above seen)
 
-open_size : (b : Bool) (seen : List ℕ) (a : ℕ) → nat_le 4 (length seen) ≡ b → (behind_comma 4 past_size size_rule seen).fits kept a → (b ≡ false) × (closed kept (size_test seen a) ≡ None)
+open_size : (b : Bool) (seen : List ℕ) (a : ℕ) → nat_le 4 (length seen) ≡ b → (after_comma 4 past_size size_rule seen).fits kept a → (b ≡ false) × (closed kept (size_test seen a) ≡ None)
 open_size true seen a e f = absurd (rw e at f).1
 open_size false seen a e f = (refl, (rw e at f).1)
 
-rest_fits : (seen rest : List ℕ) → length seen ≤ 4 → fit_from never (behind_comma 4 past_size size_rule) kept seen rest → Rests seen rest
+rest_fits : (seen rest : List ℕ) → length seen ≤ 4 → fit_from never (after_comma 4 past_size size_rule) kept seen rest → Rests seen rest
 rest_fits seen [] l f = record { most = omega arith; range = tt; rising = tt; above = no_above seen }
 rest_fits seen (a ∷ rest) l f =
     let o = open_size (nat_le 4 (length seen)) seen a refl f.1 in

@@ -59,10 +59,10 @@ length_digits_in base zero number = refl
 length_digits_in base (suc count) number = ap suc (length_digits_in base count (number / base))
 
 -- the digits after a place are digits
-pub are_digits_behind : (base place : ℕ) (row : Row) → are_digits base row ≡ true → are_digits base (drop place row) ≡ true
-are_digits_behind base zero row h = h
-are_digits_behind base (suc place) [] h = refl
-are_digits_behind base (suc place) (c ∷ cs) h = are_digits_behind base place cs (and_parts (nat_lt c base) (are_digits base cs) h).1
+pub are_digits_after : (base place : ℕ) (row : Row) → are_digits base row ≡ true → are_digits base (drop place row) ≡ true
+are_digits_after base zero row h = h
+are_digits_after base (suc place) [] h = refl
+are_digits_after base (suc place) (c ∷ cs) h = are_digits_after base place cs (and_parts (nat_lt c base) (are_digits base cs) h).1
 
 -- ---- shares
 
@@ -141,13 +141,13 @@ pub record Packs (columns place : ℕ) (row : Row) (number : ℕ) : Type 0 where
   pub number_is : number ≡ number_in (base_of columns) (drop (columns - place) row)
   pub digits : are_digits (base_of columns) (drop (columns - place) row) ≡ true
 
-front_behind : (columns place : ℕ) (row : Row) (c : ℕ) → length row ≡ columns → place < columns → c ≡ slice_index_or row (columns - 1 - place) 0
+front_after : (columns place : ℕ) (row : Row) (c : ℕ) → length row ≡ columns → place < columns → c ≡ slice_index_or row (columns - 1 - place) 0
     → drop (columns - (place + 1)) row ≡ c ∷ drop (columns - place) row
-front_behind columns place row c long part is =
+front_after columns place row c long part is =
     let at = columns - 1 - place in
     let before : columns - (place + 1) ≡ at = omega arith in
-    let behind : suc at ≡ columns - place = omega arith in
-    ap (λ n. drop n row) before ∙ drop-cons row at 0 (omega arith) ∙ ap₂ (λ x n. x ∷ drop n row) (sym is) behind
+    let following : suc at ≡ columns - place = omega arith in
+    ap (λ n. drop n row) before ∙ drop-cons row at 0 (omega arith) ∙ ap₂ (λ x n. x ∷ drop n row) (sym is) following
 
 pub packs_none : (columns : ℕ) (row : Row) → length row ≡ columns → Packs columns 0 row 0
 packs_none columns row long =
@@ -163,15 +163,15 @@ pub packs_more : (columns place width number c : ℕ) (row : Row) → length row
 packs_more columns place width number c row long few share part is none h =
     let base = base_of columns in
     let digit : c < base = below_by_quotient c base (pow_pos (width_of columns)) (sym (ap (λ w. c / 2 ^ w) share) ∙ none) in
-    let behind = drop (columns - place) row in
-    let size : length behind ≡ place = omega (arith, length-drop (columns - place) row) in
-    let below : number < base ^ place = subst (λ n. number < base ^ n) size (subst (λ n. n < base ^ length behind) (sym h.number_is) (number_below base behind h.digits)) in
-    let front = front_behind columns place row c long part is in
+    let following = drop (columns - place) row in
+    let size : length following ≡ place = omega (arith, length-drop (columns - place) row) in
+    let below : number < base ^ place = subst (λ n. number < base ^ n) size (subst (λ n. n < base ^ length following) (sym h.number_is) (number_below base following h.digits)) in
+    let front = front_after columns place row c long part is in
     record {
       number_is =
           ap (λ w. bit_or (number * 2 ^ w % 2 ^ 128) c) share ∙ shifted_in columns place number c few part below digit
           ∙ ap (λ n. c + base * n) h.number_is ∙ sym (ap (number_in base) front);
-      digits = ap (are_digits base) front ∙ and_both (nat_lt c base) (are_digits base behind) (lt-ltb c base digit) h.digits;
+      digits = ap (are_digits base) front ∙ and_both (nat_lt c base) (are_digits base following) (lt-ltb c base digit) h.digits;
     }
 
 -- a column with more bits than its share
@@ -181,9 +181,9 @@ too_wide columns place width c row long share part is some =
     not_true (is_narrow columns row) (λ h.
     let base = base_of columns in
     let all = (and_parts (nat_eq (length row) columns) (are_digits base row) h).1 in
-    let behind : are_digits base (c ∷ drop (columns - place) row) ≡ true =
-    subst (λ xs. are_digits base xs ≡ true) (front_behind columns place row c long part is) (are_digits_behind base (columns - (place + 1)) row all) in
-    let digit : c < base = ltb-true c base (and_parts (nat_lt c base) (are_digits base (drop (columns - place) row)) behind).0 in
+    let following : are_digits base (c ∷ drop (columns - place) row) ≡ true =
+    subst (λ xs. are_digits base xs ≡ true) (front_after columns place row c long part is) (are_digits_after base (columns - (place + 1)) row all) in
+    let digit : c < base = ltb-true c base (and_parts (nat_lt c base) (are_digits base (drop (columns - place) row)) following).0 in
     some (ap (λ w. c / 2 ^ w) share ∙ div-eq_of_lt digit))
 
 pub packs_all : (columns place number : ℕ) (row : Row) → length row ≡ columns → columns ≤ place → Packs columns place row number

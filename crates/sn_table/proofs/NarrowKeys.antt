@@ -24,8 +24,8 @@ pub record IsHeldAs (columns : ℕ) (row : Row) (number : ℕ) : Type 0 where
   pub number_is : number ≡ number_of columns row
 
 -- the number that stands for a row
-pub told : (columns : ℕ) (row : Row) (number : ℕ) → cond (is_narrow columns row) (Some (number_of columns row)) None ≡ Some number → IsHeldAs columns row number
-told columns row number is =
+pub reported : (columns : ℕ) (row : Row) (number : ℕ) → cond (is_narrow columns row) (Some (number_of columns row)) None ≡ Some number → IsHeldAs columns row number
+reported columns row number is =
     by_test (is_narrow columns row)
     (λ yes. record { narrow = yes; number_is = some_is (sym (ap (λ b. cond b (Some (number_of columns row)) None) yes) ∙ is) })
     (λ no. absurd (none_is (sym (ap (λ b. cond b (Some (number_of columns row)) None) no) ∙ is)))

@@ -48,10 +48,10 @@ module _ {A : Type 0} (same : A → A → Bool) (exact : (a b : A) → same a b 
       (λ none. ap (λ t. slice_get (cond t ks (ks ++ key ∷ [])) (position_or_len (same key) ks)) none
       ∙ ap (slice_get (ks ++ key ∷ [])) (last_of_none ks none) ∙ after_all ks key)
 
--- a row stands at the place that was told of it
-pub stands_at : (rows new : List Row) (row : Row) (told : Option (ℕ × Bool)) (place : ℕ) (fresh : Bool) → told ≡ Some (place, fresh)
-    → new ≡ cond (is_some told) (insert_key same_row rows row) rows → IfSome told (λ p. p.0 ≡ position_or_len (same_row row) rows) → slice_get new place ≡ Some row
-stands_at rows new row told place fresh is keys at =
+-- a row stands at the place that was reported of it
+pub stands_at : (rows new : List Row) (row : Row) (reported : Option (ℕ × Bool)) (place : ℕ) (fresh : Bool) → reported ≡ Some (place, fresh)
+    → new ≡ cond (is_some reported) (insert_key same_row rows row) rows → IfSome reported (λ p. p.0 ≡ position_or_len (same_row row) rows) → slice_get new place ≡ Some row
+stands_at rows new row reported place fresh is keys at =
     let here : place ≡ position_or_len (same_row row) rows = subst (λ (o : Option (ℕ × Bool)). IfSome o (λ p. p.0 ≡ position_or_len (same_row row) rows)) is at in
     let added : new ≡ insert_key same_row rows row = keys ∙ ap (λ (o : Option (ℕ × Bool)). cond (is_some o) (insert_key same_row rows row) rows) is in
     ap (λ ks. slice_get ks place) added ∙ ap (slice_get (insert_key same_row rows row)) here ∙ inserted_at same_row same_row_exact row rows

@@ -96,24 +96,24 @@ list_of_two (x ∷ y ∷ []) two = refl
 list_of_two (x ∷ y ∷ z ∷ xs) two = absurd (omega arith)
 
 -- the number of these columns stands for the row
-pub told_by_columns : (columns number : ℕ) (row parts : Row) → row ≡ parts → columns ≡ length parts → is_narrow (length parts) parts ≡ true → number ≡ number_of (length parts) parts
+pub reported_by_columns : (columns number : ℕ) (row parts : Row) → row ≡ parts → columns ≡ length parts → is_narrow (length parts) parts ≡ true → number ≡ number_of (length parts) parts
     → Some number ≡ cond (is_narrow columns row) (Some (number_of columns row)) None
-told_by_columns columns number row parts same size fits is =
+reported_by_columns columns number row parts same size fits is =
     ap Some (is ∙ sym (ap₂ number_of size same)) ∙ sym (ap (λ b. cond b (Some (number_of columns row)) None) (ap₂ is_narrow size same ∙ fits))
 
--- what is told of these columns is told of the row
-pub told_alike : (columns : ℕ) (row parts : Row) (result : Option ℕ) → row ≡ parts → columns ≡ length parts
+-- what is reported of these columns is reported of the row
+pub reported_alike : (columns : ℕ) (row parts : Row) (result : Option ℕ) → row ≡ parts → columns ≡ length parts
     → result ≡ cond (is_narrow (length parts) parts) (Some (number_of (length parts) parts)) None
     → result ≡ cond (is_narrow columns row) (Some (number_of columns row)) None
-told_alike columns row parts result same size is =
+reported_alike columns row parts result same size is =
     is ∙ sym (ap₂ (λ n xs. cond (is_narrow n xs) (Some (number_of n xs)) None) size same)
 
--- a number that is told of these columns is that of the row
-pub told_at : (columns : ℕ) (row parts : Row) (result : Option ℕ) → row ≡ parts → columns ≡ length parts
+-- a number that is reported of these columns is that of the row
+pub reported_at : (columns : ℕ) (row parts : Row) (result : Option ℕ) → row ≡ parts → columns ≡ length parts
     → result ≡ cond (is_narrow (length parts) parts) (Some (number_of (length parts) parts)) None
     → IfSome result (λ number. cond (is_narrow columns row) (Some (number_of columns row)) None ≡ Some number)
-told_at columns row parts None same size is = tt
-told_at columns row parts (Some number) same size is = sym (told_alike columns row parts (Some number) same size is)
+reported_at columns row parts None same size is = tt
+reported_at columns row parts (Some number) same size is = sym (reported_alike columns row parts (Some number) same size is)
 
 -- the columns at these places of two equal rows
 pub columns_at_same : (places others row held : Row) → held ≡ row → places ≡ others → columns_at places row ≡ columns_at others held

@@ -27,8 +27,8 @@ fn insert_number(
     numbers: &mut IndexSet<NumberKey, Seed>,
     number: u128,
 ) -> Result<(usize, bool), Memory>
-    ensures place { IfOk result (λ told. told.0 ≡ position_or_len (nat_eq number) numbers.old.keys) }
-    ensures new { IfOk result (λ told. told.1 ≡ not (list_any (nat_eq number) numbers.old.keys)) }
+    ensures place { IfOk result (λ reported. reported.0 ≡ position_or_len (nat_eq number) numbers.old.keys) }
+    ensures new { IfOk result (λ reported. reported.1 ≡ not (list_any (nat_eq number) numbers.old.keys)) }
     ensures keys { OnOk result (numbers.new.keys ≡ insert_key nat_eq numbers.old.keys number) }
     ensures err { OnErr result (numbers.new.keys ≡ numbers.old.keys) }
 {
@@ -37,8 +37,8 @@ fn insert_number(
 
 /// Adds a row. Gives its place, and says whether it is new.
 fn insert_row<R: AnyRow>(rows: &mut IndexSet<R, Seed>, row: &R) -> Result<(usize, bool), Memory>
-    ensures place { IfOk result (λ told. told.0 ≡ position_or_len (R.eq row.now) rows.old.keys) }
-    ensures new { IfOk result (λ told. told.1 ≡ not (list_any (R.eq row.now) rows.old.keys)) }
+    ensures place { IfOk result (λ reported. reported.0 ≡ position_or_len (R.eq row.now) rows.old.keys) }
+    ensures new { IfOk result (λ reported. reported.1 ≡ not (list_any (R.eq row.now) rows.old.keys)) }
     ensures keys { OnOk result (rows.new.keys ≡ insert_key R.eq rows.old.keys row.now) }
     ensures err { OnErr result (rows.new.keys ≡ rows.old.keys) }
 {
@@ -51,11 +51,11 @@ fn insert_row<R: AnyRow>(rows: &mut IndexSet<R, Seed>, row: &R) -> Result<(usize
 pub(crate) fn put<R: AnyRow>(held: &mut Keys<R>, row: &R) -> Result<Option<(usize, bool)>, Memory>
     requires { IsSound R.Number.limit held.old }
     ensures sound { IsSound R.Number.limit held.new }
-    ensures place { IfOk result (λ told. IfSome told (λ p. p.0 ≡ position_or_len (same_row (R.columns row.now)) (keys_of R.columns held.old))) }
-    ensures new { IfOk result (λ told. IfSome told (λ p. p.1 ≡ not (list_any (same_row (R.columns row.now)) (keys_of R.columns held.old)))) }
-    ensures keys { IfOk result (λ told. keys_of R.columns held.new ≡
-        (if is_some told then insert_key same_row (keys_of R.columns held.old) (R.columns row.now) else keys_of R.columns held.old)) }
-    ensures wide { IsWide held.old → IfOk result (λ told. IsSome told) }
+    ensures place { IfOk result (λ reported. IfSome reported (λ p. p.0 ≡ position_or_len (same_row (R.columns row.now)) (keys_of R.columns held.old))) }
+    ensures new { IfOk result (λ reported. IfSome reported (λ p. p.1 ≡ not (list_any (same_row (R.columns row.now)) (keys_of R.columns held.old)))) }
+    ensures keys { IfOk result (λ reported. keys_of R.columns held.new ≡
+        (if is_some reported then insert_key same_row (keys_of R.columns held.old) (R.columns row.now) else keys_of R.columns held.old)) }
+    ensures wide { IsWide held.old → IfOk result (λ reported. IsSome reported) }
     ensures err { OnErr result (keys_of R.columns held.new ≡ keys_of R.columns held.old) }
 {
     match held {

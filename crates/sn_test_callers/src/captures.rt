@@ -15,7 +15,7 @@ pub fn count_packets<I: Inputs>(
     files: &mut I,
     name: &str,
 ) -> Result<(u64, Ending), ReadError>
-    ensures told { I.told files.new ≡ I.told files.old }
+    ensures reported { I.reported files.new ≡ I.reported files.old }
 {
     let Ok(mut reader) = Reader::make(alloc, header) else {
         return Err(ReadError::Memory);

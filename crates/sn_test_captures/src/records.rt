@@ -25,7 +25,7 @@ pub(crate) const LITTLE: Header = Header {
     link: Link::Ethernet,
 };
 
-/// Three records behind a header.
+/// Three records after a header.
 pub(crate) fn three() -> [u8; 234] {
     let mut file = [0; 234];
     file[..24].copy_from_slice(&HEADER);

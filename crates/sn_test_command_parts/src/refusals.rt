@@ -1,4 +1,4 @@
-//! Refusals: their statuses, and the lines that are told of them.
+//! Refusals: their statuses, and the lines that are reported of them.
 use sn_command::fault::{
     Fault, ReportFault, ReportKind, Spent, TextFault, TextKind, TreeFlaw, TreeKind,
 };
@@ -114,7 +114,7 @@ const REPORTS: [(ReportKind, &str); 7] = [
 ];
 
 /// Asks for the status of a refusal, and for its line.
-fn expect_told(
+fn expect_reported(
     rt: &impl Abort,
     alloc: Global,
     refusal: Refusal,
@@ -136,14 +136,16 @@ fn tells_what_no_file_says(rt: HostRuntime) {
     tell(Ok(()), &mut err);
     assert_eq!(rt; err.bytes(), b"".as_slice());
     for (refusal, status, line) in PLAIN {
-        assert!(rt; expect_told(&rt, alloc, refusal, status, line).is_ok());
+        assert!(rt; expect_reported(&rt, alloc, refusal, status, line).is_ok());
     }
 }
 
 #[test]
 fn tells_faults(rt: HostRuntime) {
     for (fault, status, line) in FAULTS {
-        assert!(rt; expect_told(&rt, rt.alloc(), Refusal::Refused(fault), status, line).is_ok());
+        assert!(rt;
+            expect_reported(&rt, rt.alloc(), Refusal::Refused(fault), status, line).is_ok()
+        );
     }
 }
 
@@ -157,7 +159,7 @@ fn tells_flaws_of_trees(rt: HostRuntime) {
             got: 9,
         };
         let refusal = Refusal::Refused(Fault::Unshown(flaw));
-        assert!(rt; expect_told(&rt, rt.alloc(), refusal, 7, line).is_ok());
+        assert!(rt; expect_reported(&rt, rt.alloc(), refusal, 7, line).is_ok());
     }
 }
 
@@ -166,6 +168,6 @@ fn tells_faults_of_reports(rt: HostRuntime) {
     for (kind, line) in REPORTS {
         let fault = ReportFault { kind, at: 48 };
         let refusal = Refusal::Refused(Fault::Reports(fault));
-        assert!(rt; expect_told(&rt, rt.alloc(), refusal, 11, line).is_ok());
+        assert!(rt; expect_reported(&rt, rt.alloc(), refusal, 11, line).is_ok());
     }
 }

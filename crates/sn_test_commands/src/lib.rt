@@ -11,6 +11,5 @@ mod jobs;
 #[cfg(test)]
 mod membership;
 #[cfg(test)]
-mod prices;
 #[cfg(test)]
 mod top;

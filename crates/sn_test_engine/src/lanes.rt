@@ -61,12 +61,12 @@ fn emitter(
 
 /// Frames, and their bytes one after another.
 #[derive(Drop)]
-struct Told {
+struct Reported {
     frames: Seq<Frame<ShortRow>>,
     bytes: Seq<u8>,
 }
 
-impl Told {
+impl Reported {
     /// `Memory` also for a frame over wide rows, which no lane of these tests gives.
     fn push(&mut self, given: Given) -> Result<(), Memory>
         requires { CanEncode given }
@@ -91,26 +91,26 @@ fn window(
     lane: u32,
     tuples: &[Tuple],
     number: u64,
-) -> Result<Told, Memory>
+) -> Result<Reported, Memory>
     requires lane { lane < length emitter.old }
     requires unread { IfSome (slice_get emitter.old lane) (λ s. s.pipe.prefix.place ≡ 0) }
     ensures { length emitter.new ≡ length emitter.old }
 {
-    let mut told = Told {
+    let mut reported = Reported {
         frames: Seq::new(alloc),
         bytes: Seq::new(alloc),
     };
     for tuple in tuples {
         if let Some(frame) = emitter.packet(lane, tuple) {
-            told.push(frame)?;
+            reported.push(frame)?;
         }
     }
     for _ in 0..10 {
         if let Some(frame) = emitter.read_out(lane, number) {
-            told.push(frame)?;
+            reported.push(frame)?;
         }
     }
-    Ok(told)
+    Ok(reported)
 }
 
 /// Begins a window of a lane.
@@ -173,8 +173,8 @@ fn takes_the_free_registers(rt: HostRuntime) {
         let lanes = emitter.lanes();
         assert!(rt; lanes == 1);
         let tuples = [syn(1, 1), syn(1, 2), syn(1, 1), syn(1, 2), syn(1, 3)];
-        let told = window(rt.alloc(), &mut emitter, 0, &tuples, 0).expect(&rt, "ample memory");
-        assert_eq!(rt; told.frames.as_slice(), frames);
+        let reported = window(rt.alloc(), &mut emitter, 0, &tuples, 0).expect(&rt, "ample memory");
+        assert_eq!(rt; reported.frames.as_slice(), frames);
     }
 }
 
@@ -183,11 +183,11 @@ fn writes_a_partial_row(rt: HostRuntime) {
     let mut emitter = emitter(&rt, SPREAD, FIVE, TWO_SLOTS).expect(&rt, "a plan that fits");
     let lanes = emitter.lanes();
     assert!(rt; lanes == 1);
-    let told = window(rt.alloc(), &mut emitter, 0, &[syn(1, 9), syn(2, 9)], 0).expect(
+    let reported = window(rt.alloc(), &mut emitter, 0, &[syn(1, 9), syn(2, 9)], 0).expect(
         &rt,
         "ample memory",
     );
-    assert_eq!(rt; told.bytes.as_slice(), &WIDE[..]);
+    assert_eq!(rt; reported.bytes.as_slice(), &WIDE[..]);
     assert_eq!(rt; emitter.emitted(), 2);
 }
 
@@ -217,8 +217,11 @@ fn admits_nothing_at_first(rt: HostRuntime) {
     let mut emitter = emitter(&rt, REFINED, FIVE, TWO_LEVELS).expect(&rt, "a plan that fits");
     let lanes = emitter.lanes();
     assert!(rt; lanes == 2);
-    let told = window(rt.alloc(), &mut emitter, 1, &[syn(1, 9)], 0).expect(&rt, "ample memory");
-    assert_eq!(rt; told.frames.as_slice(), &[Frame::End(lane(0, 1), 0)][..]);
+    let reported = window(rt.alloc(), &mut emitter, 1, &[syn(1, 9)], 0).expect(&rt, "ample memory");
+    assert_eq!(rt;
+        reported.frames.as_slice(),
+        &[Frame::End(lane(0, 1), 0)][..]
+    );
     assert_eq!(rt; emitter.emitted(), 0);
 }
 
@@ -235,8 +238,8 @@ fn sends_with(rt: &HostRuntime, prefixes: &[u64]) -> Result<bool, Memory> {
         kept.add(u128::from(*prefix))?;
     }
     begin(&mut emitter, 1, kept);
-    let told = window(rt.alloc(), &mut emitter, 1, &[syn(1, 9)], 1)?;
-    Ok(told.frames.as_slice().len() == 2 && emitter.emitted() == 1)
+    let reported = window(rt.alloc(), &mut emitter, 1, &[syn(1, 9)], 1)?;
+    Ok(reported.frames.as_slice().len() == 2 && emitter.emitted() == 1)
 }
 
 #[test]

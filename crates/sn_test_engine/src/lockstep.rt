@@ -23,7 +23,7 @@ struct Sent {
 impl Wire for Sent {
     ghost use Rattle.std.specs.Prelude.{[]};
 
-    ghost told = { λ sent. [] };
+    ghost reported = { λ sent. [] };
 
     ghost word = { λ frame. [] };
 

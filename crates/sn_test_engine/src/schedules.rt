@@ -31,15 +31,15 @@ fn go_on(
         return Ok(None);
     }
     let notes = advance(alloc, net, draws, next)?;
-    Ok(told(notes.up_to_answers()))
+    Ok(reported(notes.up_to_answers()))
 }
 
 /// The answers among notes.
-fn told(notes: Seq<Note>) -> Option<Answers> {
+fn reported(notes: Seq<Note>) -> Option<Answers> {
     let mut notes = notes;
     for _ in 0..1000 {
         match notes.pop() {
-            Some(Note::Told(answers)) => return Some(answers),
+            Some(Note::Reported(answers)) => return Some(answers),
             Some(Note::Happened(_)) => (),
             None => return None,
         }

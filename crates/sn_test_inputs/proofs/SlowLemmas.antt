@@ -23,9 +23,9 @@ reads_front file old mid part new at n most mid_is new_is fits some within r =
     back (inl past) = inl past
     back (inr empty) = inr (let e : length mid ≡ min most (length old) = ap length mid_is ∙ length-take most old in omega arith)
 
-pub slow_reads : (r : Result ℕ InputFault) (told : Option (List ℕ)) (old mid part new : List ℕ) (at most : ℕ) → mid ≡ take most old → new ≡ part ++ drop most old → most ≤ length old → (most ≡ 0 → length old ≡ 0)
-    → IfOk r (λ n. n ≤ length mid) → IfOk r (λ n. IfSome told (λ file. Reads file at n mid part)) → IfOk r (λ n. IfSome told (λ file. Reads file at n old new))
-slow_reads (Err fault) told old mid part new at most mid_is new_is fits some within reads = tt
+pub slow_reads : (r : Result ℕ InputFault) (reported : Option (List ℕ)) (old mid part new : List ℕ) (at most : ℕ) → mid ≡ take most old → new ≡ part ++ drop most old → most ≤ length old → (most ≡ 0 → length old ≡ 0)
+    → IfOk r (λ n. n ≤ length mid) → IfOk r (λ n. IfSome reported (λ file. Reads file at n mid part)) → IfOk r (λ n. IfSome reported (λ file. Reads file at n old new))
+slow_reads (Err fault) reported old mid part new at most mid_is new_is fits some within reads = tt
 slow_reads (Ok n) None old mid part new at most mid_is new_is fits some within reads = tt
 slow_reads (Ok n) (Some file) old mid part new at most mid_is new_is fits some within reads =
     reads_front file old mid part new at n most mid_is new_is fits some (let e : length mid ≡ min most (length old) = ap length mid_is ∙ length-take most old in omega arith) reads

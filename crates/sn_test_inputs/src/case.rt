@@ -1,11 +1,11 @@
 //! A case of a table: what a command is given, and what it is to write.
 //!
-//! A line that begins with one of these says what comes behind it, and each other line is of the text that the table is of:
+//! A line that begins with one of these says what comes after it, and each other line is of the text that the table is of:
 //! - `= `: a line that is wanted, of the text that is written and then of the line on the status;
 //! - `words: `: the command's words, whose files are `q`, `s`, `p`, `c`, `t` and `r`; else they follow from the files;
 //! - `switch: `, `plan: `: a line of a switch text or of a plan text;
 //! - `header: `, `link: `: the capture's header, or its link type, in hexadecimal digits;
-//! - `record: `: bytes behind the header; `frame: `: a record with these bytes, at one second;
+//! - `record: `: bytes after the header; `frame: `: a record with these bytes, at one second;
 //! - `syn: `: records of SYNs, each by its microseconds after one second, s and d of 10.0.0.s and 10.0.0.d, and its length;
 //! - `six: `: records of SYNs over IPv6, each by its microseconds after one second, s, d and n of 2001:db8::s and
 //!   2001:db8:0:n::d;

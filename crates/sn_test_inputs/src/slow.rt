@@ -2,7 +2,7 @@
 ghost use Rattle.std.specs.Prelude.{◌≡◌, ◌≤◌, ◌⊎◌, Some, length, min, IfOk, OnErr, IfSome};
 ghost use Rattle.std.specs.FinMap.{get};
 ghost use Rattle.sn_io.specs.Inputs.{Reads};
-ghost use Rattle.sn_io.specs.MemInputs.{held_by, faults_of, told_known, read_answer, after_read};
+ghost use Rattle.sn_io.specs.MemInputs.{held_by, faults_of, reported_known, read_answer, after_read};
 
 use sn_io::inputs::{InputFault, Inputs};
 use sn_io::mem_inputs::MemInputs;
@@ -16,11 +16,11 @@ pub struct Slow {
 }
 
 impl Inputs for Slow {
-    ghost told = { λ s. Some (held_by s.files.files) };
+    ghost reported = { λ s. Some (held_by s.files.files) };
 
     ghost faults = { λ s. faults_of s.files.files };
 
-    ghost same_names = { λ s files name e. told_known s.files files name e };
+    ghost same_names = { λ s files name e. reported_known s.files files name e };
 
     fn read_at(&mut self, name: &str, at: u64, into: &mut [u8]) -> Result<usize, InputFault> {
         let most = self.most.min(into.len());

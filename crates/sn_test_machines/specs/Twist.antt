@@ -32,7 +32,7 @@ shorter part = record { query = part.query; level = part.level; rows = all_but_l
 abbrev pub twisted : Answers → Answers
 twisted answers = record { window = answers.window; emitted = answers.emitted; parts = change_last shorter answers.parts }
 
--- ---- this may be told
+-- ---- this may be reported
 
 abbrev gt : Row → Row → Bool
 gt x y = is_gt (slice_cmp nat_cmp x y)

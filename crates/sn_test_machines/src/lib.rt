@@ -2,5 +2,5 @@
 #![tactic(auto)]
 
 #[cfg(test)]
-mod told;
+mod reported;
 pub mod twist;

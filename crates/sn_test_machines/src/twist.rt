@@ -30,7 +30,7 @@ fn shorten_last(parts: &mut Vec<Part>)
     }
 }
 
-fn told(answers: Answers) -> Answers
+fn reported(answers: Answers) -> Answers
     ensures { result ≡ twisted answers }
 {
     let mut parts = answers.parts.into_vec();
@@ -51,7 +51,7 @@ impl Machine for Twist {
 
     ghost state = { λ a. state a.net };
 
-    ghost told = { twisted };
+    ghost reported = { twisted };
 
     fn make(t: &Typed, s: &Switch, plan: &Plan, room: u32) -> Result<Twist, Memory> {
         let net = Net::make(t, s, plan, room)?;
@@ -84,7 +84,7 @@ impl Machine for Twist {
 
     fn take_answers(&mut self) -> Option<Answers> {
         match self.net.take_answers() {
-            Some(answers) => Some(told(answers)),
+            Some(answers) => Some(reported(answers)),
             None => None,
         }
     }

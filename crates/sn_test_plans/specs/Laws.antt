@@ -8,7 +8,7 @@ use Rattle.sn_tree_space.proofs.Reading.{space_laws}
 use Rattle.sn_test_plans.specs.declared.two_queries.Turn.{Turn}
 use Rattle.sn_test_plans.specs.declared.two_queries.Turn.TheVariants.{FirstPath, FirstOption, FirstStage, SecondPath, SecondOption, SecondStage, Nothing}
 use Rattle.sn_test_plans.specs.declared.two_queries.State.{State}
-use Rattle.sn_test_plans.specs.TwoQueries.{turn_behind, first_behind, second_behind, next, lower, is_bad, reader, two_queries}
+use Rattle.sn_test_plans.specs.TwoQueries.{turn_after, first_after, second_after, next, lower, is_bad, reader, two_queries}
 
 -- how many choices come before
 abbrev number : Turn → ℕ
@@ -23,7 +23,7 @@ number Nothing = 6
 abbrev Holds : State → ℕ → Type 0
 Holds s n = n ≤ number s.turn
 
-keeps : (turn : Turn) (last : Bool) (n x : ℕ) → n ≤ number turn → MayFollow (next turn) x → n + 1 ≤ number (turn_behind turn last)
+keeps : (turn : Turn) (last : Bool) (n x : ℕ) → n ≤ number turn → MayFollow (next turn) x → n + 1 ≤ number (turn_after turn last)
 keeps FirstPath last n x h m = omega arith
 keeps FirstOption true n x h m = omega arith
 keeps FirstOption false n x h m = omega arith
@@ -44,7 +44,7 @@ ends SecondStage n h e = absurd (omega arith)
 ends Nothing n h e = refl
 
 rises : (turn : Turn) (last first second : Bool) (x : ℕ) → MayFollow (next turn) x
-    → lower turn first second ≤ lower (turn_behind turn last) (first_behind turn last first) (second_behind turn last second)
+    → lower turn first second ≤ lower (turn_after turn last) (first_after turn last first) (second_after turn last second)
 rises FirstPath last first second x m = omega arith
 rises FirstOption true first second x m = omega arith
 rises FirstOption false first second x m = omega arith
@@ -56,7 +56,7 @@ rises SecondStage last first second x m = omega arith
 rises Nothing last first second x m = absurd m
 
 stays_bad : (turn : Turn) (last first second : Bool) (x : ℕ) → MayFollow (next turn) x → is_bad turn first second ≡ true
-    → is_bad (turn_behind turn last) (first_behind turn last first) (second_behind turn last second) ≡ true
+    → is_bad (turn_after turn last) (first_after turn last first) (second_after turn last second) ≡ true
 stays_bad FirstPath last first second x m b = absurd cc
 stays_bad FirstOption last first second x m b = absurd cc
 stays_bad FirstStage last first second x m b = absurd cc

@@ -8,28 +8,28 @@ use Rattle.sn_test_plans.specs.declared.two_queries.Turn.{Turn}
 use Rattle.sn_test_plans.specs.declared.two_queries.Turn.TheVariants.{FirstPath, FirstOption, FirstStage, SecondPath, SecondOption, SecondStage, Nothing}
 use Rattle.sn_test_plans.specs.declared.two_queries.State.{State}
 
--- what is chosen behind a choice, by whether that was the last option
-abbrev pub turn_behind : Turn → Bool → Turn
-turn_behind FirstPath last = FirstOption
-turn_behind FirstOption true = FirstStage
-turn_behind FirstOption false = SecondPath
-turn_behind FirstStage last = SecondPath
-turn_behind SecondPath last = SecondOption
-turn_behind SecondOption true = SecondStage
-turn_behind SecondOption false = Nothing
-turn_behind SecondStage last = Nothing
-turn_behind Nothing last = Nothing
+-- what is chosen after a choice, by whether that was the last option
+abbrev pub turn_after : Turn → Bool → Turn
+turn_after FirstPath last = FirstOption
+turn_after FirstOption true = FirstStage
+turn_after FirstOption false = SecondPath
+turn_after FirstStage last = SecondPath
+turn_after SecondPath last = SecondOption
+turn_after SecondOption true = SecondStage
+turn_after SecondOption false = Nothing
+turn_after SecondStage last = Nothing
+turn_after Nothing last = Nothing
 
-abbrev pub first_behind : Turn → Bool → Bool → Bool
-first_behind FirstOption last first = last
-first_behind _ last first = first
+abbrev pub first_after : Turn → Bool → Bool → Bool
+first_after FirstOption last first = last
+first_after _ last first = first
 
-abbrev pub second_behind : Turn → Bool → Bool → Bool
-second_behind SecondOption last second = last
-second_behind _ last second = second
+abbrev pub second_after : Turn → Bool → Bool → Bool
+second_after SecondOption last second = last
+second_after _ last second = second
 
 abbrev pub after : State → ℕ → State
-after s x = record { turn = turn_behind s.turn (x == 2); first = first_behind s.turn (x == 2) s.first; second = second_behind s.turn (x == 2) s.second }
+after s x = record { turn = turn_after s.turn (x == 2); first = first_after s.turn (x == 2) s.first; second = second_after s.turn (x == 2) s.second }
 
 abbrev pub next : Turn → Follow
 next FirstPath = Choices 0 1

@@ -20,8 +20,8 @@ fn fault(rt: &HostRuntime, cost: u64, tree: &[Node]) -> Option<TreeFault> {
     check_tree(rt.alloc(), &TwoQueries, &plan(), cost, tree).err()
 }
 
-/// The fault of a tree that ends so, behind the nodes before the plan's.
-fn fault_behind(rt: &HostRuntime, cost: u64, back: &[Node]) -> Option<TreeFault> {
+/// The fault of a tree that ends so, after the nodes before the plan's.
+fn fault_after(rt: &HostRuntime, cost: u64, back: &[Node]) -> Option<TreeFault> {
     let mut tree = Vec::new(rt.alloc());
     if tree.extend_from_slice(&FRONT).is_err() || tree.extend_from_slice(back).is_err() {
         return Some(TreeFault::Memory);
@@ -32,12 +32,12 @@ fn fault_behind(rt: &HostRuntime, cost: u64, back: &[Node]) -> Option<TreeFault>
 #[test]
 fn accepts_the_tree_of_the_plan(rt: HostRuntime) {
     let back = [Chosen(6), Bound(6), Expand(4), Broken];
-    assert_eq!(rt; fault_behind(&rt, 6, &back), None);
+    assert_eq!(rt; fault_after(&rt, 6, &back), None);
 }
 
 #[test]
 fn accepts_other_trees_that_cover_all(rt: HostRuntime) {
-    // The options of the second query behind the first option of the first one, where a bound would do.
+    // The options of the second query after the first option of the first one, where a bound would do.
     let tree = [
         Expand(4),
         Expand(4),
@@ -66,7 +66,7 @@ fn looks_at_the_cost_first(rt: HostRuntime) {
         got: 7,
     };
     let back = [Chosen(6), Bound(6), Expand(4), Broken];
-    assert_eq!(rt; fault_behind(&rt, 7, &back), Some(want));
+    assert_eq!(rt; fault_after(&rt, 7, &back), Some(want));
     assert_eq!(rt; fault(&rt, 7, &[]), Some(want));
 }
 
@@ -78,10 +78,10 @@ fn names_a_wrong_bound(rt: HostRuntime) {
     // A bound that is right and below the cost.
     assert_eq!(rt; fault(&rt, 6, &[Expand(4), Bound(4)]), wrong(1, 6, 4));
     // The plan's node with another cost.
-    assert_eq!(rt; fault_behind(&rt, 6, &[Chosen(7)]), wrong(7, 6, 7));
+    assert_eq!(rt; fault_after(&rt, 6, &[Chosen(7)]), wrong(7, 6, 7));
     // A list that is broken, with its bound.
     let back = [Chosen(6), Bound(6), Expand(4), Bound(4)];
-    assert_eq!(rt; fault_behind(&rt, 6, &back), wrong(10, 6, 4));
+    assert_eq!(rt; fault_after(&rt, 6, &back), wrong(10, 6, 4));
 }
 
 #[test]
@@ -96,12 +96,12 @@ fn names_a_node_out_of_place(rt: HostRuntime) {
     assert_eq!(rt; fault(&rt, 6, &[]), misplaced(0));
     // The last child is missing.
     let back = [Chosen(6), Bound(6), Expand(4)];
-    assert_eq!(rt; fault_behind(&rt, 6, &back), misplaced(10));
+    assert_eq!(rt; fault_after(&rt, 6, &back), misplaced(10));
     // One node too many.
     let back = [Chosen(6), Bound(6), Expand(4), Broken, Broken];
-    assert_eq!(rt; fault_behind(&rt, 6, &back), misplaced(11));
+    assert_eq!(rt; fault_after(&rt, 6, &back), misplaced(11));
     // The plan is expanded.
-    assert_eq!(rt; fault_behind(&rt, 6, &[Expand(6)]), misplaced(7));
+    assert_eq!(rt; fault_after(&rt, 6, &[Expand(6)]), misplaced(7));
     // The plan's node stands elsewhere.
     assert_eq!(rt; fault(&rt, 6, &[Expand(4), Chosen(6)]), misplaced(1));
 }
@@ -114,7 +114,7 @@ fn names_a_list_that_is_not_broken(rt: HostRuntime) {
         got: 0,
     };
     assert_eq!(rt;
-        fault_behind(&rt, 6, &[Chosen(6), Bound(6), Broken]),
+        fault_after(&rt, 6, &[Chosen(6), Bound(6), Broken]),
         Some(want)
     );
 }
@@ -127,5 +127,5 @@ fn names_a_tree_without_the_plan(rt: HostRuntime) {
         got: 0,
     };
     let back = [Bound(6), Bound(6), Expand(4), Broken];
-    assert_eq!(rt; fault_behind(&rt, 6, &back), Some(want));
+    assert_eq!(rt; fault_after(&rt, 6, &back), Some(want));
 }

@@ -43,34 +43,34 @@ fn table(t: &Typed, s: &Switch, counts: &[Count]) -> Option<CostTable>
 
 /// The choices of a plan, the text of the plan that they name, and the plan's cost.
 #[derive(Drop)]
-struct Told {
+struct Reported {
     choices: Seq<u32>,
     text: Seq<u8>,
     cost: u64,
 }
 
-fn tell(t: &Typed, s: &Switch, plan: &Plan, counts: &[Count]) -> Option<Told>
+fn tell(t: &Typed, s: &Switch, plan: &Plan, counts: &[Count]) -> Option<Reported>
     requires switch { IsSwitch s.now }
     requires fits { Fits t.now.queries s.now plan.now.entries }
 {
     let table = table(t, s, counts)?;
     let choices = choices_of(t, s, plan).ok()?;
     let named = plan_of(t, s, choices.as_slice()).ok()?;
-    Some(Told {
+    Some(Reported {
         choices,
         text: print(t.alloc, &named).ok()?,
         cost: cost_of(t, s, &table, plan),
     })
 }
 
-/// What is told of these texts. `None` where one of them isn't read, or the plan doesn't fit.
+/// What is reported of these texts. `None` where one of them isn't read, or the plan doesn't fit.
 fn answer(
     rt: &HostRuntime,
     queries_text: &[u8],
     switch_text: &[u8],
     plan_text: &[u8],
     counts: &[Count],
-) -> Option<Told> {
+) -> Option<Reported> {
     let typed = queries(rt.alloc(), queries_text)?;
     let switch = switch(rt.alloc(), switch_text)?;
     let plan = plan(rt.alloc(), plan_text)?;
@@ -90,7 +90,8 @@ fn names(
 ) -> bool {
     match answer(rt, queries_text, switch_text, plan_text, &[]) {
         None => false,
-        Some(told) => told.choices.as_slice() == want && told.text.as_slice() == plan_text,
+        Some(reported) => reported.choices.as_slice() == want
+            && reported.text.as_slice() == plan_text,
     }
 }
 
@@ -106,10 +107,10 @@ fn chooses_for_two_queries(rt: HostRuntime) {
         (1, 1, 1, 5),
         (1, 1, 2, 3),
     ];
-    let told = answer(&rt, TWO, NARROW, text, &counts).expect(&rt, "a plan that fits");
-    assert_eq!(rt; told.choices.as_slice(), [0, 2, 1, 0, 0].as_slice());
-    assert_eq!(rt; told.text.as_slice(), text.as_slice());
-    assert_eq!(rt; told.cost, 6);
+    let reported = answer(&rt, TWO, NARROW, text, &counts).expect(&rt, "a plan that fits");
+    assert_eq!(rt; reported.choices.as_slice(), [0, 2, 1, 0, 0].as_slice());
+    assert_eq!(rt; reported.text.as_slice(), text.as_slice());
+    assert_eq!(rt; reported.cost, 6);
 }
 
 #[test]
@@ -143,15 +144,15 @@ fn chooses_levels(rt: HostRuntime) {
     ];
     let both =
         b"plan\nquery q path 8, 32;\npiece 8 0 cut 2 slots 1 stages 1;\npiece 32 0 cut 2 slots 1 stages 2;\n";
-    let told = answer(&rt, REFINED, FIVE, both, &counts).expect(&rt, "a plan that fits");
-    assert_eq!(rt; told.choices.as_slice(), [1, 2, 1, 2, 2].as_slice());
-    assert_eq!(rt; told.text.as_slice(), both.as_slice());
-    assert_eq!(rt; told.cost, 3);
+    let reported = answer(&rt, REFINED, FIVE, both, &counts).expect(&rt, "a plan that fits");
+    assert_eq!(rt; reported.choices.as_slice(), [1, 2, 1, 2, 2].as_slice());
+    assert_eq!(rt; reported.text.as_slice(), both.as_slice());
+    assert_eq!(rt; reported.cost, 3);
     let finest = b"plan\nquery q path 32;\npiece 32 0 cut 0;\n";
-    let told = answer(&rt, REFINED, FIVE, finest, &counts).expect(&rt, "a plan that fits");
-    assert_eq!(rt; told.choices.as_slice(), [0, 0].as_slice());
-    assert_eq!(rt; told.text.as_slice(), finest.as_slice());
-    assert_eq!(rt; told.cost, 4);
+    let reported = answer(&rt, REFINED, FIVE, finest, &counts).expect(&rt, "a plan that fits");
+    assert_eq!(rt; reported.choices.as_slice(), [0, 0].as_slice());
+    assert_eq!(rt; reported.text.as_slice(), finest.as_slice());
+    assert_eq!(rt; reported.cost, 4);
 }
 
 #[test]

@@ -173,7 +173,7 @@ fn filters_what_is_held_beside_an_overflow(rt: HostRuntime) {
     assert_eq!(rt; found.as_slice(), [3, 3, 3, 2].as_slice());
 }
 
-/// Of two slots a row's is told by the last bits of its bytes: the two rows want two at the distinct, and one at the reduce.
+/// Of two slots a row's is reported by the last bits of its bytes: the two rows want two at the distinct, and one at the reduce.
 #[test]
 fn counts_each_size_of_two(rt: HostRuntime) {
     let tuples = [syn(1, 9), syn(2, 11)];

@@ -45,7 +45,7 @@ fn has_an_option_for_each_cut_and_size(rt: HostRuntime) {
 #[test]
 fn has_the_sizes_of_an_option_in_order(rt: HostRuntime) {
     let alloc = rt.alloc();
-    // Two cuts without state, two behind the distinct, and two behind the reduce.
+    // Two cuts without state, two after the distinct, and two after the reduce.
     assert_eq!(rt; count(alloc, DEEP, SIZES), Some(14));
     assert_eq!(rt; option(alloc, DEEP, SIZES, 1), setting(1, 0, 0, 0));
     assert_eq!(rt; option(alloc, DEEP, SIZES, 2), setting(2, 1, 16, 0));

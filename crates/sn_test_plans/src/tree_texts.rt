@@ -114,7 +114,7 @@ fn checks_a_tree_in_its_text(rt: HostRuntime) {
 fn reads_other_layouts(rt: HostRuntime) {
     for text in [
         b"cost 6;tree P 6 done".as_slice(),
-        b"# front\n cost 0x6 ; tree # a comment\r\n\tP 006 done # behind it",
+        b"# front\n cost 0x6 ; tree # a comment\r\n\tP 006 done # after it",
         b"cost 6;\ntree\nP 6\ndone\n#",
     ] {
         match parse(text, 0) {

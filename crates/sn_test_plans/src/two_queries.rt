@@ -2,7 +2,7 @@
 ghost use Rattle.std.specs.Prelude.{◌≡◌};
 ghost use Rattle.sn_tree_space.specs.Readers.{read};
 ghost use Rattle.sn_tree_space.specs.Space.{IsPlan};
-ghost use Rattle.sn_test_plans.specs.TwoQueries.{turn_behind, first_behind, second_behind, after, next, lower, is_bad, reader, two_queries};
+ghost use Rattle.sn_test_plans.specs.TwoQueries.{turn_after, first_after, second_after, after, next, lower, is_bad, reader, two_queries};
 ghost use Rattle.sn_test_plans.specs.Laws.{two_queries_laws};
 
 use sn_tree_space::follow::Follow;
@@ -38,9 +38,9 @@ pub struct State {
 #[derive(Clone, Copy)]
 pub struct TwoQueries;
 
-/// What is chosen behind a choice, by whether that was the last option.
-fn turn_behind(turn: Turn, last: bool) -> Turn
-    ensures { result ≡ turn_behind turn last }
+/// What is chosen after a choice, by whether that was the last option.
+fn turn_after(turn: Turn, last: bool) -> Turn
+    ensures { result ≡ turn_after turn last }
 {
     match turn {
         Turn::FirstPath => Turn::FirstOption,
@@ -64,8 +64,8 @@ fn turn_behind(turn: Turn, last: bool) -> Turn
     }
 }
 
-fn first_behind(turn: Turn, last: bool, first: bool) -> bool
-    ensures { result ≡ first_behind turn last first }
+fn first_after(turn: Turn, last: bool, first: bool) -> bool
+    ensures { result ≡ first_after turn last first }
 {
     match turn {
         Turn::FirstOption => last,
@@ -73,8 +73,8 @@ fn first_behind(turn: Turn, last: bool, first: bool) -> bool
     }
 }
 
-fn second_behind(turn: Turn, last: bool, second: bool) -> bool
-    ensures { result ≡ second_behind turn last second }
+fn second_after(turn: Turn, last: bool, second: bool) -> bool
+    ensures { result ≡ second_after turn last second }
 {
     match turn {
         Turn::SecondOption => last,
@@ -82,15 +82,15 @@ fn second_behind(turn: Turn, last: bool, second: bool) -> bool
     }
 }
 
-/// Behind one more choice.
+/// After one more choice.
 fn after(state: State, choice: u32) -> State
     ensures { result ≡ after state choice }
 {
     let last = choice == 2;
     State {
-        turn: turn_behind(state.turn, last),
-        first: first_behind(state.turn, last, state.first),
-        second: second_behind(state.turn, last, state.second),
+        turn: turn_after(state.turn, last),
+        first: first_after(state.turn, last, state.first),
+        second: second_after(state.turn, last, state.second),
     }
 }
 

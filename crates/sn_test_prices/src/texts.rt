@@ -71,7 +71,7 @@ fn prints_prices(rt: HostRuntime) {
 fn reads_other_layouts(rt: HostRuntime) {
     for text in [
         b"cost 6;prices 1;least 6;done".as_slice(),
-        b"# front\n cost 0x6 ; prices 001 ; # a comment\r\n\tleast 6 ; done # behind it",
+        b"# front\n cost 0x6 ; prices 001 ; # a comment\r\n\tleast 6 ; done # after it",
         b"cost 6;\nprices 1;\nleast 6;\ndone\n#",
     ] {
         match read(&rt, text, 0) {

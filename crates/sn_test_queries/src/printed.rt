@@ -1,4 +1,4 @@
-//! Texts as they are printed again: query texts, and plan texts behind `plan: `.
+//! Texts as they are printed again: query texts, and plan texts after `plan: `.
 use sn_base::seq::Seq;
 use sn_query::parse::parse;
 use sn_query::print::print;

@@ -15,7 +15,7 @@
 //! ```
 //!
 //! The form says what the cases leave out (`table`), and the lines are those of `sn_test_inputs::case`: what the command is given, and
-//! behind `= ` the lines that are wanted of its text and then of the line on its status, from which the status follows. In a case a
+//! after `= ` the lines that are wanted of its text and then of the line on its status, from which the status follows. In a case a
 //! backslash and two hexadecimal digits are a byte, so that no file has bytes that are not seen.
 #![tactic(auto)]
 

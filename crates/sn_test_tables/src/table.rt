@@ -14,15 +14,15 @@ use std::test::Fail;
 pub enum Form {
     /// Nothing: the query text and the answers are whole.
     Whole,
-    /// The query text is the body of one query, on line 2, behind a window of a second.
+    /// The query text is the body of one query, on line 2, after a window of a second.
     Body,
-    /// So is it, and of the answers the rows alone are told, which are those of one window.
+    /// So is it, and of the answers the rows alone are reported, which are those of one window.
     Rows,
     /// The text is that of a switch, on which a query runs uncut.
     Switch,
     /// The text is a plan of counts by destination, on a small switch.
     Plan,
-    /// The text is a plan of two counts on a narrow switch, with a cost and a tree behind it, and is checked.
+    /// The text is a plan of two counts on a narrow switch, with a cost and a tree after it, and is checked.
     Tree,
 }
 
@@ -140,13 +140,15 @@ fn files_of(alloc: Global, form: Form, case: &Case) -> Result<MemInputs, Fail> {
 
 /// The text that is wanted.
 fn wanted_of(alloc: Global, form: Form, case: &Case) -> Result<String, Fail> {
-    let told = case.wanted.as_str();
+    let reported = case.wanted.as_str();
     Ok(match form {
         Form::Rows => {
-            let count = told.lines().count();
-            format!(in alloc; "window 0\nquery q level 0 rows {count}\n{told}total windows 1\n")?
+            let count = reported.lines().count();
+            format!(in alloc;
+                "window 0\nquery q level 0 rows {count}\n{reported}total windows 1\n"
+            )?
         }
-        _ => String::from_str(alloc, told)?,
+        _ => String::from_str(alloc, reported)?,
     })
 }
 
@@ -189,18 +191,18 @@ fn run(alloc: Global, form: Form, case: &Case) -> Result<(Vec<u8>, u8), Fail> {
     let status = top::<Net, MemInputs, MemSink, MemSink>(
         alloc, &words, &mut files, &mut out, &mut err,
     );
-    let mut told = Vec::from_slice(alloc, out.bytes())?;
-    told.extend_from_slice(err.bytes())?;
-    Ok((told, status))
+    let mut reported = Vec::from_slice(alloc, out.bytes())?;
+    reported.extend_from_slice(err.bytes())?;
+    Ok((reported, status))
 }
 
 /// Tells the first line that came otherwise than is wanted, unless there is none.
-fn other_line(alloc: Global, told: &str, wanted: &str) -> Result<Option<String>, Fail> {
-    if told == wanted {
+fn other_line(alloc: Global, reported: &str, wanted: &str) -> Result<Option<String>, Fail> {
+    if reported == wanted {
         return Ok(None);
     }
     let mut rest = wanted.lines();
-    for line in told.lines() {
+    for line in reported.lines() {
         let next = rest.next().unwrap_or("nothing");
         if line != next {
             return Ok(Some(format!(in alloc; "wanted {next}, came {line}")?));
@@ -214,9 +216,9 @@ fn other_line(alloc: Global, told: &str, wanted: &str) -> Result<Option<String>,
 pub fn difference(alloc: Global, form: Form, lines: &str) -> Result<Option<String>, Fail> {
     let case = Case::read(alloc, lines)?;
     let wanted = wanted_of(alloc, form, &case)?;
-    let (told, status) = run(alloc, form, &case)?;
-    let told = String::from_utf8(told)?;
-    let line = other_line(alloc, told.as_str(), wanted.as_str())?;
+    let (reported, status) = run(alloc, form, &case)?;
+    let reported = String::from_utf8(reported)?;
+    let line = other_line(alloc, reported.as_str(), wanted.as_str())?;
     let wanted = status_of(wanted.as_str());
     if line.is_some() || status == wanted {
         return Ok(line);

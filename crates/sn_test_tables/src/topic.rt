@@ -15,10 +15,10 @@ pub struct Topic<'a> {
     differing: u64,
 }
 
-/// Adds what stands behind a backslash: two hexadecimal digits, which tell a byte, and text.
+/// Adds what stands after a backslash: two hexadecimal digits, which tell a byte, and text.
 fn push_escaped(into: &mut Vec<u8>, piece: &str) -> Result<(), Fail> {
     let [high, low, rest @ ..] = piece.as_bytes() else {
-        return Err(Fail::new("two hexadecimal digits stand behind each backslash"));
+        return Err(Fail::new("two hexadecimal digits stand after each backslash"));
     };
     push_hex(into, str::from_utf8(&[*high, *low])?)?;
     into.extend_from_slice(rest)?;

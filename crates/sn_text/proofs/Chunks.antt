@@ -6,7 +6,7 @@ use Rattle.sn_text_rules.specs.Tokens.{Lexeme, symbol, finish, Tok, faces, mark_
 use Rattle.sn_text_rules.specs.Rules.{Rule, kept, Accepts}
 use Rattle.sn_text_rules.proofs.Common.{spelled_faces}
 use Rattle.sn_text_rules.proofs.Laws.{Good}
-use Rattle.sn_text.specs.Cutting.{lexeme_at, Place, gap, behind, skip_from, skip, tok_at, after_at, is_last, tokens, tokens_of}
+use Rattle.sn_text.specs.Cutting.{lexeme_at, Place, gap, following, skip_from, skip, tok_at, after_at, is_last, tokens, tokens_of}
 use Rattle.sn_text.proofs.Next.{tokens_next}
 use Rattle.sn_text.specs.Writing.{lexeme_text}
 use Rattle.sn_text.proofs.Symbols.{HeadOk, open_read}
@@ -26,7 +26,7 @@ blank_goes b (inr e) = ap (gap false) e
 skip_gap : (g rest : List ℕ) (p : Place) → p.rest ≡ g ++ rest → Blank g → (q : Place) × (q.rest ≡ rest) × (skip_from (g ++ rest) false p ≡ skip_from rest false q)
 skip_gap [] rest p e h = (p, e, refl)
 skip_gap (b ∷ g) rest p e h =
-    let k = skip_gap g rest (behind b p (g ++ rest)) refl h.1 in
+    let k = skip_gap g rest (following b p (g ++ rest)) refl h.1 in
     (k.0, k.1, rw (blank_goes b h.0) k.2)
 
 stopped : (b : ℕ) (t : List ℕ) (q : Place) → gap false b ≡ None → skip_from (b ∷ t) false q ≡ q

@@ -3,7 +3,7 @@ use Rattle.std.proofs.Common.{◌≡◌, ℕ, zero, suc, ◌+◌, ◌*◌, ◌^�
 use Rattle.std.specs.Prelude.{nat_le, nat_lt, ◌==◌, ◌&&◌, ◌||◌}
 use Rattle.std.proofs.lemmas.Bool.{ltb-true, leb-true}
 use Rattle.sn_text_rules.specs.Tokens.{Lexeme, word, Tok, faces}
-use Rattle.sn_text.specs.Cutting.{is_digit, is_name_start, is_word_byte, run, digit, with_digit, or_none, digits_behind, digits, part_of, part, dot_part, address, has_dot, is_hex, number_of, number_lexeme, long_symbol, short_symbol, short_lexeme, long_lexeme, symbol_at, lexeme_at, Place, skip, tok_at, after_at, is_last, tokens}
+use Rattle.sn_text.specs.Cutting.{is_digit, is_name_start, is_word_byte, run, digit, with_digit, or_none, digits_after, digits, part_of, part, dot_part, address, has_dot, is_hex, number_of, number_lexeme, long_symbol, short_symbol, short_lexeme, long_lexeme, symbol_at, lexeme_at, Place, skip, tok_at, after_at, is_last, tokens}
 use Rattle.sn_text.proofs.Next.{or_first, tokens_next}
 use Rattle.sn_text.proofs.Lexemes.{AllWord, Fine, AllFine}
 
@@ -23,11 +23,11 @@ with_bound base n (Some d) m e =
     let k = tested (nat_lt (n * base + d) (2 ^ 64)) (n * base + d) m e in
     subst (λ (x : ℕ). x < 2 ^ 64) k.1 (ltb-true (n * base + d) (2 ^ 64) k.0)
 
-behind_bound : (base n : ℕ) (cs : List ℕ) (m : ℕ) → n < 2 ^ 64 → digits_behind base n cs ≡ Some m → m < 2 ^ 64
-behind_bound base n [] m h e = let k : n ≡ m = cc in subst (λ (x : ℕ). x < 2 ^ 64) k h
-behind_bound base n (c ∷ cs) m h e =
-    let k = some_of (with_digit base n (digit base c)) (λ x. digits_behind base x cs) m e in
-    behind_bound base k.0 cs m (with_bound base n (digit base c) k.0 k.1) k.2
+after_bound : (base n : ℕ) (cs : List ℕ) (m : ℕ) → n < 2 ^ 64 → digits_after base n cs ≡ Some m → m < 2 ^ 64
+after_bound base n [] m h e = let k : n ≡ m = cc in subst (λ (x : ℕ). x < 2 ^ 64) k h
+after_bound base n (c ∷ cs) m h e =
+    let k = some_of (with_digit base n (digit base c)) (λ x. digits_after base x cs) m e in
+    after_bound base k.0 cs m (with_bound base n (digit base c) k.0 k.1) k.2
 
 abbrev some_number : ℕ → Option ℕ
 some_number n = Some n
@@ -37,7 +37,7 @@ not_none true o m e = absurd cc
 not_none false o m e = e
 
 digits_bound : (base : ℕ) (w : List ℕ) (m : ℕ) → digits base w ≡ Some m → m < 2 ^ 64
-digits_bound base w m e = behind_bound base 0 w m (omega arith) (not_none (length w == 0) (digits_behind base 0 w) m e)
+digits_bound base w m e = after_bound base 0 w m (omega arith) (not_none (length w == 0) (digits_after base 0 w) m e)
 
 abbrev Part : Type 0
 Part = ℕ × List ℕ

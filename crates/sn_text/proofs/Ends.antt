@@ -3,7 +3,7 @@ use Rattle.std.proofs.Common.{◌≡◌, ℕ, ◌+◌, ◌≤◌, suc, Bool, tru
 use Rattle.sn_text_rules.specs.Tokens.{Lexeme, word, finish, is_last, Tok}
 use Rattle.sn_text_rules.proofs.Common.{either_way}
 use Rattle.sn_text_rules.proofs.Bounded.{Ended}
-use Rattle.sn_text.specs.Cutting.{is_digit, is_name_start, is_word_byte, run, number_lexeme, number_of, long_symbol, short_symbol, short_lexeme, long_lexeme, symbol_at, lexeme_at, Place, gap, behind, when_gap, skip_from, skip, tok_at, after_at, tokens, tokens_of}
+use Rattle.sn_text.specs.Cutting.{is_digit, is_name_start, is_word_byte, run, number_lexeme, number_of, long_symbol, short_symbol, short_lexeme, long_lexeme, symbol_at, lexeme_at, Place, gap, following, when_gap, skip_from, skip, tok_at, after_at, tokens, tokens_of}
 use Rattle.sn_text.proofs.Next.{tokens_next}
 
 pub head : (a b : Tok) (xs ys : List Tok) → a ∷ xs ≡ b ∷ ys → a ≡ b
@@ -32,13 +32,13 @@ tokens_ended text = ended_as (tokens_of text) (record { rest = text; start = 0; 
 abbrev whole : Place → ℕ
 whole p = p.start + length p.rest
 
-gap_whole : (o : Option Bool) (b : ℕ) (bs : List ℕ) (p : Place) → p.rest ≡ b ∷ bs → ((on : Bool) → whole (skip_from bs on (behind b p bs)) ≡ whole (behind b p bs)) → whole (when_gap o p (λ on. skip_from bs on (behind b p bs))) ≡ whole p
+gap_whole : (o : Option Bool) (b : ℕ) (bs : List ℕ) (p : Place) → p.rest ≡ b ∷ bs → ((on : Bool) → whole (skip_from bs on (following b p bs)) ≡ whole (following b p bs)) → whole (when_gap o p (λ on. skip_from bs on (following b p bs))) ≡ whole p
 gap_whole None b bs p e h = refl
 gap_whole (Some on) b bs p e h = h on ∙ omega (arith, ap length e)
 
 skip_whole_by : (bs : List ℕ) (inside : Bool) (p : Place) → p.rest ≡ bs → whole (skip_from bs inside p) ≡ whole p
 skip_whole_by [] inside p e = refl
-skip_whole_by (b ∷ bs) inside p e = gap_whole (gap inside b) b bs p e (λ on. skip_whole_by bs on (behind b p bs) refl)
+skip_whole_by (b ∷ bs) inside p e = gap_whole (gap inside b) b bs p e (λ on. skip_whole_by bs on (following b p bs) refl)
 
 pub run_within : (bs : List ℕ) → run is_word_byte bs ≤ length bs
 run_within [] = omega arith

@@ -2,7 +2,7 @@
 use Rattle.std.proofs.Common.{◌≡◌, ℕ, zero, suc, ◌≤◌, Bool, true, false, cond, List, [], ◌∷◌, length, take, Option, Some, None, refl, sym, ap, ◌∙◌, arith, inl, inr, ◌⊎◌, length-drop}
 use Rattle.std.specs.Prelude.{◌==◌, ◌||◌}
 use Rattle.sn_text_rules.specs.Tokens.{Lexeme, word, Tok}
-use Rattle.sn_text.specs.Cutting.{is_digit, is_name_start, is_word_byte, run, number_lexeme, number_of, long_symbol, short_symbol, short_lexeme, long_lexeme, symbol_at, lexeme_at, Place, gap, behind, when_gap, skip_from, skip, tok_at, after_at, is_last, tokens_at, tokens}
+use Rattle.sn_text.specs.Cutting.{is_digit, is_name_start, is_word_byte, run, number_lexeme, number_of, long_symbol, short_symbol, short_lexeme, long_lexeme, symbol_at, lexeme_at, Place, gap, following, when_gap, skip_from, skip, tok_at, after_at, is_last, tokens_at, tokens}
 use Rattle.sn_base.proofs.Tests.{either_way}
 use Rattle.sn_text.proofs.Lexemes.{or_middle}
 
@@ -43,13 +43,13 @@ one_byte (b ∷ bs) = one_of (is_digit b) (is_name_start b) (number_lexeme (numb
     (λ e _. run_one b bs (or_first (is_name_start b) (is_digit b) (b == 46) e))
     (symbol_one (b ∷ bs))
 
-when_shorter : (o : Option Bool) (b : ℕ) (bs : List ℕ) (p : Place) → length p.rest ≡ suc (length bs) → ((on : Bool) → length (skip_from bs on (behind b p bs)).rest ≤ length bs) → length (when_gap o p (λ on. skip_from bs on (behind b p bs))).rest ≤ suc (length bs)
+when_shorter : (o : Option Bool) (b : ℕ) (bs : List ℕ) (p : Place) → length p.rest ≡ suc (length bs) → ((on : Bool) → length (skip_from bs on (following b p bs)).rest ≤ length bs) → length (when_gap o p (λ on. skip_from bs on (following b p bs))).rest ≤ suc (length bs)
 when_shorter None b bs p h ih = omega arith
 when_shorter (Some on) b bs p h ih = let k = ih on in omega arith
 
 skip_shorter_by : (bs : List ℕ) (inside : Bool) (p : Place) → length p.rest ≡ length bs → length (skip_from bs inside p).rest ≤ length bs
 skip_shorter_by [] inside p h = omega arith
-skip_shorter_by (b ∷ bs) inside p h = when_shorter (gap inside b) b bs p h (λ on. skip_shorter_by bs on (behind b p bs) refl)
+skip_shorter_by (b ∷ bs) inside p h = when_shorter (gap inside b) b bs p h (λ on. skip_shorter_by bs on (following b p bs) refl)
 
 skip_shorter : (p : Place) → length (skip p).rest ≤ length p.rest
 skip_shorter p = skip_shorter_by p.rest false p refl

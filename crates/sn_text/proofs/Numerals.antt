@@ -9,7 +9,7 @@ use Rattle.std.proofs.lemmas.Fmt.{decimal_is_IsNumeral}
 use Rattle.std.proofs.lemmas.Str.{digit_value_digit}
 use Rattle.std.proofs.lemmas.Str.Parse.{digit_from_value}
 use Rattle.std.proofs.lemmas.Bool.{le-leb, lt-ltb, eqb-true}
-use Rattle.sn_text.specs.Cutting.{is_digit, digit, digits_behind, digits, has_dot, is_hex, number_of}
+use Rattle.sn_text.specs.Cutting.{is_digit, digit, digits_after, digits, has_dot, is_hex, number_of}
 use Rattle.sn_base.proofs.Tests.{and_false_right}
 
 abbrev pub Digits : List ℕ → Type 0
@@ -33,13 +33,13 @@ grows : (n : ℕ) (cs : List ℕ) → n ≤ digits_value_after 10 n cs
 grows n [] = omega arith
 grows n (c ∷ cs) = let k = grows (n * 10 + digit_value c) cs in omega (arith, k)
 
-behind_is : (n : ℕ) (cs : List ℕ) → Digits cs → digits_value_after 10 n cs < 2 ^ 64 → digits_behind 10 n cs ≡ Some (digits_value_after 10 n cs)
-behind_is n [] d h = refl
-behind_is n (c ∷ cs) d h =
+after_is : (n : ℕ) (cs : List ℕ) → Digits cs → digits_value_after 10 n cs < 2 ^ 64 → digits_after 10 n cs ≡ Some (digits_value_after 10 n cs)
+after_is n [] d h = refl
+after_is n (c ∷ cs) d h =
     let g = grows (n * 10 + digit_value c) cs in
     let l : n * 10 + digit_value c < 2 ^ 64 = omega (arith, g, h) in
     let t : nat_lt (n * 10 + digit_value c) (2 ^ 64) ≡ true = lt-ltb (n * 10 + digit_value c) (2 ^ 64) l in
-    rw (digit_is c d.0 d.1, t) (behind_is (n * 10 + digit_value c) cs d.2 h)
+    rw (digit_is c d.0 d.1, t) (after_is (n * 10 + digit_value c) cs d.2 h)
 
 pub differ : (f : ℕ → Bool) (b j : ℕ) → f b ≡ true → f j ≡ false → (b == j) ≡ false
 differ f b j e n = elim (either_way (b == j)) [
@@ -70,7 +70,7 @@ no_dot (c ∷ ds) d = let h = d.0 in rw (above c 46 (omega (arith, h)), no_dot d
 
 digits_read : (ds : List ℕ) (n : ℕ) → 0 < length ds → Digits ds → digits_value 10 ds ≡ n → n < 2 ^ 64 → digits 10 ds ≡ Some n
 digits_read [] n l d e h = absurd (omega (arith, l))
-digits_read (c ∷ ds) n l d e h = let k : (length (c ∷ ds) == 0) ≡ false = above (length (c ∷ ds)) 0 l in rw k (behind_is 0 (c ∷ ds) d (omega (arith, e, h)) ∙ ap (λ (m : ℕ). Some m) e)
+digits_read (c ∷ ds) n l d e h = let k : (length (c ∷ ds) == 0) ≡ false = above (length (c ∷ ds)) 0 l in rw k (after_is 0 (c ∷ ds) d (omega (arith, e, h)) ∙ ap (λ (m : ℕ). Some m) e)
 
 pub number_read : (n : ℕ) → n < 2 ^ 64 → number_of (decimal n) ≡ Some n
 unfolding number_of

@@ -7,7 +7,7 @@ use Rattle.std.proofs.lemmas.List.Elements.{filter-append}
 use Rattle.std.proofs.lemmas.List.Folds.{list_any-append}
 use Rattle.sn_base.proofs.Lists.{by_test, filter_none, nat_same}
 use Rattle.sn_text_rules.specs.Tokens.{Lexeme, bad, finish, is_last, number, symbol, word}
-use Rattle.sn_text.specs.Cutting.{Place, after_at, behind, gap, is_digit, is_name_start, is_word_byte, lexeme_at, long_lexeme, long_symbol, number_lexeme, number_of, run, short_lexeme, short_symbol, skip, skip_from, symbol_at, tok_at, tokens, tokens_at, tokens_of, when_gap}
+use Rattle.sn_text.specs.Cutting.{Place, after_at, following, gap, is_digit, is_name_start, is_word_byte, lexeme_at, long_lexeme, long_symbol, number_lexeme, number_of, run, short_lexeme, short_symbol, skip, skip_from, symbol_at, tok_at, tokens, tokens_at, tokens_of, when_gap}
 use Rattle.sn_text.specs.Stands.{IsEnded, StandsIn}
 use Rattle.sn_base.proofs.Tests.{and_never}
 use Rattle.sn_text.proofs.Ends.{run_within}
@@ -69,8 +69,8 @@ next_line text p rest h same =
 
 -- ---- between tokens
 
-behind_rests : (text : List ℕ) (b : ℕ) (p : Place) (bs : List ℕ) → Rests text p → p.rest ≡ b ∷ bs → Rests text (behind b p bs)
-behind_rests text b p bs h same =
+following_rests : (text : List ℕ) (b : ℕ) (p : Place) (bs : List ℕ) → Rests text p → p.rest ≡ b ∷ bs → Rests text (following b p bs)
+following_rests text b p bs h same =
     by_test (b == 10)
     (λ is. subst (λ (t : Bool). Rests text (record { rest = bs; start = p.start + 1; line = cond t (p.line + 1) p.line; column = cond t 1 (p.column + 1) })) (sym is)
     (next_line text p bs h (same ∙ ap (λ (x : ℕ). x ∷ bs) (nat_same b 10 is))))
@@ -86,7 +86,7 @@ when_rests text (Some on) p f h k = k on
 
 skip_rests : (text : List ℕ) (bs : List ℕ) (inside : Bool) (p : Place) → Rests text p → p.rest ≡ bs → Rests text (skip_from bs inside p)
 skip_rests text [] inside p h same = h
-skip_rests text (b ∷ bs) inside p h same = when_rests text (gap inside b) p (λ on. skip_from bs on (behind b p bs)) h (λ on. skip_rests text bs on (behind b p bs) (behind_rests text b p bs h same) refl)
+skip_rests text (b ∷ bs) inside p h same = when_rests text (gap inside b) p (λ on. skip_from bs on (following b p bs)) h (λ on. skip_rests text bs on (following b p bs) (following_rests text b p bs h same) refl)
 
 -- ---- a token's bytes have no line feed
 
@@ -120,8 +120,8 @@ short_takes : (b : ℕ) (bs : List ℕ) → Takes (b ∷ bs) (short_lexeme (shor
 short_takes b bs = short_takes_by b 0 bs (short_symbol b) refl
 
 -- no symbol of two bytes has a line feed
-feed_behind : (b : ℕ) → long_symbol b 10 ≡ None
-feed_behind b =
+feed_after : (b : ℕ) → long_symbol b 10 ≡ None
+feed_after b =
     ap (λ (t : Bool). cond t (Some 12) (cond ((b == 33) && false) (Some 13) (cond ((b == 60) && false) (Some 15) (cond ((b == 62) && false) (Some 17) (cond ((b == 62) && false) (Some 18) None))))) (and_never (b == 61))
     ∙ ap (λ (t : Bool). cond t (Some 13) (cond ((b == 60) && false) (Some 15) (cond ((b == 62) && false) (Some 17) (cond ((b == 62) && false) (Some 18) None)))) (and_never (b == 33))
     ∙ ap (λ (t : Bool). cond t (Some 15) (cond ((b == 62) && false) (Some 17) (cond ((b == 62) && false) (Some 18) None))) (and_never (b == 60))
@@ -134,7 +134,7 @@ no_long b c k e =
     (λ same. let none = ap (λ (x : ℕ). long_symbol x c) (nat_same 10 b same) ∙ e in cc)
     (λ other. ap (λ (t : Bool). t || (nat_eq 10 c || false)) other
     ∙ by_test (nat_eq 10 c)
-    (λ same. let none = sym (feed_behind b) ∙ ap (long_symbol b) (nat_same 10 c same) ∙ e in cc)
+    (λ same. let none = sym (feed_after b) ∙ ap (long_symbol b) (nat_same 10 c same) ∙ e in cc)
     (λ another. ap (λ (t : Bool). t || false) another))
 
 long_takes : (b c : ℕ) (bs : List ℕ) (o : Option ℕ) → long_symbol b c ≡ o → Takes (b ∷ c ∷ bs) (long_lexeme o b)
@@ -187,7 +187,7 @@ token_stands text p h =
       above = h.above;
       ahead = h.ahead;
       own = take k p.rest;
-      behind = drop k p.rest;
+      following = drop k p.rest;
       parts = h.parts ∙ ap (λ (r : List ℕ). (h.above ++ h.ahead) ++ r) (sym (take-append-drop k p.rest));
       ended = h.ended;
       one_line = h.one_line;

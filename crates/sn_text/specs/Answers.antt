@@ -21,6 +21,6 @@ IsBadAt line column [] = ⊥
 IsBadAt line column (u ∷ us) = (u.face ≡ bad) × (u.line ≡ line) × (u.column ≡ column)
 
 -- after the first token; the last one comes again and again
-abbrev pub behind_first : List Tok → List Tok
-behind_first [] = []
-behind_first (t ∷ ts) = if is_last t.face then t ∷ ts else ts
+abbrev pub after_first : List Tok → List Tok
+after_first [] = []
+after_first (t ∷ ts) = if is_last t.face then t ∷ ts else ts

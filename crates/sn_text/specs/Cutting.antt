@@ -40,13 +40,13 @@ or_none None f = None
 or_none (Some a) f = f a
 
 -- the digits after a number; none past 64 bits
-abbrev pub digits_behind : ℕ → ℕ → List ℕ → Option ℕ
-digits_behind base n [] = Some n
-digits_behind base n (b ∷ bs) = or_none (with_digit base n (digit base b)) (λ m. digits_behind base m bs)
+abbrev pub digits_after : ℕ → ℕ → List ℕ → Option ℕ
+digits_after base n [] = Some n
+digits_after base n (b ∷ bs) = or_none (with_digit base n (digit base b)) (λ m. digits_after base m bs)
 
 -- at least one digit
 abbrev pub digits : ℕ → List ℕ → Option ℕ
-digits base w = if length w == 0 then None else digits_behind base 0 w
+digits base w = if length w == 0 then None else digits_after base 0 w
 
 -- one to three digits, at most 255, and what follows
 abbrev pub part_of : Option ℕ → List ℕ → Option (ℕ × List ℕ)
@@ -131,8 +131,8 @@ gap inside b =
     if b == 10 then Some false else if inside then Some true else if (b == 32) || (b == 9) || (b == 13) then Some false
     else if b == 35 then Some true else None
 
-abbrev pub behind : ℕ → Place → List ℕ → Place
-behind b p bs = record { rest = bs; start = p.start + 1; line = (if b == 10 then p.line + 1 else p.line); column = (if b == 10 then 1 else p.column + 1) }
+abbrev pub following : ℕ → Place → List ℕ → Place
+following b p bs = record { rest = bs; start = p.start + 1; line = (if b == 10 then p.line + 1 else p.line); column = (if b == 10 then 1 else p.column + 1) }
 
 -- where the next token begins
 abbrev pub when_gap : Option Bool → Place → (Bool → Place) → Place
@@ -141,7 +141,7 @@ when_gap (Some inside) p f = f inside
 
 abbrev pub skip_from : List ℕ → Bool → Place → Place
 skip_from [] inside p = p
-skip_from (b ∷ bs) inside p = when_gap (gap inside b) p (λ on. skip_from bs on (behind b p bs))
+skip_from (b ∷ bs) inside p = when_gap (gap inside b) p (λ on. skip_from bs on (following b p bs))
 
 abbrev pub skip : Place → Place
 skip p = skip_from p.rest false p

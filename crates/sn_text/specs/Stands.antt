@@ -14,8 +14,8 @@ pub record StandsIn (text : List ℕ) (token : Tok) : Type 0 where
   pub above : List ℕ
   pub ahead : List ℕ
   pub own : List ℕ
-  pub behind : List ℕ
-  pub parts : text ≡ (above ++ ahead) ++ (own ++ behind)
+  pub following : List ℕ
+  pub parts : text ≡ (above ++ ahead) ++ (own ++ following)
   pub ended : IsEnded above
   pub one_line : list_any (nat_eq 10) ahead ≡ false
   pub line : token.line ≡ 1 + length (filter (nat_eq 10) above)

@@ -4,7 +4,7 @@ ghost use Rattle.sn_text_rules.specs.declared.symbols.TheConstants.{COMMA};
 ghost use Rattle.sn_text_rules.specs.declared.Flaw.{Flaw};
 ghost use Rattle.sn_text_rules.specs.Tokens.{Lexeme};
 ghost use Rattle.sn_text_rules.specs.Rules.{Rule, kept, links};
-ghost use Rattle.sn_text_rules.specs.Words.{is_symbol, never, behind_comma, commas};
+ghost use Rattle.sn_text_rules.specs.Words.{is_symbol, never, after_comma, commas};
 ghost use Rattle.sn_text_rules.proofs.Words.{Listed};
 ghost use Rattle.sn_text.specs.Lexing.{left, seen};
 ghost use Rattle.sn_text.specs.Reading.{Reads};
@@ -55,7 +55,7 @@ fn more<'a, L: Commas>(
     first: Seq<L::Item>,
     at: Lexer<'a>,
 ) -> Result<(Seq<L::Item>, Lexer<'a>), Stop<'a>>
-    ensures { Reads result (links (is_symbol COMMA) never (behind_comma L.limit L.begun L.rule) kept first (left at.entry)) }
+    ensures { Reads result (links (is_symbol COMMA) never (after_comma L.limit L.begun L.rule) kept first (left at.entry)) }
 {
     let mut items = first;
     let mut place = at;

@@ -1,7 +1,7 @@
 //! The tokens one by one.
 ghost use Rattle.std.specs.Prelude.{◌≡◌, IfOk, IfErr};
 ghost use Rattle.sn_text.specs.Lexing.{left, seen, kind_of, is_bad};
-ghost use Rattle.sn_text.specs.Answers.{IsNext, IsBadAt, behind_first};
+ghost use Rattle.sn_text.specs.Answers.{IsNext, IsBadAt, after_first};
 ghost use Rattle.sn_text_rules.specs.Words.{is_finish};
 
 use crate::place::{Lexer, Piece};
@@ -79,7 +79,7 @@ impl<'a> Lexer<'a> {
         ensures token { IfOk result (λ t. IsNext t (left self.old)) }
         // At a fault no token begins.
         ensures fault { IfErr result (λ e. IsBadAt e.line e.column (left self.old)) }
-        ensures left { left self.new ≡ behind_first (left self.old) }
+        ensures left { left self.new ≡ after_first (left self.old) }
     {
         let (found, after) = scan(*self);
         if is_bad_piece(found.piece) {

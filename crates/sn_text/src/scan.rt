@@ -1,6 +1,6 @@
 //! What stands at a place of a text: blanks and comments are skipped, and one token is cut off.
 ghost use Rattle.std.specs.Prelude.{◌≡◌, ◌+◌, ◌≤◌, ◌<◌, ◌^◌, [], ◌∷◌, length, if◌then◌else◌};
-ghost use Rattle.sn_text.specs.Cutting.{long_symbol, short_symbol, short_lexeme, number_lexeme, number_of, tokens_of, symbol_at, lexeme_at, gap, behind, skip};
+ghost use Rattle.sn_text.specs.Cutting.{long_symbol, short_symbol, short_lexeme, number_lexeme, number_of, tokens_of, symbol_at, lexeme_at, gap, following, skip};
 ghost use Rattle.sn_text.specs.Cutting.{tok_at, after_at, is_last};
 ghost use Rattle.sn_text.specs.Lexing.{place, left, seen, token_of};
 
@@ -119,7 +119,7 @@ fn gap_of(inside: bool, b: u8) -> Option<bool>
 
 fn step<'a>(at: Lexer<'a>, b: u8, after: &'a [u8]) -> Lexer<'a>
     requires { length at.rest.now ≡ length after.now + 1 }
-    ensures { place result ≡ behind b (place at.entry) after.entry.now }
+    ensures { place result ≡ following b (place at.entry) after.entry.now }
 {
     if b == b'\n' {
         Lexer {

@@ -143,8 +143,8 @@ embedded_bounded {o = o} to from {p = p} h = record { inside = λ ts e. bind_ins
 pub renamed_bounded : {A B : Type 0} {o : Flaws} (to : A → B) (from : B → A) {p : Rule A} → Bounded o p → Bounded o (renamed to from p)
 renamed_bounded to from h = embedded_bounded to (λ b. Some (from b)) h
 
-pub behind_bounded : {A : Type 0} {o : Flaws} {p : Rule (Unit {0})} {q : Rule A} → Bounded o p → Bounded o q → Bounded o (p ▸ q)
-behind_bounded h k = renamed_bounded second as_second (pair_bounded h k)
+pub after_bounded : {A : Type 0} {o : Flaws} {p : Rule (Unit {0})} {q : Rule A} → Bounded o p → Bounded o q → Bounded o (p ▸ q)
+after_bounded h k = renamed_bounded second as_second (pair_bounded h k)
 
 pub before_bounded : {A : Type 0} {o : Flaws} {p : Rule A} {q : Rule (Unit {0})} → Bounded o p → Bounded o q → Bounded o (p ◂ q)
 before_bounded h k = renamed_bounded first with_second (pair_bounded h k)
@@ -210,7 +210,7 @@ item_bounded false h k = k
 
 pub commas_bounded : {A : Type 0} {o : Flaws} (limit : ℕ) {begun : Lexeme → Flaw} {p : List A → Rule A} → Listed begun p → ((x : Lexeme) → o.ok (begun x) ≡ true) → ((seen : List A) → Bounded o (p seen)) → Bounded o (commas limit begun p)
 commas_bounded {o = o} limit {begun = begun} {p = p} listed b h = series_bounded (comma_alike limit listed) (λ seen. tt)
-    (λ seen. behind_bounded (sign_bounded o 3) (item_bounded (nat_le limit (length seen)) (past_bounded begun (p []) b) (h seen))) (h [])
+    (λ seen. after_bounded (sign_bounded o 3) (item_bounded (nat_le limit (length seen)) (past_bounded begun (p []) b) (h seen))) (h [])
 
 -- ---- the whole text
 
@@ -275,8 +275,8 @@ pair_whole {q = q} h k = pair_on_whole q.follow h (λ a. k)
 pub renamed_whole : {A B : Type 0} {o : Flaws} (to : A → B) (from : B → A) {p : Rule A} → Whole o p → Whole o (renamed to from p)
 renamed_whole {o = o} to from {p = p} h = record { done = λ ts e. kept_done o (p.read kept ts) to (h.done ts e) }
 
-pub behind_whole : {A : Type 0} {o : Flaws} {p : Rule (Unit {0})} {q : Rule A} → Bounded o p → Whole o q → Whole o (p ▸ q)
-behind_whole h k = renamed_whole second as_second (pair_whole h k)
+pub after_whole : {A : Type 0} {o : Flaws} {p : Rule (Unit {0})} {q : Rule A} → Bounded o p → Whole o q → Whole o (p ▸ q)
+after_whole h k = renamed_whole second as_second (pair_whole h k)
 
 pub before_whole : {A : Type 0} {o : Flaws} {p : Rule A} {q : Rule (Unit {0})} → Bounded o p → Whole o q → Whole o (p ◂ q)
 before_whole h k = renamed_whole first with_second (pair_whole h k)
@@ -290,7 +290,7 @@ Tells o short = ⊥
 
 -- the rule gives a value, whatever is after it, or a fault of the format
 pub record Telling {A : Type 0} (o : Flaws) (r : Rule A) : Type 0 where
-  pub told : (ts : List Tok) → Ended ts → Tells o (r.read kept ts)
+  pub reported : (ts : List Tok) → Ended ts → Tells o (r.read kept ts)
 
 bind_tells : {A B : Type 0} (o : Flaws) (r : Read A) (f : A → List Tok → Read B) → Inside o r → ((a : A) (us : List Tok) → Ended us → Tells o (f a us)) → Tells o (bind r f)
 bind_tells o (got a us) f h k = k a us h
@@ -303,10 +303,10 @@ kept_tells o (fails x us) f h = h
 kept_tells o short f h = absurd h
 
 pub pair_telling : {A B : Type 0} {o : Flaws} {p : Rule A} {q : Rule B} → Bounded o p → Telling o q → Telling o (pair p q)
-pair_telling {o = o} {p = p} {q = q} h k = record { told = λ ts e. bind_tells o (p.read kept ts) _ (h.inside ts e) (λ a us f. kept_tells o (q.read kept us) (λ b. (a, b)) (k.told us f)) }
+pair_telling {o = o} {p = p} {q = q} h k = record { reported = λ ts e. bind_tells o (p.read kept ts) _ (h.inside ts e) (λ a us f. kept_tells o (q.read kept us) (λ b. (a, b)) (k.reported us f)) }
 
 pub leaf_telling : {A : Type 0} (o : Flaws) (face : A → Lexeme) (get : Lexeme → Option A) (test : A → Option Flaw) → ((a : A) → Allows o (test a)) → Telling o (leaf face get test)
-leaf_telling {A} o face get test h = record { told = go }
+leaf_telling {A} o face get test h = record { reported = go }
   where
     by : (t : Tok) (ts : List Tok) (g : Option A) → Tells o (judged (judged_by test kept t.face g) t ts)
     by t ts None = wrong_ok o t.face
@@ -345,5 +345,5 @@ what_it_is {A} {o = o} {r = r} g starts ends w ts e = go (r.read kept ts) refl (
 pub whole_ok : {A : Type 0} {o : Flaws} {r : Rule A} → Whole o r → (ts us : List Tok) (x : Flaw) → Ended ts → r.read kept ts ≡ fails x us → o.ok x ≡ true
 whole_ok {o = o} w ts us x d e = subst (Done o) e (w.done ts d)
 
-pub told_ok : {A : Type 0} {o : Flaws} {r : Rule A} → Telling o r → (ts us : List Tok) (x : Flaw) → Ended ts → r.read kept ts ≡ fails x us → o.ok x ≡ true
-told_ok {o = o} w ts us x d e = subst (Tells o) e (w.told ts d)
+pub reported_ok : {A : Type 0} {o : Flaws} {r : Rule A} → Telling o r → (ts us : List Tok) (x : Flaw) → Ended ts → r.read kept ts ≡ fails x us → o.ok x ≡ true
+reported_ok {o = o} w ts us x d e = subst (Tells o) e (w.reported ts d)

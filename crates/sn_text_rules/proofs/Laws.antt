@@ -76,8 +76,8 @@ pub loosened : {A : Type 0} (r : Rule A) → Good r → (l : Limits) (a : A) →
 loosened r g kept a h = g.looser a h
 loosened r g aside a h = h
 
-pub stands_behind : (ts front us vs : List Tok) → ts ≡ front ++ us → Stands us vs → Stands ts vs
-stands_behind ts front us vs e s = record {
+pub stands_after : (ts front us vs : List Tok) → ts ≡ front ++ us → Stands us vs → Stands ts vs
+stands_after ts front us vs e s = record {
   front = front ++ s.front;
   at = s.at;
   rest = s.rest;
@@ -362,7 +362,7 @@ module _ {A B : Type 0} {p : Rule A} {q : A → Rule B} {follow : List Tok → B
     stands = λ l ts us x e. elim (bind_fails (p.read l ts) (rest_of l) x us e) [
       | inl h ↦ gp.stands l ts us x h
       | inr b ↦ elim (bind_fails ((q b.0).read l b.1) (second b.0) x us b.3) [
-        | inl h ↦ (let first = gp.takes l ts b.1 b.0 b.2 in stands_behind ts first.front b.1 us first.parts ((gq b.0).stands l b.1 us x h))
+        | inl h ↦ (let first = gp.takes l ts b.1 b.0 b.2 in stands_after ts first.front b.1 us first.parts ((gq b.0).stands l b.1 us x h))
         | inr c ↦ absurd cc
       ]
     ];

@@ -5,7 +5,7 @@ use Rattle.std.proofs.lemmas.List.{length-map}
 use Rattle.sn_text_rules.specs.declared.Flaw.{Flaw}
 use Rattle.sn_text_rules.specs.Tokens.{Lexeme, Tok, Spelled}
 use Rattle.sn_text_rules.specs.Rules.{aside, Rule, pair, embedded, spelled_as, holds_of, past, either_rule}
-use Rattle.sn_text_rules.specs.Words.{is_symbol, full, behind_comma, commas}
+use Rattle.sn_text_rules.specs.Words.{is_symbol, full, after_comma, commas}
 use Rattle.sn_text_rules.proofs.Common.{Heads, bearers, bearers_spelled, spelled_append}
 use Rattle.sn_text_rules.proofs.Laws.{Good}
 use Rattle.sn_text_rules.proofs.Choices.{Past, Undoes}
@@ -89,4 +89,4 @@ branch_follow true begun p us e = e
 branch_follow false begun p us e = e
 
 pub commas_sign : {A : Type 0} (limit : ℕ) (begun : Lexeme → Flaw) (p : List A → Rule A) (t : Tok) (us : List Tok) → is_symbol 3 t.face ≡ false → (p []).follow (t ∷ us) ≡ true → (commas limit begun p).follow (t ∷ us) ≡ true
-commas_sign limit begun p t us e f = rw e (open_follow true ((p []).follow (t ∷ us)) ((behind_comma limit begun p []).follow (t ∷ us)) refl f (branch_follow (nat_le limit 0) begun (p []) (t ∷ us) f))
+commas_sign limit begun p t us e f = rw e (open_follow true ((p []).follow (t ∷ us)) ((after_comma limit begun p []).follow (t ∷ us)) refl f (branch_follow (nat_le limit 0) begun (p []) (t ∷ us) f))

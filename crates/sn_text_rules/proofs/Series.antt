@@ -5,7 +5,7 @@ use Rattle.sn_text_rules.specs.declared.Flaw.{Flaw}
 use Rattle.sn_text_rules.specs.Tokens.{Lexeme, Tok, Mark, Spelled, faces, mark_faces, Read, got, fails, short, bind}
 use Rattle.sn_text_rules.specs.Rules.{Limits, kept, aside, is_limit, Rule, Begins, no_more, closed, links_at, links, items_spelled, fit_from, many, series}
 use Rattle.sn_text_rules.proofs.Common.{either_way, both_true, same_value, same_rest, fails_same, bind_got, bind_fails, bind_short, left, left_bind, respelled, remarked, spelled_append, split_spelled, split_faces, mark_faces_append, Heads, head_is, no_head, heads_append}
-use Rattle.sn_text_rules.proofs.Laws.{Takes, Stands, Reaches, Relined, Good, within, loosened, stands_behind, takes_as}
+use Rattle.sn_text_rules.proofs.Laws.{Takes, Stands, Reaches, Relined, Good, within, loosened, stands_after, takes_as}
 
 -- The rules of the items are alike, whatever stands before them, and each item begins with a token that passes goes.
 pub record Alike {A : Type 0} (goes : Lexeme → Bool) (shut : List A → Option Flaw) (p : List A → Rule A) : Type 0 where
@@ -172,7 +172,7 @@ module _ {A : Type 0} {goes : Lexeme → Bool} {shut : List A → Option Flaw} {
         | inl b ↦ (alike.good seen).stands l (t ∷ ts) us x b
         | inr b ↦ (let less = fewer l seen (t ∷ ts) b.1 b.0 b.2 in
             let k = (alike.good seen).takes l (t ∷ ts) b.1 b.0 b.2 in
-            stands_behind (t ∷ ts) k.front b.1 us k.parts (stands_at l n (seen ++ b.0 ∷ []) b.1 us x (omega arith) b.3))
+            stands_after (t ∷ ts) k.front b.1 us k.parts (stands_at l n (seen ++ b.0 ∷ []) b.1 us x (omega arith) b.3))
       ]
       | inr f ↦ (let s = fails_same {A = List A} f.0 x (t ∷ ts) us (sym (is_shut l n seen t ts f.0 d f.1) ∙ e) in record { front = []; at = t; rest = ts; parts = s.1; head = sym s.1 })
     ]
@@ -539,7 +539,7 @@ module _ {A : Type 0} {first : Rule A} {goes : Lexeme → Bool} {shut : List A �
   unfolding links
   series_stands l ts us x e = elim (bind_fails (first.read l ts) (then_more l) x us e) [
     | inl b ↦ leads.good.stands l ts us x b
-    | inr b ↦ (let k = leads.good.takes l ts b.1 b.0 b.2 in stands_behind ts k.front b.1 us k.parts (stands_at alike l (length b.1) (b.0 ∷ []) b.1 us x (omega arith) b.3))
+    | inr b ↦ (let k = leads.good.takes l ts b.1 b.0 b.2 in stands_after ts k.front b.1 us k.parts (stands_at alike l (length b.1) (b.0 ∷ []) b.1 us x (omega arith) b.3))
   ]
 
   series_looser : (x : List A) → C.fits kept x → C.fits aside x

@@ -296,17 +296,17 @@ pub number_in_able : (low high : ℕ) → low ≤ high → Able (number_in low h
 number_in_able low high le = leaf_able number number_at (in_range low high) low (let a : nat_le low low ≡ true = le-leb low low (omega arith) in let b : nat_le low high ≡ true = le-leb low high le in rw (a, b) refl)
 
 -- a part after a word or a sign, and before one
-pub behind_able : {A : Type 0} {p : Rule (Unit {0})} {q : Rule A} → Good p → Able p → Able q → Able (p ▸ q)
-behind_able gp x y = renamed_able second as_second (λ a. refl) (pair_able gp x y)
+pub after_able : {A : Type 0} {p : Rule (Unit {0})} {q : Rule A} → Good p → Able p → Able q → Able (p ▸ q)
+after_able gp x y = renamed_able second as_second (λ a. refl) (pair_able gp x y)
 
 pub before_able : {A : Type 0} {p : Rule A} {q : Rule (Unit {0})} → Good p → Able p → Able q → Able (p ◂ q)
 before_able gp x y = renamed_able first with_second (λ a. refl) (pair_able gp x y)
 
 pub after_word_able : {A : Type 0} (text : List ℕ) {q : Rule A} → Able q → Able (keyword text ▸ q)
-after_word_able text y = behind_able (keyword_good text) (keyword_able text) y
+after_word_able text y = after_able (keyword_good text) (keyword_able text) y
 
 pub after_sign_able : {A : Type 0} (k : ℕ) {q : Rule A} → Able q → Able (sign k ▸ q)
-after_sign_able k y = behind_able (sign_good k) (sign_able k) y
+after_sign_able k y = after_able (sign_good k) (sign_able k) y
 
 -- ---- lists
 

@@ -7,7 +7,7 @@ use Rattle.std.proofs.lemmas.List.{length-map}
 use Rattle.sn_text_rules.specs.declared.Flaw.{Flaw}
 use Rattle.sn_text_rules.specs.Tokens.{Lexeme, word, number, symbol, finish, bad, Tok, Mark, plain, lined, Spelled}
 use Rattle.sn_text_rules.specs.Rules.{Limits, kept, aside, is_limit, Rule, closed, past, either_rule}
-use Rattle.sn_text_rules.specs.Words.{same, wrong, is_word, is_symbol, is_finish, passed, the, keyword, sign, the_end, line_at, line_of_word, line_of_sign, judged_as, judged_by, leaf, word_in, number_at, word_by, number_by, in_range, number_in, second, as_second, first, with_second, ◌▸◌, ◌◂◌, never, behind_comma, commas}
+use Rattle.sn_text_rules.specs.Words.{same, wrong, is_word, is_symbol, is_finish, passed, the, keyword, sign, the_end, line_at, line_of_word, line_of_sign, judged_as, judged_by, leaf, word_in, number_at, word_by, number_by, in_range, number_in, second, as_second, first, with_second, ◌▸◌, ◌◂◌, never, after_comma, commas}
 use Rattle.sn_text_rules.proofs.Common.{bearers, bearers_spelled, remarked}
 use Rattle.sn_text_rules.proofs.Laws.{Good, one_good, token_good, Follows, pair_good, free_pair}
 use Rattle.sn_text_rules.proofs.Choices.{renamed_good, Past, past_good, Starts}
@@ -181,17 +181,17 @@ number_in_good low high le = number_by_good (in_range low high) (low, (let a : n
 
 -- ---- words and signs before and after a part
 
-pub behind_good : {A : Type 0} {p : Rule (Unit {0})} {q : Rule A} → Good p → Good q → ((us : List Tok) → p.follow us ≡ true) → Good (p ▸ q)
-behind_good gp gq h = renamed_good second as_second (λ a. refl) (λ b. refl) (free_pair gp gq h)
+pub after_good : {A : Type 0} {p : Rule (Unit {0})} {q : Rule A} → Good p → Good q → ((us : List Tok) → p.follow us ≡ true) → Good (p ▸ q)
+after_good gp gq h = renamed_good second as_second (λ a. refl) (λ b. refl) (free_pair gp gq h)
 
 pub before_good : {A : Type 0} {p : Rule A} {q : Rule (Unit {0})} → Good p → Good q → Follows p q → Good (p ◂ q)
 before_good gp gq m = renamed_good first with_second (λ a. refl) (λ b. refl) (pair_good gp gq m)
 
 pub after_word : {A : Type 0} (text : List ℕ) {q : Rule A} → Good q → Good (keyword text ▸ q)
-after_word text gq = behind_good (keyword_good text) gq (λ us. refl)
+after_word text gq = after_good (keyword_good text) gq (λ us. refl)
 
 pub after_sign : {A : Type 0} (k : ℕ) {q : Rule A} → Good q → Good (sign k ▸ q)
-after_sign k gq = behind_good (sign_good k) gq (λ us. refl)
+after_sign k gq = after_good (sign_good k) gq (λ us. refl)
 
 -- a sign after a rule that it may follow
 pub sign_follows : {A : Type 0} (p : Rule A) (k : ℕ) → ((t : Tok) (us : List Tok) → t.face ≡ symbol k → p.follow (t ∷ us) ≡ true) → Follows p (sign k)
@@ -254,7 +254,7 @@ module _ {A : Type 0} (limit : ℕ) {begun : Lexeme → Flaw} {p : List A → Ru
   x_steady false seen other e a f = h.steady seen other e a f
 
   abbrev N : List A → Rule A
-  N seen = behind_comma limit begun p seen
+  N seen = after_comma limit begun p seen
 
   abbrev is_past : List A → Bool
   is_past seen = nat_le limit (length seen)
@@ -266,7 +266,7 @@ module _ {A : Type 0} (limit : ℕ) {begun : Lexeme → Flaw} {p : List A → Ru
   maps_bare true seen other e = e
   maps_bare false seen other e = e
 
-  pub comma_alike : Alike (is_symbol 3) never (behind_comma limit begun p)
+  pub comma_alike : Alike (is_symbol 3) never (after_comma limit begun p)
   comma_alike = record {
     good = λ seen. after_sign 3 (x_good (is_past seen) seen);
     spells = λ seen a. ap (λ (ms : List Mark). plain (symbol 3) ∷ ms) (x_spells (is_past seen) (is_past []) seen a);

@@ -134,8 +134,8 @@ full limit x seen = if nat_le limit (length seen) then Some x else None
 abbrev pub next_item : {A : Type 0} → ℕ → (Lexeme → Flaw) → (List A → Rule A) → List A → Rule A
 next_item limit begun p seen = either_rule (nat_le limit (length seen)) (past begun (p [])) (p seen)
 
-abbrev pub behind_comma : {A : Type 0} → ℕ → (Lexeme → Flaw) → (List A → Rule A) → List A → Rule A
-behind_comma limit begun p seen = sign COMMA ▸ next_item limit begun p seen
+abbrev pub after_comma : {A : Type 0} → ℕ → (Lexeme → Flaw) → (List A → Rule A) → List A → Rule A
+after_comma limit begun p seen = sign COMMA ▸ next_item limit begun p seen
 
 abbrev pub commas : {A : Type 0} → ℕ → (Lexeme → Flaw) → (List A → Rule A) → Rule (List A)
-commas limit begun p = series (p []) (is_symbol COMMA) never (behind_comma limit begun p)
+commas limit begun p = series (p []) (is_symbol COMMA) never (after_comma limit begun p)

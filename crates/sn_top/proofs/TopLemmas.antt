@@ -48,7 +48,7 @@ many_words words captures s =
     let few : captures ≤ 8 = s.1 in
     let names : length l.names ≡ 3 + captures = l.as_many in
     let all : words ≡ codes "many" ∷ l.names =
-    l.are ∙ ap (λ (ws : List (List ℕ)). codes "many" ∷ (l.names ++ ws)) (no_words l.behind no_options l.options_are refl) ∙ ap (λ (ws : List (List ℕ)). codes "many" ∷ ws) (append-nil l.names) in
+    l.are ∙ ap (λ (ws : List (List ℕ)). codes "many" ∷ (l.names ++ ws)) (no_words l.following no_options l.options_are refl) ∙ ap (λ (ws : List (List ℕ)). codes "many" ∷ ws) (append-nil l.names) in
     let long : length words ≡ suc (length l.names) = ap length all in
     record { least = omega (arith, names, long); most = omega (arith, few, names, long) }
 
@@ -62,37 +62,37 @@ begun : {names : List (List ℕ)} {stage : Stage (Unit {0})} {before now : World
 begun w = record { words = w.runs.words; write_fault = w.runs.write_fault; follows = w.runs.follows }
 
 -- the work of `live`, where answers are reported as they are
-pub live_as_they_are : {told : Telling} (nodes schedule : ℕ) (words : List (List ℕ)) {before now : World} {answer : Result (Unit {0}) Refusal} → told ≡ as_they_are → IsWork told (commands.Live nodes schedule false) words before answer now
+pub live_as_they_are : {reported : Telling} (nodes schedule : ℕ) (words : List (List ℕ)) {before now : World} {answer : Result (Unit {0}) Refusal} → reported ≡ as_they_are → IsWork reported (commands.Live nodes schedule false) words before answer now
     → IsLiveWork as_they_are nodes schedule false words before answer now
 live_as_they_are nodes schedule words {before} {now} {answer} as_they w = subst (λ (t : Telling). IsLiveWork t nodes schedule false words before answer now) as_they w
 
-by_live : (told : Telling) (nodes schedule : ℕ) (trace : Bool) (words : List (List ℕ)) {before now : World} {answer : Result (Unit {0}) Refusal} → IsLiveWork told nodes schedule trace words before answer now → Begun before answer now
-by_live told nodes schedule true words w = begun w
-by_live told nodes schedule false words w = begun w
+by_live : (reported : Telling) (nodes schedule : ℕ) (trace : Bool) (words : List (List ℕ)) {before now : World} {answer : Result (Unit {0}) Refusal} → IsLiveWork reported nodes schedule trace words before answer now → Begun before answer now
+by_live reported nodes schedule true words w = begun w
+by_live reported nodes schedule false words w = begun w
 
 -- the work of each command was begun
-pub by_work : (told : Telling) (command : Command) (words : List (List ℕ)) {before now : World} {answer : Result (Unit {0}) Refusal} → IsWork told command words before answer now → Begun before answer now
-by_work told commands.Plain words w = begun w
-by_work told (commands.Plan nodes) words w = begun w
-by_work told (commands.Run csv) words w = begun w
-by_work told commands.Emit words w = begun w
-by_work told commands.Finish words w = begun w
-by_work told commands.Check words w = begun w
-by_work told (commands.Live nodes schedule trace) words w = by_live told nodes schedule trace words w
-by_work told commands.Detect words w = begun w
-by_work told (commands.Many captures) words w = begun w
-by_work told (commands.Replan early most) words w = begun w
-by_work told (commands.Gen number) words w = begun w
-by_work told (commands.Job number) words w = begun w
+pub by_work : (reported : Telling) (command : Command) (words : List (List ℕ)) {before now : World} {answer : Result (Unit {0}) Refusal} → IsWork reported command words before answer now → Begun before answer now
+by_work reported commands.Plain words w = begun w
+by_work reported (commands.Plan nodes) words w = begun w
+by_work reported (commands.Run csv) words w = begun w
+by_work reported commands.Emit words w = begun w
+by_work reported commands.Finish words w = begun w
+by_work reported commands.Check words w = begun w
+by_work reported (commands.Live nodes schedule trace) words w = by_live reported nodes schedule trace words w
+by_work reported commands.Detect words w = begun w
+by_work reported (commands.Many captures) words w = begun w
+by_work reported (commands.Replan early most) words w = begun w
+by_work reported (commands.Gen number) words w = begun w
+by_work reported (commands.Job number) words w = begun w
 
 -- so the answer is no usage
-pub no_usage : (told : Telling) (command : Command) (words : List (List ℕ)) (before : World) (answer : Result (Unit {0}) Refusal) (now : World) → IsWork told command words before answer now → answer ≡ Err Usage → ⊥
-no_usage told command words before answer now w e = (by_work told command words w).words e
+pub no_usage : (reported : Telling) (command : Command) (words : List (List ℕ)) (before : World) (answer : Result (Unit {0}) Refusal) (now : World) → IsWork reported command words before answer now → answer ≡ Err Usage → ⊥
+no_usage reported command words before answer now w e = (by_work reported command words w).words e
 
 -- where a write failed, a count of the output rose
-pub write_fault_of : (told : Telling) (command : Command) (words : List (List ℕ)) (before : World) (answer : Result (Unit {0}) Refusal) (now : World) → IsWork told command words before answer now → answer ≡ Err WriteFault → OutRose before.out now.out
-write_fault_of told command words before answer now w e = (by_work told command words w).write_fault e
+pub write_fault_of : (reported : Telling) (command : Command) (words : List (List ℕ)) (before : World) (answer : Result (Unit {0}) Refusal) (now : World) → IsWork reported command words before answer now → answer ≡ Err WriteFault → OutRose before.out now.out
+write_fault_of reported command words before answer now w e = (by_work reported command words w).write_fault e
 
 -- the files and the output stay where they stand
-pub places_of : (told : Telling) (command : Command) (words : List (List ℕ)) (before : World) (answer : Result (Unit {0}) Refusal) (now : World) → IsWork told command words before answer now → now.places ≡ before.places
-places_of told command words before answer now w = (by_work told command words w).follows.places
+pub places_of : (reported : Telling) (command : Command) (words : List (List ℕ)) (before : World) (answer : Result (Unit {0}) Refusal) (now : World) → IsWork reported command words before answer now → now.places ≡ before.places
+places_of reported command words before answer now w = (by_work reported command words w).follows.places

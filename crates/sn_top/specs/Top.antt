@@ -31,41 +31,41 @@ IsUsage before answer now = (answer ≡ Err Usage) × (now ≡ before)
 
 -- `live`, with a trace or without one; without one a schedule doesn't matter
 abbrev pub IsLiveWork : Telling → ℕ → ℕ → Bool → List (List ℕ) → World → Result (Unit {0}) Refusal → World → Type 0
-IsLiveWork told nodes schedule true words before answer now =
+IsLiveWork reported nodes schedule true words before answer now =
     WorksFrom 2 (word_at words 2 ∷ word_at words 1 ∷ word_at words 3 ∷ word_at words 4 ∷ [])
-    (TracedLive schedule told (word_at words 1) (word_at words 2) (word_at words 3) (word_at words 4) nodes) before answer now
-IsLiveWork told nodes schedule false words before answer now =
+    (TracedLive schedule reported (word_at words 1) (word_at words 2) (word_at words 3) (word_at words 4) nodes) before answer now
+IsLiveWork reported nodes schedule false words before answer now =
     WorksFrom 2 (word_at words 2 ∷ word_at words 1 ∷ word_at words 3 ∷ word_at words 4 ∷ [])
-    (Live told (word_at words 1) (word_at words 2) (word_at words 3) (word_at words 4) nodes) before answer now
+    (Live reported (word_at words 1) (word_at words 2) (word_at words 3) (word_at words 4) nodes) before answer now
 
 -- the work of a command: its stages over the files that its words name; of answers this is reported
 abbrev pub IsWork : Telling → Command → List (List ℕ) → World → Result (Unit {0}) Refusal → World → Type 0
-IsWork told commands.Plain words before answer now =
+IsWork reported commands.Plain words before answer now =
     WorksFrom 2 (word_at words 1 ∷ word_at words 2 ∷ []) (Plain (word_at words 1) (word_at words 2)) before answer now
-IsWork told (commands.Plan nodes) words before answer now =
+IsWork reported (commands.Plan nodes) words before answer now =
     WorksFrom 2 (word_at words 2 ∷ word_at words 1 ∷ word_at words 3 ∷ []) (Plan (word_at words 1) (word_at words 2) (word_at words 3) nodes) before answer now
-IsWork told (commands.Run csv) words before answer now =
+IsWork reported (commands.Run csv) words before answer now =
     WorksFrom 2 (word_at words 2 ∷ word_at words 1 ∷ word_at words 3 ∷ word_at words 4 ∷ [])
-    (Run told csv (word_at words 1) (word_at words 2) (word_at words 3) (word_at words 4)) before answer now
-IsWork told commands.Emit words before answer now =
+    (Run reported csv (word_at words 1) (word_at words 2) (word_at words 3) (word_at words 4)) before answer now
+IsWork reported commands.Emit words before answer now =
     WorksFrom 2 (word_at words 2 ∷ word_at words 1 ∷ word_at words 3 ∷ word_at words 4 ∷ [])
     (Emit (word_at words 1) (word_at words 2) (word_at words 3) (word_at words 4)) before answer now
-IsWork told commands.Finish words before answer now =
+IsWork reported commands.Finish words before answer now =
     WorksFrom 2 (word_at words 1 ∷ word_at words 2 ∷ word_at words 3 ∷ []) (Finish (word_at words 1) (word_at words 2) (word_at words 3)) before answer now
-IsWork told commands.Check words before answer now =
+IsWork reported commands.Check words before answer now =
     WorksFrom 2 (word_at words 2 ∷ word_at words 1 ∷ word_at words 3 ∷ word_at words 4 ∷ [])
     (Check (word_at words 1) (word_at words 2) (word_at words 3) (word_at words 4)) before answer now
-IsWork told (commands.Live nodes schedule trace) words before answer now = IsLiveWork told nodes schedule trace words before answer now
-IsWork told commands.Detect words before answer now =
+IsWork reported (commands.Live nodes schedule trace) words before answer now = IsLiveWork reported nodes schedule trace words before answer now
+IsWork reported commands.Detect words before answer now =
     WorksFrom 2 (word_at words 1 ∷ word_at words 2 ∷ word_at words 3 ∷ []) (Detects (word_at words 1) (word_at words 2) (word_at words 3)) before answer now
-IsWork told (commands.Many captures) words before answer now =
+IsWork reported (commands.Many captures) words before answer now =
     WorksFrom 2 (word_at words 2 ∷ word_at words 1 ∷ word_at words 3 ∷ drop 4 words)
     (Several (word_at words 1) (word_at words 2) (word_at words 3) (drop 4 words)) before answer now
-IsWork told (commands.Replan early most) words before answer now =
+IsWork reported (commands.Replan early most) words before answer now =
     WorksFrom 2 (word_at words 2 ∷ word_at words 1 ∷ word_at words 3 ∷ word_at words 4 ∷ [])
     (Replans (word_at words 1) (word_at words 2) (word_at words 3) (word_at words 4) early most) before answer now
-IsWork told (commands.Gen number) words before answer now = WorksFrom 2 [] (Gen number) before answer now
-IsWork told (commands.Job number) words before answer now = WorksFrom 2 [] (Job told number) before answer now
+IsWork reported (commands.Gen number) words before answer now = WorksFrom 2 [] (Gen number) before answer now
+IsWork reported (commands.Job number) words before answer now = WorksFrom 2 [] (Job reported number) before answer now
 
 abbrev pub around : {I O E : Type 0} → InputsOf I → SinkOf O → SinkOf E → I → O → E → Around
 around inputs out_sink err_sink files out err = record { files = files_of inputs files; out = sunk out_sink out; err = sunk err_sink err }

@@ -14,7 +14,7 @@ ghost use Rattle.sn_command_many.specs.Several.{Several};
 ghost use Rattle.sn_command_job.specs.Gen.{Gen};
 ghost use Rattle.sn_command_job.specs.Job.{Job};
 ghost use Rattle.sn_command.specs.Desks.{files_of, sunk, world};
-ghost use Rattle.sn_command.specs.Ends.{end_status, IsCommandRun, IsStatusTold};
+ghost use Rattle.sn_command.specs.Ends.{end_status, IsCommandRun, IsStatusReported};
 ghost use Rattle.sn_command.specs.Runs.{WorksFrom};
 ghost use Rattle.sn_command.specs.Worlds.{OutRose};
 ghost use Rattle.sn_top.specs.Plain.{Plain};
@@ -27,7 +27,7 @@ use sn_cli::command::Command;
 use sn_cli::words::words;
 use sn_command::desk::Desk;
 use sn_command::lines::tell;
-use sn_command::refusal::Refusal;
+use sn_command::refusal::{Refusal, end_status};
 use sn_command_check::check::check;
 use sn_command_detect::detect::detect;
 use sn_command_emit::emit::emit;
@@ -45,15 +45,6 @@ use sn_core_drive::machine::Machine;
 use sn_io::inputs::Inputs;
 use sn_io::sink::Sink;
 use std::alloc::Global;
-
-fn status_of(answer: Result<(), Refusal>) -> u8
-    ensures { result ≡ end_status answer }
-{
-    match answer {
-        Ok(()) => 0,
-        Err(refusal) => refusal.status(),
-    }
-}
 
 /// The word at a place, and an empty one after the last.
 fn word(given: &[String], place: usize) -> &str
@@ -74,7 +65,7 @@ fn work_live<M: Machine, I: Inputs, O: Sink>(
     given: &[String],
     desk: &mut Desk<'_, I, O>,
 ) -> Result<(), Refusal>
-    ensures { IsLiveWork M.told nodes schedule trace (texts given.now) (world I.Inputs O.Sink desk.old) result (world I.Inputs O.Sink desk.new) }
+    ensures { IsLiveWork M.reported nodes schedule trace (texts given.now) (world I.Inputs O.Sink desk.old) result (world I.Inputs O.Sink desk.new) }
 {
     let switch = word(given, 1);
     let queries = word(given, 2);
@@ -115,7 +106,7 @@ fn work<M: Machine, I: Inputs, O: Sink>(
     desk: &mut Desk<'_, I, O>,
 ) -> Result<(), Refusal>
     requires { Spells (texts given.now) command }
-    ensures { IsWork M.told command (texts given.now) (world I.Inputs O.Sink desk.old) result (world I.Inputs O.Sink desk.new) }
+    ensures { IsWork M.reported command (texts given.now) (world I.Inputs O.Sink desk.old) result (world I.Inputs O.Sink desk.new) }
 {
     let first = word(given, 1);
     let second = word(given, 2);
@@ -152,7 +143,7 @@ fn run<M: Machine, I: Inputs, O: Sink>(
     desk: &mut Desk<'_, I, O>,
 ) -> Result<(), Refusal>
     ensures works { (command : Command) → Spells (texts given.now) command →
-        IsWork M.told command (texts given.now) (world I.Inputs O.Sink desk.old) result (world I.Inputs O.Sink desk.new) }
+        IsWork M.reported command (texts given.now) (world I.Inputs O.Sink desk.old) result (world I.Inputs O.Sink desk.new) }
     ensures usage { ((command : Command) → Spells (texts given.now) command → ⊥) →
         IsUsage (world I.Inputs O.Sink desk.old) result (world I.Inputs O.Sink desk.new) }
     ensures files_place { desk.new.files.ghost_name ≡ desk.old.files.ghost_name }
@@ -182,7 +173,7 @@ pub fn top<M: Machine, I: Inputs, O: Sink, E: Sink>(
     // 10 over any sink: only where a write failed in this call, or took nothing of a rest that has bytes.
     ensures write_fault { result ≡ 10 → OutRose (sunk O.Sink out.old) (sunk O.Sink out.new) }
     // The line of the status is printed.
-    ensures line { IsStatusTold result (sunk E.Sink err.old) (sunk E.Sink err.new) }
+    ensures line { IsStatusReported result (sunk E.Sink err.old) (sunk E.Sink err.new) }
 
     // Each command below, over any files: what is known of their contents stays, each name that is no file word of it keeps its count, and each file is
     // read when its turn comes: with 3 each name but that of the queries keeps its count, with 4 each but those of the queries and the switch.
@@ -195,7 +186,7 @@ pub fn top<M: Machine, I: Inputs, O: Sink, E: Sink>(
     // `run SWITCH QUERIES PLAN CAPTURE`, with `--csv` or without it: the run is that of its stages.
     ensures run { (csv : Bool) → Spells (texts words.now) (Command.Run csv) →
         IsCommandRun (word_at (texts words.now) 2 ∷ word_at (texts words.now) 1 ∷ word_at (texts words.now) 3 ∷ word_at (texts words.now) 4 ∷ [])
-        (Run M.told csv (word_at (texts words.now) 1) (word_at (texts words.now) 2) (word_at (texts words.now) 3) (word_at (texts words.now) 4))
+        (Run M.reported csv (word_at (texts words.now) 1) (word_at (texts words.now) 2) (word_at (texts words.now) 3) (word_at (texts words.now) 4))
         (around I.Inputs O.Sink E.Sink files.old out.old err.old) result (around I.Inputs O.Sink E.Sink files.new out.new err.new) }
 
     // `finish QUERIES PLAN REPORTS`: the run is that of its stages.
@@ -249,14 +240,14 @@ pub fn top<M: Machine, I: Inputs, O: Sink, E: Sink>(
     // `live SWITCH QUERIES TRAIN CAPTURE`, with the number of `--nodes` and without `--trace`: the run is that of its stages, whatever the schedule.
     ensures live { (nodes schedule : ℕ) → Spells (texts words.now) (Command.Live nodes schedule false) →
         IsCommandRun (word_at (texts words.now) 2 ∷ word_at (texts words.now) 1 ∷ word_at (texts words.now) 3 ∷ word_at (texts words.now) 4 ∷ [])
-        (Live M.told (word_at (texts words.now) 1) (word_at (texts words.now) 2) (word_at (texts words.now) 3) (word_at (texts words.now) 4) nodes)
+        (Live M.reported (word_at (texts words.now) 1) (word_at (texts words.now) 2) (word_at (texts words.now) 3) (word_at (texts words.now) 4) nodes)
         (around I.Inputs O.Sink E.Sink files.old out.old err.old) result (around I.Inputs O.Sink E.Sink files.new out.new err.new) }
 
     // `live SWITCH QUERIES TRAIN CAPTURE`, with the numbers of `--nodes` and `--schedule` and with `--trace`: the run is that of its stages. The
     // machine is driven by draws that follow the number of the schedule, and each of its events has a line.
     ensures traced { (nodes schedule : ℕ) → Spells (texts words.now) (Command.Live nodes schedule true) →
         IsCommandRun (word_at (texts words.now) 2 ∷ word_at (texts words.now) 1 ∷ word_at (texts words.now) 3 ∷ word_at (texts words.now) 4 ∷ [])
-        (TracedLive schedule M.told (word_at (texts words.now) 1) (word_at (texts words.now) 2) (word_at (texts words.now) 3)
+        (TracedLive schedule M.reported (word_at (texts words.now) 1) (word_at (texts words.now) 2) (word_at (texts words.now) 3)
         (word_at (texts words.now) 4) nodes) (around I.Inputs O.Sink E.Sink files.old out.old err.old) result
         (around I.Inputs O.Sink E.Sink files.new out.new err.new) }
 
@@ -264,18 +255,18 @@ pub fn top<M: Machine, I: Inputs, O: Sink, E: Sink>(
     // tree of bounds that shows that no plan that fits costs less on the first capture, and for each window of the second one exactly
     // the answers of the unsplit queries refined along the plan, with the number of items that were sent. It is so with a machine that
     // reports its answers as they are, as a net does.
-    ensures headline { M.told ≡ as_they_are → (nodes schedule : ℕ) → Spells (texts words.now) (Command.Live nodes schedule false) →
+    ensures headline { M.reported ≡ as_they_are → (nodes schedule : ℕ) → Spells (texts words.now) (Command.Live nodes schedule false) →
         KeepsHeadline (word_at (texts words.now) 1) (word_at (texts words.now) 2) (word_at (texts words.now) 3) (word_at (texts words.now) 4) nodes
         (around I.Inputs O.Sink E.Sink files.old out.old err.old) result (around I.Inputs O.Sink E.Sink files.new out.new err.new) }
 
     // `job NUMBER`: the run is that of its stages, which read no file.
     ensures job { (number : ℕ) → Spells (texts words.now) (Command.Job number) →
-        IsCommandRun [] (Job M.told number) (around I.Inputs O.Sink E.Sink files.old out.old err.old) result
+        IsCommandRun [] (Job M.reported number) (around I.Inputs O.Sink E.Sink files.old out.old err.old) result
         (around I.Inputs O.Sink E.Sink files.new out.new err.new) }
 {
     runs_of_live_keep_the_headline();
     let mut desk = Desk { files, out };
     let answer = run::<M, I, O>(alloc, words, &mut desk);
     tell(answer, err);
-    status_of(answer)
+    end_status(answer)
 }

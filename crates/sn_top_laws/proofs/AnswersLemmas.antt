@@ -43,7 +43,7 @@ use Rattle.sn_types.specs.Typed.{IsTyped}
 use Rattle.sn_command_emit.specs.Causal.{kept_is_causal}
 use Rattle.sn_command_emit.specs.Reporting.{kept_now}
 use Rattle.sn_command_emit.specs.Sent.{frames_block, kept_of, window_frames}
-use Rattle.sn_command_emit.proofs.KeptLemmas.{all_let_in}
+use Rattle.sn_command_emit.proofs.KeptLemmas.{all_admitted}
 use Rattle.sn_top_laws.specs.Real.{IsReal}
 use Rattle.sn_top_laws.proofs.NameLemmas.{all_at, all_flat, each_among, have_names}
 use Rattle.sn_top_laws.proofs.WindowLemmas.{answers_are, are_frames, is_window, kept_next, sent_of}
@@ -92,7 +92,7 @@ module _ (typed_for : ℕ) (p : Planned) (t : ∥ IsTyped typed_for p.queries �
       let front : AreRising None (b ++ w ∷ []) = rising_front None (b ++ w ∷ []) a (subst (AreRising None) (sym (append_assoc b (w ∷ []) a)) here) in
       subst (λ ws. AllByRecursion (λ (x : Placed). kept_in p.queries (last_of p b) w.0 (source_of x) ≡ kept_of p.queries ws w.0 x) pieces) e
       (all_weaker (λ (x : Placed). kept_now p.queries (last_of p b) w.0 x ≡ kept_of p.queries (b ++ w ∷ []) w.0 x) (λ (x : Placed). kept_in p.queries (last_of p b) w.0 (source_of x) ≡ kept_of p.queries (b ++ w ∷ a) w.0 x)
-      (λ x is. is ∙ sym (kept_is_causal p.queries b w.0 w.1 a here x)) pieces (all_let_in p b w.0 w.1 entries front))
+      (λ x is. is ∙ sym (kept_is_causal p.queries b w.0 w.1 a here x)) pieces (all_admitted p b w.0 w.1 entries front))
 
   real_at : (b : List Window) (w : Window) (a : List Window) → b ++ w ∷ a ≡ windows → IsReal w
   real_at b w a e = all_at IsReal b w a (subst (AllByRecursion IsReal) (sym e) real)

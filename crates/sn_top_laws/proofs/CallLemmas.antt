@@ -40,7 +40,7 @@ module _ {names : List (List ℕ)} {work : Stage (Unit {0})} {files : ByName (Li
   write_rose = OutRose w.before.out w.now.out
 
   as_run : IsRun outcome read_rose write_rose status w.before.out.written w.now.out.written
-  as_run = w.call.run files w.told outcome is
+  as_run = w.call.run files w.reported outcome is
 
   pub status_is : end_status outcome.end ≡ status
   status_is = by_status written
@@ -82,8 +82,8 @@ module _ (switch queries plan capture reports : List ℕ) (files later : ByName 
       (subst (λ (t : List ℕ). length t ≤ most_text) emit_text few) (subst (λ (t : List ℕ). IsKept queries plan reports t files later) emit_text kept) run_has.is finish_has.is
 
   calls_print : (printed : List ℕ) → finish_has.outcome ≡ record { text = printed; end = Ok tt } → CallsPrint queries plan reports later printed
-  calls_print printed e names before now status call told =
-      subst (λ (o : Outcome (Unit {0})). IsRun o (AnyRose names before.files now.files) (OutRose before.out now.out) status before.out.written now.out.written) e (call.run later told finish_has.outcome finish_has.is)
+  calls_print printed e names before now status call reported =
+      subst (λ (o : Outcome (Unit {0})). IsRun o (AnyRose names before.files now.files) (OutRose before.out now.out) status before.out.written now.out.written) e (call.run later reported finish_has.outcome finish_has.is)
 
   pub calls_follow : CallsFollow queries plan reports later emit_status run_status ran
   calls_follow = by_way finishes_so

@@ -43,8 +43,8 @@ abbrev pub packets_in : ℕ → Header → List ℕ → List (ℕ × Packet)
 packets_in window header file = numbered time_of window (found_in header file).packets
 
 -- after the blocks of these windows
-abbrev pub behind : Wording → List Window × Ending → Outcome (Unit {0})
-behind wording closed = record { text = wording.last closed.0 closed.1; end = refusing (ending_verdict closed.1) }
+abbrev pub following : Wording → List Window × Ending → Outcome (Unit {0})
+following wording closed = record { text = wording.last closed.0 closed.1; end = refusing (ending_verdict closed.1) }
 
 -- in front of the blocks
 abbrev headed : Wording → Outcome (Unit {0}) → Outcome (Unit {0})
@@ -52,7 +52,7 @@ headed wording rest = record { text = wording.first ++ rest.text; end = rest.end
 
 -- where the records end so
 abbrev pub ended_due : Wording → ℕ → List ℕ → Header → Last → Outcome (Unit {0})
-ended_due wording window file header end = headed wording (followed (windows_whole wording (shown_in header file) (packets_in window header file) end) (behind wording))
+ended_due wording window file header end = headed wording (followed (windows_whole wording (shown_in header file) (packets_in window header file) end) (following wording))
 
 abbrev pub head_due : Wording → ℕ → List ℕ → Result Header HeadFault → Outcome (Unit {0})
 head_due wording window file (Err fault) = silent (Err (Refused (faults.Head fault)))
@@ -81,7 +81,7 @@ module _ (wording : Wording) (never : NeverStops wording) (window : ℕ) (captur
         goes_silent (found_in header file) records_are (goes_silent file (whole_is (Some file) e) both)
         ∙ unstopped wording never (shown_in header file) (packets_in window header file) (last_of file (found_in header file).ending)
 
-    lines_are : (closed : List Window × Ending) (rest : Outcome (Unit {0})) → LastLines wording closed.0 closed.1 files rest → rest ≡ behind wording closed
+    lines_are : (closed : List Window × Ending) (rest : Outcome (Unit {0})) → LastLines wording closed.0 closed.1 files rest → rest ≡ following wording closed
     lines_are closed rest both =
         let lines : List ℕ = wording.last closed.0 closed.1 in
         let after = goes_after lines tt (λ begun is. is) both in
@@ -94,7 +94,7 @@ module _ (wording : Wording) (never : NeverStops wording) (window : ℕ) (captur
         let after = goes_after wording.first tt (λ begun is. is) both in
         after.2
         ∙ ap (headed wording)
-        (followed_is (windows_whole wording (shown_in header file) (packets_in window header file) (last_of file (found_in header file).ending)) (behind wording) windows_are lines_are after.1)
+        (followed_is (windows_whole wording (shown_in header file) (packets_in window header file) (last_of file (found_in header file).ending)) (following wording) windows_are lines_are after.1)
 
   -- an answered capture has the outcome that is due
   pub capture_is : (outcome : Outcome (Unit {0})) → Answered wording window capture files outcome → outcome ≡ capture_due wording window (get files capture)
@@ -144,8 +144,8 @@ module _ (wording : Wording) (window : ℕ) where
           let windows : List Window = windows_in (shown_in header file) (packets_in window header file) in
           cond few (record { text = text; end = Ok (windows, ending) }) (windows_refused w (last.Ended ending) text windows)
 
-      by_few : (ending : Ending) (few : Bool) → all_few (packets_in window header file) ≡ few → ((w : Wording) → capture_due w window (Some file) ≡ headed w (followed (cut_off w ending few) (behind w)))
-          → MeansTo (headed wording (followed (cut_off wording ending few) (behind wording))) → Ways
+      by_few : (ending : Ending) (few : Bool) → all_few (packets_in window header file) ≡ few → ((w : Wording) → capture_due w window (Some file) ≡ headed w (followed (cut_off w ending few) (following w)))
+          → MeansTo (headed wording (followed (cut_off wording ending few) (following wording))) → Ways
       by_few ending false e due written = absurd (not_twelve written)
       by_few ending true e due written = inr (record { file = file; is = refl; header = header; ending = ending; few = e; due = due })
 

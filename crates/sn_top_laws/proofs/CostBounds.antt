@@ -116,10 +116,10 @@ sum_few f [] h = omega arith
 sum_few f (g ∷ gs) h = let one = sum_by-cons f g gs in let a = h g in let rest = sum_few f gs h in omega (arith, one, a, rest)
 
 -- after the last query there is a blank one
-blank_behind : (queries : List TypedQuery) (q : ℕ) → length queries ≤ q → query_at queries q ≡ blank_query
-blank_behind [] q le = refl
-blank_behind (x ∷ xs) zero le = absurd (omega (arith, le))
-blank_behind (x ∷ xs) (suc q) le = blank_behind xs q (omega (arith, le))
+blank_after : (queries : List TypedQuery) (q : ℕ) → length queries ≤ q → query_at queries q ≡ blank_query
+blank_after [] q le = refl
+blank_after (x ∷ xs) zero le = absurd (omega (arith, le))
+blank_after (x ∷ xs) (suc q) le = blank_after xs q (omega (arith, le))
 
 module _ (s : Switch) (switch : IsSwitch s) (window : ℕ) (queries : List TypedQuery) (typed : ∥ IsTyped window queries ∥₁) (ops : HaveFewOps queries) (numbers : List ℕ) (tuples : List (List ℕ)) (few : length tuples ≤ most)
     (alike : length numbers ≡ length tuples) (never : NeverFall numbers) where
@@ -146,7 +146,7 @@ module _ (s : Switch) (switch : IsSwitch s) (window : ℕ) (queries : List Typed
       let light = switch.weight.1 in
       omega (arith, most_cost, heavy, light, count))
       (λ isnt.
-      let blank = blank_behind queries q (ltb-false q (length queries) isnt) in
+      let blank = blank_after queries q (ltb-false q (length queries) isnt) in
       let most_sent = subst (λ (y : TypedQuery). ((w : ℕ) → sent_in y s.entries (windows_of given) (front_of prefix y.levels) b s.chain o w ≤ 14 * most) → entry_count s.chain s.entries s.weight y given prefix b o ≤ length given * (14 * most)) (sym blank) (none_installed prefix b o) (sends q prefix b o) in
       omega (arith, most_sent, count))
     where

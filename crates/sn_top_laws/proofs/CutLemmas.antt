@@ -3,13 +3,13 @@ use Rattle.std.proofs.Common.{◌≡◌, ℕ, zero, suc, ◌<◌, ◌≤◌, Lis
 use Rattle.std.specs.List.{AllByRecursion}
 use Rattle.std.proofs.Math.Bridge.{le_prop}
 use Rattle.std.proofs.Math.Logic.{∥∥₁_elim}
-use Rattle.sn_top_laws.specs.Cuts.{FiltersBehind, IsFilter, IsGreatestCut, MayStand, are_few}
+use Rattle.sn_top_laws.specs.Cuts.{FiltersAfter, IsFilter, IsGreatestCut, MayStand, are_few}
 use Rattle.sn_types.specs.declared.typed_op.TOp.{TOp}
 use Rattle.sn_types.specs.declared.typed_op.TOp.TheVariants.{Filter, Map, Distinct, Reduce as Reduced}
 use Rattle.sn_types.specs.declared.typed_op.TReduce.{TReduce}
 use Rattle.sn_types.specs.declared.typed_query.TypedBranch.{TypedBranch}
 use Rattle.sn_types.specs.declared.typed_query.TypedQuery.{TypedQuery}
-use Rattle.sn_types.specs.Cuts.{cut_behind_distinct, filters_ahead, greatest_cut, is_stateful}
+use Rattle.sn_types.specs.Cuts.{cut_after_distinct, filters_ahead, greatest_cut, is_stateful}
 use Rattle.sn_types.specs.Typed.{IsTyped, branch_at, query_at}
 use Rattle.sn_types.proofs.Facts.{branch_source_of}
 use Rattle.sn_engine_split.proofs.Typed.{cut_of}
@@ -56,14 +56,14 @@ alone_decides (Map exprs ∷ ops) (suc n) le = (λ e. cc, λ k. absurd (omega (a
 alone_decides (Distinct ∷ ops) (suc n) le = (λ e. cc, λ k. absurd (omega (arith, k)))
 alone_decides (Reduced r ∷ ops) (suc n) le = (λ e. cc, λ k. absurd (omega (arith, k)))
 
-behind_decides : (ops : List TOp) (n : ℕ) → n ≤ length ops → Decides reduce_at_most ops (cut_behind_distinct ops) n
+after_decides : (ops : List TOp) (n : ℕ) → n ≤ length ops → Decides reduce_at_most ops (cut_after_distinct ops) n
 unfolding Decides reduce_at_most
-behind_decides ops zero le = (λ e. omega arith, λ h. refl)
-behind_decides [] (suc n) le = absurd (omega (arith, le))
-behind_decides (Filter conds ∷ ops) (suc n) le = let h = behind_decides ops n (omega (arith, le)) in (λ e. let k = h.0 e in omega (arith, k), λ k. h.1 (omega (arith, k)))
-behind_decides (Map exprs ∷ ops) (suc n) le = let h = behind_decides ops n (omega (arith, le)) in (λ e. let k = h.0 e in omega (arith, k), λ k. h.1 (omega (arith, k)))
-behind_decides (Distinct ∷ ops) (suc n) le = (λ e. cc, λ k. absurd (omega (arith, k)))
-behind_decides (Reduced r ∷ ops) (suc n) le = let h = alone_decides ops n (omega (arith, le)) in (λ e. let k = h.0 e in omega (arith, k), λ k. h.1 (omega (arith, k)))
+after_decides ops zero le = (λ e. omega arith, λ h. refl)
+after_decides [] (suc n) le = absurd (omega (arith, le))
+after_decides (Filter conds ∷ ops) (suc n) le = let h = after_decides ops n (omega (arith, le)) in (λ e. let k = h.0 e in omega (arith, k), λ k. h.1 (omega (arith, k)))
+after_decides (Map exprs ∷ ops) (suc n) le = let h = after_decides ops n (omega (arith, le)) in (λ e. let k = h.0 e in omega (arith, k), λ k. h.1 (omega (arith, k)))
+after_decides (Distinct ∷ ops) (suc n) le = (λ e. cc, λ k. absurd (omega (arith, k)))
+after_decides (Reduced r ∷ ops) (suc n) le = let h = alone_decides ops n (omega (arith, le)) in (λ e. let k = h.0 e in omega (arith, k), λ k. h.1 (omega (arith, k)))
 
 front_decides : (ops : List TOp) (n : ℕ) → n ≤ length ops → Decides may_stand ops (greatest_cut ops) n
 unfolding Decides may_stand
@@ -71,13 +71,13 @@ front_decides ops zero le = (λ e. omega arith, λ h. refl)
 front_decides [] (suc n) le = absurd (omega (arith, le))
 front_decides (Filter conds ∷ ops) (suc n) le = let h = front_decides ops n (omega (arith, le)) in (λ e. let k = h.0 e in omega (arith, k), λ k. h.1 (omega (arith, k)))
 front_decides (Map exprs ∷ ops) (suc n) le = let h = front_decides ops n (omega (arith, le)) in (λ e. let k = h.0 e in omega (arith, k), λ k. h.1 (omega (arith, k)))
-front_decides (Distinct ∷ ops) (suc n) le = let h = behind_decides ops n (omega (arith, le)) in (λ e. let k = h.0 e in omega (arith, k), λ k. h.1 (omega (arith, k)))
+front_decides (Distinct ∷ ops) (suc n) le = let h = after_decides ops n (omega (arith, le)) in (λ e. let k = h.0 e in omega (arith, k), λ k. h.1 (omega (arith, k)))
 front_decides (Reduced r ∷ ops) (suc n) le = let h = alone_decides ops n (omega (arith, le)) in (λ e. let k = h.0 e in omega (arith, k), λ k. h.1 (omega (arith, k)))
 
 -- ---- from the sentence to the reading
 
-later : (op : TOp) (ops : List TOp) → FiltersBehind (op ∷ ops) → FiltersBehind ops
-later op ops h before behind r e = h (op ∷ before) behind r (ap (λ (xs : List TOp). op ∷ xs) e)
+later : (op : TOp) (ops : List TOp) → FiltersAfter (op ∷ ops) → FiltersAfter ops
+later op ops h before following r e = h (op ∷ before) following r (ap (λ (xs : List TOp). op ∷ xs) e)
 
 to_alone : (ops : List TOp) → AllByRecursion IsFilter ops → filters_alone ops ≡ true
 unfolding filters_alone
@@ -111,7 +111,7 @@ few_of_one (Filter conds ∷ ops) e = cc
 few_of_one (Map exprs ∷ ops) e = cc
 few_of_one (Distinct ∷ ops) e = cc
 
-to_reduce : (ops : List TOp) → is_one (filter is_stateful ops) ≡ true → FiltersBehind ops → reduce_at_most ops ≡ true
+to_reduce : (ops : List TOp) → is_one (filter is_stateful ops) ≡ true → FiltersAfter ops → reduce_at_most ops ≡ true
 unfolding reduce_at_most is_one
 to_reduce [] e h = refl
 to_reduce (Filter conds ∷ ops) e h = to_reduce ops e (later (Filter conds) ops h)
@@ -119,7 +119,7 @@ to_reduce (Map exprs ∷ ops) e h = to_reduce ops e (later (Map exprs) ops h)
 to_reduce (Distinct ∷ ops) e h = cc
 to_reduce (Reduced r ∷ ops) e h = to_alone ops (h [] ops r refl)
 
-to_front : (ops : List TOp) → are_few (filter is_stateful ops) ≡ true → FiltersBehind ops → may_stand ops ≡ true
+to_front : (ops : List TOp) → are_few (filter is_stateful ops) ≡ true → FiltersAfter ops → may_stand ops ≡ true
 unfolding may_stand
 to_front [] e h = refl
 to_front (Filter conds ∷ ops) e h = to_front ops e (later (Filter conds) ops h)
@@ -141,14 +141,14 @@ is_reduce_ahead (Distinct ∷ ops) = false
 is_reduce_ahead (Reduced r ∷ ops) = true
 
 -- in front of what has only filters after its reduce stands another operator
-ahead : (op : TOp) (ops : List TOp) → is_reduce_ahead (op ∷ ops) ≡ false → FiltersBehind ops → FiltersBehind (op ∷ ops)
+ahead : (op : TOp) (ops : List TOp) → is_reduce_ahead (op ∷ ops) ≡ false → FiltersAfter ops → FiltersAfter (op ∷ ops)
 unfolding is_reduce_ahead rest_of
-ahead op ops not_one h [] behind r e = let is_one_there = ap is_reduce_ahead e in cc
-ahead op ops not_one h (other ∷ before) behind r e = h before behind r (ap rest_of e)
+ahead op ops not_one h [] following r e = let is_one_there = ap is_reduce_ahead e in cc
+ahead op ops not_one h (other ∷ before) following r e = h before following r (ap rest_of e)
 
-no_reduce : (before behind : List TOp) (r : TReduce) → AllByRecursion IsFilter (before ++ Reduced r ∷ behind) → ⊥
-no_reduce [] behind r h = h.0
-no_reduce (op ∷ before) behind r h = no_reduce before behind r h.1
+no_reduce : (before following : List TOp) (r : TReduce) → AllByRecursion IsFilter (before ++ Reduced r ∷ following) → ⊥
+no_reduce [] following r h = h.0
+no_reduce (op ∷ before) following r h = no_reduce before following r h.1
 
 all_filters : (ops : List TOp) → filters_alone ops ≡ true → AllByRecursion IsFilter ops
 unfolding filters_alone
@@ -166,23 +166,23 @@ none_stateful (Map exprs ∷ ops) e = cc
 none_stateful (Distinct ∷ ops) e = cc
 none_stateful (Reduced r ∷ ops) e = cc
 
-behind_reduce : (r : TReduce) (ops : List TOp) → filters_alone ops ≡ true → FiltersBehind (Reduced r ∷ ops)
+after_reduce : (r : TReduce) (ops : List TOp) → filters_alone ops ≡ true → FiltersAfter (Reduced r ∷ ops)
 unfolding rest_of
-behind_reduce r ops e [] behind other same = subst (AllByRecursion IsFilter) (ap rest_of same) (all_filters ops e)
-behind_reduce r ops e (op ∷ before) behind other same = absurd (no_reduce before behind other (subst (AllByRecursion IsFilter) (ap rest_of same) (all_filters ops e)))
+after_reduce r ops e [] following other same = subst (AllByRecursion IsFilter) (ap rest_of same) (all_filters ops e)
+after_reduce r ops e (op ∷ before) following other same = absurd (no_reduce before following other (subst (AllByRecursion IsFilter) (ap rest_of same) (all_filters ops e)))
 
-none_before : (before behind : List TOp) (r : TReduce) → [] ≡ before ++ Reduced r ∷ behind → AllByRecursion IsFilter behind
+none_before : (before following : List TOp) (r : TReduce) → [] ≡ before ++ Reduced r ∷ following → AllByRecursion IsFilter following
 unfolding is_reduce_ahead
-none_before [] behind r same = let other = ap is_reduce_ahead same in cc
-none_before (op ∷ before) behind r same = cc
+none_before [] following r same = let other = ap is_reduce_ahead same in cc
+none_before (op ∷ before) following r same = cc
 
-reduce_filters : (ops : List TOp) → reduce_at_most ops ≡ true → FiltersBehind ops
+reduce_filters : (ops : List TOp) → reduce_at_most ops ≡ true → FiltersAfter ops
 unfolding reduce_at_most is_reduce_ahead
 reduce_filters [] e = none_before
 reduce_filters (Filter conds ∷ ops) e = ahead (Filter conds) ops refl (reduce_filters ops e)
 reduce_filters (Map exprs ∷ ops) e = ahead (Map exprs) ops refl (reduce_filters ops e)
 reduce_filters (Distinct ∷ ops) e = cc
-reduce_filters (Reduced r ∷ ops) e = behind_reduce r ops e
+reduce_filters (Reduced r ∷ ops) e = after_reduce r ops e
 
 reduce_one : (ops : List TOp) → reduce_at_most ops ≡ true → is_one (filter is_stateful ops) ≡ true
 unfolding reduce_at_most is_one
@@ -198,7 +198,7 @@ stands [] e = record { few = refl; filters = none_before }
 stands (Filter conds ∷ ops) e = let h = stands ops e in record { few = h.few; filters = ahead (Filter conds) ops refl h.filters }
 stands (Map exprs ∷ ops) e = let h = stands ops e in record { few = h.few; filters = ahead (Map exprs) ops refl h.filters }
 stands (Distinct ∷ ops) e = record { few = few_of_one (filter is_stateful ops) (reduce_one ops e); filters = ahead Distinct ops refl (reduce_filters ops e) }
-stands (Reduced r ∷ ops) e = record { few = ap (λ (xs : List TOp). are_few (Reduced r ∷ xs)) (none_stateful ops e); filters = behind_reduce r ops e }
+stands (Reduced r ∷ ops) e = record { few = ap (λ (xs : List TOp). are_few (Reduced r ∷ xs)) (none_stateful ops e); filters = after_reduce r ops e }
 
 -- ---- the greatest cut
 

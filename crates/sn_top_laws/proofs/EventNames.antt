@@ -5,7 +5,7 @@ use Rattle.std.specs.List.{AllByRecursion}
 use Rattle.sn_base.proofs.Lists.{all_weaker}
 use Rattle.sn_command_texts.specs.Queries.{QueriesIn}
 use Rattle.sn_plan_grammar.specs.declared.plan.Entry.{Entry}
-use Rattle.sn_plan_lists.specs.Chosen.{behind_entry, plan_at}
+use Rattle.sn_plan_lists.specs.Chosen.{after_entry, plan_at}
 use Rattle.sn_switch.specs.declared.switch.Switch.{Switch}
 use Rattle.sn_text.specs.Cutting.{is_word_byte}
 use Rattle.sn_text.proofs.Lexemes.{AllWord, Fine}
@@ -40,4 +40,4 @@ each_named (x ∷ xs) h (suc q) = each_named xs h.1 q
 
 pub plan_named : (s : Switch) (queries : List TypedQuery) (choices : List ℕ) → AreOnLines queries → AllByRecursion (λ (e : Entry). IsOneLine e.name) (plan_at s queries choices)
 plan_named s [] choices h = tt
-plan_named s (q ∷ qs) choices h = (h.0, plan_named s qs (behind_entry s q choices) h.1)
+plan_named s (q ∷ qs) choices h = (h.0, plan_named s qs (after_entry s q choices) h.1)

@@ -17,9 +17,9 @@ use Rattle.sn_core_drive.specs.Turns.{up_to_close, watch_on}
 use Rattle.sn_command_finish.specs.Taken.{followed, goes_on}
 use Rattle.sn_command_live.specs.Live.{Certifies, Live, Searched, Searches, TracedLive, trained_windows}
 use Rattle.sn_command_live.proofs.LiveLemmas.{one_live_run}
-use Rattle.sn_command_run.specs.Planned.{Planned, Telling, told_at, told_block, told_emitted_in, told_lines, told_wording}
+use Rattle.sn_command_run.specs.Planned.{Planned, Telling, reported_at, reported_block, reported_emitted_in, reported_lines, reported_wording}
 use Rattle.sn_command_run.specs.Run.{AlongPlan, planned, window_ns}
-use Rattle.sn_command_run.specs.TraceWording.{TracedAlong, behind_windows, lines_before, lines_behind, traced_wording, up_to, works_of}
+use Rattle.sn_command_run.specs.TraceWording.{TracedAlong, after_windows, lines_before, lines_after, traced_wording, up_to, works_of}
 use Rattle.sn_command_search.specs.Certificates.{IsCertificate, SearchedIn, certificate_text}
 use Rattle.sn_command_search.specs.declared.certificate.Certificate.{Certificate}
 use Rattle.sn_command_search.proofs.Verdicts.{one_search}
@@ -46,7 +46,7 @@ use Rattle.sn_types_read.specs.Texts.{Queries}
 use Rattle.sn_windows.specs.Blocks.{all_few, answered, most_records}
 use Rattle.sn_windows.specs.Windows.{in_window}
 use Rattle.sn_top_laws.specs.Events.{AddsEvents, without_events}
-use Rattle.sn_top_laws.proofs.CaptureLemmas.{capture_due, capture_is, behind, found_in, head_due, packets_in, shown_in}
+use Rattle.sn_top_laws.proofs.CaptureLemmas.{capture_due, capture_is, following, found_in, head_due, packets_in, shown_in}
 use Rattle.sn_top_laws.proofs.EventLines.{Leaves, Stays, both_leave, both_stay, each_leaves, none_leaves, whole_leaves}
 use Rattle.sn_top_laws.proofs.EventNames.{AreOnLines, each_named, plan_named, read_named}
 use Rattle.sn_top_laws.proofs.EventTexts.{HaveNames, IsOneLine, block_stays, events_go, last_stays, plan_stays, tree_stays}
@@ -72,22 +72,22 @@ module _ {A B : Type 0} (f g : A → Outcome B) (each : (a : A) → Alike (f a) 
 
 -- ---- a capture
 
-module _ (schedule : ℕ) (told : Telling) (p : Planned) (names : HaveNames p.queries) where
+module _ (schedule : ℕ) (reported : Telling) (p : Planned) (names : HaveNames p.queries) where
   abbrev traced : Wording
-  traced = traced_wording schedule p told
+  traced = traced_wording schedule p reported
 
   abbrev plainly : Wording
-  plainly = told_wording told p
+  plainly = reported_wording reported p
 
   block_leaves : (windows : List Window) (number : ℕ) (tuples : List (List ℕ)) → Leaves (traced.block windows number tuples) (plainly.block windows number tuples)
   block_leaves windows number tuples =
-      both_leave (lines_before schedule p windows number) [] (told_block told p windows number tuples) (told_block told p windows number tuples)
-      (events_go (up_to_close (works_of p) (behind_windows schedule p (up_to number windows)) End)) (block_stays p.queries names (told_at told p windows number) true)
+      both_leave (lines_before schedule p windows number) [] (reported_block reported p windows number tuples) (reported_block reported p windows number tuples)
+      (events_go (up_to_close (works_of p) (after_windows schedule p (up_to number windows)) End)) (block_stays p.queries names (reported_at reported p windows number) true)
 
   last_leaves : (windows : List Window) (ending : Ending) → Leaves (traced.last windows ending) (plainly.last windows ending)
   last_leaves windows ending =
-      both_leave (lines_behind schedule p windows) [] (told_lines told p windows ending) (told_lines told p windows ending)
-      (events_go (watch_on (works_of p) (behind_windows schedule p windows) End).since) (last_stays ending (length windows) (Some (told_emitted_in told p windows)))
+      both_leave (lines_after schedule p windows) [] (reported_lines reported p windows ending) (reported_lines reported p windows ending)
+      (events_go (watch_on (works_of p) (after_windows schedule p windows) End).since) (last_stays ending (length windows) (Some (reported_emitted_in reported p windows)))
 
   either_leaves : (b : Bool) (x y u v : List ℕ) → Leaves x y → Leaves u v → Leaves (cond b x u) (cond b y v)
   either_leaves true x y u v f g = f
@@ -97,7 +97,7 @@ module _ (schedule : ℕ) (told : Telling) (p : Planned) (names : HaveNames p.qu
   unfinished_leaves end closed [] = none_leaves
   unfinished_leaves end closed (w ∷ ws) =
       either_leaves (ends_large end ws || nat_lt most_records (length w.1)) (traced.unfinished closed w.0 (take most_records w.1)) [] (unfinished_in traced end (closed ++ w ∷ []) ws) (unfinished_in plainly end (closed ++ w ∷ []) ws)
-      (events_go (behind_windows schedule p (all_of w.0 closed (take most_records w.1))).since) (unfinished_leaves end (closed ++ w ∷ []) ws)
+      (events_go (after_windows schedule p (all_of w.0 closed (take most_records w.1))).since) (unfinished_leaves end (closed ++ w ∷ []) ws)
 
   module _ (shown : Packet → List ℕ) where
     blocks_leave : (packets : List (ℕ × Packet)) → Leaves (blocks_in traced shown packets) (blocks_in plainly shown packets)
@@ -123,7 +123,7 @@ module _ (schedule : ℕ) (told : Telling) (p : Planned) (names : HaveNames p.qu
   head_alike window file (Ok header) =
       let packets : List (ℕ × Packet) = packets_in window header file in
       let end : Last = last_of file (found_in header file).ending in
-      followed_alike (behind traced) (behind plainly) (λ closed. (last_leaves closed.0 closed.1, refl)) (windows_whole traced (shown_in header file) packets end) (windows_whole plainly (shown_in header file) packets end)
+      followed_alike (following traced) (following plainly) (λ closed. (last_leaves closed.0 closed.1, refl)) (windows_whole traced (shown_in header file) packets end) (windows_whole plainly (shown_in header file) packets end)
       (windows_alike (shown_in header file) packets end)
 
   pub due_alike : (window : ℕ) (held : Option (List ℕ)) → Alike (capture_due traced window held) (capture_due plainly window held)
@@ -216,12 +216,12 @@ module _ (switch queries train : List ℕ) (nodes : ℕ) (files : ByName (List �
       one_then (one_text train (TrainingIn (window_ns read)) (one_training (window_ns read))) (λ training.
       one_then (one_judges (one_search limits read.queries (trained_windows training) nodes)) (λ certificate. one_does _))))
 
-  module _ (schedule : ℕ) (told : Telling) (capture : List ℕ) (plain traced : Outcome (Unit {0})) where
+  module _ (schedule : ℕ) (reported : Telling) (capture : List ℕ) (plain traced : Outcome (Unit {0})) where
     abbrev plain_next : Searched → Stage (Unit {0})
-    plain_next found = AlongPlan told capture found.read found.limits found.certificate.plan
+    plain_next found = AlongPlan reported capture found.read found.limits found.certificate.plan
 
     abbrev traced_next : Searched → Stage (Unit {0})
-    traced_next found = TracedAlong schedule told capture found.read found.limits found.certificate.plan
+    traced_next found = TracedAlong schedule reported capture found.read found.limits found.certificate.plan
 
     adds_so : (x y : Outcome (Unit {0})) → plain ≡ y → traced ≡ x → Alike x y → AddsEvents plain traced
     adds_so x y is traced_is a =
@@ -233,25 +233,25 @@ module _ (switch queries train : List ℕ) (nodes : ℕ) (files : ByName (List �
     by_end text (Ok found) stays names a b =
         let p : Planned = planned found.read found.limits found.certificate.plan in
         let window : ℕ = window_ns found.read in
-        let x : Outcome (Unit {0}) = capture_due (traced_wording schedule p told) window (get files capture) in
-        let y : Outcome (Unit {0}) = capture_due (told_wording told p) window (get files capture) in
-        let alike = due_alike schedule told p (each_named found.read.queries names) window (get files capture) in
+        let x : Outcome (Unit {0}) = capture_due (traced_wording schedule p reported) window (get files capture) in
+        let y : Outcome (Unit {0}) = capture_due (reported_wording reported p) window (get files capture) in
+        let alike = due_alike schedule reported p (each_named found.read.queries names) window (get files capture) in
         adds_so (record { text = text ++ x.text; end = x.end }) (record { text = text ++ y.text; end = y.end })
-        (a.2 ∙ ap (λ (o : Outcome (Unit {0})). record { text = text ++ o.text; end = o.end }) (capture_is (told_wording told p) (λ windows number tuples. refl) window capture files a.0 a.1))
-        (b.2 ∙ ap (λ (o : Outcome (Unit {0})). record { text = text ++ o.text; end = o.end }) (capture_is (traced_wording schedule p told) (λ windows number tuples. refl) window capture files b.0 b.1))
+        (a.2 ∙ ap (λ (o : Outcome (Unit {0})). record { text = text ++ o.text; end = o.end }) (capture_is (reported_wording reported p) (λ windows number tuples. refl) window capture files a.0 a.1))
+        (b.2 ∙ ap (λ (o : Outcome (Unit {0})). record { text = text ++ o.text; end = o.end }) (capture_is (traced_wording schedule p reported) (λ windows number tuples. refl) window capture files b.0 b.1))
         (both_leave text text x.text y.text stays alike.0, alike.1)
 
-    pub adds_events : Live told switch queries train capture nodes files plain → TracedLive schedule told switch queries train capture nodes files traced → AddsEvents plain traced
+    pub adds_events : Live reported switch queries train capture nodes files plain → TracedLive schedule reported switch queries train capture nodes files traced → AddsEvents plain traced
     adds_events live trace =
         let same = one_certifies.once files trace.begun live.begun trace.begins live.begins in
         let whole = certified_whole live.begun live.begins in
         by_end live.begun.text live.begun.end whole.0 whole.1 live.goes_on (subst (λ (o : Outcome Searched). GoesOn traced_next files o.text o.end traced) same trace.goes_on)
 
 -- two schedules
-pub schedules_alike : (first second : ℕ) (told : Telling) (switch queries train capture : List ℕ) (nodes : ℕ) (files : ByName (List ℕ)) (one other : Outcome (Unit {0}))
-    → TracedLive first told switch queries train capture nodes files one → TracedLive second told switch queries train capture nodes files other → (without_events one.text ≡ without_events other.text) × ◌≡◌ {A = Result (Unit {0}) Refusal} one.end other.end
-schedules_alike first second told switch queries train capture nodes files one other a b =
-    let plain : Has (Live told switch queries train capture nodes) files = (one_live_run told switch queries train capture nodes).some files in
-    let x = adds_events switch queries train nodes files first told capture plain.outcome one plain.is a in
-    let y = adds_events switch queries train nodes files second told capture plain.outcome other plain.is b in
+pub schedules_alike : (first second : ℕ) (reported : Telling) (switch queries train capture : List ℕ) (nodes : ℕ) (files : ByName (List ℕ)) (one other : Outcome (Unit {0}))
+    → TracedLive first reported switch queries train capture nodes files one → TracedLive second reported switch queries train capture nodes files other → (without_events one.text ≡ without_events other.text) × ◌≡◌ {A = Result (Unit {0}) Refusal} one.end other.end
+schedules_alike first second reported switch queries train capture nodes files one other a b =
+    let plain : Has (Live reported switch queries train capture nodes) files = (one_live_run reported switch queries train capture nodes).some files in
+    let x = adds_events switch queries train nodes files first reported capture plain.outcome one plain.is a in
+    let y = adds_events switch queries train nodes files second reported capture plain.outcome other plain.is b in
     (x.text ∙ sym y.text, x.end ∙ sym y.end)

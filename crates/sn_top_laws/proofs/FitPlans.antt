@@ -47,10 +47,10 @@ standing_below stages (t ∷ ts) [] s b = absurd s
 standing_below stages (stateless ∷ ts) (p ∷ ps) s b = standing_below stages ts ps s.1 b.1
 standing_below stages (register n ∷ ts) (p ∷ ps) s b = (subst (λ (m : ℕ). m < stages) s.0 b.0, standing_below stages ts ps s.1 b.1)
 
-behind_below : (stages : ℕ) (xs ts : List Table) → AreBelow stages (xs ++ ts) → AreBelow stages ts
-behind_below stages [] ts h = h
-behind_below stages (stateless ∷ xs) ts h = behind_below stages xs ts h
-behind_below stages (register n ∷ xs) ts h = behind_below stages xs ts h.1
+after_below : (stages : ℕ) (xs ts : List Table) → AreBelow stages (xs ++ ts) → AreBelow stages ts
+after_below stages [] ts h = h
+after_below stages (stateless ∷ xs) ts h = after_below stages xs ts h
+after_below stages (register n ∷ xs) ts h = after_below stages xs ts h.1
 
 chain_below : (stages : ℕ) (ws : List ℕ) (ts : List Table) → AreBelow stages (map register ws ++ ts) → Below stages ws × AreBelow stages ts
 chain_below stages [] ts h = (tt, h)
@@ -84,7 +84,7 @@ written_below stages d (op ∷ ops) written e h = by_kind (is_stateful op) e h (
 stages_below : (s : Switch) (path : List ℕ) (b : TypedBranch) (p : Piece) → PieceFits s path b p → Below s.stages p.stages
 stages_below s path b p h =
     written_below s.stages s.chain (prefix_of b p) p.stages h.stages
-    (behind_below s.stages (membership p.level path) (op_tables s.chain (prefix_of b p) p.stages) (standing_below s.stages (tables_of s.chain path b p) h.placing.0 h.placing.1.stand h.placing.1.below))
+    (after_below s.stages (membership p.level path) (op_tables s.chain (prefix_of b p) p.stages) (standing_below s.stages (tables_of s.chain path b p) h.placing.0 h.placing.1.stand h.placing.1.below))
 
 -- ---- a piece
 

@@ -99,11 +99,11 @@ list_close (n ∷ ns) later h = further_close n ns [] later h
 sizes_close : (cut : ℕ) (slots stages : List ℕ) (later : List Chunk) → Closes later → Closes (sizes_chunks cut slots stages later)
 sizes_close cut [] stages later h = closes_more (chunk (number cut) []) later h
 sizes_close cut (s ∷ ss) stages later h =
-    let behind : List Chunk = chunk (word (codes "stages")) space ∷ list_chunks stages [] later in
-    let sizes : List Chunk = further_chunks s ss space behind in
+    let following : List Chunk = chunk (word (codes "stages")) space ∷ list_chunks stages [] later in
+    let sizes : List Chunk = further_chunks s ss space following in
     closes_more (chunk (number cut) space) (chunk (word (codes "slots")) space ∷ sizes)
     (closes_more (chunk (word (codes "slots")) space) sizes
-    (further_close s ss space behind (closes_more (chunk (word (codes "stages")) space) (list_chunks stages [] later) (list_close stages later h))))
+    (further_close s ss space following (closes_more (chunk (word (codes "stages")) space) (list_chunks stages [] later) (list_close stages later h))))
 
 end_closes : (later : List Chunk) → Ends later → Closes (chunk (symbol 2) line_end ∷ later)
 end_closes [] h = refl
@@ -112,8 +112,8 @@ end_closes (c ∷ cs) (inr e) = cc
 
 piece_close : (p : Piece) (later : List Chunk) → Ends later → Closes (piece_chunks p later)
 piece_close p later h =
-    let behind : List Chunk = chunk (symbol 2) line_end ∷ later in
-    closes_more (chunk (word (codes "cut")) space) (sizes_chunks p.cut p.slots p.stages behind) (sizes_close p.cut p.slots p.stages behind (end_closes later h))
+    let following : List Chunk = chunk (symbol 2) line_end ∷ later in
+    closes_more (chunk (word (codes "cut")) space) (sizes_chunks p.cut p.slots p.stages following) (sizes_close p.cut p.slots p.stages following (end_closes later h))
 
 pieces_end : (ps : List Piece) (later : List Chunk) → Ends later → Ends (pieces_chunks ps later)
 pieces_end [] later h = h
@@ -121,9 +121,9 @@ pieces_end (p ∷ ps) later h = inl (piece_close p (pieces_chunks ps later) (pie
 
 entry_close : (e : Entry) (later : List Chunk) → Ends later → Closes (entry_chunks e later)
 entry_close e later h =
-    let behind : List Chunk = chunk (symbol 2) line_end ∷ pieces_chunks e.pieces later in
-    let list : List Chunk = list_chunks e.levels [] behind in
-    closes_more (chunk (word (codes "path")) space) list (list_close e.levels behind (end_closes (pieces_chunks e.pieces later) (pieces_end e.pieces later h)))
+    let following : List Chunk = chunk (symbol 2) line_end ∷ pieces_chunks e.pieces later in
+    let list : List Chunk = list_chunks e.levels [] following in
+    closes_more (chunk (word (codes "path")) space) list (list_close e.levels following (end_closes (pieces_chunks e.pieces later) (pieces_end e.pieces later h)))
 
 entries_end : (es : List Entry) → Ends (entries_chunks es)
 entries_end [] = inr refl

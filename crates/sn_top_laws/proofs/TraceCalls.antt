@@ -49,16 +49,16 @@ module _ (prints : Prints) (always : Only) (schedule : ℕ) (switch queries trai
 
     pub keeps_traced_headline : KeepsTracedHeadline switch queries train capture nodes before status now
     keeps_traced_headline = record {
-      printed = λ files told ending given keeps no_read no_write.
+      printed = λ files reported ending given keeps no_read no_write.
           let o = outcome_of files in
           let p = traced_prints files o.outcome o.is ending given keeps in
-          elim ((run.run files told o.outcome o.is).complete no_read no_write) [
+          elim ((run.run files reported o.outcome o.is).complete no_read no_write) [
             | inl one ↦ inl one
             | inr done ↦ inr (record { text = o.outcome.text; headline = p.1; written = done.1; status_is = done.0 ∙ ap end_status p.0 })
           ];
-      only = λ files told zero.
+      only = λ files reported zero.
           let o = outcome_of files in
-          let r = run.run files told o.outcome o.is in
+          let r = run.run files reported o.outcome o.is in
           let end : o.outcome.end ≡ Ok tt = zero_is o.outcome.end (r.done.only_where zero) in
           let p = traced_only files o.outcome o.is Clean end in
           (p.0, record { text = o.outcome.text; headline = p.1; written = r.whole (unexcused (AnyRose (queries ∷ switch ∷ train ∷ capture ∷ []) before.files now.files) (OutRose before.out now.out) zero); status_is = zero });

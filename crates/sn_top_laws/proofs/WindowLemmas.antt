@@ -34,7 +34,7 @@ use Rattle.sn_types.specs.declared.answers.Answers.{Answers}
 use Rattle.sn_types.specs.declared.answers.Part.{Part}
 use Rattle.sn_types.specs.declared.typed_query.TypedQuery.{TypedQuery}
 use Rattle.sn_types.specs.Typed.{HasWidths, IsTyped}
-use Rattle.sn_command_emit.specs.Sent.{frames_at, frames_behind, kept_of, packet_frames, reads_out, sends_at, window_frames}
+use Rattle.sn_command_emit.specs.Sent.{frames_at, frames_after, kept_of, packet_frames, reads_out, sends_at, window_frames}
 use Rattle.sn_top_laws.proofs.FrameLemmas.{IsGood, all_good, no_fault, row_is_frame}
 use Rattle.sn_top_laws.proofs.NameLemmas.{AreOf, all_at, all_flat, each_among, frames_both, frames_flat, known_names, lane_among}
 use Rattle.sn_top_laws.proofs.PipeLemmas.{items_are}
@@ -121,8 +121,8 @@ module _ (typed_for : ℕ) (p : Planned) (t : ∥ IsTyped typed_for p.queries �
     at_own : (n : ℕ) (y : Placed) → AreOf (name_of y) (frames_at p.queries p.tables known tuples n y)
     at_own n y = rows_own (name_of y) (sends_at p.queries p.tables y (known y) tuples n)
 
-    behind_own : (y : Placed) → AreOf (name_of y) (frames_behind p.queries p.tables known tuples w y)
-    behind_own y =
+    after_own : (y : Placed) → AreOf (name_of y) (frames_after p.queries p.tables known tuples w y)
+    after_own y =
         all_append (λ (f : Frame). lane_in f ≡ name_of y) (map (row_frame (name_of y)) (reads_out p.queries p.tables y (known y) tuples)) (End (name_of y) w ∷ [])
         (rows_own (name_of y) (reads_out p.queries p.tables y (known y) tuples)) (refl, tt)
 
@@ -141,12 +141,12 @@ module _ (typed_for : ℕ) (p : Planned) (t : ∥ IsTyped typed_for p.queries �
         let sends : ℕ → List Item = sends_at p.queries p.tables x (known x) tuples in
         let reads : List Item = reads_out p.queries p.tables x (known x) tuples in
         let end : List Frame = End name w ∷ [] in
-        frames_both l (flat_map (packet_frames p known tuples) numbers) (flat_map (frames_behind p.queries p.tables known tuples w) pieces)
-        ∙ ap (λ (fs : List Frame). fs ++ frames_of l (flat_map (frames_behind p.queries p.tables known tuples w) pieces))
+        frames_both l (flat_map (packet_frames p known tuples) numbers) (flat_map (frames_after p.queries p.tables known tuples w) pieces)
+        ∙ ap (λ (fs : List Frame). fs ++ frames_of l (flat_map (frames_after p.queries p.tables known tuples w) pieces))
         (frames_flat l (packet_frames p known tuples) numbers
         ∙ flat_agree (λ n. frames_of l (packet_frames p known tuples n)) (λ n. map (row_frame name) (sends n)) (λ n. lane_among (frames_at p.queries p.tables known tuples n) (at_own n) pieces x b a e apart) numbers
         ∙ map_flat sends (row_frame name) numbers)
-        ∙ ap (λ (fs : List Frame). map (row_frame name) (flat_map sends numbers) ++ fs) (lane_among (frames_behind p.queries p.tables known tuples w) behind_own pieces x b a e apart)
+        ∙ ap (λ (fs : List Frame). map (row_frame name) (flat_map sends numbers) ++ fs) (lane_among (frames_after p.queries p.tables known tuples w) after_own pieces x b a e apart)
         ∙ sym (append_assoc (map (row_frame name) (flat_map sends numbers)) (map (row_frame name) reads) end)
         ∙ ap (λ (fs : List Frame). fs ++ end) (sym (map-append (row_frame name) (flat_map sends numbers) reads))
         ∙ ap (λ (is : List Item). map (row_frame name) is ++ end) (sent_items x mine is)
@@ -154,7 +154,7 @@ module _ (typed_for : ℕ) (p : Planned) (t : ∥ IsTyped typed_for p.queries �
     -- what is said of each piece
     record IsSentBy (x : Placed) : Type 0 where
       mine : CanMake p.queries x
-      lets : kept (source_of x) ≡ known x
+      admits : kept (source_of x) ≡ known x
       stands : frames_of (intake_of x) frames ≡ map (row_frame (name_of x)) (items_in x) ++ End (name_of x) w ∷ []
       items : rows_in (frames_of (intake_of x) frames) ≡ items_in x
       good : AllByRecursion (IsGood p.queries x) (items_in x)
@@ -166,7 +166,7 @@ module _ (typed_for : ℕ) (p : Planned) (t : ∥ IsTyped typed_for p.queries �
         let stands = lane_frames b x a e mine is in
         record {
           mine = mine;
-          lets = is;
+          admits = is;
           stands = stands;
           items = ap rows_in stands ∙ rows_back (name_of x) w (items_in x);
           good = all_good typed_for p.queries x t mine p.tables kept tuples widths;
@@ -187,9 +187,9 @@ module _ (typed_for : ℕ) (p : Planned) (t : ∥ IsTyped typed_for p.queries �
       each = of_lanes (λ l. frames_of l frames ≡ map (Row (lane_name l)) (rows_in (frames_of l frames)) ++ End (lane_name l) w ∷ [])
           (all_weaker IsSentBy (λ (x : Placed). frames_of (intake_of x) frames ≡ map (row_frame (name_of x)) (rows_in (frames_of (intake_of x) frames)) ++ End (name_of x) w ∷ [])
           (λ x s. s.stands ∙ ap (λ (is : List Item). map (row_frame (name_of x)) is ++ End (name_of x) w ∷ []) (sym s.items)) pieces all_sent);
-      known = all_append HasLane (flat_map (packet_frames p known tuples) numbers) (flat_map (frames_behind p.queries p.tables known tuples w) pieces)
+      known = all_append HasLane (flat_map (packet_frames p known tuples) numbers) (flat_map (frames_after p.queries p.tables known tuples w) pieces)
           (all_flat HasLane (packet_frames p known tuples) numbers (each_number (λ n. AllByRecursion HasLane (packet_frames p known tuples n)) (λ n. has_lanes (frames_at p.queries p.tables known tuples n) (at_own n)) numbers))
-          (has_lanes (frames_behind p.queries p.tables known tuples w) behind_own);
+          (has_lanes (frames_after p.queries p.tables known tuples w) after_own);
       lawful = of_lanes (λ l. AllByRecursion (λ item. row_fault p.queries l item ≡ None) (rows_in (frames_of l frames)))
           (all_weaker IsSentBy (λ (x : Placed). AllByRecursion (λ item. row_fault p.queries (intake_of x) item ≡ None) (rows_in (frames_of (intake_of x) frames)))
           (λ x s. subst (AllByRecursion (λ item. row_fault p.queries (intake_of x) item ≡ None)) (sym s.items)
@@ -215,15 +215,15 @@ module _ (typed_for : ℕ) (p : Planned) (t : ∥ IsTyped typed_for p.queries �
     -- they have bytes
     pub are_frames : w < 2 ^ 64 → AllByRecursion (IsFrame 2) frames
     are_frames few =
-        all_append (IsFrame 2) (flat_map (packet_frames p known tuples) numbers) (flat_map (frames_behind p.queries p.tables known tuples w) pieces)
+        all_append (IsFrame 2) (flat_map (packet_frames p known tuples) numbers) (flat_map (frames_after p.queries p.tables known tuples w) pieces)
         (all_flat (IsFrame 2) (packet_frames p known tuples) numbers
         (all_weaker (λ n. AllByRecursion (λ (x : Placed). AllByRecursion (IsFrame 2) (frames_at p.queries p.tables known tuples n x)) pieces) (λ n. AllByRecursion (IsFrame 2) (packet_frames p known tuples n))
         (λ n h. all_flat (IsFrame 2) (frames_at p.queries p.tables known tuples n) pieces h) numbers
         (all_turned (λ n (x : Placed). AllByRecursion (IsFrame 2) (frames_at p.queries p.tables known tuples n x)) numbers pieces (all_weaker IsSentBy (λ (x : Placed). AllByRecursion (λ n. AllByRecursion (IsFrame 2) (frames_at p.queries p.tables known tuples n x)) numbers) at_packets pieces all_sent))))
-        (all_flat (IsFrame 2) (frames_behind p.queries p.tables known tuples w) pieces (all_weaker IsSentBy (λ (x : Placed). AllByRecursion (IsFrame 2) (frames_behind p.queries p.tables known tuples w x)) behind_packets pieces all_sent))
+        (all_flat (IsFrame 2) (frames_after p.queries p.tables known tuples w) pieces (all_weaker IsSentBy (λ (x : Placed). AllByRecursion (IsFrame 2) (frames_after p.queries p.tables known tuples w x)) after_packets pieces all_sent))
       where
         good_parts : (x : Placed) (s : IsSentBy x) → AllByRecursion (IsGood p.queries x) (flat_map (sends_at p.queries p.tables x (known x) tuples) numbers ++ reads_out p.queries p.tables x (known x) tuples)
-        good_parts x s = subst (AllByRecursion (IsGood p.queries x)) (sym (sent_items x s.mine s.lets)) s.good
+        good_parts x s = subst (AllByRecursion (IsGood p.queries x)) (sym (sent_items x s.mine s.admits)) s.good
 
         frames_are : (x : Placed) (s : IsSentBy x) (items : List Item) → AllByRecursion (IsGood p.queries x) items → AllByRecursion (IsFrame 2) (map (row_frame (name_of x)) items)
         frames_are x s items h = all_map (IsFrame 2) (row_frame (name_of x)) items (all_weaker (IsGood p.queries x) (λ item. IsFrame 2 (row_frame (name_of x) item)) (row_is_frame typed_for p.queries x t s.mine) items h)
@@ -234,8 +234,8 @@ module _ (typed_for : ℕ) (p : Planned) (t : ∥ IsTyped typed_for p.queries �
             all_weaker (λ n. AllByRecursion (IsGood p.queries x) (sends n)) (λ n. AllByRecursion (IsFrame 2) (frames_at p.queries p.tables known tuples n x)) (λ n h. frames_are x s (sends n) h) numbers
             (all_parts (IsGood p.queries x) sends numbers (all_front (IsGood p.queries x) (flat_map sends numbers) (reads_out p.queries p.tables x (known x) tuples) (good_parts x s)))
 
-        behind_packets : (x : Placed) → IsSentBy x → AllByRecursion (IsFrame 2) (frames_behind p.queries p.tables known tuples w x)
-        behind_packets x s =
+        after_packets : (x : Placed) → IsSentBy x → AllByRecursion (IsFrame 2) (frames_after p.queries p.tables known tuples w x)
+        after_packets x s =
             let reads : List Item = reads_out p.queries p.tables x (known x) tuples in
             let none : 0 ≤ 12 = omega arith in
             all_append (IsFrame 2) (map (row_frame (name_of x)) reads) (End (name_of x) w ∷ [])

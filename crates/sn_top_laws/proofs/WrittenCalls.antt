@@ -28,10 +28,10 @@ module _ (show : Shows) (switch queries train written : List ℕ) (nodes : ℕ) 
   pub calls_confirm : CallsConfirm switch queries train written text later
   calls_confirm = record {
     found = found show switch queries train written nodes files later text few kept certified;
-    checks = λ names before now status call told. call.run later told (yes show switch queries train written nodes files later text few kept certified) (check_given show switch queries train written nodes files later text few kept certified);
+    checks = λ names before now status call reported. call.run later reported (yes show switch queries train written nodes files later text few kept certified) (check_given show switch queries train written nodes files later text few kept certified);
     ran = due show switch queries train written nodes files later text few kept certified;
     sent = sent show switch queries train written nodes files later text few kept certified;
     costs = costs_so show switch queries train written nodes files later text few kept certified;
     prints = due_prints show switch queries train written nodes files later text few kept certified;
-    runs = λ names before now status call told. call.run later told (due show switch queries train written nodes files later text few kept certified) (run_given show switch queries train written nodes files later text few kept certified);
+    runs = λ names before now status call reported. call.run later reported (due show switch queries train written nodes files later text few kept certified) (run_given show switch queries train written nodes files later text few kept certified);
   }

@@ -15,8 +15,8 @@ use Rattle.sn_command.specs.Refusals.{refusing}
 use Rattle.sn_command.specs.Stages.{Bytes, Does, Gives, GoesOn, Judges, Text, Then, most_text, within_limit}
 use Rattle.sn_command_capture.specs.Capture.{ending_verdict, packet_tuple, time_of}
 use Rattle.sn_windows.specs.Rising.{Window}
-use Rattle.sn_command_check.specs.Check.{Behind, Check}
-use Rattle.sn_command_check.specs.PlanTrees.{PlanBefore, TreeBehind}
+use Rattle.sn_command_check.specs.Check.{After, Check}
+use Rattle.sn_command_check.specs.PlanTrees.{PlanBefore, TreeAfter}
 use Rattle.sn_command_check.specs.Shown.{ShownFor, flaw_verdict}
 use Rattle.sn_command_check.proofs.CheckLemmas.{one_check}
 use Rattle.sn_command_check.proofs.NoPrices.{tree_without_prices}
@@ -109,8 +109,8 @@ added : (text : List ℕ) (found : Searched) (rest : Outcome Searched) → rest 
 added text found rest e = ap (λ (o : Outcome Searched). o.text) e
 
 -- what stands after a stage that adds nothing
-behind : (whole first rest : List ℕ) → whole ≡ first ++ rest → first ≡ [] → whole ≡ rest
-behind whole first rest e none = e ∙ ap (λ (l : List ℕ). l ++ rest) none
+following : (whole first rest : List ℕ) → whole ≡ first ++ rest → first ≡ [] → whole ≡ rest
+following whole first rest e none = e ∙ ap (λ (l : List ℕ). l ++ rest) none
 
 bytes_given : (most : ℕ) (name : List ℕ) (files : ByName (List ℕ)) (bytes : List ℕ) → IsHeld files name most bytes → Bytes most name files (silent (Ok bytes))
 bytes_given most name files bytes has =
@@ -201,7 +201,7 @@ module _ {A B : Type 0} (name : List ℕ) (judgement : List ℕ → Result A Fau
   read_then t e = by_passed (gave (Text name judgement) second files o value t e)
     where
       by_passed : Passed (Text name judgement) second files o → Read
-      by_passed p = let so = read_so name judgement files p.begun p.value p.begins p.ok in record { gives = p.value; so = so.0; rest = p.rest; goes = p.goes_on; text = behind o.text p.begun.text p.rest.text p.text so.1; end = sym p.end ∙ e }
+      by_passed p = let so = read_so name judgement files p.begun p.value p.begins p.ok in record { gives = p.value; so = so.0; rest = p.rest; goes = p.goes_on; text = following o.text p.begun.text p.rest.text p.text so.1; end = sym p.end ∙ e }
 
 module _ (switch queries train : List ℕ) (nodes : ℕ) (files : ByName (List ℕ)) (found : Searched) where
   module _ (read : Queries) (limits : Switch) (training : Training) where
@@ -220,7 +220,7 @@ module _ (switch queries train : List ℕ) (nodes : ℕ) (files : ByName (List �
         by_passed : Passed (Judges judgement) adds files o → (c : Certificate) × IsCertificate limits read.queries (trained_windows training) nodes c × (o.text ≡ certificate_text c)
         by_passed p =
             let j = judged_so judgement files p.begun p.value p.begins p.ok in
-            (p.value, j.0, behind o.text p.begun.text p.rest.text p.text j.1 ∙ added (certificate_text p.value) (searched p.value) p.rest p.goes_on)
+            (p.value, j.0, following o.text p.begun.text p.rest.text p.text j.1 ∙ added (certificate_text p.value) (searched p.value) p.rest p.goes_on)
 
   abbrev by_training : Queries → Switch → Training → Stage Searched
   by_training read limits training = Searches read limits training nodes
@@ -358,8 +358,8 @@ module _ (show : Shows) (switch queries train written : List ℕ) (nodes : ℕ) 
   plan_before : PlanBefore text (Ok place)
   plan_before = record { found = Ok place; is = back.1; same = refl }
 
-  tree_behind : TreeBehind text back.0 (Ok tree)
-  tree_behind = record { found = Ok tree; is = back.2; same = refl }
+  tree_after : TreeAfter text back.0 (Ok tree)
+  tree_after = record { found = Ok tree; is = back.2; same = refl }
 
   plan_in : PlanIn text (Ok c.plan)
   plan_in = record { found = Ok c.plan; is = (back.0, back.1); same = refl }
@@ -372,8 +372,8 @@ module _ (show : Shows) (switch queries train written : List ℕ) (nodes : ℕ) 
       (then_given [] text yes (bytes_given most_text written later text held_text)
       (then_given [] place yes (record { verdict = Ok place; is = plan_before; same = refl })
       (then_given [] tt yes fitting
-      (subst (λ (b : Bool). Behind k.read k.limits k.training text c.plan back.0 b later yes) (sym (tree_without_prices text back.0 tree back.2))
-      (then_given [] tree yes (record { verdict = Ok tree; is = tree_behind; same = refl })
+      (subst (λ (b : Bool). After k.read k.limits k.training text c.plan back.0 b later yes) (sym (tree_without_prices text back.0 tree back.2))
+      (then_given [] tree yes (record { verdict = Ok tree; is = tree_after; same = refl })
       (then_given [] tt yes (record { verdict = Ok tt; is = shown; same = refl }) refl))))))))
 
   pub says_yes : (checked : Outcome (Unit {0})) → Check switch queries train written later checked → SaysYes text checked

@@ -17,7 +17,7 @@ pub record Wrote (names : List (List ℕ)) (work : Stage (Unit {0})) (files : By
   pub before : Around
   pub now : Around
   pub call : IsCommandRun names work before status now
-  pub told : before.files.told ≡ Some files
+  pub reported : before.files.reported ≡ Some files
   pub nothing : before.out.written ≡ Some []
   pub written : now.out.written ≡ Some text
 
@@ -46,7 +46,7 @@ IsToPrint status ran printed = DifferByDamage status ran printed ⊎ AreOfNoWind
 abbrev pub CallsPrint : List ℕ → List ℕ → List ℕ → ByName (List ℕ) → List ℕ → Type 0
 CallsPrint queries plan reports files printed =
     (names : List (List ℕ)) (before now : Around) (status : ℕ) → IsCommandRun names (Finish queries plan reports) before status now
-    → before.files.told ≡ Some files
+    → before.files.reported ≡ Some files
     → IsRun (record { text = printed; end = Ok tt }) (AnyRose names before.files now.files)
     (OutRose before.out now.out) status before.out.written now.out.written
 

@@ -22,13 +22,13 @@ IsFilter Distinct = ⊥
 IsFilter (Reduced r) = ⊥
 
 -- whatever stands after a reduce is a filter
-abbrev pub FiltersBehind : List TOp → Type 0
-FiltersBehind front = (before behind : List TOp) (r : TReduce) → front ≡ before ++ Reduced r ∷ behind → AllByRecursion IsFilter behind
+abbrev pub FiltersAfter : List TOp → Type 0
+FiltersAfter front = (before following : List TOp) (r : TReduce) → front ≡ before ++ Reduced r ∷ following → AllByRecursion IsFilter following
 
 -- Operators may stand in a switch: those of them that keep rows in registers are few, and only filters stand after the reduce.
 pub record MayStand (front : List TOp) : Type 0 where
   pub few : are_few (filter is_stateful front) ≡ true
-  pub filters : FiltersBehind front
+  pub filters : FiltersAfter front
 
 -- this many operators at the front may stand in a switch, and no more
 pub record IsGreatestCut (ops : List TOp) (cut : ℕ) : Type 0 where

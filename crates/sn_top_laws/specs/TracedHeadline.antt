@@ -23,10 +23,10 @@ pub record IsTraced {switch queries train capture : List ℕ} {files : ByName (L
 -- over files whose contents are known
 pub record KeepsTracedHeadline (switch queries train capture : List ℕ) (nodes : ℕ) (before : Around) (status : ℕ) (now : Around) : Type 0 where
   -- Of accepted files with limits that are kept it is written, where no count rose, unless memory ran out.
-  pub printed : (files : ByName (List ℕ)) → before.files.told ≡ Some files → (ending : Ending) (given : AreAccepted switch queries train capture files ending)
+  pub printed : (files : ByName (List ℕ)) → before.files.reported ≡ Some files → (ending : Ending) (given : AreAccepted switch queries train capture files ending)
       → KeepsLimits given nodes
       → (AnyRose (queries ∷ switch ∷ train ∷ capture ∷ []) before.files now.files → ⊥) → (OutRose before.out now.out → ⊥)
       → (status ≡ 1) ⊎ IsTraced given status before.out.written now.out.written
   -- Where the status is 0, the files are accepted, and it is written.
-  pub only : (files : ByName (List ℕ)) → before.files.told ≡ Some files → status ≡ 0
+  pub only : (files : ByName (List ℕ)) → before.files.reported ≡ Some files → status ≡ 0
       → (given : AreAccepted switch queries train capture files Clean) × IsTraced given status before.out.written now.out.written

@@ -97,7 +97,7 @@ pub record SendsAsMany (text : List ℕ) (ran : Outcome (Unit {0})) : Type 0 whe
 -- Each call with the words of a command over these files is a run with this outcome.
 abbrev pub CallsEnd : Stage (Unit {0}) → ByName (List ℕ) → Outcome (Unit {0}) → Type 0
 CallsEnd work files outcome =
-    (names : List (List ℕ)) (before now : Around) (status : ℕ) → IsCommandRun names work before status now → before.files.told ≡ Some files
+    (names : List (List ℕ)) (before now : Around) (status : ℕ) → IsCommandRun names work before status now → before.files.reported ≡ Some files
     → IsRun outcome (AnyRose names before.files now.files) (OutRose before.out now.out) status before.out.written now.out.written
 
 -- Calls of `check` say yes of the cost and the tree in this text, and calls of `run` over the training capture, along its plan, send the items

@@ -17,15 +17,15 @@ use sn_command_live::law::live_keeps_the_headline;
 /// Without its lines of events the text of `live --trace` is that of `live`, and both end alike: whatever the schedule, the files and what is
 /// reported of answers.
 pub fn traces_add_lines_of_events()
-    ensures { (schedule nodes : ℕ) (told : Telling) (switch queries train capture : List ℕ) (files : ByName (List ℕ)) (plain traced : Outcome (Unit {0})) →
-        Live told switch queries train capture nodes files plain → TracedLive schedule told switch queries train capture nodes files traced →
+    ensures { (schedule nodes : ℕ) (reported : Telling) (switch queries train capture : List ℕ) (files : ByName (List ℕ)) (plain traced : Outcome (Unit {0})) →
+        Live reported switch queries train capture nodes files plain → TracedLive schedule reported switch queries train capture nodes files traced →
         AddsEvents plain traced }
 {}
 
 /// So every schedule prints the same answers: without the lines of events the texts of two schedules are the same, and they end alike.
 pub fn schedules_print_the_same()
-    ensures { (first second nodes : ℕ) (told : Telling) (switch queries train capture : List ℕ) (files : ByName (List ℕ)) (one other : Outcome (Unit {0})) →
-        TracedLive first told switch queries train capture nodes files one → TracedLive second told switch queries train capture nodes files other →
+    ensures { (first second nodes : ℕ) (reported : Telling) (switch queries train capture : List ℕ) (files : ByName (List ℕ)) (one other : Outcome (Unit {0})) →
+        TracedLive first reported switch queries train capture nodes files one → TracedLive second reported switch queries train capture nodes files other →
         (without_events one.text ≡ without_events other.text) × (one.end ≡ other.end) }
 {}
 

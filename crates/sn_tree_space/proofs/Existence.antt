@@ -10,7 +10,7 @@ use Rattle.sn_tree_space.specs.declared.follow.Follow.{Follow}
 use Rattle.sn_tree_space.specs.declared.follow.Follow.TheVariants.{Complete, Choices}
 use Rattle.sn_tree_space.specs.Space.{Space, SpaceLaws, IsOneOf, with_choice, choices_in, children, GoesOnTo, itself, through, IsPartial, IsPlan, IsFirstLeast, stands_before, taken_before}
 use Rattle.sn_tree_space.proofs.Partials.{child_partial, broken_along, complete_stays}
-use Rattle.sn_tree_space.proofs.Order.{not_behind, not_before, not_behind_along, taken_later}
+use Rattle.sn_tree_space.proofs.Order.{not_after, not_before, not_after_along, taken_later}
 
 -- ---- the order in which lists are taken is an order
 
@@ -35,7 +35,7 @@ taken_along s a b r h k =
     let up = two.0 in
     let first : s.lower b ≡ s.lower a = omega arith in
     let second : s.lower r ≡ s.lower b = omega arith in
-    not_before a r (not_behind_along a b r (not_behind a b (one.1 first)) (not_behind b r (two.1 second))))
+    not_before a r (not_after_along a b r (not_after a b (one.1 first)) (not_after b r (two.1 second))))
 
 taken_once : (s : Space) (a b : List ℕ) → taken_before s b a ≡ true → taken_before s a b ≡ false
 taken_once s a b h =

@@ -38,8 +38,8 @@ turned Less h = refl
 turned Equal h = refl
 turned Greater h = cc
 
-pub not_behind : (q r : List ℕ) → stands_before r q ≡ false → is_gt (slice_cmp nat_cmp q r) ≡ false
-not_behind q r h = turned (slice_cmp nat_cmp q r) (ap is_lt (sym (nat_list_cmp_total.antisymm r q)) ∙ h)
+pub not_after : (q r : List ℕ) → stands_before r q ≡ false → is_gt (slice_cmp nat_cmp q r) ≡ false
+not_after q r h = turned (slice_cmp nat_cmp q r) (ap is_lt (sym (nat_list_cmp_total.antisymm r q)) ∙ h)
 
 turned_back : (o : Ordering) → is_gt o ≡ false → is_lt (ordering_reverse o) ≡ false
 turned_back Less h = refl
@@ -49,8 +49,8 @@ turned_back Greater h = cc
 pub not_before : (q r : List ℕ) → is_gt (slice_cmp nat_cmp q r) ≡ false → stands_before r q ≡ false
 not_before q r h = ap is_lt (nat_list_cmp_total.antisymm r q) ∙ turned_back (slice_cmp nat_cmp q r) h
 
-pub not_behind_along : (q r t : List ℕ) → is_gt (slice_cmp nat_cmp q r) ≡ false → is_gt (slice_cmp nat_cmp r t) ≡ false → is_gt (slice_cmp nat_cmp q t) ≡ false
-not_behind_along q r t = upto nat_list_cmp_total q r t
+pub not_after_along : (q r t : List ℕ) → is_gt (slice_cmp nat_cmp q r) ≡ false → is_gt (slice_cmp nat_cmp r t) ≡ false → is_gt (slice_cmp nat_cmp q t) ≡ false
+not_after_along q r t = upto nat_list_cmp_total q r t
 
 -- ---- the order in which lists are taken
 

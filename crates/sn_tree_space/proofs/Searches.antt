@@ -12,7 +12,7 @@ use Rattle.sn_tree_space.specs.Space.{Space, SpaceLaws, IsOneOf, children, GoesO
 use Rattle.sn_tree_space.specs.Trees.{tree_of, count_expands}
 use Rattle.sn_tree_space.specs.Searches.{any_bound, IsBudgetBound, weight, whole_children, Waits, Frontier, Explored}
 use Rattle.sn_tree_space.proofs.Partials.{child_partial, lower_along, broken_along, begins}
-use Rattle.sn_tree_space.proofs.Order.{front_first, stands_first, not_before, not_behind, not_behind_along, taken_later, taken_first}
+use Rattle.sn_tree_space.proofs.Order.{front_first, stands_first, not_before, not_after, not_after_along, taken_later, taken_first}
 use Rattle.sn_tree_space.proofs.PlanTree.{node_expand}
 use Rattle.sn_tree_space.proofs.PlanAccepted.{one_of_front, one_of_back}
 use Rattle.sn_tree_space.proofs.Weights.{weight_expand, weight_plan, whole_weight, no_weight, weight_later, weight_high}
@@ -88,10 +88,10 @@ module _ (s : Space) (L : SpaceLaws s) where
       -- no plan costs less than the first that waits
       pub least_of_all : (r : List ℕ) → IsPlan s r → s.lower q ≤ s.lower r
       least_of_all r plan =
-          let behind = W.reach r plan in
-          let part = (at_each (Waits s last) (q ∷ rest) W.each behind.0 behind.1).partial in
-          let up = lower_along s L behind.0 r behind.2 part in
-          let low = least_waits behind.0 behind.1 in omega arith
+          let following = W.reach r plan in
+          let part = (at_each (Waits s last) (q ∷ rest) W.each following.0 following.1).partial in
+          let up = lower_along s L following.0 r following.2 part in
+          let low = least_waits following.0 following.1 in omega arith
 
       not_negated : (b : Bool) → not b ≡ true → b ≡ false
       not_negated true h = cc
@@ -122,7 +122,7 @@ module _ (s : Space) (L : SpaceLaws s) where
       pub frontier_next : (f count : ℕ) → s.follow q ≡ Choices f count → Frontier s (s.lower q) (whole_children s q ++ rest)
       frontier_next f count e = record {
         each = all_from (Waits s (s.lower q)) (whole_children s q ++ rest) (λ r i. next_each r (split r (whole_children s q) rest i));
-        reach = λ r plan. let behind = W.reach r plan in next_reach f count e r plan behind.0 behind.1 behind.2;
+        reach = λ r plan. let following = W.reach r plan in next_reach f count e r plan following.0 following.1 following.2;
       }
 
       -- a complete list that is taken first is the first least plan
@@ -130,7 +130,7 @@ module _ (s : Space) (L : SpaceLaws s) where
       first_is_least e = record {
         plan = record { partial = here.partial; complete = e; unbroken = here.unbroken };
         least = least_of_all;
-        first = λ r plan same. let behind = W.reach r plan in not_before q r (not_earlier r same behind.0 behind.1 behind.2);
+        first = λ r plan same. let following = W.reach r plan in not_before q r (not_earlier r same following.0 following.1 following.2);
       }
         where
           not_earlier : (r : List ℕ) → s.lower r ≡ s.lower q → (t : List ℕ) → IsOneOf t (q ∷ rest) → GoesOnTo s t r → is_gt (slice_cmp nat_cmp q r) ≡ false
@@ -143,7 +143,7 @@ module _ (s : Space) (L : SpaceLaws s) where
               let low = taken_later s t q (first t i) in
               let level : s.lower t ≡ s.lower q = omega arith in
               let more = begins s t r g in
-              not_behind_along q t r (not_behind q t (low.1 level)) (ap (λ l. is_gt (slice_cmp nat_cmp t l)) more.1 ∙ front_first t more.0)
+              not_after_along q t r (not_after q t (low.1 level)) (ap (λ l. is_gt (slice_cmp nat_cmp t l)) more.1 ∙ front_first t more.0)
 
       -- ---- of the tree of the first least plan
 
@@ -151,8 +151,8 @@ module _ (s : Space) (L : SpaceLaws s) where
         -- an incomplete list that is taken first is taken before the plan
         taken_ahead : q ≢ p → taken_before s q p ≡ true
         taken_ahead n =
-            let behind = W.reach p F.plan in
-            taken_first s q p (least_of_all p F.plan) (λ level. stands_first q p n (ahead level behind.0 behind.1 behind.2))
+            let following = W.reach p F.plan in
+            taken_first s q p (least_of_all p F.plan) (λ level. stands_first q p n (ahead level following.0 following.1 following.2))
           where
             ahead : s.lower q ≡ s.lower p → (t : List ℕ) → IsOneOf t (q ∷ rest) → GoesOnTo s t p → is_gt (slice_cmp nat_cmp q p) ≡ false
             ahead level t (inl k) g = let more = begins s t p g in ap (λ l. is_gt (slice_cmp nat_cmp q l)) (more.1 ∙ ap (λ l. l ++ more.0) k) ∙ front_first q more.0
@@ -162,7 +162,7 @@ module _ (s : Space) (L : SpaceLaws s) where
                 let low = taken_later s t q (first t i) in
                 let same : s.lower t ≡ s.lower q = omega arith in
                 let more = begins s t p g in
-                not_behind_along q t p (not_behind q t (low.1 same)) (ap (λ l. is_gt (slice_cmp nat_cmp t l)) more.1 ∙ front_first t more.0)
+                not_after_along q t p (not_after q t (low.1 same)) (ap (λ l. is_gt (slice_cmp nat_cmp t l)) more.1 ∙ front_first t more.0)
 
         module _ (f count : ℕ) (e : s.follow q ≡ Choices f count) where
           incomplete : q ≢ p

@@ -13,7 +13,7 @@ use Rattle.sn_text.proofs.Loops.{over, turns, stops_at, shorter, halts_as}
 use Rattle.sn_tree_space.specs.declared.node.Node.{Node}
 use Rattle.sn_plan_grammar.specs.TreeGrammar.{begins, node_rule, nodes_rule}
 use Rattle.sn_plan_grammar.proofs.TreeGoods.{nodes_alike}
-use Rattle.sn_tree_text.specs.Fronts.{and_behind, front_nodes, nodes_of}
+use Rattle.sn_tree_text.specs.Fronts.{and_after, front_nodes, nodes_of}
 
 -- ---- where no node begins
 
@@ -24,22 +24,22 @@ none_begins false false true e h = absurd cc
 none_begins false false false true h = absurd cc
 none_begins false false false false h = (refl, refl, refl, refl)
 
-not_begun : (t : Tok) (ts : List Tok) (behind : List Tok → List Node) → begins t.face ≡ false → and_behind (node_rule.read kept (t ∷ ts)) behind ≡ []
+not_begun : (t : Tok) (ts : List Tok) (following : List Tok → List Node) → begins t.face ≡ false → and_after (node_rule.read kept (t ∷ ts)) following ≡ []
 unfolding node_rule
-not_begun t ts behind h =
+not_begun t ts following h =
     let k = none_begins (is_word (codes "X") t.face) (is_word (codes "E") t.face) (is_word (codes "B") t.face) (is_word (codes "P") t.face) h in
     rw (k.0, k.1, k.2, k.3) refl
 
-nothing_there : (behind : List Tok → List Node) → and_behind (node_rule.read kept []) behind ≡ []
+nothing_there : (following : List Tok → List Node) → and_after (node_rule.read kept []) following ≡ []
 unfolding node_rule
-nothing_there behind = refl
+nothing_there following = refl
 
 -- ---- the number of steps doesn't matter where it is enough
 
 pub fewer : (ts us : List Tok) (a : Node) → node_rule.read kept ts ≡ got a us → suc (length us) ≤ length ts
 fewer ts us a e = shorter nodes_alike [] ts us a e
 
-enough_by : (n k : ℕ) (r : Read Node) → ((a : Node) (us : List Tok) → r ≡ got a us → front_nodes n us ≡ front_nodes k us) → and_behind r (λ us. front_nodes n us) ≡ and_behind r (λ us. front_nodes k us)
+enough_by : (n k : ℕ) (r : Read Node) → ((a : Node) (us : List Tok) → r ≡ got a us → front_nodes n us ≡ front_nodes k us) → and_after r (λ us. front_nodes n us) ≡ and_after r (λ us. front_nodes k us)
 enough_by n k (got a us) h = ap (λ ns. a ∷ ns) (h a us refl)
 enough_by n k (fails x us) h = refl
 enough_by n k short h = refl
@@ -59,13 +59,13 @@ unfolding nodes_of
 one_more [] us a e = let less = fewer [] us a e in absurd (omega arith)
 one_more (t ∷ ts) us a e =
     let less = fewer (t ∷ ts) us a e in
-    ap (λ r. and_behind r (λ vs. front_nodes (length ts) vs)) e ∙ ap (λ ns. a ∷ ns) (enough (length ts) (length us) us (omega arith) (omega arith))
+    ap (λ r. and_after r (λ vs. front_nodes (length ts) vs)) e ∙ ap (λ ns. a ∷ ns) (enough (length ts) (length us) us (omega arith) (omega arith))
 
 -- no node is at the front where none can be read
 pub none_more : (ts us : List Tok) (x : Flaw) → node_rule.read kept ts ≡ fails x us → nodes_of ts ≡ []
 unfolding nodes_of
 none_more [] us x e = refl
-none_more (t ∷ ts) us x e = ap (λ r. and_behind r (λ vs. front_nodes (length ts) vs)) e
+none_more (t ∷ ts) us x e = ap (λ r. and_after r (λ vs. front_nodes (length ts) vs)) e
 
 -- ---- all nodes together
 
@@ -74,7 +74,7 @@ all_at n seen [] us ns e = absurd cc
 all_at zero seen (t ∷ ts) us ns e = absurd cc
 all_at (suc n) seen (t ∷ ts) us ns e = elim (either_way (begins t.face)) [
   | inl d ↦ (let b = bind_got (node_rule.read kept (t ∷ ts)) (λ a vs. links_at begins never (λ (seen : List Node). node_rule) kept n (seen ++ a ∷ []) vs) ns us (sym (begun d) ∙ e) in
-      all_at n (seen ++ b.0 ∷ []) b.1 us ns b.3 ∙ append_assoc seen (b.0 ∷ []) (front_nodes n b.1) ∙ sym (ap (λ r. seen ++ and_behind r (λ vs. front_nodes n vs)) b.2))
+      all_at n (seen ++ b.0 ∷ []) b.1 us ns b.3 ∙ append_assoc seen (b.0 ∷ []) (front_nodes n b.1) ∙ sym (ap (λ r. seen ++ and_after r (λ vs. front_nodes n vs)) b.2))
   | inr d ↦ (let k : got seen (t ∷ ts) ≡ got ns us = sym (over d) ∙ e in
       sym (same_value seen ns (t ∷ ts) us k) ∙ sym (append-nil seen) ∙ sym (ap (λ l. seen ++ l) (not_begun t ts (λ vs. front_nodes n vs) d)))
 ]

@@ -5,7 +5,7 @@ use Rattle.std.proofs.lemmas.Bool.Decides.{nat_tests}
 use Rattle.sn_text_rules.specs.Tokens.{Lexeme, word, is_last, Tok}
 use Rattle.sn_text_rules.proofs.Common.{either_way}
 use Rattle.sn_text_rules.proofs.Bounded.{Ended}
-use Rattle.sn_text.specs.Cutting.{is_digit, is_name_start, is_word_byte, run, number_lexeme, number_of, long_symbol, short_symbol, short_lexeme, long_lexeme, symbol_at, lexeme_at, Place, gap, behind, when_gap, skip_from, skip, tok_at, after_at, tokens, tokens_of}
+use Rattle.sn_text.specs.Cutting.{is_digit, is_name_start, is_word_byte, run, number_lexeme, number_of, long_symbol, short_symbol, short_lexeme, long_lexeme, symbol_at, lexeme_at, Place, gap, following, when_gap, skip_from, skip, tok_at, after_at, tokens, tokens_of}
 use Rattle.sn_text.proofs.Next.{tokens_next, run_one}
 use Rattle.sn_text.proofs.Ends.{tokens_ended, head, rest}
 use Rattle.sn_tree_text.specs.Places.{from_byte}
@@ -16,8 +16,8 @@ use Rattle.sn_base.proofs.Tests.{not_less, and_false_right, less}
 abbrev at_or_on : Bool → ℕ → Tok → List Tok → List Tok
 at_or_on b byte t ts = cond b (from_byte byte ts) (t ∷ ts)
 
-pub stays_behind : (byte : ℕ) (t : Tok) (ts us : List Tok) → us ≡ t ∷ ts → byte ≤ t.start → from_byte byte us ≡ us
-stays_behind byte t ts us e h = ap (from_byte byte) e ∙ rw (not_less t.start byte h) refl ∙ sym e
+pub stays_after : (byte : ℕ) (t : Tok) (ts us : List Tok) → us ≡ t ∷ ts → byte ≤ t.start → from_byte byte us ≡ us
+stays_after byte t ts us e h = ap (from_byte byte) e ∙ rw (not_less t.start byte h) refl ∙ sym e
 
 pub stays_last : (byte : ℕ) (t : Tok) (ts us : List Tok) → us ≡ t ∷ ts → is_last t.face ≡ true → from_byte byte us ≡ us
 stays_last byte t ts us e h = ap (from_byte byte) e ∙ ap (λ (b : Bool). at_or_on b byte t ts) (and_false_right (nat_lt t.start byte) (not (is_last t.face)) (ap not h)) ∙ sym e
@@ -91,13 +91,13 @@ lexeme_counts (b ∷ bs) =
     if_counts (is_digit b) (is_name_start b) (number_lexeme (number_of w), n) (word w, n) (symbol_at (b ∷ bs))
     (λ d e. run_one b bs (digit_counts b d)) (λ d e. run_one b bs (name_counts b d)) (symbol_counts b bs)
 
-gap_later : (o : Option Bool) (b : ℕ) (bs : List ℕ) (p : Place) → ((on : Bool) → p.start + 1 ≤ (skip_from bs on (behind b p bs)).start) → p.start ≤ (when_gap o p (λ on. skip_from bs on (behind b p bs))).start
+gap_later : (o : Option Bool) (b : ℕ) (bs : List ℕ) (p : Place) → ((on : Bool) → p.start + 1 ≤ (skip_from bs on (following b p bs)).start) → p.start ≤ (when_gap o p (λ on. skip_from bs on (following b p bs))).start
 gap_later None b bs p h = omega arith
 gap_later (Some on) b bs p h = let k = h on in omega arith
 
 skip_later : (bs : List ℕ) (inside : Bool) (p : Place) → p.start ≤ (skip_from bs inside p).start
 skip_later [] inside p = omega arith
-skip_later (b ∷ bs) inside p = gap_later (gap inside b) b bs p (λ on. skip_later bs on (behind b p bs))
+skip_later (b ∷ bs) inside p = gap_later (gap inside b) b bs p (λ on. skip_later bs on (following b p bs))
 
 rises_at : (ts : List Tok) (p : Place) (low : ℕ) → tokens p ≡ ts → low ≤ p.start → Rises low ts
 unfolding Rises
@@ -126,7 +126,7 @@ no_end (t ∷ front) at us e = cc
 
 from_there : (front : List Tok) (at : Tok) (us : List Tok) (low : ℕ) → Rises low (front ++ at ∷ us) → Ended (front ++ at ∷ us) → from_byte at.start (front ++ at ∷ us) ≡ at ∷ us
 unfolding Rises
-from_there [] at us low r e = stays_behind at.start at us (at ∷ us) refl (omega arith)
+from_there [] at us low r e = stays_after at.start at us (at ∷ us) refl (omega arith)
 from_there (t ∷ front) at us low r (inl e) = absurd (no_end front at us e.1)
 from_there (t ∷ front) at us low r (inr e) =
     let before = lowest front at us (t.start + 1) r.1 in

@@ -7,15 +7,15 @@ use Rattle.sn_tree_space.specs.declared.node.Node.{Node}
 use Rattle.sn_plan_grammar.specs.TreeGrammar.{node_rule}
 
 -- a node that was read and those after it, if one was
-abbrev pub and_behind : Read Node → (List Tok → List Node) → List Node
-and_behind (got node us) behind = node ∷ behind us
-and_behind (fails flaw us) behind = []
-and_behind short behind = []
+abbrev pub and_after : Read Node → (List Tok → List Node) → List Node
+and_after (got node us) following = node ∷ following us
+and_after (fails flaw us) following = []
+and_after short following = []
 
 -- at most this many nodes, one after another
 abbrev pub front_nodes : ℕ → List Tok → List Node
 front_nodes zero ts = []
-front_nodes (suc n) ts = and_behind (node_rule.read kept ts) (λ us. front_nodes n us)
+front_nodes (suc n) ts = and_after (node_rule.read kept ts) (λ us. front_nodes n us)
 
 -- all nodes that stand one after another at the front of tokens: there is no more than one for each token
 unfoldable pub nodes_of : List Tok → List Node

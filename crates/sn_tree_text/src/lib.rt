@@ -6,7 +6,7 @@ pub mod fault;
 pub mod found;
 pub mod law;
 mod nodes;
-mod place;
+pub mod place;
 mod text;
 pub mod tree;
 

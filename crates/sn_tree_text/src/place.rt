@@ -9,14 +9,14 @@ use sn_text::place::{Lexer, Piece};
 use sn_text::scan::scan;
 
 /// Whether no token stands after this one.
-fn is_last(piece: Piece<'_>) -> bool
+pub fn is_last(piece: Piece<'_>) -> bool
     ensures { result ≡ is_last (seen piece.entry) }
 {
     matches!(piece, Piece::End | Piece::Bad)
 }
 
 /// The place before the first token that begins at this byte or after it, or else before the last one.
-pub(crate) fn lexer_at<'a>(text: &'a [u8], byte: u64) -> Lexer<'a>
+pub fn lexer_at<'a>(text: &'a [u8], byte: u64) -> Lexer<'a>
     requires { length text.now ≤ 2 ^ 30 }
     ensures { left result ≡ from_byte byte (tokens_of text.entry.now) }
 {

@@ -101,10 +101,10 @@ pub key_known : (cs : List Column) (name : Name) (keys : List Name) (rest : List
 key_known cs name [] rest among = absurd (false≢true among)
 key_known cs name (k ∷ keys) rest among =
     let own : (column_named cs k).name ≡ k = found_name k (record { name = k; width = 1; address = false }) cs refl in
-    let behind = has_column (map (column_named cs) keys ++ rest) name in
+    let following = has_column (map (column_named cs) keys ++ rest) name in
     by_test (same_name k name)
-    (λ is. or_left (same_name (column_named cs k).name name) behind (ap (λ m. same_name m name) own ∙ is))
-    (λ isnt. or_right (same_name (column_named cs k).name name) behind (key_known cs name keys rest (sym (ap (λ b. b || is_in name keys) isnt) ∙ among)))
+    (λ is. or_left (same_name (column_named cs k).name name) following (ap (λ m. same_name m name) own ∙ is))
+    (λ isnt. or_right (same_name (column_named cs k).name name) following (key_known cs name keys rest (sym (ap (λ b. b || is_in name keys) isnt) ∙ among)))
 
 pub key_number : (cs : List Column) (row : Row) (name : Name) (keys : List Name) (rest : List Column) (tail : Row) → is_in name keys ≡ true →
     slice_index (columns_at (map (place_of cs) keys) row ++ tail) (at_name (map (column_named cs) keys ++ rest) name) ≡ slice_index row (place_of cs name)
@@ -113,10 +113,10 @@ key_number cs row name (k ∷ keys) rest tail among =
     let own : (column_named cs k).name ≡ k = found_name k (record { name = k; width = 1; address = false }) cs refl in
     let numbers : Row = columns_at (map (place_of cs) keys) row ++ tail in
     let number : ℕ = slice_index row (place_of cs k) in
-    let behind : List Column = map (column_named cs) keys ++ rest in
+    let following : List Column = map (column_named cs) keys ++ rest in
     by_test (same_name k name)
-    (λ is. ap (slice_index (number ∷ numbers)) (here name (column_named cs k) behind (ap (λ m. same_name m name) own ∙ is)) ∙ ap (λ m. slice_index row (place_of cs m)) (same_row_exact k name is))
-    (λ isnt. ap (slice_index (number ∷ numbers)) (later name (column_named cs k) behind (ap (λ m. same_name m name) own ∙ isnt))
+    (λ is. ap (slice_index (number ∷ numbers)) (here name (column_named cs k) following (ap (λ m. same_name m name) own ∙ is)) ∙ ap (λ m. slice_index row (place_of cs m)) (same_row_exact k name is))
+    (λ isnt. ap (slice_index (number ∷ numbers)) (later name (column_named cs k) following (ap (λ m. same_name m name) own ∙ isnt))
     ∙ key_number cs row name keys rest tail (sym (ap (λ b. b || is_in name keys) isnt) ∙ among))
 
 -- ---- packet rows
@@ -127,9 +127,9 @@ field_number refined level tuple field name is_field [] known = absurd (false≢
 field_number refined level tuple field name is_field (g ∷ fields) known =
     let numbers : Row = map (read_at refined level tuple) fields in
     let number : ℕ = read_at refined level tuple g in
-    let behind : List Column = map field_column fields in
+    let following : List Column = map field_column fields in
     by_test (same_name (name_of g) name)
     (λ is. let same : field ≡ g = some_same field g (with_name_all name (Some field) (sym is_field) g (same_row_exact (name_of g) name is)) in
-    ap (slice_index (number ∷ numbers)) (here name (field_column g) behind is) ∙ ap (read_at refined level tuple) (sym same))
-    (λ isnt. ap (slice_index (number ∷ numbers)) (later name (field_column g) behind isnt)
-    ∙ field_number refined level tuple field name is_field fields (sym (ap (λ b. b || has_column behind name) isnt) ∙ known))
+    ap (slice_index (number ∷ numbers)) (here name (field_column g) following is) ∙ ap (read_at refined level tuple) (sym same))
+    (λ isnt. ap (slice_index (number ∷ numbers)) (later name (field_column g) following isnt)
+    ∙ field_number refined level tuple field name is_field fields (sym (ap (λ b. b || has_column following name) isnt) ∙ known))

@@ -25,7 +25,7 @@ use Rattle.sn_types_faults.specs.Walk.Place.{Operator}
 use Rattle.sn_types_faults.specs.Walk.{Place, is_end, first_fault, fault_at, refine_places, branch_places, join_places, query_places, operator_places, scope_after, scope_before, refine_levels}
 use Rattle.sn_types.specs.declared.typed_query.TypedBranch.{TypedBranch}
 use Rattle.sn_types.specs.declared.typed_query.TypedQuery.{TypedQuery}
-use Rattle.sn_types.specs.Typing.{behind_branches, typed_ops, typed_branch, typed_query, posts_of, levels_of, field_of}
+use Rattle.sn_types.specs.Typing.{after_branches, typed_ops, typed_branch, typed_query, posts_of, levels_of, field_of}
 use Rattle.sn_types.specs.Typed.{IsTyped, blank_branch, query_at, branch_at}
 use Rattle.sn_types.proofs.Sources.{source_of, none_in_both, none_in_each, later_none, item_at}
 use Rattle.sn_base.proofs.Tests.{not_less_is}
@@ -175,7 +175,7 @@ pub few_posts : (window : ℕ) (queries : List TypedQuery) (q : ℕ) → ∥ IsT
 few_posts window queries q t lt =
     ∥∥₁_elim t le_prop (λ t.
     let s = source_of window queries q t lt in
-    let same = ap (λ (x : TypedQuery). length x.posts) s.is ∙ length-typed_ops (behind_branches s.query.refine s.query.branches s.query.join).columns (posts_of s.query.join) in
+    let same = ap (λ (x : TypedQuery). length x.posts) s.is ∙ length-typed_ops (after_branches s.query.refine s.query.branches s.query.join).columns (posts_of s.query.join) in
     let most = posts_few s.query.branches s.query.join s.limits.joined in
     omega (arith, same, most))
 

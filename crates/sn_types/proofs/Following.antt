@@ -59,8 +59,8 @@ all_hold_prop (op ∷ os) p = hlevel (holds_prop op p, all_hold_prop os (place_a
 
 -- ---- two names have one place only where they are one
 
-behind_other : (c : Column) (cs : List Column) (name : Name) → same_name c.name name ≡ false → IsKnown (c ∷ cs) name → IsKnown cs name
-behind_other c cs name isnt known = sym (ap (λ b. b || has_column cs name) isnt) ∙ known
+after_other : (c : Column) (cs : List Column) (name : Name) → same_name c.name name ≡ false → IsKnown (c ∷ cs) name → IsKnown cs name
+after_other c cs name isnt known = sym (ap (λ b. b || has_column cs name) isnt) ∙ known
 
 one_name : (cs : List Column) (a b : Name) → IsKnown cs a → IsKnown cs b → at_name cs a ≡ at_name cs b → a ≡ b
 one_name [] a b on_a on_b e = absurd (false≢true on_a)
@@ -71,7 +71,7 @@ one_name (c ∷ cs) a b on_a on_b e =
     (λ not_b. let x = here a c cs is_a in let y = later b c cs not_b in absurd (omega (arith, x, y, e))))
     (λ not_a. by_test (same_name c.name b)
     (λ is_b. let x = later a c cs not_a in let y = here b c cs is_b in absurd (omega (arith, x, y, e)))
-    (λ not_b. let x = later a c cs not_a in let y = later b c cs not_b in one_name cs a b (behind_other c cs a not_a on_a) (behind_other c cs b not_b on_b) (omega (arith, x, y, e))))
+    (λ not_b. let x = later a c cs not_a in let y = later b c cs not_b in one_name cs a b (after_other c cs a not_a on_a) (after_other c cs b not_b on_b) (omega (arith, x, y, e))))
 
 -- the place of a name that is known is another's place only where they are one name
 place_named : (cs : List Column) (a name : Name) → IsKnown cs a → IsKnown cs name → (place_of cs a == at_name cs name) ≡ same_name a name
@@ -130,18 +130,18 @@ key_holds cs name (k ∷ keys) on_name known among =
     (λ is. or_left (place_of cs k == at_name cs name) rest (test ∙ is))
     (λ isnt. or_right (place_of cs k == at_name cs name) rest (key_holds cs name keys on_name known.1 (sym (ap (λ b. b || is_in name keys) isnt) ∙ among)))
 
-key_place : (cs : List Column) (name : Name) (keys : List Name) (behind : List Column) → IsKnown cs name → AllByRecursion (IsKnown cs) keys → is_in name keys ≡ true →
-    position_or_len (λ k. k == at_name cs name) (map (place_of cs) keys) ≡ at_name (map (column_named cs) keys ++ behind) name
-key_place cs name [] behind on_name known among = absurd (false≢true among)
-key_place cs name (k ∷ keys) behind on_name known among =
+key_place : (cs : List Column) (name : Name) (keys : List Name) (following : List Column) → IsKnown cs name → AllByRecursion (IsKnown cs) keys → is_in name keys ≡ true →
+    position_or_len (λ k. k == at_name cs name) (map (place_of cs) keys) ≡ at_name (map (column_named cs) keys ++ following) name
+key_place cs name [] following on_name known among = absurd (false≢true among)
+key_place cs name (k ∷ keys) following on_name known among =
     let test = place_named cs k name known.0 on_name in
     let rest : ℕ = position_or_len (λ n. n == at_name cs name) (map (place_of cs) keys) in
     let own : (column_named cs k).name ≡ k = found_name k (record { name = k; width = 1; address = false }) cs refl in
-    let made : List Column = map (column_named cs) keys ++ behind in
+    let made : List Column = map (column_named cs) keys ++ following in
     by_test (same_name k name)
     (λ is. ap (λ b. cond (not b) (1 + rest) 0) (test ∙ is) ∙ sym (here name (column_named cs k) made (ap (λ m. same_name m name) own ∙ is)))
     (λ isnt.
-    let one : 1 + rest ≡ suc (at_name made name) = let e = key_place cs name keys behind on_name known.1 (sym (ap (λ b. b || is_in name keys) isnt) ∙ among) in omega (arith, e) in
+    let one : 1 + rest ≡ suc (at_name made name) = let e = key_place cs name keys following on_name known.1 (sym (ap (λ b. b || is_in name keys) isnt) ∙ among) in omega (arith, e) in
     ap (λ b. cond (not b) (1 + rest) 0) (test ∙ isnt) ∙ one ∙ sym (later name (column_named cs k) made (ap (λ m. same_name m name) own ∙ isnt)))
 
 -- ---- one operator

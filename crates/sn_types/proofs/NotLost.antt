@@ -67,13 +67,13 @@ known_copy cs name (c ∷ cols) any known =
     (λ is. known_expr cs name c.expr is known.0)
     (λ isnt. known_copy cs name cols (sym (ap (λ b. b || list_any (λ d. is_copy name d.expr) cols) isnt) ∙ any) known.1)
 
-record LetsBe (cs : List Column) (name : Name) (w : What) : Type 0 where
+record Spared (cs : List Column) (name : Name) (w : What) : Type 0 where
   same : columns_after cs w ≡ cs
   no_map : is_map w ≡ false
   keeps : carried_after name w ≡ Some name
 
 -- an operator reads it, or leaves it alone
-read_or_kept : (cs : List Column) (name : Name) (w : What) → loses name w ≡ false → IsSound cs w → IsKnown cs name ⊎ LetsBe cs name w
+read_or_kept : (cs : List Column) (name : Name) (w : What) → loses name w ≡ false → IsSound cs w → IsKnown cs name ⊎ Spared cs name w
 read_or_kept cs name (what.Filter conds) kept s = inr (record { same = refl; no_map = refl; keeps = refl })
 read_or_kept cs name (what.Map cols) kept s = inl (known_copy cs name cols (not_false (list_any (λ c. is_copy name c.expr) cols) kept) (all_parts (IsKnown cs) (λ (c : MapCol). names_in c.expr) cols s.known))
 read_or_kept cs name what.Distinct kept s = inr (record { same = refl; no_map = refl; keeps = refl })
@@ -88,13 +88,13 @@ pub known_first : (levels : List ℕ) (scope : Scope) (op : Op) (ops : List Op) 
 known_first levels scope op [] name carried m none s =
     let parts = later_none (fault_at (Operator levels scope op true)) None none in
     let lost = not_lost levels scope op true name carried parts.0 in
-    elim (read_or_kept scope.columns name op.what lost.0 s.0) [ inl known ↦ known | inr lets ↦ absurd (never scope.mapped (is_map op.what) m lets.no_map lost.1) ]
+    elim (read_or_kept scope.columns name op.what lost.0 s.0) [ inl known ↦ known | inr admits ↦ absurd (never scope.mapped (is_map op.what) m admits.no_map lost.1) ]
 known_first levels scope op (next ∷ ops) name carried m none s =
     let parts = later_none (fault_at (Operator levels scope op false)) (first_fault (operator_places levels (scope_after scope op.what) (next ∷ ops))) none in
     let lost = not_lost levels scope op false name carried parts.0 in
     elim (read_or_kept scope.columns name op.what lost.0 s.0) [
       | inl known ↦ known
-      | inr lets ↦
-          subst (λ (cs : List Column). IsKnown cs name) lets.same
-          (known_first levels (scope_after scope op.what) next ops name (ap (λ o. carried_along o op.what) carried ∙ lets.keeps) (ap (λ b. b || is_map op.what) m ∙ lets.no_map) parts.1 s.1)
+      | inr admits ↦
+          subst (λ (cs : List Column). IsKnown cs name) admits.same
+          (known_first levels (scope_after scope op.what) next ops name (ap (λ o. carried_along o op.what) carried ∙ admits.keeps) (ap (λ b. b || is_map op.what) m ∙ admits.no_map) parts.1 s.1)
     ]

@@ -20,7 +20,7 @@ use Rattle.sn_types_faults.specs.Columns.{is_copy, copy_name, carried_after, pla
 use Rattle.sn_types_faults.specs.Faults.{unknown_field, unknown_column, too_wide, no_map, loses, ends_unmapped, refine_lost, refine_filter, wrong_levels, wrong_refine, refine_fault}
 use Rattle.sn_types_faults.specs.Walk.Place.{Operator, JoinLine}
 use Rattle.sn_types_faults.specs.Walk.{Place, is_end, ops_at, carried_along, first_fault, fault_at, refine_places, branch_places, branch_end, join_places, query_places, operator_places, scope_after, scope_before, scope_joined, scope_end, refine_levels}
-use Rattle.sn_types.specs.Typing.{behind_branches, typed_query, posts_of, field_of}
+use Rattle.sn_types.specs.Typing.{after_branches, typed_query, posts_of, field_of}
 use Rattle.sn_types.proofs.Sources.{none_in_both, none_in_each, later_none}
 use Rattle.sn_types.proofs.Facts.{if_none}
 
@@ -90,10 +90,10 @@ left_same : (refine : Option Refine) (branches : List Branch) → AllByRecursion
 left_same refine branches h =
     end_same (refine_levels refine) (scope_before refine (ops_at branches 0)) (ops_at branches 0) (left_clean refine branches h) ∙ some_map (λ (r : Refine). r.field) refine
 
-behind_same : (refine : Option Refine) (branches : List Branch) (join : Option Join) → AllByRecursion (NoFault refine) branches → first_fault (join_places refine branches join) ≡ None
-    → is_some (scope_end (behind_branches refine branches join) (posts_of join)).carried ≡ is_some refine
-behind_same refine branches None h none = left_same refine branches h
-behind_same refine branches (Some j) h none =
+after_same : (refine : Option Refine) (branches : List Branch) (join : Option Join) → AllByRecursion (NoFault refine) branches → first_fault (join_places refine branches join) ≡ None
+    → is_some (scope_end (after_branches refine branches join) (posts_of join)).carried ≡ is_some refine
+after_same refine branches None h none = left_same refine branches h
+after_same refine branches (Some j) h none =
     let left : Scope = branch_end refine (ops_at branches 0) in
     let right : Scope = branch_end refine (ops_at branches 1) in
     let parts = later_none (fault_at (JoinLine left right j)) (first_fault (operator_places (refine_levels refine) (scope_joined left right j) j.post)) none in
@@ -105,7 +105,7 @@ refined_alike q none =
     let branches : List Place = flat_map (λ (b : Branch). branch_places q.refine b.ops) q.branches in
     let all = none_in_both (refine_places q.refine ++ branches) (join_places q.refine q.branches q.join) none in
     let front = none_in_both (refine_places q.refine) branches all.0 in
-    let end : Scope = scope_end (behind_branches q.refine q.branches q.join) (posts_of q.join) in (
+    let end : Scope = scope_end (after_branches q.refine q.branches q.join) (posts_of q.join) in (
       field_same q.refine front.0,
-      some_map (place_of end.columns) end.carried ∙ behind_same q.refine q.branches q.join (none_in_each (λ (b : Branch). branch_places q.refine b.ops) q.branches front.1) all.1,
+      some_map (place_of end.columns) end.carried ∙ after_same q.refine q.branches q.join (none_in_each (λ (b : Branch). branch_places q.refine b.ops) q.branches front.1) all.1,
     )

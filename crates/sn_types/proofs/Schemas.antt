@@ -62,15 +62,15 @@ one_left k (n ∷ names) apart =
     (λ is. let all = ap length (others_kept k n names is apart.0) in subst P (sym is) (omega (arith, all)))
     (λ isnt. subst P (sym isnt) (omega (arith, later)))
 
-known_behind : (c : Column) (columns : List Column) (n : Name) → not (same_row c.name n) ≡ true → IsKnown (c ∷ columns) n → IsKnown columns n
-known_behind c columns n other known = (elim (same_row c.name n) as (λ b. not b ≡ true → (b || has_column columns n) ≡ true → has_column columns n ≡ true) [ true ↦ λ o k. cc (o) | false ↦ λ o k. k ]) other known
+known_after : (c : Column) (columns : List Column) (n : Name) → not (same_row c.name n) ≡ true → IsKnown (c ∷ columns) n → IsKnown columns n
+known_after c columns n other known = (elim (same_row c.name n) as (λ b. not b ≡ true → (b || has_column columns n) ≡ true → has_column columns n ≡ true) [ true ↦ λ o k. cc (o) | false ↦ λ o k. k ]) other known
 
 pub no_more_names : (columns : List Column) (names : List Name) → Apart same_row names → AllByRecursion (IsKnown columns) names → length names ≤ length columns
 no_more_names [] [] apart known = omega arith
 no_more_names [] (n ∷ names) apart known = let never = known.0 in cc
 no_more_names (c ∷ columns) names apart known =
     let t : Name → Bool = λ n. not (same_row c.name n) in
-    let fewer = no_more_names columns (filter t names) (apart_kept t names apart) (all_kept (IsKnown (c ∷ columns)) (IsKnown columns) t (known_behind c columns) names known) in
+    let fewer = no_more_names columns (filter t names) (apart_kept t names apart) (all_kept (IsKnown (c ∷ columns)) (IsKnown columns) t (known_after c columns) names known) in
     let most = one_left c.name names apart in
     omega (arith, fewer, most)
 

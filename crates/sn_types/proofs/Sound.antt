@@ -23,7 +23,7 @@ use Rattle.sn_types_faults.specs.Faults.{unknown_field, unknown_column, ninth_fi
 use Rattle.sn_query_grammar.specs.Limits.{AreJoined, BranchOp, PostOp, IsBranchExpr, IsPostExpr, ReduceLimits}
 use Rattle.sn_types_faults.specs.Walk.Place.{Operator, JoinLine}
 use Rattle.sn_types_faults.specs.Walk.{is_end, ops_at, first_fault, fault_at, branch_places, branch_end, join_places, operator_places, scope_after, scope_before, scope_joined, refine_levels}
-use Rattle.sn_types.specs.Typing.{behind_branches, posts_of}
+use Rattle.sn_types.specs.Typing.{after_branches, posts_of}
 use Rattle.sn_types.proofs.Sources.{later_none}
 use Rattle.sn_types.proofs.Facts.{if_none, few_packet_fields}
 use Rattle.sn_types.proofs.Known.{IsKnown, packet_known, holds_for_each}
@@ -180,7 +180,7 @@ sound_branch refine ops each none =
     along_unmapped (refine_levels refine) (scope_before refine ops) ops refl limits none (packet_known ops few (fields_known (refine_levels refine) (scope_before refine ops) ops refl none))
 
 pub sound_posts : (refine : Option Refine) (branches : List Branch) (join : Option Join) → AreJoined branches join → first_fault (join_places refine branches join) ≡ None
-    → AreSound (behind_branches refine branches join).columns (posts_of join)
+    → AreSound (after_branches refine branches join).columns (posts_of join)
 sound_posts refine branches None h none = tt
 sound_posts refine branches (Some j) h none =
     let left : Scope = branch_end refine (ops_at branches 0) in

@@ -13,7 +13,7 @@ use Rattle.sn_types_faults.specs.Columns.{columns_after}
 use Rattle.sn_query_grammar.specs.Limits.{QueryLimits, BranchLimits}
 use Rattle.sn_types_faults.specs.Walk.{Place, first_fault, refine_places, branch_places, join_places, query_places}
 use Rattle.sn_types.specs.declared.typed_query.TypedQuery.{TypedQuery}
-use Rattle.sn_types.specs.Typing.{typed_ops, schemas_along, behind_branches, typed_branch, typed_query, posts_of}
+use Rattle.sn_types.specs.Typing.{typed_ops, schemas_along, after_branches, typed_branch, typed_query, posts_of}
 use Rattle.sn_types.specs.Typed.{IsTyped}
 use Rattle.sn_types.specs.WellFormed.{StayWithin, IsWellFormedBranch, IsWellFormedQuery}
 use Rattle.sn_types_faults.specs.Columns.{packet_columns}
@@ -46,7 +46,7 @@ well_formed_query q limits none =
       branches = all_map IsWellFormedBranch (λ (b : Branch). typed_branch b.ops) q.branches
           (all_weaker (λ b. BranchLimits b × NoFault b) (λ b. IsWellFormedBranch (typed_branch b.ops)) (λ b both. well_formed_branch q.refine b both.0 both.1) q.branches
           (both_of BranchLimits NoFault q.branches limits.branches (none_in_each (λ (b : Branch). branch_places q.refine b.ops) q.branches front.1)));
-      places = stay_within (behind_branches q.refine q.branches q.join).columns (posts_of q.join) (sound_posts q.refine q.branches q.join limits.joined all.1);
+      places = stay_within (after_branches q.refine q.branches q.join).columns (posts_of q.join) (sound_posts q.refine q.branches q.join limits.joined all.1);
     }
 
 pub well_formed : (window : ℕ) (queries : List TypedQuery) → IsTyped window queries → AllByRecursion IsWellFormedQuery queries

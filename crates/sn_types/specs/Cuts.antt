@@ -29,12 +29,12 @@ filters_ahead (Distinct ∷ ops) = 0
 filters_ahead (Reduced r ∷ ops) = 0
 
 -- the greatest cut of what stands after a distinct
-abbrev pub cut_behind_distinct : List TOp → ℕ
-cut_behind_distinct [] = 0
-cut_behind_distinct (Filter conds ∷ ops) = suc (cut_behind_distinct ops)
-cut_behind_distinct (Map exprs ∷ ops) = suc (cut_behind_distinct ops)
-cut_behind_distinct (Distinct ∷ ops) = 0
-cut_behind_distinct (Reduced r ∷ ops) = suc (filters_ahead ops)
+abbrev pub cut_after_distinct : List TOp → ℕ
+cut_after_distinct [] = 0
+cut_after_distinct (Filter conds ∷ ops) = suc (cut_after_distinct ops)
+cut_after_distinct (Map exprs ∷ ops) = suc (cut_after_distinct ops)
+cut_after_distinct (Distinct ∷ ops) = 0
+cut_after_distinct (Reduced r ∷ ops) = suc (filters_ahead ops)
 
 -- the greatest number of operators at the front whose stateful ones are none, distinct, reduce, or distinct and then
 -- reduce, with only filters after the reduce
@@ -42,5 +42,5 @@ abbrev pub greatest_cut : List TOp → ℕ
 greatest_cut [] = 0
 greatest_cut (Filter conds ∷ ops) = suc (greatest_cut ops)
 greatest_cut (Map exprs ∷ ops) = suc (greatest_cut ops)
-greatest_cut (Distinct ∷ ops) = suc (cut_behind_distinct ops)
+greatest_cut (Distinct ∷ ops) = suc (cut_after_distinct ops)
 greatest_cut (Reduced r ∷ ops) = suc (filters_ahead ops)

@@ -80,9 +80,9 @@ typed_branch ops = record {
 }
 
 -- what is known after the branches: at the end of the one, or after the join line
-abbrev pub behind_branches : Option Refine → List Branch → Option Join → Scope
-behind_branches refine branches None = branch_end refine (ops_at branches 0)
-behind_branches refine branches (Some join) = scope_joined (branch_end refine (ops_at branches 0)) (branch_end refine (ops_at branches 1)) join
+abbrev pub after_branches : Option Refine → List Branch → Option Join → Scope
+after_branches refine branches None = branch_end refine (ops_at branches 0)
+after_branches refine branches (Some join) = scope_joined (branch_end refine (ops_at branches 0)) (branch_end refine (ops_at branches 1)) join
 
 abbrev pub join_key : List Column → List Column → Name → JoinKey
 join_key left right key = record { left = place_of left key; right = place_of right key }
@@ -124,4 +124,4 @@ typed_from q scope = record {
 }
 
 abbrev pub typed_query : Query → TypedQuery
-typed_query q = typed_from q (behind_branches q.refine q.branches q.join)
+typed_query q = typed_from q (after_branches q.refine q.branches q.join)

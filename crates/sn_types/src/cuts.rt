@@ -1,6 +1,6 @@
 //! Operators in a switch: which of them have registers, and how many of a branch can stand there.
 ghost use Rattle.std.specs.Prelude.{◌≡◌, ◌<◌, ◌≤◌, ◌^◌, length};
-ghost use Rattle.sn_types.specs.Cuts.{filters_ahead, cut_behind_distinct, greatest_cut, is_stateful, stateful};
+ghost use Rattle.sn_types.specs.Cuts.{filters_ahead, cut_after_distinct, greatest_cut, is_stateful, stateful};
 
 use crate::typed_op::TOp;
 
@@ -42,9 +42,9 @@ fn filters_ahead(ops: &[TOp]) -> u32
     count
 }
 
-fn cut_behind_distinct(ops: &[TOp]) -> u32
+fn cut_after_distinct(ops: &[TOp]) -> u32
     requires { length ops.now ≤ 12 }
-    ensures value { result ≡ cut_behind_distinct ops.now }
+    ensures value { result ≡ cut_after_distinct ops.now }
     ensures most { result ≤ length ops.now }
 {
     let mut count = 0;
@@ -72,7 +72,7 @@ pub fn greatest_cut(ops: &[TOp]) -> u32
     while let Some((op, after)) = rest.split_first() {
         match op {
             TOp::Filter(_) | TOp::Map(_) => count += 1,
-            TOp::Distinct => return count + 1 + cut_behind_distinct(after),
+            TOp::Distinct => return count + 1 + cut_after_distinct(after),
             TOp::Reduce(_) => return count + 1 + filters_ahead(after),
         }
         rest = after;

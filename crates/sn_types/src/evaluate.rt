@@ -12,7 +12,8 @@ use sn_base::columns::Columns;
 use sn_base::number::Number;
 use sn_query_grammar::ast::{Cmp, Relax};
 
-fn compares(cmp: Cmp, left: u128, right: u128) -> bool
+/// Whether two numbers compare so.
+pub fn compares(cmp: Cmp, left: u128, right: u128) -> bool
     ensures { result ≡ compared cmp left right }
 {
     match cmp {
@@ -31,7 +32,8 @@ fn relaxed_at(level: u32, relaxed: &[Relax]) -> Option<Relax>
     relaxed.iter().copied().find(|relax| relax.level == level)
 }
 
-fn constant_at(level: u32, relaxed: &[Relax], own: u64) -> u64
+/// A condition's constant for a level: the one that it names for it, or else its own.
+pub fn constant_at(level: u32, relaxed: &[Relax], own: u64) -> u64
     ensures { result ≡ constant_at level relaxed.now own }
 {
     match relaxed_at(level, relaxed) {

@@ -16,7 +16,8 @@ use sn_fields::field::Field;
 use sn_fields::tuple::Tuple;
 use std::marker::{Model, PhantomData};
 
-fn is_field(refined: Option<Field>, field: Field) -> bool
+/// Whether the refinement field is this one.
+pub fn is_field(refined: Option<Field>, field: Field) -> bool
     ensures { result ≡ is_field refined field }
 {
     match refined {

@@ -3,7 +3,7 @@ ghost use Rattle.std.specs.Prelude.{◌≡◌, ◌≤◌, IfOk, length, map};
 ghost use Rattle.std.specs.List.{AllByRecursion};
 ghost use Rattle.sn_query_grammar.specs.Limits.{BranchLimits, QueryLimits};
 ghost use Rattle.sn_types_faults.specs.Walk.{scope_end};
-ghost use Rattle.sn_types.specs.Typing.{typed_ops, schemas_along, typed_branch, behind_branches, join_keys, posts_of, field_of, levels_of, carried_place};
+ghost use Rattle.sn_types.specs.Typing.{typed_ops, schemas_along, typed_branch, after_branches, join_keys, posts_of, field_of, levels_of, carried_place};
 ghost use Rattle.sn_types.specs.Typing.{typed_query};
 
 use crate::cuts::greatest_cut;
@@ -76,13 +76,13 @@ fn typed_branches(alloc: Global, branches: &[Branch]) -> Result<Seq<TypedBranch>
     Ok(typed)
 }
 
-fn behind_branches(
+fn after_branches(
     alloc: Global,
     refine: &Option<Refine>,
     branches: &[Branch],
     join: &Option<Join>,
 ) -> Result<Scope, Memory>
-    ensures { IfOk result (λ scope. scope ≡ behind_branches refine.now branches.now join.now) }
+    ensures { IfOk result (λ scope. scope ≡ after_branches refine.now branches.now join.now) }
 {
     let left = branch_end(alloc, refine, ops_at(branches, 0))?;
     match join {
@@ -164,14 +164,14 @@ struct Tail {
     column: Option<u32>,
 }
 
-fn tail_of(alloc: Global, behind: Scope, posts: &[Op]) -> Result<Tail, Memory>
-    ensures ops { IfOk result (λ tail. tail.ops ≡ typed_ops behind.columns posts.now) }
-    ensures schemas { IfOk result (λ tail. tail.schemas ≡ schemas_along behind.columns posts.now) }
-    ensures column { IfOk result (λ tail. tail.column ≡ carried_place (scope_end behind posts.now)) }
+fn tail_of(alloc: Global, following: Scope, posts: &[Op]) -> Result<Tail, Memory>
+    ensures ops { IfOk result (λ tail. tail.ops ≡ typed_ops following.columns posts.now) }
+    ensures schemas { IfOk result (λ tail. tail.schemas ≡ schemas_along following.columns posts.now) }
+    ensures column { IfOk result (λ tail. tail.column ≡ carried_place (scope_end following posts.now)) }
 {
-    let ops = typed_ops(alloc, &behind.columns, posts)?;
-    let schemas = schemas_along(alloc, &behind.columns, posts)?;
-    let end = scope_end(alloc, behind, posts)?;
+    let ops = typed_ops(alloc, &following.columns, posts)?;
+    let schemas = schemas_along(alloc, &following.columns, posts)?;
+    let end = scope_end(alloc, following, posts)?;
     Ok(Tail {
         ops,
         schemas,
@@ -184,8 +184,8 @@ fn typed_query(alloc: Global, query: &Query) -> Result<TypedQuery, Memory>
     ensures { IfOk result (λ typed. typed ≡ typed_query query.now) }
 {
     let branches = query.branches.as_slice();
-    let behind = behind_branches(alloc, &query.refine, branches, &query.join)?;
-    let tail = tail_of(alloc, behind, posts_of(&query.join))?;
+    let following = after_branches(alloc, &query.refine, branches, &query.join)?;
+    let tail = tail_of(alloc, following, posts_of(&query.join))?;
     let keys = join_keys(alloc, &query.refine, branches, &query.join)?;
     let levels = levels_of(alloc, &query.refine)?;
     let branches = typed_branches(alloc, branches)?;

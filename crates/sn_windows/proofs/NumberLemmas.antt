@@ -2,7 +2,7 @@
 use Rattle.std.proofs.Common.{◌≡◌, ℕ, ◌≤◌, List, [], ◌∷◌, ◌++◌, Option, Some, None, max, map, length, take, true, refl, ap, sym, ◌∙◌, subst, arith, append-nil, append_assoc}
 use Rattle.std.proofs.lemmas.List.{map-append, length-map, take-map}
 use Rattle.std.proofs.lemmas.List.Sums.{fold-append}
-use Rattle.sn_windows.specs.Windows.{offset, greatest, number_of, numbered_behind, numbered, record_at}
+use Rattle.sn_windows.specs.Windows.{offset, greatest, number_of, numbered_after, numbered, record_at}
 use Rattle.sn_windows.specs.Numbering.{Numbering, begun, next_first, next_number, stepped, after, numbered_from, is_fresh}
 use Rattle.sn_windows.proofs.RunLemmas.{Rises, AtLeast}
 
@@ -54,18 +54,18 @@ module _ (window : ℕ) (times : List ℕ) where
   number_after time = stands_number (after (begun window) times) times time stands_begun ∙ ap (λ w. number_of w (times ++ time ∷ [])) (window_after (begun window) times)
 
 module _ {X : Type 0} (time : X → ℕ) where
-  behind_is : (s : Numbering) (before : List X) → Stands s (map time before) → (xs : List X) → numbered_from time s xs ≡ numbered_behind time s.window before xs
-  behind_is s before h [] = refl
-  behind_is s before h (x ∷ xs) =
+  after_is : (s : Numbering) (before : List X) → Stands s (map time before) → (xs : List X) → numbered_from time s xs ≡ numbered_after time s.window before xs
+  after_is s before h [] = refl
+  after_is s before h (x ∷ xs) =
       let e : map time (before ++ x ∷ []) ≡ map time before ++ time x ∷ [] = map-append time before (x ∷ []) in
       let next : Stands (stepped s (time x)) (map time (before ++ x ∷ [])) = subst (λ (ts : List ℕ). Stands (stepped s (time x)) ts) (sym e) (stands_step s (map time before) (time x) h) in
       let number : next_number s (time x) ≡ number_of s.window (map time (before ++ x ∷ [])) = stands_number s (map time before) (time x) h ∙ ap (number_of s.window) (sym e) in
-      rw (behind_is (stepped s (time x)) (before ++ x ∷ []) next xs, number) refl
+      rw (after_is (stepped s (time x)) (before ++ x ∷ []) next xs, number) refl
 
   -- from the first record on
   pub numbered_is : (window : ℕ) (xs : List X) → numbered_from time (begun window) xs ≡ numbered time window xs
   unfolding first_of
-  numbered_is window xs = behind_is (begun window) [] (record { first = refl; number = refl }) xs
+  numbered_is window xs = after_is (begun window) [] (record { first = refl; number = refl }) xs
 
   later : (n m : ℕ) → n ≤ m → (ps : List (ℕ × X)) → AtLeast m ps → AtLeast n ps
   later n m le [] h = tt

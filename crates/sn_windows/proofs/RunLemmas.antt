@@ -129,8 +129,8 @@ module _ {X : Type 0} (block : ℕ → List X → List ℕ) (p : ℕ × X) (ps :
   pub windows_step : windows_of xs ≡ p.0 ∷ windows_of rest
   windows_step = ap (λ ns. p.0 ∷ ns) (once_run p.0 ps rises.0 rises.1)
 
-  behind : AllByRecursion (λ n. p.0 < n) (windows_of rest)
-  behind = once_above p.0 rest (run_above p.0 ps rises.0 rises.1)
+  following : AllByRecursion (λ n. p.0 < n) (windows_of rest)
+  following = once_above p.0 rest (run_above p.0 ps rises.0 rises.1)
 
   few_later : (v : ℕ) → p.0 < v → is_few v xs ≡ is_few v rest
   few_later v lt = ap (λ ys. nat_le (length ys) most_records) (later v lt)
@@ -139,10 +139,10 @@ module _ {X : Type 0} (block : ℕ → List X → List ℕ) (p : ℕ × X) (ps :
   few_here = ap (λ ys. nat_le (length ys) most_records) here
 
   pub few_step : all_few xs ≡ (is_few p.0 xs && all_few rest)
-  few_step = ap (list_all (λ w. is_few w xs)) windows_step ∙ ap (λ b. is_few p.0 xs && b) (all_over (λ w. is_few w xs) (λ w. is_few w rest) (λ n. p.0 < n) few_later (windows_of rest) behind)
+  few_step = ap (list_all (λ w. is_few w xs)) windows_step ∙ ap (λ b. is_few p.0 xs && b) (all_over (λ w. is_few w xs) (λ w. is_few w rest) (λ n. p.0 < n) few_later (windows_of rest) following)
 
   pub answered_step : answered xs ≡ cond (is_few p.0 xs) (p.0 ∷ answered rest) []
-  answered_step = ap (while_holds (λ w. is_few w xs)) windows_step ∙ ap (λ ns. cond (is_few p.0 xs) (p.0 ∷ ns) []) (while_over (λ w. is_few w xs) (λ w. is_few w rest) (λ n. p.0 < n) few_later (windows_of rest) behind)
+  answered_step = ap (while_holds (λ w. is_few w xs)) windows_step ∙ ap (λ ns. cond (is_few p.0 xs) (p.0 ∷ ns) []) (while_over (λ w. is_few w xs) (λ w. is_few w rest) (λ n. p.0 < n) few_later (windows_of rest) following)
 
   block_over : (n : ℕ) → p.0 < n → block n (in_window n xs) ≡ block n (in_window n rest)
   block_over n lt = ap (block n) (later n lt)
@@ -153,7 +153,7 @@ module _ {X : Type 0} (block : ℕ → List X → List ℕ) (p : ℕ × X) (ps :
       ap (flat_map (λ w. block w (in_window w xs))) answered_step
       ∙ by_test (is_few p.0 xs)
       (λ is. ap (λ b. flat_map (λ w. block w (in_window w xs)) (cond b (p.0 ∷ answered rest) [])) is
-      ∙ ap (λ ys. block p.0 (in_window p.0 xs) ++ ys) (flat_over (λ w. block w (in_window w xs)) (λ w. block w (in_window w rest)) (λ n. p.0 < n) block_over (answered rest) (all_while (λ w. is_few w rest) (λ n. p.0 < n) (windows_of rest) behind))
+      ∙ ap (λ ys. block p.0 (in_window p.0 xs) ++ ys) (flat_over (λ w. block w (in_window w xs)) (λ w. block w (in_window w rest)) (λ n. p.0 < n) block_over (answered rest) (all_while (λ w. is_few w rest) (λ n. p.0 < n) (windows_of rest) following))
       ∙ ap (λ ys. block p.0 ys ++ blocks block rest) here
       ∙ sym (ap (λ b. cond b (block p.0 (map record_at (take (first_run xs) xs)) ++ blocks block rest) []) (sym few_here ∙ is)))
       (λ isnt. ap (λ b. flat_map (λ w. block w (in_window w xs)) (cond b (p.0 ∷ answered rest) [])) isnt

@@ -35,7 +35,7 @@ pub fn top_with_nets<I: Inputs, O: Sink, E: Sink>(
         (around I.Inputs O.Sink E.Sink files.old out.old err.old) result (around I.Inputs O.Sink E.Sink files.new out.new err.new) }
 
     // Nets report their answers as they are.
-    ensures told { ⟦<Net as Machine>⟧.told ≡ as_they_are }
+    ensures reported { ⟦<Net as Machine>⟧.reported ≡ as_they_are }
 
     // So what a machine answers is printed as it is: by `run SWITCH QUERIES PLAN CAPTURE`, with `--csv` or without it,
     ensures run { (csv : Bool) → Spells (texts words.now) (Command.Run csv) →

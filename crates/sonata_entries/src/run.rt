@@ -2,7 +2,7 @@
 ghost use Rattle.std.specs.Prelude.{◌≡◌, ◌≢◌, ◌↔◌, [], ◌∷◌, length};
 ghost use Rattle.sn_cli.specs.Words.{texts, word_at};
 ghost use Rattle.sn_command.specs.Desks.{files_of, sunk, world};
-ghost use Rattle.sn_command.specs.Ends.{end_status, IsCommandRun, IsStatusTold};
+ghost use Rattle.sn_command.specs.Ends.{end_status, IsCommandRun, IsStatusReported};
 ghost use Rattle.sn_command.specs.Runs.{WorksFrom};
 ghost use Rattle.sn_command.specs.Worlds.{OutRose};
 ghost use Rattle.sonata_entries.specs.Entries.{Entries, IsUsage, around};
@@ -10,19 +10,10 @@ ghost use Rattle.sonata_entries.specs.Entries.{Entries, IsUsage, around};
 use crate::entries::write_entries;
 use sn_command::desk::Desk;
 use sn_command::lines::tell;
-use sn_command::refusal::Refusal;
+use sn_command::refusal::{Refusal, end_status};
 use sn_io::inputs::Inputs;
 use sn_io::sink::Sink;
 use std::alloc::Global;
-
-fn status_of(answer: Result<(), Refusal>) -> u8
-    ensures { result ≡ end_status answer }
-{
-    match answer {
-        Ok(()) => 0,
-        Err(refusal) => refusal.status(),
-    }
-}
 
 /// Does the work where there are three words.
 fn work<I: Inputs, O: Sink>(
@@ -68,7 +59,7 @@ pub fn run<I: Inputs, O: Sink, E: Sink>(
     // 10 over any sink: only where a write failed in this call, or took nothing of a rest that has bytes.
     ensures write_fault { result ≡ 10 → OutRose (sunk O.Sink out.old) (sunk O.Sink out.new) }
     // The line of the status is printed.
-    ensures line { IsStatusTold result (sunk E.Sink err.old) (sunk E.Sink err.new) }
+    ensures line { IsStatusReported result (sunk E.Sink err.old) (sunk E.Sink err.new) }
     // With three words the run is that of the stages: the table that the contents of the files give is what goes out.
     ensures entries { length words.now ≡ 3 →
         IsCommandRun (word_at (texts words.now) 1 ∷ word_at (texts words.now) 0 ∷ word_at (texts words.now) 2 ∷ [])
@@ -78,5 +69,5 @@ pub fn run<I: Inputs, O: Sink, E: Sink>(
     let mut desk = Desk { files, out };
     let answer = work(alloc, words, &mut desk);
     tell(answer, err);
-    status_of(answer)
+    end_status(answer)
 }

@@ -3,7 +3,7 @@ use Rattle.std.specs.Prelude.{codes}
 use Rattle.std.specs.Fmt.{decimal}
 use Rattle.sn_command.specs.Desks.{sunk}
 use Rattle.sn_command.specs.Lines.{tree_kind}
-use Rattle.sn_command.proofs.ToldLemmas.{tells_stops, tells_then}
+use Rattle.sn_command.proofs.ReportedLemmas.{tells_stops, tells_then}
 use Rattle.sn_command.proofs.lines.tell_flaw.Goals as goal
 
 pub returns-then-not-tell_node : goal.returns-then-not-tell_node

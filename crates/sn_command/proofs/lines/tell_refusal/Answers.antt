@@ -1,5 +1,5 @@
 use Rattle.sn_command.specs.Desks.{sunk}
-use Rattle.sn_command.proofs.ToldLemmas.{tells_read_fault}
+use Rattle.sn_command.proofs.ReportedLemmas.{tells_read_fault}
 use Rattle.sn_command.proofs.lines.tell_refusal.Goals as goal
 
 pub returns-in-Missing : goal.returns-in-Missing

@@ -1,7 +1,7 @@
 use Rattle.std.proofs.Common.{List, [], ◌∷◌, ◌++◌, codes, ℕ, subst}
 use Rattle.std.specs.Fmt.{decimal}
 use Rattle.sn_command.specs.Desks.{sunk}
-use Rattle.sn_command.specs.Told.{Tells}
+use Rattle.sn_command.specs.Reported.{Tells}
 use Rattle.sn_command.proofs.lines.tell_reports.Goals as goal
 
 pub returns : goal.returns

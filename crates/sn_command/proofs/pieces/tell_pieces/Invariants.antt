@@ -1,7 +1,7 @@
 use Rattle.std.proofs.Common.{drop}
 use Rattle.sn_command.specs.Desks.{sunk}
-use Rattle.sn_command.specs.Told.{pieces_text}
-use Rattle.sn_command.proofs.ToldLemmas.{TellsOn}
+use Rattle.sn_command.specs.Reported.{pieces_text}
+use Rattle.sn_command.proofs.ReportedLemmas.{TellsOn}
 use Rattle.sn_command.proofs.pieces.tell_pieces.Given as goal
 
 abbrev pub invariant-loop-i : goal.invariant-loop-i

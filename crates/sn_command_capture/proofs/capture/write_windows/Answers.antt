@@ -4,7 +4,7 @@ use Rattle.std.proofs.lemmas.Result.{err_from_is_err_and}
 use Rattle.sn_fields.specs.Tuples.{tuple}
 use Rattle.sn_pcap.specs.declared.packet.Ending.{Ending}
 use Rattle.sn_pcap.specs.Reading.{ReaderState, Follows, MovesOn}
-use Rattle.sn_pcap.proofs.ToldLemmas.{told_still}
+use Rattle.sn_pcap.proofs.ReportedLemmas.{reported_still}
 use Rattle.sn_command.specs.Desks.{files_of, world}
 use Rattle.sn_command.specs.declared.refusal.Refusal.{Refusal}
 use Rattle.std.specs.Prelude.{Result}
@@ -71,7 +71,7 @@ returns-in_err-gathered-in-Ok-Packet-clause-runs g c =
     let p = err_from_is_err_and c.from_residual-in_err-gathered-in-Ok-Packet.result c.from_residual-in_err-gathered-in-Ok-Packet.ensures.1 in
     rw (p.1, p.2) (
       [],
-      (packet_stops wording header.link name c.records.reader c.next.new.self seen mid.state (WindowsOf wording c.args.window_ns name header) begin here (files_of g.I.Inputs c.next.new.files) c.next.ensures.told c.next.ensures.faults mid.leads
+      (packet_stops wording header.link name c.records.reader c.next.new.self seen mid.state (WindowsOf wording c.args.window_ns name header) begin here (files_of g.I.Inputs c.next.new.files) c.next.ensures.reported c.next.ensures.faults mid.leads
           refusal there (rw c.in-Ok-Packet.field-0-is at c.in-Ok-Packet.ensures).takes
           (subst (λ (w : Wording). Runs [] (Does (taken w mid.state seen.time (tuple header.link seen.wire (take seen.len seen.front)))) (read_on here (files_of g.I.Inputs c.next.new.files)) (Err refusal) there) mid.same (c.in_err-gathered-in-Ok-Packet.ensures.runs mid.state mid.stands))),
       tt,
@@ -94,11 +94,11 @@ records-preserved g c =
     record {
       state = after mid.state seen.time shown;
       stands = c.in_ok-gathered-in-Ok-Packet.ensures.stands mid.state mid.stands;
-      leads = packet_goes wording header.link name c.records.reader now seen mid.state (WindowsOf wording c.args.window_ns name header) begin here (files_of g.I.Inputs c.next.new.files) c.next.ensures.told c.next.ensures.faults mid.leads
+      leads = packet_goes wording header.link name c.records.reader now seen mid.state (WindowsOf wording c.args.window_ns name header) begin here (files_of g.I.Inputs c.next.new.files) c.next.ensures.reported c.next.ensures.faults mid.leads
           (after mid.state seen.time shown) there (rw c.in-Ok-Packet.field-0-is at c.in-Ok-Packet.ensures).takes
           (subst (λ (w : Wording). Runs [] (Does (taken w mid.state seen.time shown)) (read_on here (files_of g.I.Inputs c.next.new.files)) (Ok (after mid.state seen.time shown)) there) mid.same runs);
       same = c.in_ok-gathered-in-Ok-Packet.ensures.wording ∙ mid.same;
-      follows = told_still (g.I.Inputs.told c.next.new.files) (g.I.Inputs.told c.take_packet.new.desk.files.now) name (λ file. Follows file now) runs.follows.told c.next.ensures.follows;
+      follows = reported_still (g.I.Inputs.reported c.next.new.files) (g.I.Inputs.reported c.take_packet.new.desk.files.now) name (λ file. Follows file now) runs.follows.reported c.next.ensures.follows;
       known = runs.follows.known name ∙ c.next.ensures.faults.known ∙ mid.known;
       counted = let few = mid.counted in let more = c.in_ok-gathered-in-Ok-Packet.ensures.closed in let on = moves.offset in omega arith;
       most = moves.most;
@@ -119,13 +119,13 @@ returns-in-Ok-End-clause-runs g c =
     let whole = WindowsOf wording c.args.window_ns name header in
     let idle = g.A.Answering.idle c.close_last.new.answering in
     let hand = g.A.Answering.hand c.close_last.new.answering in
-    let told = ok_weaker _ (λ (found : ℕ × Ending). found.1 ≡ ending) c.close_last.result (λ found f. (f mid.state mid.stands).1) c.close_last.ensures.closed in
+    let reported = ok_weaker _ (λ (found : ℕ × Ending). found.1 ≡ ending) c.close_last.result (λ found f. (f mid.state mid.stands).1) c.close_last.ensures.closed in
     let closes = ok_weaker _ (λ (found : ℕ × Ending). (found.0 ≡ length all) × Closed idle hand all) c.close_last.result (λ found f. ((f mid.state mid.stands).0, (f mid.state mid.stands).2)) c.close_last.ensures.closed in
-    let runs = end_stops wording header.link name c.records.reader c.next.new.self seen mid.state whole begin here (files_of g.I.Inputs c.next.new.files) c.next.ensures.told c.next.ensures.faults mid.leads
+    let runs = end_stops wording header.link name c.records.reader c.next.new.self seen mid.state whole begin here (files_of g.I.Inputs c.next.new.files) c.next.ensures.reported c.next.ensures.faults mid.leads
     ending (seen_as (λ (found : ℕ × Ending). (all, ending)) c.close_last.result) there (rw c.in-Ok-End.field-0-is at c.in-Ok-End.ensures).takes
     (subst (λ (w : Wording). Runs [] (Does (closing w mid.state ending)) (read_on here (files_of g.I.Inputs c.next.new.files)) (seen_as (λ (found : ℕ × Ending). (all, ending)) c.close_last.result) there) mid.same (c.close_last.ensures.runs mid.state mid.stands)) in (
       all,
-      (subst (λ (r : Result (List Window × Ending) Refusal). Runs (name ∷ []) whole begin r there) (seen_same all ending c.close_last.result told) runs),
+      (subst (λ (r : Result (List Window × Ending) Refusal). Runs (name ∷ []) whole begin r there) (seen_same all ending c.close_last.result reported) runs),
       closes,
     )
 
@@ -143,7 +143,7 @@ returns-in-Err-clause-runs g c =
     let refusal = c.refuse_capture.result in
     let there = world g.I.Inputs g.O.Sink c.refuse_capture.new.desk in (
       [],
-      (error_stops wording header.link name c.records.reader c.next.new.self seen mid.state (WindowsOf wording c.args.window_ns name header) begin here files c.next.ensures.told c.next.ensures.faults mid.leads
+      (error_stops wording header.link name c.records.reader c.next.new.self seen mid.state (WindowsOf wording c.args.window_ns name header) begin here files c.next.ensures.reported c.next.ensures.faults mid.leads
           hand c.records.gathered mid.stands c.in-Err.error refusal there mid.known c.in-Err.ensures.missing.0 c.in-Err.ensures.fault c.in-Err.ensures.no_memory c.in-Err.ensures.takes
           (subst (λ (w : Wording). Stops hand w c.records.gathered c.in-Err.error (read_on here files) refusal there) mid.same c.refuse_capture.ensures)),
       tt,

@@ -7,7 +7,7 @@ use Rattle.sn_command_detect.specs.Watching.{AreAfter}
 use Rattle.sn_detect.specs.declared.detect.Detect.{Detect}
 use Rattle.sn_plan_grammar.specs.declared.plan.Entry.{Entry}
 use Rattle.sn_refine.specs.Steps.{IsPathOf}
-use Rattle.sn_refine_laws.specs.Told.{EndsFinest}
+use Rattle.sn_refine_laws.specs.Reported.{EndsFinest}
 use Rattle.sn_types.specs.Typed.{query_at}
 use Rattle.sn_command_detect.proofs.EntryLemmas.{as_many, path_ends, path_of, path_some}
 use Rattle.sn_command_detect.proofs.MakingLemmas.{entry_of, entry_within, one_left, one_made}

@@ -1,6 +1,6 @@
 use Rattle.std.proofs.Common.{◌≡◌, ℕ, List, [], ◌∷◌, Ok, Err, length, refl, ap, sym, ◌∙◌, subst, arith}
 use Rattle.std.proofs.lemmas.Result.{err_from_is_err_and}
-use Rattle.sn_pcap.proofs.ToldLemmas.{not_err, told_still}
+use Rattle.sn_pcap.proofs.ReportedLemmas.{not_err, reported_still}
 use Rattle.sn_report_reader.specs.Reading.{Follows, ReaderState}
 use Rattle.sn_command.specs.Desks.{files_of, world}
 use Rattle.sn_command.specs.Runs.{Leads, Runs}
@@ -53,7 +53,7 @@ returns-in_err-tally-in-Ok-Frame g c =
     let p = err_from_is_err_and c.from_residual-in_err-tally-in-Ok-Frame.result c.from_residual-in_err-tally-in-Ok-Frame.ensures.1 in
     let runs = subst (λ (n : ℕ). Runs [] (Does (take_frame queries n c.in-Ok-Frame.frame s)) (read_on here files) (Err refusal) there) c.offset-at.ensures
     (subst (λ (qs : List TypedQuery). Runs [] (Does (take_frame qs c.offset-at.result c.in-Ok-Frame.frame s)) (read_on here files) (Err refusal) there) mid.queries c.in_err-tally-in-Ok-Frame.ensures.runs) in
-    rw (p.1, p.2) (frame_stops queries name c.frames.reader c.next.new.self s _ begin here files e.told e.faults (g.met.I.Inputs.same_names c.frames.desk.files.now) mid.leads c.in-Ok-Frame.frame refusal there (λ none. not_err (e.missing.1 none)) e.step runs)
+    rw (p.1, p.2) (frame_stops queries name c.frames.reader c.next.new.self s _ begin here files e.reported e.faults (g.met.I.Inputs.same_names c.frames.desk.files.now) mid.leads c.in-Ok-Frame.frame refusal there (λ none. not_err (e.missing.1 none)) e.step runs)
 
 pub frames-preserved : goal.frames-preserved
 frames-preserved g c =
@@ -75,8 +75,8 @@ frames-preserved g c =
     let moves = e.moves in
     record {
       queries = after.queries ∙ mid.queries;
-      leads = frame_goes queries name c.frames.reader now s _ begin here files e.told e.faults (g.met.I.Inputs.same_names c.frames.desk.files.now) mid.leads c.in-Ok-Frame.frame later there (λ none. not_err (e.missing.1 none)) e.step runs;
-      follows = told_still (I.told c.next.new.files) (I.told c.take_frame.new.desk.files.now) name (λ file. Follows file now) runs.follows.told e.follows;
+      leads = frame_goes queries name c.frames.reader now s _ begin here files e.reported e.faults (g.met.I.Inputs.same_names c.frames.desk.files.now) mid.leads c.in-Ok-Frame.frame later there (λ none. not_err (e.missing.1 none)) e.step runs;
+      follows = reported_still (I.reported c.next.new.files) (I.reported c.take_frame.new.desk.files.now) name (λ file. Follows file now) runs.follows.reported e.follows;
       known = λ some. runs.follows.known name ∙ e.known some;
       most = moves.1;
       windows = omega (arith, after.windows, mid.windows, moves.0);
@@ -90,7 +90,7 @@ returns-in-Ok-Bad g c =
     let begin = world I g.O.Sink c.args.desk.now in
     let mid = c.frames.invariant in
     let e = rw c.in-Ok-Bad.field-0-is at c.in-Ok-Bad.ensures in
-    rw c.refusal_at.ensures (bad_stops c.args.begun.engine.t.queries c.args.name.now c.frames.reader c.next.new.self (standing c.frames.tally) _ begin here (files_of I c.next.new.files) e.told e.faults (g.met.I.Inputs.same_names c.frames.desk.files.now) mid.leads
+    rw c.refusal_at.ensures (bad_stops c.args.begun.engine.t.queries c.args.name.now c.frames.reader c.next.new.self (standing c.frames.tally) _ begin here (files_of I c.next.new.files) e.reported e.faults (g.met.I.Inputs.same_names c.frames.desk.files.now) mid.leads
     c.in-Ok-Bad.place (λ none. not_err (e.missing.1 none)) e.step)
 
 pub returns-in-Ok-Cut : goal.returns-in-Ok-Cut
@@ -100,7 +100,7 @@ returns-in-Ok-Cut g c =
     let begin = world I g.O.Sink c.args.desk.now in
     let mid = c.frames.invariant in
     let e = rw c.in-Ok-Cut.field-0-is at c.in-Ok-Cut.ensures in
-    rw (c.refusal_at-in-Ok-Cut.ensures, c.offset-at.ensures) (cut_stops c.args.begun.engine.t.queries c.args.name.now c.frames.reader c.next.new.self (standing c.frames.tally) _ begin here (files_of I c.next.new.files) e.told e.faults (g.met.I.Inputs.same_names c.frames.desk.files.now) mid.leads
+    rw (c.refusal_at-in-Ok-Cut.ensures, c.offset-at.ensures) (cut_stops c.args.begun.engine.t.queries c.args.name.now c.frames.reader c.next.new.self (standing c.frames.tally) _ begin here (files_of I c.next.new.files) e.reported e.faults (g.met.I.Inputs.same_names c.frames.desk.files.now) mid.leads
     (λ none. not_err (e.missing.1 none)) e.step)
 
 pub returns-in-Ok-End : goal.returns-in-Ok-End
@@ -114,7 +114,7 @@ returns-in-Ok-End g c =
     let e = rw c.in-Ok-End.field-0-is at c.in-Ok-End.ensures in
     let there = world I g.O.Sink c.end_reports.new.desk in
     let runs = subst (λ (n : ℕ). Runs [] (Does (ended n s)) (read_on here files) c.end_reports.result there) c.offset-at.ensures c.end_reports.ensures in
-    end_goes c.args.begun.engine.t.queries c.args.name.now c.frames.reader c.next.new.self s _ begin here files e.told e.faults (g.met.I.Inputs.same_names c.frames.desk.files.now) mid.leads
+    end_goes c.args.begun.engine.t.queries c.args.name.now c.frames.reader c.next.new.self s _ begin here files e.reported e.faults (g.met.I.Inputs.same_names c.frames.desk.files.now) mid.leads
     c.end_reports.result there (λ none. not_err (e.missing.1 none)) e.step runs
 
 pub returns-in-Err : goal.returns-in-Err
@@ -124,5 +124,5 @@ returns-in-Err g c =
     let begin = world I g.O.Sink c.args.desk.now in
     let mid = c.frames.invariant in
     let e = c.in-Err.ensures in
-    rw c.read_refusal.ensures (error_stops c.args.begun.engine.t.queries c.args.name.now c.frames.reader c.next.new.self (standing c.frames.tally) _ begin here (files_of I c.next.new.files) e.told e.faults (g.met.I.Inputs.same_names c.frames.desk.files.now) mid.leads
+    rw c.read_refusal.ensures (error_stops c.args.begun.engine.t.queries c.args.name.now c.frames.reader c.next.new.self (standing c.frames.tally) _ begin here (files_of I c.next.new.files) e.reported e.faults (g.met.I.Inputs.same_names c.frames.desk.files.now) mid.leads
     c.in-Err.error e.missing.0 e.missing.1 e.fault e.step)

@@ -1,7 +1,7 @@
 use Rattle.std.proofs.Common.{◌≡◌, ◌<◌, ◌≤◌, ◌+◌, ◌-◌, ◌^◌, [], ◌∷◌, IfSome, is_some, true, length}
 use Rattle.std.specs.FinMap.{get}
 use Rattle.sn_engine.specs.Intakes.{total}
-use Rattle.sn_io.specs.Inputs.{told_file}
+use Rattle.sn_io.specs.Inputs.{stated_file}
 use Rattle.sn_report_reader.specs.Reading.{Follows}
 use Rattle.sn_command_finish.proofs.TurnLemmas.{LeftIn}
 use Rattle.sn_command_finish.specs.Reported.{Answered}
@@ -19,7 +19,7 @@ invariant-frames g l =
       queries : l.tally.engine.t.queries ≡ l.fn.begun.engine.t.queries;
       leads : Leads (l.name ∷ []) (LeftIn l.fn.begun.engine.t.queries l.name l.reader.offset (standing l.tally)) (Then (Whole l.name) (λ file. Answered l.fn.begun.engine.t.queries (standing l.fn.begun) file))
           (world g.I.Inputs g.O.Sink l.initial.desk) here;
-      follows : IfSome (told_file here.files.told l.name) (λ file. Follows file l.reader);
+      follows : IfSome (stated_file here.files.reported l.name) (λ file. Follows file l.reader);
       known : 0 < length l.reader.held → is_some (get here.files.faults l.name) ≡ true;
       most : l.reader.offset ≤ 2 ^ 30;
       windows : l.tally.windows ≤ l.reader.offset;

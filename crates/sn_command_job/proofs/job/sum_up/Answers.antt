@@ -70,16 +70,16 @@ pub returns : goal.returns
 returns g c =
     let mid = world g.I.Inputs g.O.Sink c.read_switch.new.desk in
     let there = world g.I.Inputs g.O.Sink c.read_training.new.desk in
-    let behind = world g.I.Inputs g.O.Sink c.answer_capture.new.desk in
+    let following = world g.I.Inputs g.O.Sink c.answer_capture.new.desk in
     let training = c.in_ok-training.training in
     let limits = c.in_ok-limits.limits in
     let queries = c.in_ok-typed.typed.queries in
     let found = c.in_ok-found.found in
     let name : List ℕ = codes "capture" in
     let made : Planned = planned (queries_of c.in_ok-typed.typed) limits found.plan in
-    let along = subst (λ (p : Planned). Runs (name ∷ []) (Answered (summary_wording g.M.Machine.told c.args.number found.cost (length c.as_slice.result.now) p) c.window_ns-window_ns.result name) there c.answer_capture.result behind) c.in_ok-along.ensures.plan c.answer_capture.ensures in
-    let nodes = subst (λ (tree : List Node). Runs (name ∷ []) (Answered (summary_wording g.M.Machine.told c.args.number found.cost (length tree) made) c.window_ns-window_ns.result name) there c.answer_capture.result behind) c.as_slice.ensures along in
-    let answered = subst (λ (window : ℕ). Runs (name ∷ []) (Answered (summary_wording g.M.Machine.told c.args.number found.cost (length found.tree) made) window name) there c.answer_capture.result behind) c.window_ns-window_ns.ensures nodes in
+    let along = subst (λ (p : Planned). Runs (name ∷ []) (Answered (summary_wording g.M.Machine.reported c.args.number found.cost (length c.as_slice.result.now) p) c.window_ns-window_ns.result name) there c.answer_capture.result following) c.in_ok-along.ensures.plan c.answer_capture.ensures in
+    let nodes = subst (λ (tree : List Node). Runs (name ∷ []) (Answered (summary_wording g.M.Machine.reported c.args.number found.cost (length tree) made) c.window_ns-window_ns.result name) there c.answer_capture.result following) c.as_slice.ensures along in
+    let answered = subst (λ (window : ℕ). Runs (name ∷ []) (Answered (summary_wording g.M.Machine.reported c.args.number found.cost (length found.tree) made) window name) there c.answer_capture.result following) c.window_ns-window_ns.ensures nodes in
     texts_then c.in_ok-typed.ensures (file_then c.in_ok-limits.ensures.works.runs (file_then
     (subst (λ (window : ℕ). Runs (codes "training" ∷ []) (Text (codes "training") (TrainingIn window)) mid (Ok training) there) c.window_ns-window_ns.ensures c.in_ok-training.ensures.works.runs)
     (stage_then (runs_judges _ (search_once limits queries (trained training.numbers training.tuples) 100000) _ (search_may limits queries (trained training.numbers training.tuples) 100000) (Ok found) c.in_ok-found.ensures.searched) answered)))

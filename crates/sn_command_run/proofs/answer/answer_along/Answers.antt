@@ -22,11 +22,11 @@ answer_capture-requires-clause-window g c =
 
 pub returns : goal.returns
 returns g c =
-    let told = g.M.Machine.told in
+    let reported = g.M.Machine.reported in
     let name = c.args.capture.now in
     let here = world g.I.Inputs g.O.Sink c.args.desk.now in
     let there = world g.I.Inputs g.O.Sink c.answer_capture.new.desk in
     let made : Planned = planned (queries_of c.args.typed) c.args.limits.now c.args.plan in
-    let answered = subst (λ (p : Planned). Runs (name ∷ []) (Answered (wording_in c.in_ok-along.along.form told p) c.window_ns-window_ns.result name) here c.answer_capture.result there) c.in_ok-along.ensures.plan c.answer_capture.ensures in
-    let formed = subst (λ (f : Form). Runs (name ∷ []) (Answered (wording_in f told made) c.window_ns-window_ns.result name) here c.answer_capture.result there) c.in_ok-along.ensures.form answered in
-    subst (λ (window : ℕ). Runs (name ∷ []) (Answered (wording_in c.args.form told made) window name) here c.answer_capture.result there) c.window_ns-window_ns.ensures formed
+    let answered = subst (λ (p : Planned). Runs (name ∷ []) (Answered (wording_in c.in_ok-along.along.form reported p) c.window_ns-window_ns.result name) here c.answer_capture.result there) c.in_ok-along.ensures.plan c.answer_capture.ensures in
+    let formed = subst (λ (f : Form). Runs (name ∷ []) (Answered (wording_in f reported made) c.window_ns-window_ns.result name) here c.answer_capture.result there) c.in_ok-along.ensures.form answered in
+    subst (λ (window : ℕ). Runs (name ∷ []) (Answered (wording_in c.args.form reported made) window name) here c.answer_capture.result there) c.window_ns-window_ns.ensures formed

@@ -30,5 +30,5 @@ returns g c =
     let name = c.args.capture.now in
     let mid = world g.I.Inputs g.O.Sink c.read_plan.new.desk in
     let there = world g.I.Inputs g.O.Sink c.answer_along.new.desk in
-    let answered = subst (λ (f : Form). Runs (name ∷ []) (AlongIn f g.M.Machine.told name (queries_of c.in_ok-typed.typed) c.in_ok-limits.limits c.in_ok-entries.entries) mid c.answer_along.result there) c.of_csv-form.ensures c.answer_along.ensures in
+    let answered = subst (λ (f : Form). Runs (name ∷ []) (AlongIn f g.M.Machine.reported name (queries_of c.in_ok-typed.typed) c.in_ok-limits.limits c.in_ok-entries.entries) mid c.answer_along.result there) c.of_csv-form.ensures c.answer_along.ensures in
     texts_then c.in_ok-typed.ensures (file_then c.in_ok-limits.ensures.works.runs (file_then c.in_ok-entries.ensures.runs (stage_then (gives_misfit _ c.in_ok-test_fit.ensures.verdict) answered)))

@@ -22,12 +22,12 @@ answer_capture-requires-clause-window g c =
 
 pub returns : goal.returns
 returns g c =
-    let told = g.M.Machine.told in
+    let reported = g.M.Machine.reported in
     let name = c.args.capture.now in
     let here = world g.I.Inputs g.O.Sink c.args.desk.now in
     let there = world g.I.Inputs g.O.Sink c.answer_capture.new.desk in
     let made : Planned = planned (queries_of c.args.typed) c.args.limits.now c.args.plan in
     let a = c.in_ok-traced.traced in
-    let answered = subst (λ (p : Planned). Runs (name ∷ []) (Answered (traced_wording a.schedule p told) c.window_ns-window_ns.result name) here c.answer_capture.result there) c.in_ok-traced.ensures.plan c.answer_capture.ensures in
-    let numbered = subst (λ (n : ℕ). Runs (name ∷ []) (Answered (traced_wording n made told) c.window_ns-window_ns.result name) here c.answer_capture.result there) c.in_ok-traced.ensures.schedule answered in
-    subst (λ (window : ℕ). Runs (name ∷ []) (Answered (traced_wording c.args.schedule made told) window name) here c.answer_capture.result there) c.window_ns-window_ns.ensures numbered
+    let answered = subst (λ (p : Planned). Runs (name ∷ []) (Answered (traced_wording a.schedule p reported) c.window_ns-window_ns.result name) here c.answer_capture.result there) c.in_ok-traced.ensures.plan c.answer_capture.ensures in
+    let numbered = subst (λ (n : ℕ). Runs (name ∷ []) (Answered (traced_wording n made reported) c.window_ns-window_ns.result name) here c.answer_capture.result there) c.in_ok-traced.ensures.schedule answered in
+    subst (λ (window : ℕ). Runs (name ∷ []) (Answered (traced_wording c.args.schedule made reported) window name) here c.answer_capture.result there) c.window_ns-window_ns.ensures numbered

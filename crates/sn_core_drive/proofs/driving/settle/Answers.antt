@@ -20,10 +20,10 @@ events-preserved g c =
       works = c.turn.ensures.works ∙ c.events.invariant.works;
       stands = subst (λ (w : Works). IsNet w (g.M.Machine.state next)) c.events.invariant.works c.in_ok-turn.ensures.stands;
       taken = c.in_ok-turn.ensures.taken;
-      leads = same_leads (g.M.Machine.works m) (g.M.Machine.works start) g.M.Machine.told g.M.Machine.told c.args.draws.now.number c.turn.new.draws.number (g.M.Machine.state start) (g.M.Machine.state next) c.turn.new.notes
+      leads = same_leads (g.M.Machine.works m) (g.M.Machine.works start) g.M.Machine.reported g.M.Machine.reported c.args.draws.now.number c.turn.new.draws.number (g.M.Machine.state start) (g.M.Machine.state next) c.turn.new.notes
           c.events.invariant.works refl
           (c.in_ok-turn.ensures.notes c.args.draws.now.number (g.M.Machine.state start)
-          (same_leads (g.M.Machine.works start) (g.M.Machine.works m) g.M.Machine.told g.M.Machine.told c.args.draws.now.number c.events.draws.number (g.M.Machine.state start) (g.M.Machine.state m) c.events.notes
+          (same_leads (g.M.Machine.works start) (g.M.Machine.works m) g.M.Machine.reported g.M.Machine.reported c.args.draws.now.number c.events.draws.number (g.M.Machine.state start) (g.M.Machine.state m) c.events.notes
           (sym c.events.invariant.works) refl c.events.invariant.leads));
     }
 
@@ -33,5 +33,5 @@ events-smaller g c = same_work (g.M.Machine.works c.turn.new.machine) (g.M.Machi
 pub returns-then-is_still-clause-run : goal.returns-then-is_still-clause-run
 returns-then-is_still-clause-run g c =
     let start = c.args.machine.now in
-    still_run (g.M.Machine.works start) g.M.Machine.told c.args.draws.now.number c.events.draws.number (g.M.Machine.state start) (g.M.Machine.state c.events.machine) c.events.notes c.events.invariant.leads c.events.invariant.taken
+    still_run (g.M.Machine.works start) g.M.Machine.reported c.args.draws.now.number c.events.draws.number (g.M.Machine.state start) (g.M.Machine.state c.events.machine) c.events.notes c.events.invariant.leads c.events.invariant.taken
     (sym c.is_still.ensures ∙ c.if-is_still.true)

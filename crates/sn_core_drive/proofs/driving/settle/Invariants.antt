@@ -9,7 +9,7 @@ invariant-events g l = record {
   works : g.M.Machine.works l.machine ≡ g.M.Machine.works l.initial.machine;
   stands : IsNet (g.M.Machine.works l.initial.machine) (g.M.Machine.state l.machine);
   taken : (g.M.Machine.state l.machine).waiting ≡ None;
-  leads : Leads (g.M.Machine.works l.initial.machine) g.M.Machine.told l.initial.draws.number (g.M.Machine.state l.initial.machine) l.notes l.draws.number (g.M.Machine.state l.machine);
+  leads : Leads (g.M.Machine.works l.initial.machine) g.M.Machine.reported l.initial.draws.number (g.M.Machine.state l.initial.machine) l.notes l.draws.number (g.M.Machine.state l.machine);
 }
 
 abbrev pub decreases-events : goal.decreases-events

@@ -10,7 +10,7 @@ returns-then-closes c = λ since are.
     let later = c.in-Some.later.now in
     more_closed since so_far.0 c.args.notes.now c.notes.rest.now later c.in-Some.note.now c.notes.lines.items so_far.1 so_far.2 c.in-Some.ensures.cases.0 c.replace.result.items c.replace.new.dest.items
     (sym c.closes.ensures ∙ c.if-closes.true) (ap (λ v. v.items) c.replace.ensures.value ∙ c.in_ok-push_note_line.ensures)
-    (ap (λ v. v.items) c.replace.ensures.after ∙ c.in_ok-push_note_lines.ensures ∙ ap (λ (text : List ℕ). text ++ flat_map note_lines later) c.new-behind.ensures.items)
+    (ap (λ v. v.items) c.replace.ensures.after ∙ c.in_ok-push_note_lines.ensures ∙ ap (λ (text : List ℕ). text ++ flat_map note_lines later) c.new-afterwards.ensures.items)
 
 pub notes-preserved : goal.notes-preserved
 notes-preserved c = λ since are.

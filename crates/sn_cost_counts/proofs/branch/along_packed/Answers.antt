@@ -24,7 +24,7 @@ use Rattle.sn_cost_counts.proofs.Arrivals.{few_packets, on_any}
 use Rattle.sn_cost_counts.proofs.Branching.{all_counts, branch_takes, counts_small, started, takes_front}
 use Rattle.sn_cost_counts.proofs.Going.{if_ok}
 use Rattle.sn_cost_counts.proofs.Unsplit.{given}
-use Rattle.sn_cost_counts.proofs.Weighing.{some_behind}
+use Rattle.sn_cost_counts.proofs.Weighing.{some_after}
 use Rattle.sn_cost_counts.proofs.Shapes.{cut_taken, left_of_cut}
 use Rattle.sn_cost_counts.proofs.branch.along_packed.Goals as goal
 use Rattle.sn_windows.specs.Blocks.{most_records}
@@ -253,7 +253,7 @@ counts_weighed-requires-clause-first g c =
     let is_rest : c.split_at-2.result.1.now ≡ drop (ahead os) os = c.split_at-2.ensures.back ∙ ap (λ n. drop n os) c.ahead.ensures.value in
     let prefix : os ≡ take branch.max_cut branch.ops = c.split_at.ensures.front ∙ ap (take c.max_cut.result) c.operators.ensures ∙ ap (λ n. take n branch.ops) c.max_cut.ensures in
     let some : nat_lt 0 (stateful os) ≡ true = ap (λ (xs : List TOp). nat_lt 0 (stateful xs)) prefix ∙ c.requires.firsts.registers in
-    subst (λ (xs : List TOp). (0 < length xs) × (ahead xs ≡ 0)) (sym is_rest) (some_behind os some)
+    subst (λ (xs : List TOp). (0 < length xs) × (ahead xs ≡ 0)) (sym is_rest) (some_after os some)
 
 pub counts_weighed-requires-clause-together : goal.counts_weighed-requires-clause-together
 counts_weighed-requires-clause-together g c =

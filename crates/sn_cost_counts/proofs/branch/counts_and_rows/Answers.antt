@@ -16,8 +16,8 @@ use Rattle.sn_cost_counts.proofs.branch.counts_and_rows.Goals as goal
 
 -- the operators after a cut go on with what those before it gave
 gone_on : (level n : ℕ) (os rest : List TOp) (rows unsplit out : List Row) → rest ≡ drop n os → unsplit ≡ through (map (op_at level) (take n os)) rows → out ≡ through (map (op_at level) rest) unsplit → out ≡ through (map (op_at level) os) rows
-gone_on level n os rest rows unsplit out behind before is =
-    is ∙ ap (λ (xs : List TOp). through (map (op_at level) xs) unsplit) behind ∙ ap (through (map (op_at level) (drop n os))) before ∙ through_rest level n os rows
+gone_on level n os rest rows unsplit out following before is =
+    is ∙ ap (λ (xs : List TOp). through (map (op_at level) xs) unsplit) following ∙ ap (through (map (op_at level) (drop n os))) before ∙ through_rest level n os rows
 
 pub split_at-requires : goal.split_at-requires
 split_at-requires g c =

@@ -61,8 +61,8 @@ returns-clause-counts g c =
     let all : ℕ → List ℕ = λ n. n ∷ counts_from a.depth a.level a.slots.now after (wider a.depth a.level a.slots.now op (starting rows ∷ [])) in
     let none : length rows ≡ 0 + length rows = omega arith in
     if_ok c.counts_on.result (λ along. along.counts ≡ c.push.new.self ++ counts_from a.depth a.level a.slots.now after (flows_of c.in_ok-passing.passing)) _
-    (λ along told.
-    told ∙ ap (λ ns. ns ++ counts_from a.depth a.level a.slots.now after (flows_of c.in_ok-passing.passing)) c.in_ok-push.ensures.ok
+    (λ along reported.
+    reported ∙ ap (λ ns. ns ++ counts_from a.depth a.level a.slots.now after (flows_of c.in_ok-passing.passing)) c.in_ok-push.ensures.ok
     ∙ append_assoc a.before (a.together ∷ []) (counts_from a.depth a.level a.slots.now after (flows_of c.in_ok-passing.passing))
     ∙ ap (λ fs. a.before ++ a.together ∷ counts_from a.depth a.level a.slots.now after fs) is
     ∙ ap (λ n. a.before ++ all n) (c.requires.together ∙ none)

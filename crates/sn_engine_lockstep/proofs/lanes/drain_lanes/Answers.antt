@@ -13,7 +13,7 @@ loop-lane-init g c = record {
   lanes = λ queries tables pieces h. h;
   work = λ typed_for tables queries pieces kept tuples t can widths w. ended_none queries tables c.args.window pieces kept tuples c.args.emitter.now c.args.engine.now.lanes.items w;
   left = λ j le. refl;
-  sent = sym (append-nil (g.W.Wire.told c.args.wire.now));
+  sent = sym (append-nil (g.W.Wire.reported c.args.wire.now));
 }
 
 pub loop-lane-preserved : goal.loop-lane-preserved
@@ -37,7 +37,7 @@ loop-lane-preserved g c =
           end_one typed_for tables c.args.window queries pieces kept tuples i c.loop-lane.emitter c.drain.new.emitter c.loop-lane.engine.lanes.items c.drain.new.engine.lanes.items
           t can widths lt e.count e.read e.others (v.work typed_for tables queries pieces kept tuples t can widths w);
       left = left_others c.args.emitter.now c.loop-lane.emitter c.drain.new.emitter i e.others v.left;
-      sent = sent_more g.W.Wire.word (λ s. frames_left s c.args.window) c.args.emitter.now c.loop-lane.emitter i (g.W.Wire.told c.args.wire.now) (g.W.Wire.told c.loop-lane.wire) (g.W.Wire.told c.drain.new.wire) among (v.left i here) v.sent e.sent;
+      sent = sent_more g.W.Wire.word (λ s. frames_left s c.args.window) c.args.emitter.now c.loop-lane.emitter i (g.W.Wire.reported c.args.wire.now) (g.W.Wire.reported c.loop-lane.wire) (g.W.Wire.reported c.drain.new.wire) among (v.left i here) v.sent e.sent;
     }
 
 pub returns-clause-work : goal.returns-clause-work
@@ -52,4 +52,4 @@ pub returns-clause-sent : goal.returns-clause-sent
 returns-clause-sent g c =
     let past = c.loop-lane-test.false in
     let end = c.lanes-lane-end.ensures in
-    sent_all g.W.Wire.word (λ s. frames_left s c.args.window) c.args.emitter.now c.loop-lane.lane (g.W.Wire.told c.args.wire.now) (g.W.Wire.told c.loop-lane.wire) (omega (arith, past, end)) c.loop-lane.invariant.sent
+    sent_all g.W.Wire.word (λ s. frames_left s c.args.window) c.args.emitter.now c.loop-lane.lane (g.W.Wire.reported c.args.wire.now) (g.W.Wire.reported c.loop-lane.wire) (omega (arith, past, end)) c.loop-lane.invariant.sent

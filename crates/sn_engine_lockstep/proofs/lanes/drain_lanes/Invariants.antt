@@ -22,5 +22,5 @@ invariant-loop-lane g l = record {
   work : (typed_for : ℕ) (tables : Tables) (queries : List TypedQuery) (pieces : List Placed) (kept : Source → Set) (tuples : List (List ℕ)) → ∥ IsTyped typed_for queries ∥₁ → AllByRecursion (CanMake queries) pieces → AllByRecursion HasWidths tuples →
       AreAtWork queries tables pieces kept tuples l.initial.emitter l.initial.engine.lanes.items → Each (Ended queries tables kept tuples l.window l.lane) pieces l.emitter l.engine.lanes.items;
   left : (j : ℕ) → l.lane ≤ j → slice_get l.emitter j ≡ slice_get l.initial.emitter j;
-  sent : g.W.Wire.told l.wire ≡ g.W.Wire.told l.initial.wire ++ flat_map g.W.Wire.word (flat_map (λ s. frames_left s l.window) (take l.lane l.initial.emitter));
+  sent : g.W.Wire.reported l.wire ≡ g.W.Wire.reported l.initial.wire ++ flat_map g.W.Wire.word (flat_map (λ s. frames_left s l.window) (take l.lane l.initial.emitter));
 }

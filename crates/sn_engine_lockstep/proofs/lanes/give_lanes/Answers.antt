@@ -16,7 +16,7 @@ loop-lane-init g c = record {
   lanes = λ queries tables pieces h. h;
   work = λ queries tables pieces kept tuples w. given_none queries tables pieces kept tuples c.args.tuple.now c.args.emitter.now c.args.engine.now.lanes.items w;
   left = λ j le. refl;
-  sent = sym (append-nil (g.W.Wire.told c.args.wire.now));
+  sent = sym (append-nil (g.W.Wire.reported c.args.wire.now));
 }
 
 pub give-requires-clause-unread : goal.give-requires-clause-unread
@@ -45,7 +45,7 @@ loop-lane-preserved g c =
           give_one queries tables pieces kept tuples tuple i c.loop-lane.emitter c.give.new.emitter c.loop-lane.engine.lanes.items c.give.new.engine.lanes.items lt e.after e.taken
           (v.work queries tables pieces kept tuples w);
       left = left_more c.args.emitter.now c.loop-lane.emitter c.give.new.emitter i (λ s. sender_next s tuple) lt e.after v.left;
-      sent = sent_more g.W.Wire.word (frames_given tuple) c.args.emitter.now c.loop-lane.emitter i (g.W.Wire.told c.args.wire.now) (g.W.Wire.told c.loop-lane.wire) (g.W.Wire.told c.give.new.wire) among (v.left i here) v.sent e.sent;
+      sent = sent_more g.W.Wire.word (frames_given tuple) c.args.emitter.now c.loop-lane.emitter i (g.W.Wire.reported c.args.wire.now) (g.W.Wire.reported c.loop-lane.wire) (g.W.Wire.reported c.give.new.wire) among (v.left i here) v.sent e.sent;
     }
 
 pub returns-clause-work : goal.returns-clause-work
@@ -60,4 +60,4 @@ pub returns-clause-sent : goal.returns-clause-sent
 returns-clause-sent g c =
     let past = c.loop-lane-test.false in
     let end = c.lanes-lane-end.ensures in
-    sent_all g.W.Wire.word (frames_given c.args.tuple.now) c.args.emitter.now c.loop-lane.lane (g.W.Wire.told c.args.wire.now) (g.W.Wire.told c.loop-lane.wire) (omega (arith, past, end)) c.loop-lane.invariant.sent
+    sent_all g.W.Wire.word (frames_given c.args.tuple.now) c.args.emitter.now c.loop-lane.lane (g.W.Wire.reported c.args.wire.now) (g.W.Wire.reported c.loop-lane.wire) (omega (arith, past, end)) c.loop-lane.invariant.sent

@@ -20,5 +20,5 @@ invariant-loop-lane g l = record {
   work : (queries : List TypedQuery) (tables : Tables) (pieces : List Placed) (kept : Source → Set) (tuples : List (List ℕ)) → AreAtWork queries tables pieces kept tuples l.initial.emitter l.initial.engine.lanes.items →
       Each (Given queries tables kept tuples l.tuple l.lane) pieces l.emitter l.engine.lanes.items;
   left : (j : ℕ) → l.lane ≤ j → slice_get l.emitter j ≡ slice_get l.initial.emitter j;
-  sent : g.W.Wire.told l.wire ≡ g.W.Wire.told l.initial.wire ++ flat_map g.W.Wire.word (flat_map (frames_given l.tuple) (take l.lane l.initial.emitter));
+  sent : g.W.Wire.reported l.wire ≡ g.W.Wire.reported l.initial.wire ++ flat_map g.W.Wire.word (flat_map (frames_given l.tuple) (take l.lane l.initial.emitter));
 }

@@ -11,7 +11,7 @@ use Rattle.sn_engine_lockstep.proofs.work.drain.Given as goal
 abbrev pub invariant-frames : goal.invariant-frames
 invariant-frames g l = record {
   read : HasRead l.window l.lane l.initial.emitter l.emitter l.initial.engine.lanes.items l.engine.lanes.items;
-  sent : HasSent g.W.Wire.word l.window l.lane l.initial.emitter l.emitter (g.W.Wire.told l.initial.wire) (g.W.Wire.told l.wire);
+  sent : HasSent g.W.Wire.word l.window l.lane l.initial.emitter l.emitter (g.W.Wire.reported l.initial.wire) (g.W.Wire.reported l.wire);
   count : length l.emitter ≡ length l.initial.emitter;
   others : (other : ℕ) → other ≢ l.lane → slice_get l.emitter other ≡ slice_get l.initial.emitter other;
   lanes : (queries : List TypedQuery) (tables : Tables) (pieces : List Placed) → AreLanesOf queries tables pieces l.initial.emitter → AreLanesOf queries tables pieces l.emitter;

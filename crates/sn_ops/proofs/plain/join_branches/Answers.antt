@@ -30,11 +30,11 @@ can_join g c =
 
 -- and the operators after the join can be evaluated at the first of the pairs, as many as may be
 fronts_fit : (g : Over) (c : After-as_slice g) → FrontsFit c.args.level c.as_slice.result.now (joined c.join_keys.result.now c.args.left.now c.args.right.now)
-fronts_fit g c front behind e =
+fronts_fit g c front following e =
     let queries = c.args.t.now.queries in
     let q = c.args.q in
     let columns = schema_at (query_at queries q).schemas 0 in
-    let of : AreOf columns front = all_front (IsOf columns) front behind (subst (AreOf columns) (sym e) (can_join g c).of) in
+    let of : AreOf columns front = all_front (IsOf columns) front following (subst (AreOf columns) (sym e) (can_join g c).of) in
     subst (λ (os : List TOp). AllFit c.args.level os front) (sym (posts_are g c)) (query_posts c.args.t.now.window_us queries q c.args.level front c.args.t.now.typed c.requires.query of)
 
 pub join_through-requires : goal.join_through-requires

@@ -1,7 +1,7 @@
 use Rattle.std.proofs.Common.{◌≡◌, ◌-◌, ◌≤◌, take, length, IfSome, None}
 use Rattle.std.specs.FinMap.{get}
 use Rattle.sn_io.specs.Counts.{OnlyRises}
-use Rattle.sn_io.specs.Inputs.{told_file}
+use Rattle.sn_io.specs.Inputs.{stated_file}
 use Rattle.sn_pcap.proofs.front.read_front.Given as goal
 
 abbrev pub invariant-reading : goal.invariant-reading
@@ -9,8 +9,8 @@ invariant-reading g l =
     let I = g.I.Inputs in
     record {
       within : l.held ≤ length l.fn.bytes;
-      bytes : IfSome (told_file (I.told l.fn.files) l.name) (λ file. take l.held l.bytes ≡ take l.held file);
-      told : I.told l.files ≡ I.told l.fn.files;
+      bytes : IfSome (stated_file (I.reported l.fn.files) l.name) (λ file. take l.held l.bytes ≡ take l.held file);
+      reported : I.reported l.files ≡ I.reported l.fn.files;
       faults : OnlyRises l.name (I.faults l.fn.files) (I.faults l.files);
       unknown : get (I.faults l.fn.files) l.name ≡ None → l.files ≡ l.fn.files;
       none : get (I.faults l.fn.files) l.name ≡ None → l.held ≡ 0;

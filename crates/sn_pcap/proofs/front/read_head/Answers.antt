@@ -1,8 +1,8 @@
-use Rattle.sn_io.specs.Inputs.{told_file}
-use Rattle.sn_pcap.proofs.HeadLemmas.{told_head}
+use Rattle.sn_io.specs.Inputs.{stated_file}
+use Rattle.sn_pcap.proofs.HeadLemmas.{reported_head}
 use Rattle.sn_pcap.proofs.front.read_head.Goals as goal
 
 pub returns-in-Ok-clause-head : goal.returns-in-Ok-clause-head
 returns-in-Ok-clause-head g c =
-    told_head (told_file (g.I.Inputs.told c.args.files.now) c.args.name.now) c.split_at.result.0.now c.read_front.new.bytes c.in-Ok.count c.head.result
+    reported_head (stated_file (g.I.Inputs.reported c.args.files.now) c.args.name.now) c.split_at.result.0.now c.read_front.new.bytes c.in-Ok.count c.head.result
     c.split_at.ensures.front c.head.ensures.first c.in-Ok.ensures.bytes

@@ -1,5 +1,5 @@
 use Rattle.std.proofs.Common.{sym, ◌∙◌}
-use Rattle.sn_plan_choices.proofs.OptionLists.{option_is, here_is, behind_is}
+use Rattle.sn_plan_choices.proofs.OptionLists.{option_is, here_is, after_is}
 use Rattle.sn_plan_choices.proofs.setting.branch_option.Goals as goal
 
 pub loop-cut-init : goal.loop-cut-init
@@ -13,5 +13,5 @@ returns-then-left-known-clause-value c =
 
 pub loop-cut-preserved : goal.loop-cut-preserved
 loop-cut-preserved c =
-    behind_is c.args.s.now c.args.branch.now c.loop-cut.cut c.args.n c.loop-cut.left c.as_slice-sizes.result.now c.prefix.result.now c.stateful-count.result c.ways-known.result
+    after_is c.args.s.now c.args.branch.now c.loop-cut.cut c.args.n c.loop-cut.left c.as_slice-sizes.result.now c.prefix.result.now c.stateful-count.result c.ways-known.result
     c.loop-cut-test.true c.as_slice-sizes.ensures c.prefix.ensures.value c.stateful-count.ensures c.ways-known.ensures.value c.if-left-known.false c.loop-cut.invariant

@@ -8,8 +8,8 @@ loop-n-preserved c =
     c.first.result c.schema_at-columns.result c.split.result.0.now c.split-in-loop-n.result.1.now c.split.result.1.now
     c.loop-n-test.true c.index-ops-n.is c.first.ensures c.schema_at-columns.ensures
     (c.split.ensures.front ∙ ap (λ (k : ℕ). take k c.loop-n.stages.now) c.taken.ensures)
-    (c.split-in-loop-n.ensures.behind ∙ ap (λ (k : ℕ). drop k c.loop-n.sizes.now) c.taken-in-loop-n.ensures)
-    (c.split.ensures.behind ∙ ap (λ (k : ℕ). drop k c.loop-n.stages.now) c.taken.ensures)
+    (c.split-in-loop-n.ensures.following ∙ ap (λ (k : ℕ). drop k c.loop-n.sizes.now) c.taken-in-loop-n.ensures)
+    (c.split.ensures.following ∙ ap (λ (k : ℕ). drop k c.loop-n.stages.now) c.taken.ensures)
     c.loop-n.invariant c.add_op.ensures
 
 pub returns : goal.returns

@@ -9,6 +9,6 @@ returns c =
     let order = rw (c.prefix.ensures.value, c.as_slice-written.ensures.value) at c.in_ok-least.ensures.misfit in
     let least = rw (c.prefix.ensures.value, c.as_slice-written.ensures.value) at c.in_ok-least.ensures.least in
     let end = rw (c.is_empty.ensures, c.as_slice-written.ensures.value) at c.end.ensures in
-    let behind : List Table = op_tables c.args.switch.now.chain (take c.args.piece.now.cut c.args.branch.now.ops) c.args.piece.now.stages in
+    let following : List Table = op_tables c.args.switch.now.chain (take c.args.piece.now.cut c.args.branch.now.ops) c.args.piece.now.stages in
     tables_end _ _ _ _ c.args.piece.now.level c.args.path.now (take c.args.piece.now.cut c.args.branch.now.ops) _ c.requires.stages c.requires.chain c.requires.count
-    (c.least_first.ensures.order behind ∙ sym order) (least ∙ sym (c.least_first.ensures.least behind)) end
+    (c.least_first.ensures.order following ∙ sym order) (least ∙ sym (c.least_first.ensures.least following)) end

@@ -4,8 +4,8 @@ use Rattle.sn_plan_space.proofs.place.next_waiting.Goals as goal
 
 pub returns-in-Keyed : goal.returns-in-Keyed
 returns-in-Keyed c = λ tables e.
-    found_next c.args.stages c.args.least c.loop-slot.at c.in-Keyed.bits _ c.loop-slot.rest.now c.in-Some.behind.now tables
-    (c.in-Some.ensures.cases.0 ∙ ap (λ k. k ∷ c.in-Some.behind.now) c.in-Keyed.is) (c.loop-slot.invariant.left tables e) refl refl refl
+    found_next c.args.stages c.args.least c.loop-slot.at c.in-Keyed.bits _ c.loop-slot.rest.now c.in-Some.following.now tables
+    (c.in-Some.ensures.cases.0 ∙ ap (λ k. k ∷ c.in-Some.following.now) c.in-Keyed.is) (c.loop-slot.invariant.left tables e) refl refl refl
 
 pub loop-slot-preserved : goal.loop-slot-preserved
 loop-slot-preserved c =
@@ -16,6 +16,6 @@ loop-slot-preserved c =
     record {
       near = omega arith;
       few = omega arith;
-      left = λ tables e. less_left c.args.stages c.args.least c.loop-slot.at c.loop-slot.rest.now c.in-Some.behind.now tables
-          (cases ∙ ap (λ k. k ∷ c.in-Some.behind.now) c.in-Plain.is) (c.loop-slot.invariant.left tables e);
+      left = λ tables e. less_left c.args.stages c.args.least c.loop-slot.at c.loop-slot.rest.now c.in-Some.following.now tables
+          (cases ∙ ap (λ k. k ∷ c.in-Some.following.now) c.in-Plain.is) (c.loop-slot.invariant.left tables e);
     }

@@ -4,7 +4,7 @@ use Rattle.indexmap.specs.IndexSet.{insert_key}
 use Rattle.sn_base.specs.Groups.{same_row}
 use Rattle.sn_table.specs.HeldKeys.{IsSound, keys_of}
 use Rattle.sn_table.specs.Narrow.{AreShort, columns_of}
-use Rattle.sn_table.proofs.NarrowKeys.{told}
+use Rattle.sn_table.proofs.NarrowKeys.{reported}
 use Rattle.sn_table.proofs.NarrowRows.{StandFor, stand_for_no_row, stand_for_the_same, member_by_number, place_by_number, inserted_by_number, short_with_number}
 use Rattle.sn_table.proofs.RowKeys.{any_by_row, place_by_row, put_key_by_row}
 use Rattle.sn_table.proofs.keys.put.Goals as goal
@@ -20,7 +20,7 @@ returns-in_ok-insert_number-in-Narrow-clause-sound g c =
       | then-is_empty w ↦ stand_for_no_row g.R.Number.Number.limit columns c.in-Narrow.columns ns rows (subst (λ n. n ≤ 8) (sym w.columns-is) w.len.ensures.most) (c.is_empty.ensures.0 w.if-is_empty.true) (ap (keys_of g.R.Columns.columns) c.in-Narrow.is)
       | else-is_empty w ↦ stand_for_the_same g.R.Number.Number.limit columns c.in-Narrow.columns ns rows w.columns-is (subst (IsSound g.R.Number.Number.limit) c.in-Narrow.is c.requires) (ap (keys_of g.R.Columns.columns) c.in-Narrow.is)
     ] in
-    let h = told columns (g.R.Columns.columns c.args.row.now) c.in-Some.number (sym c.number_of.ensures.number ∙ c.in-Some.is) in
+    let h = reported columns (g.R.Columns.columns c.args.row.now) c.in-Some.number (sym c.number_of.ensures.number ∙ c.in-Some.is) in
     subst (AreShort g.R.Number.Number.limit columns) (sym c.in_ok-insert_number-in-Narrow.ensures.keys)
     (short_with_number g.R.Number.Number.limit columns c.in-Some.number (g.R.Columns.columns c.args.row.now) h ns rows s c.in-Some.ensures.single)
 
@@ -34,7 +34,7 @@ returns-in_ok-insert_number-in-Narrow-clause-place g c =
       | then-is_empty w ↦ stand_for_no_row g.R.Number.Number.limit columns c.in-Narrow.columns ns rows (subst (λ n. n ≤ 8) (sym w.columns-is) w.len.ensures.most) (c.is_empty.ensures.0 w.if-is_empty.true) (ap (keys_of g.R.Columns.columns) c.in-Narrow.is)
       | else-is_empty w ↦ stand_for_the_same g.R.Number.Number.limit columns c.in-Narrow.columns ns rows w.columns-is (subst (IsSound g.R.Number.Number.limit) c.in-Narrow.is c.requires) (ap (keys_of g.R.Columns.columns) c.in-Narrow.is)
     ] in
-    let h = told columns (g.R.Columns.columns c.args.row.now) c.in-Some.number (sym c.number_of.ensures.number ∙ c.in-Some.is) in
+    let h = reported columns (g.R.Columns.columns c.args.row.now) c.in-Some.number (sym c.number_of.ensures.number ∙ c.in-Some.is) in
     c.in_ok-insert_number-in-Narrow.ensures.place ∙ sym (place_by_number g.R.Number.Number.limit columns c.in-Some.number (g.R.Columns.columns c.args.row.now) h ns rows s)
 
 pub returns-in_ok-insert_number-in-Narrow-clause-new :
@@ -47,7 +47,7 @@ returns-in_ok-insert_number-in-Narrow-clause-new g c =
       | then-is_empty w ↦ stand_for_no_row g.R.Number.Number.limit columns c.in-Narrow.columns ns rows (subst (λ n. n ≤ 8) (sym w.columns-is) w.len.ensures.most) (c.is_empty.ensures.0 w.if-is_empty.true) (ap (keys_of g.R.Columns.columns) c.in-Narrow.is)
       | else-is_empty w ↦ stand_for_the_same g.R.Number.Number.limit columns c.in-Narrow.columns ns rows w.columns-is (subst (IsSound g.R.Number.Number.limit) c.in-Narrow.is c.requires) (ap (keys_of g.R.Columns.columns) c.in-Narrow.is)
     ] in
-    let h = told columns (g.R.Columns.columns c.args.row.now) c.in-Some.number (sym c.number_of.ensures.number ∙ c.in-Some.is) in
+    let h = reported columns (g.R.Columns.columns c.args.row.now) c.in-Some.number (sym c.number_of.ensures.number ∙ c.in-Some.is) in
     c.in_ok-insert_number-in-Narrow.ensures.new ∙ ap not (sym (member_by_number g.R.Number.Number.limit columns c.in-Some.number (g.R.Columns.columns c.args.row.now) h ns rows s))
 
 pub returns-in_ok-insert_number-in-Narrow-clause-keys :
@@ -60,7 +60,7 @@ returns-in_ok-insert_number-in-Narrow-clause-keys g c =
       | then-is_empty w ↦ stand_for_no_row g.R.Number.Number.limit columns c.in-Narrow.columns ns rows (subst (λ n. n ≤ 8) (sym w.columns-is) w.len.ensures.most) (c.is_empty.ensures.0 w.if-is_empty.true) (ap (keys_of g.R.Columns.columns) c.in-Narrow.is)
       | else-is_empty w ↦ stand_for_the_same g.R.Number.Number.limit columns c.in-Narrow.columns ns rows w.columns-is (subst (IsSound g.R.Number.Number.limit) c.in-Narrow.is c.requires) (ap (keys_of g.R.Columns.columns) c.in-Narrow.is)
     ] in
-    let h = told columns (g.R.Columns.columns c.args.row.now) c.in-Some.number (sym c.number_of.ensures.number ∙ c.in-Some.is) in
+    let h = reported columns (g.R.Columns.columns c.args.row.now) c.in-Some.number (sym c.number_of.ensures.number ∙ c.in-Some.is) in
     ap (map (columns_of columns)) c.in_ok-insert_number-in-Narrow.ensures.keys ∙ inserted_by_number g.R.Number.Number.limit columns c.in-Some.number (g.R.Columns.columns c.args.row.now) h ns rows s
 
 pub returns-in_ok-insert_row-in-Wide-clause-place :

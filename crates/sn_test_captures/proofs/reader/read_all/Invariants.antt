@@ -1,6 +1,6 @@
 use Rattle.std.proofs.Common.{◌≡◌, ◌-◌, ◌≤◌, ◌^◌, IfSome, is_some, true}
 use Rattle.std.specs.FinMap.{get}
-use Rattle.sn_io.specs.Inputs.{told_file}
+use Rattle.sn_io.specs.Inputs.{stated_file}
 use Rattle.sn_pcap.specs.Reading.{Follows, HasRead}
 use Rattle.sn_test_captures.proofs.reader.read_all.Given as goal
 
@@ -8,7 +8,7 @@ abbrev pub invariant-packets : goal.invariant-packets
 invariant-packets g l =
     let I = g.I.Inputs in
     record {
-      follows : IfSome (told_file (I.told l.files) l.name) (λ file. Follows file l.reader);
+      follows : IfSome (stated_file (I.reported l.files) l.name) (λ file. Follows file l.reader);
       known : HasRead l.reader → is_some (get (I.faults l.files) l.name) ≡ true;
       counted : l.packets ≤ l.reader.offset;
       most : l.reader.offset ≤ 2 ^ 40;

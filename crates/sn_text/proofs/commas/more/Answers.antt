@@ -3,7 +3,7 @@ use Rattle.std.specs.Prelude.{nat_le}
 use Rattle.std.proofs.lemmas.Result.{err_from_is_err_and}
 use Rattle.sn_text_rules.specs.Rules.{kept, links}
 use Rattle.sn_text_rules.specs.Tokens.{fails}
-use Rattle.sn_text_rules.specs.Words.{is_symbol, never, behind_comma}
+use Rattle.sn_text_rules.specs.Words.{is_symbol, never, after_comma}
 use Rattle.sn_text.specs.Lexing.{left, seen, token_of}
 use Rattle.sn_text.specs.Reading.{Halts}
 use Rattle.sn_text.proofs.Turns.{comma_over, comma_turns, comma_stops, comma_past, comma_shorter}
@@ -31,7 +31,7 @@ returns-in_err-item g c =
     let r = err_from_is_err_and c.from_residual.result c.from_residual.ensures.1 in
     let d : is_symbol 3 (seen c.scan.result.0.piece) ≡ true = cc in
     let f : nat_le L.limit (length c.items.items) ≡ false = ap (λ xs. nat_le L.limit (length xs)) (sym c.as_slice.ensures) ∙ sym c.is_full.ensures ∙ c.if-is_full.false in
-    rw (r.1, r.2) (halts_as c.in_err-item.field-0.0 (links (is_symbol 3) never (behind_comma L.limit L.begun L.rule) kept c.items.items (left c.items.place)) (links (is_symbol 3) never (behind_comma L.limit L.begun L.rule) kept c.args.first (left c.args.at)) (sym c.items.invariant)
+    rw (r.1, r.2) (halts_as c.in_err-item.field-0.0 (links (is_symbol 3) never (after_comma L.limit L.begun L.rule) kept c.items.items (left c.items.place)) (links (is_symbol 3) never (after_comma L.limit L.begun L.rule) kept c.args.first (left c.args.at)) (sym c.items.invariant)
     (comma_stops L.limit L.begun L.rule g.met.L.Commas.laws c.items.items (left c.items.place) (left c.scan.result.1) (token_of c.scan.result.0) c.in_err-item.field-0.0 c.scan.ensures d f
     (subst (λ x. Halts c.in_err-item.field-0.0 ((L.rule x).read kept (left c.scan.result.1))) c.as_slice-in-items.ensures c.in_err-item.ensures)))
 

@@ -24,7 +24,7 @@ returns-in-Plan g c =
 
 pub returns-in-Run : goal.returns-in-Run
 returns-in-Run g c =
-    rw c.in-Run.is (of_four (λ (switch queries plan capture : List ℕ). WorksFrom 2 (queries ∷ switch ∷ plan ∷ capture ∷ []) (Run g.M.Machine.told c.in-Run.csv switch queries plan capture) (world g.I.Inputs g.O.Sink c.args.desk.now) c.run.result (world g.I.Inputs g.O.Sink c.run.new.desk)) c.word-first.ensures c.word-second.ensures c.word-third.ensures c.word-fourth.ensures c.run.ensures)
+    rw c.in-Run.is (of_four (λ (switch queries plan capture : List ℕ). WorksFrom 2 (queries ∷ switch ∷ plan ∷ capture ∷ []) (Run g.M.Machine.reported c.in-Run.csv switch queries plan capture) (world g.I.Inputs g.O.Sink c.args.desk.now) c.run.result (world g.I.Inputs g.O.Sink c.run.new.desk)) c.word-first.ensures c.word-second.ensures c.word-third.ensures c.word-fourth.ensures c.run.ensures)
 
 pub returns-in-Emit : goal.returns-in-Emit
 returns-in-Emit g c =

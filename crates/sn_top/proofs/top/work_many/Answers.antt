@@ -18,8 +18,8 @@ pub many-requires : goal.many-requires
 many-requires g c =
     let most = (many_words (texts c.args.given.now) c.requires.0 c.requires.1).most in
     let same = length-map c.args.given.now string_bytes in
-    let behind = c.split_at.ensures.back_len in
-    omega (arith, most, same, behind)
+    let following = c.split_at.ensures.back_len in
+    omega (arith, most, same, following)
 
 pub returns : goal.returns
 returns g c =

@@ -23,15 +23,15 @@ nodes-preserved g c =
     let l = c.nodes in
     let n = c.in-Some.node in
     let left = g.N.Nodes.left l.nodes in
-    let behind = g.N.Nodes.left c.next.new.self in
+    let following = g.N.Nodes.left c.next.new.self in
     let all = g.N.Nodes.left c.args.nodes.now in
-    let is = c.in-Ok.ensures ∙ ap (λ f. with_next f behind) c.in-Some.is in
+    let is = c.in-Ok.ensures ∙ ap (λ f. with_next f following) c.in-Some.is in
     let fine = ap (λ q. node_fault s c.args.plan.now q l.seen.count n) (sym c.choices.ensures) ∙ sym c.in_default-check_node.ensures in
     let next = to_come c.in-Ok-go_on.next c.go_on.new.self.choices.items c.go_on.new.self.ends.items in record {
       rest =
-          gone_on s c.args.plan.now l.more l.walk.choices.items l.walk.ends.items l.seen.count left behind (nodes_fault s c.args.plan.now ([] ∷ []) 0 all) n next
+          gone_on s c.args.plan.now l.more l.walk.choices.items l.walk.ends.items l.seen.count left following (nodes_fault s c.args.plan.now ([] ∷ []) 0 all) n next
           c.if-not-more.false is l.invariant.rest fine c.in-Ok-go_on.ensures;
       parts = next_parts s l.more l.walk.choices.items l.walk.ends.items n next c.if-not-more.false l.invariant.parts c.in-Ok-go_on.ensures;
-      counted = one_counted l.seen.count _ _ left behind n is l.invariant.counted refl;
-      named = one_named l.seen.names_plan c.names_plan.result (list_any is_chosen all) left behind n is l.invariant.named c.names_plan.ensures;
+      counted = one_counted l.seen.count _ _ left following n is l.invariant.counted refl;
+      named = one_named l.seen.names_plan c.names_plan.result (list_any is_chosen all) left following n is l.invariant.named c.names_plan.ensures;
     }

@@ -3,7 +3,7 @@ use Rattle.std.proofs.lemmas.List.{length-map, map-set}
 use Rattle.sn_base.specs.Groups.{Row}
 use Rattle.sn_chain.specs.Stored.{cell_of, cells_of, AreStored}
 use Rattle.sn_chain.specs.declared.head.Head.{Head}
-use Rattle.sn_chain.proofs.CodeLemmas.{key_told, told_stored}
+use Rattle.sn_chain.proofs.CodeLemmas.{key_reported, reported_stored}
 use Rattle.sn_chain.proofs.StoredLemmas.{within_heads, within_kinds, within_wholes, kind_written, all_written, kind_stored, all_stored}
 use Rattle.sn_chain.proofs.cells.Cells.take.Goals as goal
 
@@ -45,7 +45,7 @@ invariant_of-self g c =
     let key = g.R.Columns.columns c.args.key.now in
     let head : Head = record { first = code.first; second = code.second; value = c.args.value } in
     subst (λ (ws : List Row). AreStored limit (set a.heads.items at head) (set a.kinds.items at code.kind) ws) (sym (map-set g.R.Columns.columns a.wholes.items at c.args.key.now))
-    (all_stored limit a.heads.items a.kinds.items wholes c.self.invariant at head code.kind key (told_stored limit code key key c.code_of-code.ensures.code (λ nine. refl) c.code_of-code.ensures.single))
+    (all_stored limit a.heads.items a.kinds.items wholes c.self.invariant at head code.kind key (reported_stored limit code key key c.code_of-code.ensures.code (λ nine. refl) c.code_of-code.ensures.single))
 
 pub invariant_of-self-else-code-eq-WHOLE : goal.invariant_of-self-else-code-eq-WHOLE
 invariant_of-self-else-code-eq-WHOLE g c =
@@ -58,7 +58,7 @@ invariant_of-self-else-code-eq-WHOLE g c =
     let key = g.R.Columns.columns c.args.key.now in
     let head : Head = record { first = code.first; second = code.second; value = c.args.value } in
     kind_stored limit a.heads.items a.kinds.items wholes c.self.invariant at head code.kind
-    (λ there. told_stored limit code key (get_or wholes at []) c.code_of-code.ensures.code (λ nine. absurd (c.if-code-eq-WHOLE.false nine)) c.code_of-code.ensures.single)
+    (λ there. reported_stored limit code key (get_or wholes at []) c.code_of-code.ensures.code (λ nine. absurd (c.if-code-eq-WHOLE.false nine)) c.code_of-code.ensures.single)
 
 pub returns-then-code-eq-WHOLE : goal.returns-then-code-eq-WHOLE
 returns-then-code-eq-WHOLE g c =
@@ -73,7 +73,7 @@ returns-then-code-eq-WHOLE g c =
     ap (λ (ws : List Row). cells_of (set a.heads.items at head) (set a.kinds.items at code.kind) ws) (map-set g.R.Columns.columns a.wholes.items at c.args.key.now)
     ∙ all_written a.heads.items a.kinds.items wholes at head code.kind key c.self.invariant.kinds_level c.self.invariant.wholes_level
     ∙ ap (λ (cells : List (Row × ℕ)). set cells at (cell_of head code.kind key)) c.self.view_is
-    ∙ ap (λ (k : Row). set s at (k, c.args.value)) (key_told limit code key key c.code_of-code.ensures.code (λ nine. refl))
+    ∙ ap (λ (k : Row). set s at (k, c.args.value)) (key_reported limit code key key c.code_of-code.ensures.code (λ nine. refl))
 
 pub returns-else-code-eq-WHOLE : goal.returns-else-code-eq-WHOLE
 returns-else-code-eq-WHOLE g c =
@@ -88,4 +88,4 @@ returns-else-code-eq-WHOLE g c =
     let head : Head = record { first = code.first; second = code.second; value = c.args.value } in
     kind_written a.heads.items a.kinds.items wholes at head code.kind c.self.invariant.kinds_level c.self.invariant.wholes_level
     ∙ ap (λ (cells : List (Row × ℕ)). set cells at (cell_of head code.kind whole)) c.self.view_is
-    ∙ ap (λ (k : Row). set s at (k, c.args.value)) (key_told limit code key whole c.code_of-code.ensures.code (λ nine. absurd (c.if-code-eq-WHOLE.false nine)))
+    ∙ ap (λ (k : Row). set s at (k, c.args.value)) (key_reported limit code key whole c.code_of-code.ensures.code (λ nine. absurd (c.if-code-eq-WHOLE.false nine)))

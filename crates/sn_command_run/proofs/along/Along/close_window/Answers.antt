@@ -5,7 +5,7 @@ use Rattle.sn_core_drive.specs.Schedules.{answers_in}
 use Rattle.sn_out.specs.Text.{IsPartOf}
 use Rattle.sn_types.specs.declared.answers.Answers.{Answers}
 use Rattle.sn_engine_lockstep.specs.Known.{last_from}
-use Rattle.sn_command_run.proofs.HandLemmas.{Found, answers_fit, answers_right, end_found, end_idle, none_told, one_told, used_end, used_wants}
+use Rattle.sn_command_run.proofs.HandLemmas.{Found, answers_fit, answers_right, end_found, end_idle, none_reported, one_reported, used_end, used_wants}
 use Rattle.sn_command_run.proofs.along.Along.close_window.Goals as goal
 
 pub advance-requires-clause-stands : goal.advance-requires-clause-stands
@@ -25,13 +25,13 @@ unreachable-requires g c =
     let h = c.requires in
     let e = c.in_ok-notes.ensures in
     let found : Found g.M.Machine c.args.self.now End (answers_in c.in_ok-notes.notes) c.advance.new.machine = record { works = c.advance.ensures.works; stands = e.stands; taken = e.taken; moves = e.due } in
-    none_told _ _ _ (c.last_told.ensures ∙ ap (last_from None) c.up_to_answers.ensures) c.in_default.is (end_found g.M.Machine c.args.self.now h.0 c.args.number h.1 h.2 h.3 (g.met.M.Machine.lawful c.args.self.now.machine) _ c.advance.new.machine found e.behind)
+    none_reported _ _ _ (c.last_reported.ensures ∙ ap (last_from None) c.up_to_answers.ensures) c.in_default.is (end_found g.M.Machine c.args.self.now h.0 c.args.number h.1 h.2 h.3 (g.met.M.Machine.lawful c.args.self.now.machine) _ c.advance.new.machine found e.afterwards)
 
 pub returns-clause-answers : goal.returns-clause-answers
 returns-clause-answers g c = λ closed tuples some h.
     let e = c.in_ok-notes.ensures in
     let found : Found g.M.Machine c.args.self.now End (answers_in c.in_ok-notes.notes) c.advance.new.machine = record { works = c.advance.ensures.works; stands = e.stands; taken = e.taken; moves = e.due } in
-    one_told _ _ _ _ (c.last_told.ensures ∙ ap (last_from None) c.up_to_answers.ensures) c.in-Some.is (end_found g.M.Machine c.args.self.now closed c.args.number tuples some h (g.met.M.Machine.lawful c.args.self.now.machine) _ c.advance.new.machine found e.behind)
+    one_reported _ _ _ _ (c.last_reported.ensures ∙ ap (last_from None) c.up_to_answers.ensures) c.in-Some.is (end_found g.M.Machine c.args.self.now closed c.args.number tuples some h (g.met.M.Machine.lawful c.args.self.now.machine) _ c.advance.new.machine found e.afterwards)
     ∙ answers_right g.M.Machine c.args.self.now closed c.args.number tuples some h
 
 pub returns-clause-fit : goal.returns-clause-fit
@@ -40,13 +40,13 @@ returns-clause-fit g c =
     let e = c.in_ok-notes.ensures in
     let found : Found g.M.Machine c.args.self.now End (answers_in c.in_ok-notes.notes) c.advance.new.machine = record { works = c.advance.ensures.works; stands = e.stands; taken = e.taken; moves = e.due } in
     subst (λ (answers : Answers). AllByRecursion (IsPartOf c.args.self.now.typed.queries) answers.parts)
-    (sym (one_told _ _ _ _ (c.last_told.ensures ∙ ap (last_from None) c.up_to_answers.ensures) c.in-Some.is (end_found g.M.Machine c.args.self.now h.0 c.args.number h.1 h.2 h.3 (g.met.M.Machine.lawful c.args.self.now.machine) _ c.advance.new.machine found e.behind)))
+    (sym (one_reported _ _ _ _ (c.last_reported.ensures ∙ ap (last_from None) c.up_to_answers.ensures) c.in-Some.is (end_found g.M.Machine c.args.self.now h.0 c.args.number h.1 h.2 h.3 (g.met.M.Machine.lawful c.args.self.now.machine) _ c.advance.new.machine found e.afterwards)))
     (answers_fit g.M.Machine c.args.self.now h.0 c.args.number h.1 h.2 h.3 g.met.M.Machine.tells)
 
 pub returns-clause-closed : goal.returns-clause-closed
 returns-clause-closed g c = λ closed tuples some h.
     let e = c.in_ok-notes.ensures in
     let found : Found g.M.Machine c.args.self.now End (answers_in c.in_ok-notes.notes) c.advance.new.machine = record { works = c.advance.ensures.works; stands = e.stands; taken = e.taken; moves = e.due } in
-    let same = one_told _ _ _ _ (c.last_told.ensures ∙ ap (last_from None) c.up_to_answers.ensures) c.in-Some.is (end_found g.M.Machine c.args.self.now closed c.args.number tuples some h (g.met.M.Machine.lawful c.args.self.now.machine) _ c.advance.new.machine found e.behind) in
-    end_idle g.M.Machine c.args.self.now closed c.args.number tuples some h (g.met.M.Machine.lawful c.args.self.now.machine) _ c.advance.new.machine found e.behind c.advance.new.draws _
+    let same = one_reported _ _ _ _ (c.last_reported.ensures ∙ ap (last_from None) c.up_to_answers.ensures) c.in-Some.is (end_found g.M.Machine c.args.self.now closed c.args.number tuples some h (g.met.M.Machine.lawful c.args.self.now.machine) _ c.advance.new.machine found e.afterwards) in
+    end_idle g.M.Machine c.args.self.now closed c.args.number tuples some h (g.met.M.Machine.lawful c.args.self.now.machine) _ c.advance.new.machine found e.afterwards c.advance.new.draws _
     (c.in_ok-self.ensures ∙ ap (λ (answers : Answers). c.args.self.now.emitted + answers.emitted) same)

@@ -16,7 +16,7 @@ returns-clause-begun g c =
         taken = ap (λ (s : State). s.waiting) e.state;
         sound = tt;
         owes = λ following falls widths.
-            ap (map g.M.Machine.told)
+            ap (map g.M.Machine.reported)
             (e.due following falls widths ∙ ap (λ (tables : Tables). answers_for (record { queries = c.args.typed.queries; tables = tables; entries = c.args.plan.entries }) following) (sym c.of.ensures));
         emitted = refl;
       };

@@ -18,4 +18,4 @@ pub returns-clause-given : goal.returns-clause-given
 returns-clause-given g c = λ closed tuples h.
     let e = c.in_ok-advance.ensures in
     given_hand g.M.Machine c.args.self.now closed c.args.number tuples c.args.tuple.now _ c.advance.new.machine c.advance.new.draws h c.widths.ensures
-    (record { works = c.advance.ensures.works; stands = e.stands; taken = e.taken; moves = e.due }) e.behind
+    (record { works = c.advance.ensures.works; stands = e.stands; taken = e.taken; moves = e.due }) e.afterwards

@@ -13,11 +13,11 @@ returns-clause-text g c = λ closed tuples some h.
     let all : List Window = closed ++ (number, tuples) ∷ [] in
     let e = c.in_ok-answers.ensures in
     let queries : (plan_of a).queries ≡ c.pass_window.new.self.typed.queries = sym (ap (λ (p : Planned). p.queries) e.plan) in
-    subst (λ (form : Form). c.in_ok-text.text ≡ (wording_in form g.M.Machine.told (plan_of a)).block all number tuples) e.form
-    (c.in_ok-text.ensures g.M.Machine.told (plan_of a) all number tuples queries (e.answers closed tuples some h))
+    subst (λ (form : Form). c.in_ok-text.text ≡ (wording_in form g.M.Machine.reported (plan_of a)).block all number tuples) e.form
+    (c.in_ok-text.ensures g.M.Machine.reported (plan_of a) all number tuples queries (e.answers closed tuples some h))
 
 pub returns-clause-goes_on : goal.returns-clause-goes_on
-returns-clause-goes_on g c = λ closed tuples some h. plan_never_stops c.args.self.now.form g.M.Machine.told (plan_of c.args.self.now) (closed ++ (c.args.at_hand, tuples) ∷ []) c.args.at_hand tuples
+returns-clause-goes_on g c = λ closed tuples some h. plan_never_stops c.args.self.now.form g.M.Machine.reported (plan_of c.args.self.now) (closed ++ (c.args.at_hand, tuples) ∷ []) c.args.at_hand tuples
 
 pub returns-clause-begun : goal.returns-clause-begun
 returns-clause-begun g c = λ closed tuples some h rising. c.in_ok-answers.ensures.begun closed tuples some h

@@ -7,9 +7,9 @@ use Rattle.sn_command_run.specs.Planned.{Planned, Telling, wording_in}
 use Rattle.sn_command_run.proofs.answering.AlongAnswering.unfinished.Goals as goal
 
 -- in neither form anything stands of a window that isn't over
-nothing : (form : Form) (told : Telling) (p : Planned) (closed : List Window) (number : ℕ) (tuples : List (List ℕ)) → [] ≡ (wording_in form told p).unfinished closed number tuples
-nothing forms.Blocks told p closed number tuples = refl
-nothing forms.Records told p closed number tuples = refl
+nothing : (form : Form) (reported : Telling) (p : Planned) (closed : List Window) (number : ℕ) (tuples : List (List ℕ)) → [] ≡ (wording_in form reported p).unfinished closed number tuples
+nothing forms.Blocks reported p closed number tuples = refl
+nothing forms.Records reported p closed number tuples = refl
 
 pub returns : goal.returns
-returns g c = λ closed tuples h. c.new.ensures ∙ nothing c.args.self.now.form g.M.Machine.told (plan_of c.args.self.now) closed _ tuples
+returns g c = λ closed tuples h. c.new.ensures ∙ nothing c.args.self.now.form g.M.Machine.reported (plan_of c.args.self.now) closed _ tuples

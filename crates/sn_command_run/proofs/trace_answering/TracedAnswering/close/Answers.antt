@@ -9,4 +9,4 @@ pub returns-clause-text : goal.returns-clause-text
 returns-clause-text g c = λ closed tuples some h.
     let e = c.in_ok-lines.ensures in
     c.in_ok-text.ensures ∙ ap₂ (λ (before block : List ℕ). before ++ block) (e.lines closed tuples some h)
-    (ap₂ (λ (asked : List TypedQuery) (told : Answers). block_text asked told true) (ap (λ (p : Planned). p.queries) e.plan) (e.answers closed tuples some h))
+    (ap₂ (λ (asked : List TypedQuery) (reported : Answers). block_text asked reported true) (ap (λ (p : Planned). p.queries) e.plan) (e.answers closed tuples some h))

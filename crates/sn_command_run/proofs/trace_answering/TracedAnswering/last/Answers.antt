@@ -16,8 +16,8 @@ returns g c =
     let lines = c.as_slice.result.now in
     let text = c.as_slice-2.result.now in
     ok_weaker (λ (whole : List ℕ). whole ≡ lines ++ text)
-    (λ (whole : List ℕ). (closed : List Window) → Closed (IsIdle machine a) (IsAtWork machine a) closed → c.args.windows ≡ length closed → whole ≡ (traced_wording a.schedule (plan_of a.along) machine.told).last closed c.args.ending) c.behind_lines.result
+    (λ (whole : List ℕ). (closed : List Window) → Closed (IsIdle machine a) (IsAtWork machine a) closed → c.args.windows ≡ length closed → whole ≡ (traced_wording a.schedule (plan_of a.along) machine.reported).last closed c.args.ending) c.after_lines.result
     (λ whole is closed h count.
-    is ∙ ap₂ (λ (front behind : List ℕ). front ++ behind) (c.as_slice.ensures.value ∙ last_lines_are machine a closed h)
+    is ∙ ap₂ (λ (front following : List ℕ). front ++ following) (c.as_slice.ensures.value ∙ last_lines_are machine a closed h)
     (c.as_slice-2.ensures ∙ c.in_ok-text.ensures
-    ∙ ap₂ (λ (windows sent : ℕ). damage_line c.args.ending ++ total_line windows (Some sent)) count (all_sent machine a closed h))) c.behind_lines.ensures
+    ∙ ap₂ (λ (windows sent : ℕ). damage_line c.args.ending ++ total_line windows (Some sent)) count (all_sent machine a closed h))) c.after_lines.ensures

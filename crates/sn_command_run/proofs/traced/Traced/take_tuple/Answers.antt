@@ -22,7 +22,7 @@ returns-clause-given g c = λ closed tuples h.
     let came : Came g.M.Machine c.args.self.now closed c.args.number tuples h (Numbered c.args.number c.args.tuple.now) c.advance.new.machine c.advance.new.draws.number c.follow.new.lines.items c.in_ok-follow.field-0.items c.in_ok-notes.notes = record { run = e.run; seen = c.as_slice.result.now; same = c.as_slice.ensures ∙ c.in_ok-all.ensures; lines = c.in_ok-follow.ensures } in
     record {
       along = given_hand g.M.Machine c.args.self.now.along closed c.args.number tuples c.args.tuple.now _ c.advance.new.machine c.advance.new.draws h.along c.widths.ensures
-          (record { works = c.advance.ensures.works; stands = e.stands; taken = e.taken; moves = e.due }) e.behind;
+          (record { works = c.advance.ensures.works; stands = e.stands; taken = e.taken; moves = e.due }) e.afterwards;
       works = c.advance.ensures.works ∙ h.works;
       watched = took g.M.Machine c.args.self.now closed c.args.number tuples h c.args.tuple.now c.advance.new.machine c.advance.new.draws.number c.follow.new.lines.items c.in_ok-follow.field-0.items c.in_ok-notes.notes came;
     }

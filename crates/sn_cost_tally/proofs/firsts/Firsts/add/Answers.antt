@@ -72,8 +72,8 @@ returns g c = λ rows h last.
           (keys_same key ks found grown (λ e. w.if-number-len.false (is ∙ e ∙ sym long ∙ sym c.args.self.now.places.ok.0 ∙ sym c.len.ensures)))
     ] in
     on_ok _ _ c.fold_in.result
-    (λ told.
-    let folded : new ≡ folded_into (capped_sum 64) 0 old number 1 = told ∙ ap (λ ns. folded_into (capped_sum 64) 0 ns number 1) same in
+    (λ reported.
+    let folded : new ≡ folded_into (capped_sum 64) 0 old number 1 = reported ∙ ap (λ ns. folded_into (capped_sum 64) 0 ns number 1) same in
     record {
       at = at;
       first = first;

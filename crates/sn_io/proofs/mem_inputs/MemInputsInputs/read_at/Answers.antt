@@ -7,8 +7,8 @@ use Rattle.sn_io.specs.MemInputs.{MemInputsState, held_by, faults_of}
 use Rattle.sn_io.proofs.FileLemmas.{after_held, after_rises, answer_missing, failed_rose}
 use Rattle.sn_io.proofs.mem_inputs.MemInputsInputs.read_at.Goals as goal
 
-pub returns-clause-told : goal.returns-clause-told
-returns-clause-told c = ap (λ (s : MemInputsState). Some (held_by s.files)) c.read.ensures.after ∙ ap (λ m. Some m) (after_held c.args.self.now c.args.name.now)
+pub returns-clause-reported : goal.returns-clause-reported
+returns-clause-reported c = ap (λ (s : MemInputsState). Some (held_by s.files)) c.read.ensures.after ∙ ap (λ m. Some m) (after_held c.args.self.now c.args.name.now)
 
 pub returns-clause-faults : goal.returns-clause-faults
 returns-clause-faults c =

@@ -9,7 +9,7 @@ use Rattle.sn_ops.specs.Standing.{Stands}
 use Rattle.sn_lanes_narrow.specs.Marks.{mark}
 use Rattle.sn_ops_stream.specs.Fronts.{AreFilters}
 use Rattle.sn_ops_stream.specs.States.{BranchState}
-use Rattle.sn_ops_stream.specs.Streams.{HasTaken, HasTakenMore, IsSameBranch, lets_tuple}
+use Rattle.sn_ops_stream.specs.Streams.{HasTaken, HasTakenMore, IsSameBranch, admits_tuple}
 use Rattle.sn_ops_stream.proofs.BranchLemmas.{can_take_one, taken_one}
 use Rattle.sn_ops_stream.proofs.FrontLemmas.{goes_past, stays, stays_there}
 use Rattle.sn_ops_stream.proofs.branch.BranchStream.give.Goals as goal
@@ -19,7 +19,7 @@ start_after-requires-clause-front g c =
     let inside = c.self.inside in
     let s : BranchState = record { refined = inside.packets.refined; level = inside.packets.level; fields = inside.packets.fields.now; ops = inside.ops.now; seen = inside.seen.items; out = inside.out } in
     goes_past s c.args.front c.args.marked c.args.tuple.now c.row-packet-2.result c.row-packet-2.ensures.row
-    (subst (λ (v : BranchState). c.args.marked ≡ mark (lets_tuple v c.args.front c.args.tuple.now)) (sym c.self.view_is) c.requires.marked) c.if-marked-eq0.false
+    (subst (λ (v : BranchState). c.args.marked ≡ mark (admits_tuple v c.args.front c.args.tuple.now)) (sym c.self.view_is) c.requires.marked) c.if-marked-eq0.false
 
 pub start_after-requires-clause-can : goal.start_after-requires-clause-can
 start_after-requires-clause-can g c =
@@ -37,7 +37,7 @@ returns-then-marked-eq0-clause-taken g c queries q b level tuples taken =
     let s : BranchState = record { refined = inside.packets.refined; level = inside.packets.level; fields = inside.packets.fields.now; ops = inside.ops.now; seen = inside.seen.items; out = inside.out } in
     let filters : AreFilters c.args.front s.ops = subst (λ (v : BranchState). AreFilters c.args.front v.ops) (sym c.self.view_is) c.requires.filters in
     let stayed = stays_there s c.args.front c.args.marked c.args.tuple.now row c.row-packet.ensures.row
-    (subst (λ (v : BranchState). c.args.marked ≡ mark (lets_tuple v c.args.front c.args.tuple.now)) (sym c.self.view_is) c.requires.marked) c.if-marked-eq0.true in
+    (subst (λ (v : BranchState). c.args.marked ≡ mark (admits_tuple v c.args.front c.args.tuple.now)) (sym c.self.view_is) c.requires.marked) c.if-marked-eq0.true in
     subst (HasTaken queries q b level (tuples ++ c.args.tuple.now ∷ [])) c.self.view_is
     (taken_one queries q b level tuples c.args.tuple.now row s s (subst (HasTaken queries q b level tuples) (sym c.self.view_is) taken) refl refl refl refl c.row-packet.ensures.row c.row-packet.ensures.columns
     (λ (rows : List Row) stands. stays s.level c.args.front s.ops s.seen rows row s.out filters stayed stands))

@@ -1,13 +1,13 @@
 use Rattle.std.proofs.Common.{◌≡◌, ◌+◌, ℕ, List, Err, None, Some, take, subst, refl, ap, ◌∙◌, rules}
-use Rattle.sn_io.specs.Inputs.{told_file}
+use Rattle.sn_io.specs.Inputs.{stated_file}
 use Rattle.sn_io.specs.declared.inputs.ReadError.{ReadError}
 use Rattle.sn_pcap.specs.Reading.{ReaderState, Follows, HasRead}
-use Rattle.sn_pcap.proofs.ToldLemmas.{told_packet_step, told_end_step, told_fault_step, told_takes, told_follows, told_still, known_still, not_unknown, not_err}
+use Rattle.sn_pcap.proofs.ReportedLemmas.{reported_packet_step, reported_end_step, reported_fault_step, reported_takes, reported_follows, reported_still, known_still, not_unknown, not_err}
 use Rattle.sn_pcap.proofs.reader.Reader.next.Goals as goal
 
 pub returns-in-Ok-None-clause-takes : goal.returns-in-Ok-None-clause-takes
 returns-in-Ok-None-clause-takes g c =
-    let told = told_file (g.I.Inputs.told c.args.files.now) c.args.name.now in
+    let reported = stated_file (g.I.Inputs.reported c.args.files.now) c.args.name.now in
     let inside = c.self.inside in
     let seen_as : ReaderState = record { header = inside.header; offset = inside.offset; held = inside.buffer; last = inside.last } in
     let none : inside.last ≡ None = search rules in
@@ -16,16 +16,16 @@ returns-in-Ok-None-clause-takes g c =
     let header : now.header ≡ inside.header = ap (λ (r : ReaderState). r.header) c.pass.ensures in
     let offset : now.offset ≡ inside.offset + (16 + c.look.new.seen.cap) = ap (λ (r : ReaderState). r.offset) c.pass.ensures ∙ ap (λ (n : ℕ). inside.offset + (16 + n)) count in
     let still : now.last ≡ inside.last = ap (λ (r : ReaderState). r.last) c.pass.ensures in
-    told_takes told c.args.self.now now _ c.look.new.seen (told_packet_step told seen_as c.args.self.now now c.look.new.seen c.self.view_is none header offset (still ∙ none) c.requires.follows (c.in-Ok-None.ensures.packet c.in-Ok-None.field-0-is))
+    reported_takes reported c.args.self.now now _ c.look.new.seen (reported_packet_step reported seen_as c.args.self.now now c.look.new.seen c.self.view_is none header offset (still ∙ none) c.requires.follows (c.in-Ok-None.ensures.packet c.in-Ok-None.field-0-is))
 
 pub returns-in-Ok-None-clause-follows : goal.returns-in-Ok-None-clause-follows
 returns-in-Ok-None-clause-follows g c =
-    let told = told_file (g.I.Inputs.told c.args.files.now) c.args.name.now in
+    let reported = stated_file (g.I.Inputs.reported c.args.files.now) c.args.name.now in
     let inside = c.self.inside in
     let seen_as : ReaderState = record { header = inside.header; offset = inside.offset; held = inside.buffer; last = inside.last } in
     let now = c.pass.new.self in
-    told_still (g.I.Inputs.told c.args.files.now) (g.I.Inputs.told c.look.new.files) c.args.name.now (λ file. Follows file now) c.look.ensures.told
-    (told_follows told seen_as c.args.self.now now c.look.new.buffer (16 + c.from.result) c.self.view_is (ap (λ (r : ReaderState). r.offset) c.pass.ensures) (ap (λ (r : ReaderState). r.held) c.pass.ensures) c.requires.follows c.look.ensures.holds)
+    reported_still (g.I.Inputs.reported c.args.files.now) (g.I.Inputs.reported c.look.new.files) c.args.name.now (λ file. Follows file now) c.look.ensures.reported
+    (reported_follows reported seen_as c.args.self.now now c.look.new.buffer (16 + c.from.result) c.self.view_is (ap (λ (r : ReaderState). r.offset) c.pass.ensures) (ap (λ (r : ReaderState). r.held) c.pass.ensures) c.requires.follows c.look.ensures.holds)
 
 pub returns-in-Ok-None-clause-known : goal.returns-in-Ok-None-clause-known
 returns-in-Ok-None-clause-known g c _ =
@@ -55,7 +55,7 @@ pub returns-in-Ok-Some-clause-step : goal.returns-in-Ok-Some-clause-step
 returns-in-Ok-Some-clause-step g c =
     let inside = c.self.inside in
     let none : inside.last ≡ None = search rules in
-    told_end_step (told_file (g.I.Inputs.told c.args.files.now) c.args.name.now) (record { header = inside.header; offset = inside.offset; held = inside.buffer; last = inside.last }) c.args.self.now
+    reported_end_step (stated_file (g.I.Inputs.reported c.args.files.now) c.args.name.now) (record { header = inside.header; offset = inside.offset; held = inside.buffer; last = inside.last }) c.args.self.now
     (record { header = inside.header; offset = inside.offset; held = c.look.new.buffer; last = Some c.in-Ok-Some.last }) c.in-Ok-Some.last c.answer_of-in-Ok-Some.result c.look.new.seen
     c.self.view_is c.answer_of-in-Ok-Some.ensures none refl refl refl c.requires.follows (rw c.in-Ok-Some.field-0-is at c.in-Ok-Some.ensures).last
 
@@ -63,17 +63,17 @@ pub returns-in-Ok-Some-clause-takes : goal.returns-in-Ok-Some-clause-takes
 returns-in-Ok-Some-clause-takes g c =
     let inside = c.self.inside in
     let none : inside.last ≡ None = search rules in
-    let told = told_file (g.I.Inputs.told c.args.files.now) c.args.name.now in
+    let reported = stated_file (g.I.Inputs.reported c.args.files.now) c.args.name.now in
     let now : ReaderState = record { header = inside.header; offset = inside.offset; held = c.look.new.buffer; last = Some c.in-Ok-Some.last } in
-    told_takes told c.args.self.now now c.answer_of-in-Ok-Some.result c.look.new.seen
-    (told_end_step told (record { header = inside.header; offset = inside.offset; held = inside.buffer; last = inside.last }) c.args.self.now now c.in-Ok-Some.last c.answer_of-in-Ok-Some.result c.look.new.seen
+    reported_takes reported c.args.self.now now c.answer_of-in-Ok-Some.result c.look.new.seen
+    (reported_end_step reported (record { header = inside.header; offset = inside.offset; held = inside.buffer; last = inside.last }) c.args.self.now now c.in-Ok-Some.last c.answer_of-in-Ok-Some.result c.look.new.seen
     c.self.view_is c.answer_of-in-Ok-Some.ensures none refl refl refl c.requires.follows (rw c.in-Ok-Some.field-0-is at c.in-Ok-Some.ensures).last)
 
 pub returns-in-Err-clause-step : goal.returns-in-Err-clause-step
 returns-in-Err-clause-step g c =
     let I = g.I.Inputs in
     let inside = c.self.inside in
-    told_fault_step (I.told c.args.files.now) (I.faults c.args.files.now) c.args.name.now c.args.self.now
+    reported_fault_step (I.reported c.args.files.now) (I.faults c.args.files.now) c.args.name.now c.args.self.now
     (record { header = inside.header; offset = inside.offset; held = c.keep.new.self; last = inside.last }) c.in-Err.fault (Err c.error_of.result) c.look.new.seen
     (ap (λ (e : ReadError). Err e) c.error_of.ensures) (g.met.I.Inputs.same_names c.args.files.now) (λ is. c.in-Err.ensures.missing (ap (λ f. Err f) is))
 
@@ -82,6 +82,6 @@ returns-in-Err-clause-takes g c =
     let I = g.I.Inputs in
     let inside = c.self.inside in
     let now : ReaderState = record { header = inside.header; offset = inside.offset; held = c.keep.new.self; last = inside.last } in
-    told_takes (told_file (I.told c.args.files.now) c.args.name.now) c.args.self.now now (Err c.error_of.result) c.look.new.seen
-    (told_fault_step (I.told c.args.files.now) (I.faults c.args.files.now) c.args.name.now c.args.self.now now c.in-Err.fault (Err c.error_of.result) c.look.new.seen
+    reported_takes (stated_file (I.reported c.args.files.now) c.args.name.now) c.args.self.now now (Err c.error_of.result) c.look.new.seen
+    (reported_fault_step (I.reported c.args.files.now) (I.faults c.args.files.now) c.args.name.now c.args.self.now now c.in-Err.fault (Err c.error_of.result) c.look.new.seen
     (ap (λ (e : ReadError). Err e) c.error_of.ensures) (g.met.I.Inputs.same_names c.args.files.now) (λ is. c.in-Err.ensures.missing (ap (λ f. Err f) is)))

@@ -1,7 +1,7 @@
 use Rattle.std.proofs.Common.{◌≡◌, ◌-◌, ◌^◌, IfSome, None, length}
 use Rattle.std.specs.FinMap.{get}
 use Rattle.sn_io.specs.Counts.{OnlyRises}
-use Rattle.sn_io.specs.Inputs.{told_file}
+use Rattle.sn_io.specs.Inputs.{stated_file}
 use Rattle.sn_report_reader.specs.Reading.{Follows, place_of}
 use Rattle.sn_report_reader.proofs.reader.Reader.next.Given as goal
 
@@ -10,9 +10,9 @@ invariant-reading g l =
     let I = g.I.Inputs in
     record {
       offset : l.self.offset ≡ l.fn.self.offset;
-      follows : IfSome (told_file (I.told l.fn.files) l.name) (λ file. Follows file l.self);
+      follows : IfSome (stated_file (I.reported l.fn.files) l.name) (λ file. Follows file l.self);
       unknown : get (I.faults l.fn.files) l.name ≡ None → length l.self.held ≡ 0;
-      told : I.told l.files ≡ I.told l.fn.files;
+      reported : I.reported l.files ≡ I.reported l.fn.files;
       faults : OnlyRises l.name (I.faults l.fn.files) (I.faults l.files);
     }
 

@@ -1,4 +1,0 @@
-use Rattle.sn_prices_search.proofs.told.told.Goals as goal
-
-pub returns : goal.returns
-returns c = record { scale = c.some.ensures; few = c.in_ok-limits.ensures.few; limits = c.in_ok-limits.ensures.fine }
