@@ -20,10 +20,11 @@ readme() {
         at=$((at + 1))
         echo "\$ $line"
         begun=$(date +%s)
-        bash -c "$line" > "../$(basename "$folder").$at" 2> "../$(basename "$folder").$at.err" || failed=1
+        bash -c "$line" < /dev/null > "../$(basename "$folder").$at" 2> "../$(basename "$folder").$at.err" || failed=1
         tail -n 3 "../$(basename "$folder").$at"
         echo "    $(($(date +%s) - begun)) seconds"
     done < <(awk '/^## Two commands/ { here = 1 } here && /^```bash/ { on = 1; next } on && /^```/ { exit } on' README.md)
+    [ $at -gt 0 ] || { echo 'README.md has no commands'; exit 1; }
     [ $at -ge 3 ] && { cmp -s "../$(basename "$folder").1" "../$(basename "$folder").$at" && echo 'the first and the last write the same' || failed=1; }
     exit $failed
 }
