@@ -11,12 +11,14 @@ ghost use Rattle.sn_types.specs.Typed.{branch_at, query_at};
 ghost use Rattle.sn_windows.specs.Blocks.{most_records};
 
 use crate::adding::add_counts;
+use crate::registers::registers;
 use sn_base::any_row::AnyRow;
 use sn_base::memory::Memory;
 use sn_base::row::Row;
 use sn_base::seq::Seq;
 use sn_base::short_row::ShortRow;
 use sn_cost_counts::branch::counts_of;
+use sn_cost_counts::branch_at::BranchAt;
 use sn_cost_tally::firsts::Firsts;
 use sn_cost_tally::room::Room;
 use sn_fields::tuple::Tuple;
@@ -49,8 +51,15 @@ fn counts_over<R: AnyRow>(
     ensures counts { IfOk result (λ counts. counts ≡ kept_counts s.now (query_at t.now.queries q) level kept.entry tuples.now b) }
     ensures small { IfOk result (λ counts. AreSmall counts) }
 {
-    let slots = s.slots.as_slice();
-    counts_of::<R>(room, t, q, b, level, s.chain, slots, kept, tuples, packed)
+    let at = BranchAt {
+        t,
+        q,
+        b,
+        level,
+        kept,
+        tuples,
+    };
+    counts_of::<R>(room, &at, &registers(s), packed)
 }
 
 /// The counts of a branch at a level, over the tuples of a window that are kept. Its packet rows are short where it isn't wide: that

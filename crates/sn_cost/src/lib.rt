@@ -6,6 +6,7 @@ mod branches;
 pub mod build;
 mod front;
 mod fronts;
+mod registers;
 mod rows;
 mod train;
 mod window;

@@ -14,6 +14,7 @@ ghost use Rattle.sn_types.specs.Typed.{branch_at, end_columns, query_at};
 ghost use Rattle.sn_windows.specs.Blocks.{most_records};
 
 use crate::adding::add_counts;
+use crate::registers::registers;
 use sn_base::any_row::AnyRow;
 use sn_base::memory::Memory;
 use sn_base::row::Row;
@@ -21,6 +22,7 @@ use sn_base::row_list::RowList;
 use sn_base::seq::Seq;
 use sn_base::short_row::ShortRow;
 use sn_cost_counts::branch::{Counted, counts_and_rows};
+use sn_cost_counts::branch_at::BranchAt;
 use sn_cost_tally::firsts::Firsts;
 use sn_cost_tally::room::Room;
 use sn_fields::tuple::Tuple;
@@ -63,8 +65,15 @@ fn counted_over<R: AnyRow>(
     ensures rows { IfOk result (λ found. found.rows ≡ branch_rows (query_at t.now.queries q) b level kept.entry tuples.now) }
     ensures columns { IfOk result (λ found. AllByRecursion (IsOf (end_columns (branch_at t.now.queries q b))) found.rows) }
 {
-    let slots = s.slots.as_slice();
-    counts_and_rows(room, t, q, b, level, s.chain, slots, kept, tuples, packed)
+    let at = BranchAt {
+        t,
+        q,
+        b,
+        level,
+        kept,
+        tuples,
+    };
+    counts_and_rows(room, &at, &registers(s), packed)
 }
 
 /// The counts of a branch at a level, and its rows, over the tuples of a window that are kept. The kind of its rows is asked once.

@@ -10,6 +10,7 @@ pub mod Branching
 pub mod OneRow
 pub mod Arrivals
 pub mod Ahead
+pub mod Parts
 pub mod Alike
 pub mod Standing
 pub mod Shapes

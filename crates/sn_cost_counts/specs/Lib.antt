@@ -8,3 +8,5 @@ pub mod Shared
 pub mod Passing
 pub mod Settings
 pub mod Counts
+pub mod BranchAt
+pub mod Levels

@@ -3,6 +3,7 @@
 
 mod again;
 pub mod branch;
+pub mod branch_at;
 mod coming;
 mod counts;
 mod filters;

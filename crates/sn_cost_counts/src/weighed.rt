@@ -1,28 +1,27 @@
 //! Packets that come through the filters and maps before the first distinct or reduce, of which each stands for others that are the same.
 ghost use Rattle.std.specs.Prelude.{◌≡◌, ℕ, List, ◌≤◌, ◌<◌, ◌+◌, ◌++◌, [], length, map, nat_eq, replicate, true, IfOk, OnOk};
-ghost use Rattle.std.specs.List.{AllByRecursion, list_any};
+ghost use Rattle.std.specs.List.{AllByRecursion};
 ghost use Rattle.sn_base.specs.Columns.{IsOf};
 ghost use Rattle.sn_base.specs.Groups.{Row};
+ghost use Rattle.sn_cost_counts.specs.BranchAt.{asked_branch, packets_of, query_of};
 ghost use Rattle.sn_cost_counts.specs.Coming.{ComeWeighed};
 ghost use Rattle.sn_cost_counts.specs.Fitting.{Takes};
 ghost use Rattle.sn_cost_counts.specs.Standing.{StandFor, stood_for};
 ghost use Rattle.sn_cost_seats.specs.Ways.{AreStateless};
-ghost use Rattle.sn_ops.specs.Packets.{OfALevel, packet_rows};
 ghost use Rattle.sn_types.specs.Kinds.{AreBelow};
-ghost use Rattle.sn_types.specs.Typed.{branch_at, first_columns, query_at};
+ghost use Rattle.sn_types.specs.Typed.{first_columns};
 ghost use Rattle.sn_types.specs.Values.{op_at};
 ghost use Rattle.sn_types.specs.declared.typed_op.TOp.{TOp};
 ghost use Rattle.sn_windows.specs.Blocks.{most_records};
 
+use crate::branch_at::BranchAt;
 use crate::coming::Reached;
 use sn_base::any_row::AnyRow;
 use sn_base::memory::Memory;
 use sn_base::row_seq::RowSeq;
 use sn_cost_tally::firsts::Firsts;
-use sn_fields::tuple::Tuple;
-use sn_ops::packets::{Kept, is_kept};
+use sn_ops::packets::is_kept;
 use sn_types::packet::PacketRow;
-use sn_types::typed::Typed;
 use sn_types::typed_op::TOp;
 use std::alloc::Global;
 
@@ -79,37 +78,28 @@ impl<R: AnyRow> Weighed<R> {
 /// taken together, as `firsts` says.
 pub(crate) fn come_weighed<R: AnyRow>(
     alloc: Global,
-    t: &Typed,
-    q: u32,
-    b: u32,
-    level: u32,
-    kept: Option<Kept>,
-    tuples: &[Tuple],
+    at: &BranchAt<'_>,
     firsts: &Firsts,
     ops: &[TOp],
 ) -> Result<Weighed<R>, Memory>
-    requires query { q < length t.now.queries }
-    requires branch { b < length (query_at t.now.queries q).branches }
-    requires level { list_any (nat_eq level) (query_at t.now.queries q).levels ≡ true }
-    requires kept { OfALevel (query_at t.now.queries q) kept }
-    requires below { AreBelow R.Number.limit (branch_at t.now.queries q b).fields }
-    requires few { length tuples.now ≤ most_records }
-    requires firsts { StandFor (query_at t.now.queries q) b tuples.now firsts.now }
+    requires below { AreBelow R.Number.limit (asked_branch at.now).fields }
+    requires firsts { StandFor (query_of at.now) at.now.b at.now.tuples.now firsts.now }
     requires short { length ops.now ≤ 12 }
-    requires stateless { AreStateless (map (op_at level) ops.now) }
-    requires takes { (row : Row) → IsOf (first_columns (branch_at t.now.queries q b)) row → Takes level ops.now row }
-    ensures come { IfOk result (λ found. ComeWeighed level ops.now (packet_rows (query_at t.now.queries q) b level kept.entry (stood_for tuples.now firsts.now))
+    requires stateless { AreStateless (map (op_at at.now.level) ops.now) }
+    requires takes { (row : Row) → IsOf (first_columns (asked_branch at.now)) row → Takes at.now.level ops.now row }
+    ensures come { IfOk result (λ found. ComeWeighed at.now.level ops.now (packets_of at.now (stood_for at.now.tuples.now firsts.now))
         found.reached.seen found.reached.passed found.rows found.weights.items) }
-    ensures columns { OnOk result (AllByRecursion (IsOf (first_columns (branch_at t.now.queries q b))) (packet_rows (query_at t.now.queries q) b level kept.entry (stood_for tuples.now firsts.now))) }
+    ensures columns { OnOk result (AllByRecursion (IsOf (first_columns (asked_branch at.now))) (packets_of at.now (stood_for at.now.tuples.now firsts.now))) }
 {
-    let packets = t.packets(q, b, level);
+    let tuples = at.tuples;
+    let packets = at.t.packets(at.q, at.b, at.level);
     let mut found = Weighed::new(alloc);
     let mut row = R::empty();
     for number in 0..firsts.places.len() {
         let tuple = &tuples[firsts.places[number] as usize];
-        if is_kept(t, q, kept, tuple) {
+        if is_kept(at.t, at.q, at.kept, tuple) {
             let packet = packets.row(tuple);
-            found.add(ops, level, &packet, firsts.times[number], &mut row)?;
+            found.add(ops, at.level, &packet, firsts.times[number], &mut row)?;
         }
     }
     Ok(found)

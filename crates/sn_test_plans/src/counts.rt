@@ -11,6 +11,7 @@ use sn_base::row::Row;
 use sn_base::seq::Seq;
 use sn_base::short_row::ShortRow;
 use sn_cost_counts::branch::counts_of;
+use sn_cost_counts::branch_at::{BranchAt, Registers};
 use sn_cost_counts::packed::pack;
 use sn_cost_tally::room::Room;
 use sn_fields::tuple::Tuple;
@@ -18,12 +19,12 @@ use sn_types::typed::Typed;
 use std::alloc::Global;
 
 /// The counts of the first branch of the first query, with rows of a kind, in chains of registers of each of these sizes.
-fn counts_over<R: AnyRow>(
+fn counts_over<'a, R: AnyRow>(
     alloc: Global,
-    t: &Typed,
+    t: &'a Typed,
     chain: u32,
     slots: &[u32],
-    tuples: &[Tuple],
+    tuples: &'a [Tuple],
 ) -> Result<Seq<u64>, Memory>
     requires query { 0 < length t.now.queries }
     requires branch { 0 < length (query_at t.now.queries 0).branches }
@@ -38,18 +39,19 @@ fn counts_over<R: AnyRow>(
     let level = t.finest_level(0);
     let mut room = Room::new(alloc, t.seed);
     let packed = pack(&room, t, 0, 0, tuples)?;
-    counts_of::<R>(
-        &mut room,
+    let at = BranchAt {
         t,
-        0,
-        0,
+        q: 0,
+        b: 0,
         level,
-        chain,
-        slots,
-        None,
+        kept: None,
         tuples,
-        packed.as_ref(),
-    )
+    };
+    let registers = Registers {
+        chain,
+        sizes: slots,
+    };
+    counts_of::<R>(&mut room, &at, &registers, packed.as_ref())
 }
 
 /// The counts of the one query of a text, in chains of registers of each of these sizes.

@@ -12,7 +12,7 @@ returns-clause-counts g c =
     let a = c.args in
     let branch : TypedBranch = branch_at a.t.now.queries a.q a.b in
     let rows : List Row = packet_rows (query_at a.t.now.queries a.q) a.b a.level a.kept a.tuples.now in
-    let slots : c.as_slice-slots.result.now ≡ a.s.now.slots = c.as_slice-slots.ensures in
-    if_ok c.counts_of.result (λ (counts : List ℕ). counts ≡ counts_of branch a.level a.s.now.chain c.as_slice-slots.result.now rows) _
-    (λ counts is. is ∙ ap (λ (xs : List ℕ). counts_of branch a.level a.s.now.chain xs rows) slots)
+    let r = c.registers.result in
+    if_ok c.counts_of.result (λ (counts : List ℕ). counts ≡ counts_of branch a.level r.chain r.sizes.now rows) _
+    (λ counts is. is ∙ ap (λ n. counts_of branch a.level n r.sizes.now rows) c.registers.ensures.chain ∙ ap (λ (xs : List ℕ). counts_of branch a.level a.s.now.chain xs rows) c.registers.ensures.sizes)
     c.counts_of.ensures.counts

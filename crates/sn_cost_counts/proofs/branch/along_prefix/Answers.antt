@@ -10,6 +10,8 @@ use Rattle.sn_cost_tally.specs.declared.firsts.Firsts.{Firsts}
 use Rattle.sn_ops.specs.declared.packets.Kept.{Kept}
 use Rattle.sn_ops.specs.Packets.{packet_rows}
 use Rattle.sn_pipe.proofs.Fronts.{cut_within}
+use Rattle.sn_cost_counts.specs.declared.branch_at.BranchAt.{BranchAt}
+use Rattle.sn_cost_counts.specs.BranchAt.{asked_branch, query_of}
 use Rattle.sn_types.specs.declared.typed_op.TOp.{TOp}
 use Rattle.sn_types.specs.declared.typed_query.TypedBranch.{TypedBranch}
 use Rattle.sn_types.specs.declared.typed_query.TypedQuery.{TypedQuery}
@@ -26,7 +28,7 @@ use Rattle.sn_cost_counts.proofs.branch.along_prefix.Goals as goal
 pub along_packed-requires-clause-firsts : goal.along_packed-requires-clause-firsts
 along_packed-requires-clause-firsts g c =
     let a = c.args in
-    subst (λ o. IsPacked (query_at a.t.now.queries a.q) a.b a.tuples.now (option_copied o)) c.in-Some.is c.requires.packed
+    subst (λ o. IsPacked (query_of a.at.now) a.at.now.b a.at.now.tuples.now (option_copied o)) c.in-Some.is c.requires.packed
 
 if_both : {A E : Type 0} {P : A → Type 0} {Q : Type 0} {S : A → Type 0} (r : Result A E) → IfOk r P → OnOk r Q → ((x : A) → P x → Q → S x) → IfOk r S
 if_both (Ok x) p q f = f x p q
@@ -61,27 +63,29 @@ same_unsplit window queries q b level kept asked tuples f t lt within pays of =
 pub returns-in-Some-clause-counts : goal.returns-in-Some-clause-counts
 returns-in-Some-clause-counts g c =
     let a = c.args in
-    let t = a.t.now in
+    let at : BranchAt = a.at.now in
+    let t = at.t.now in
     let f : Firsts = c.in-Some.firsts.now in
-    let pays : PaysFor (query_at t.queries a.q) a.b a.tuples.now f = subst (λ o. IsPacked (query_at t.queries a.q) a.b a.tuples.now (option_copied o)) c.in-Some.is c.requires.packed in
+    let pays : PaysFor (query_of a.at.now) a.at.now.b a.at.now.tuples.now f = subst (λ o. IsPacked (query_of a.at.now) a.at.now.b a.at.now.tuples.now (option_copied o)) c.in-Some.is c.requires.packed in
     if_both c.along_packed.result c.along_packed.ensures.counts c.along_packed.ensures.columns
-    (λ along is of. is ∙ same_counts t.window_us t.queries a.q a.b a.level a.chain a.slots.now a.kept a.tuples.now f t.typed c.requires.query c.requires.branch pays of)
+    (λ along is of. is ∙ same_counts t.window_us t.queries at.q at.b at.level a.registers.now.chain a.registers.now.sizes.now at.kept at.tuples.now f t.typed at.has_query at.has_branch pays of)
 
 pub returns-in-Some-clause-unsplit : goal.returns-in-Some-clause-unsplit
 returns-in-Some-clause-unsplit g c =
     let a = c.args in
-    let t = a.t.now in
+    let at : BranchAt = a.at.now in
+    let t = at.t.now in
     let f : Firsts = c.in-Some.firsts.now in
-    let pays : PaysFor (query_at t.queries a.q) a.b a.tuples.now f = subst (λ o. IsPacked (query_at t.queries a.q) a.b a.tuples.now (option_copied o)) c.in-Some.is c.requires.packed in
+    let pays : PaysFor (query_of a.at.now) a.at.now.b a.at.now.tuples.now f = subst (λ o. IsPacked (query_of a.at.now) a.at.now.b a.at.now.tuples.now (option_copied o)) c.in-Some.is c.requires.packed in
     if_both c.along_packed.result c.along_packed.ensures.unsplit c.along_packed.ensures.columns
-    (λ along is of. is ∙ same_unsplit t.window_us t.queries a.q a.b a.level a.kept a.asked a.tuples.now f t.typed c.requires.query c.requires.branch pays of)
+    (λ along is of. is ∙ same_unsplit t.window_us t.queries at.q at.b at.level at.kept a.asked at.tuples.now f t.typed at.has_query at.has_branch pays of)
 
 pub returns-in-Some-clause-columns : goal.returns-in-Some-clause-columns
 returns-in-Some-clause-columns g c =
     let a = c.args in
-    let query = query_at a.t.now.queries a.q in
+    let query = query_of a.at.now in
     let f : Firsts = c.in-Some.firsts.now in
-    let pays : PaysFor query a.b a.tuples.now f = subst (λ o. IsPacked query a.b a.tuples.now (option_copied o)) c.in-Some.is c.requires.packed in
+    let pays : PaysFor query a.at.now.b a.at.now.tuples.now f = subst (λ o. IsPacked query a.at.now.b a.at.now.tuples.now (option_copied o)) c.in-Some.is c.requires.packed in
     on_ok _ _ c.along_packed.result
-    (all_bag (IsOf (first_columns (branch_at a.t.now.queries a.q a.b))) (packet_rows query a.b a.level a.kept (stood_for a.tuples.now f)) (packet_rows query a.b a.level a.kept a.tuples.now) (pays.stand.alike a.level a.kept).bag)
+    (all_bag (IsOf (first_columns (asked_branch a.at.now))) (packet_rows query a.at.now.b a.at.now.level a.at.now.kept (stood_for a.at.now.tuples.now f)) (packet_rows query a.at.now.b a.at.now.level a.at.now.kept a.at.now.tuples.now) (pays.stand.alike a.at.now.level a.at.now.kept).bag)
     c.along_packed.ensures.columns

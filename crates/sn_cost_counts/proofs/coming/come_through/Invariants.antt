@@ -8,6 +8,6 @@ use Rattle.sn_cost_counts.proofs.coming.come_through.Given as goal
 
 abbrev pub invariant-loop-tuple : goal.invariant-loop-tuple
 invariant-loop-tuple g l = record {
-  come : HaveCome l.level l.ops (packet_rows (query_at l.t.queries l.q) l.b l.level l.kept (take l.tuple-index l.tuples)) l.found.reached.seen l.found.reached.passed l.found.rows;
-  columns : AllByRecursion (IsOf (first_columns (branch_at l.t.queries l.q l.b))) (packet_rows (query_at l.t.queries l.q) l.b l.level l.kept (take l.tuple-index l.tuples));
+  come : HaveCome l.at.level l.ops (packet_rows (query_at l.at.t.now.queries l.at.q) l.at.b l.at.level l.at.kept (take l.tuple-index l.at.tuples.now)) l.found.reached.seen l.found.reached.passed l.found.rows;
+  columns : AllByRecursion (IsOf (first_columns (branch_at l.at.t.now.queries l.at.q l.at.b))) (packet_rows (query_at l.at.t.now.queries l.at.q) l.at.b l.at.level l.at.kept (take l.tuple-index l.at.tuples.now));
 }

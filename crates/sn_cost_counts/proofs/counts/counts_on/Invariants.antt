@@ -12,9 +12,9 @@ use Rattle.sn_cost_counts.proofs.counts.counts_on.Given as goal
 
 abbrev pub invariant-loop-op : goal.invariant-loop-op
 invariant-loop-op g l = record {
-  along : (passed : ℕ) → passed + length l.ops ≤ 12 → AllGo l.level passed l.ops (flows_of l.fn.passing)
-      → Along l.depth l.level l.slots l.ops (l.fn.before ++ counts_from l.depth l.level l.slots l.ops (flows_of l.fn.passing)) passed l.op-index (flows_of l.passing) l.counts;
-  shape : CanFollow l.passing (drop l.op-index l.ops);
-  held : IfSome (held_by l.passing) (AllFit l.level (drop l.op-index l.ops));
-  follows : Follows l.level l.ops (option_map (through (map (op_at l.level) l.ops)) (unsplit_of l.fn.passing)) l.op-index (unsplit_of l.passing);
+  along : (passed : ℕ) → passed + length l.steps.ops.now ≤ 12 → AllGo l.steps.level passed l.steps.ops.now (flows_of l.fn.passing)
+      → Along l.steps.registers.now.chain l.steps.level l.steps.registers.now.sizes.now l.steps.ops.now (l.fn.before ++ counts_from l.steps.registers.now.chain l.steps.level l.steps.registers.now.sizes.now l.steps.ops.now (flows_of l.fn.passing)) passed l.op-index (flows_of l.passing) l.counts;
+  shape : CanFollow l.passing (drop l.op-index l.steps.ops.now);
+  held : IfSome (held_by l.passing) (AllFit l.steps.level (drop l.op-index l.steps.ops.now));
+  follows : Follows l.steps.level l.steps.ops.now (option_map (through (map (op_at l.steps.level) l.steps.ops.now)) (unsplit_of l.fn.passing)) l.op-index (unsplit_of l.passing);
 }

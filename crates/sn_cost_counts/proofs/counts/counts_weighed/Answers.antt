@@ -20,51 +20,51 @@ after_registers-requires-clause-fits g c =
     let a = c.args in
     let op : TOp = c.in-Some.op.now in
     let after : List TOp = c.in-Some.after.now in
-    let are : a.ops.now ≡ op ∷ after = c.in-Some.ensures.cases.0 in
+    let are : a.steps.now.ops.now ≡ op ∷ after = c.in-Some.ensures.cases.0 in
     let weights = c.requires.weights in
-    let takes : AllByRecursion (Takes a.level (op ∷ after)) a.rows =
-    subst (λ (os : List TOp). AllByRecursion (Takes a.level os) a.rows) are
-    (all_stand (Takes a.level a.ops.now) a.rows a.weights.items weights.0 (recursion_from_All (λ n. 1 ≤ n) a.weights.items weights.1) c.requires.takes) in
-    fits_next a.level op after a.rows (subst (λ (os : List TOp). AllFit a.level os []) are c.requires.fits) takes
+    let takes : AllByRecursion (Takes a.steps.now.level (op ∷ after)) a.found.rows =
+    subst (λ (os : List TOp). AllByRecursion (Takes a.steps.now.level os) a.found.rows) are
+    (all_stand (Takes a.steps.now.level a.steps.now.ops.now) a.found.rows a.found.weights.items weights.0 (recursion_from_All (λ n. 1 ≤ n) a.found.weights.items weights.1) c.requires.can.takes) in
+    fits_next a.steps.now.level op after a.found.rows (subst (λ (os : List TOp). AllFit a.steps.now.level os []) are c.requires.can.fits) takes
 
 pub counts_on-requires-clause-go : goal.counts_on-requires-clause-go
 counts_on-requires-clause-go g c =
     let a = c.args in
     let op : TOp = c.in-Some.op.now in
     let after : List TOp = c.in-Some.after.now in
-    let are : a.ops.now ≡ op ∷ after = c.in-Some.ensures.cases.0 in
-    let rows : List Row = repeated a.rows a.weights.items in
+    let are : a.steps.now.ops.now ≡ op ∷ after = c.in-Some.ensures.cases.0 in
+    let rows : List Row = repeated a.found.rows a.found.weights.items in
     let first : is_stateful op ≡ true = none_ahead op after (ap ahead (sym are) ∙ c.requires.first.1) in
     let long = ap length are in
-    let go : AllGo a.level 1 after (wider a.depth a.level a.slots.now op (starting rows ∷ [])) =
-    wider_go a.level 0 a.depth a.slots.now op after (starting rows ∷ [])
-    (subst (λ (os : List TOp). AllGo a.level 0 os (starting rows ∷ [])) are (started a.level a.ops.now rows c.requires.few c.requires.takes c.requires.fits)) in
-    let is : flows_of c.in_ok-passing.passing ≡ wider a.depth a.level a.slots.now op (starting rows ∷ []) =
-    c.in_ok-passing.ensures.flows ∙ ap (λ ns. wider a.depth 0 a.slots.now op (starting (repeated a.rows ns) ∷ [])) c.as_slice.ensures.value ∙ wide_first a.depth a.level a.slots.now op (starting rows ∷ []) first in
-    (1, omega (arith, long, c.requires.operators), subst (AllGo a.level 1 after) (sym is) go)
+    let go : AllGo a.steps.now.level 1 after (wider a.steps.now.registers.now.chain a.steps.now.level a.steps.now.registers.now.sizes.now op (starting rows ∷ [])) =
+    wider_go a.steps.now.level 0 a.steps.now.registers.now.chain a.steps.now.registers.now.sizes.now op after (starting rows ∷ [])
+    (subst (λ (os : List TOp). AllGo a.steps.now.level 0 os (starting rows ∷ [])) are (started a.steps.now.level a.steps.now.ops.now rows c.requires.can.few c.requires.can.takes c.requires.can.fits)) in
+    let is : flows_of c.in_ok-passing.passing ≡ wider a.steps.now.registers.now.chain a.steps.now.level a.steps.now.registers.now.sizes.now op (starting rows ∷ []) =
+    c.in_ok-passing.ensures.flows ∙ ap (λ ns. wider a.steps.now.registers.now.chain 0 a.steps.now.registers.now.sizes.now op (starting (repeated a.found.rows ns) ∷ [])) c.as_slice.ensures.value ∙ wide_first a.steps.now.registers.now.chain a.steps.now.level a.steps.now.registers.now.sizes.now op (starting rows ∷ []) first in
+    (1, omega (arith, long, c.requires.can.short), subst (AllGo a.steps.now.level 1 after) (sym is) go)
 
 pub counts_on-requires-clause-shape : goal.counts_on-requires-clause-shape
 counts_on-requires-clause-shape g c =
-    let are : c.args.ops.now ≡ c.in-Some.op.now ∷ c.in-Some.after.now = c.in-Some.ensures.cases.0 in
-    c.in_ok-passing.ensures.shape c.in-Some.after.now (subst (λ (os : List TOp). length os ≤ greatest_cut os) are c.requires.shape)
+    let are : c.args.steps.now.ops.now ≡ c.in-Some.op.now ∷ c.in-Some.after.now = c.in-Some.ensures.cases.0 in
+    c.in_ok-passing.ensures.shape c.in-Some.after.now (subst (λ (os : List TOp). length os ≤ greatest_cut os) are c.requires.can.shape)
 
 pub returns-clause-counts : goal.returns-clause-counts
 returns-clause-counts g c =
     let a = c.args in
     let op : TOp = c.in-Some.op.now in
     let after : List TOp = c.in-Some.after.now in
-    let are : a.ops.now ≡ op ∷ after = c.in-Some.ensures.cases.0 in
-    let rows : List Row = repeated a.rows a.weights.items in
+    let are : a.steps.now.ops.now ≡ op ∷ after = c.in-Some.ensures.cases.0 in
+    let rows : List Row = repeated a.found.rows a.found.weights.items in
     let first : is_stateful op ≡ true = none_ahead op after (ap ahead (sym are) ∙ c.requires.first.1) in
-    let is : flows_of c.in_ok-passing.passing ≡ wider a.depth a.level a.slots.now op (starting rows ∷ []) =
-    c.in_ok-passing.ensures.flows ∙ ap (λ ns. wider a.depth 0 a.slots.now op (starting (repeated a.rows ns) ∷ [])) c.as_slice.ensures.value ∙ wide_first a.depth a.level a.slots.now op (starting rows ∷ []) first in
-    let all : ℕ → List ℕ = λ n. n ∷ counts_from a.depth a.level a.slots.now after (wider a.depth a.level a.slots.now op (starting rows ∷ [])) in
+    let is : flows_of c.in_ok-passing.passing ≡ wider a.steps.now.registers.now.chain a.steps.now.level a.steps.now.registers.now.sizes.now op (starting rows ∷ []) =
+    c.in_ok-passing.ensures.flows ∙ ap (λ ns. wider a.steps.now.registers.now.chain 0 a.steps.now.registers.now.sizes.now op (starting (repeated a.found.rows ns) ∷ [])) c.as_slice.ensures.value ∙ wide_first a.steps.now.registers.now.chain a.steps.now.level a.steps.now.registers.now.sizes.now op (starting rows ∷ []) first in
+    let all : ℕ → List ℕ = λ n. n ∷ counts_from a.steps.now.registers.now.chain a.steps.now.level a.steps.now.registers.now.sizes.now after (wider a.steps.now.registers.now.chain a.steps.now.level a.steps.now.registers.now.sizes.now op (starting rows ∷ [])) in
     let none : length rows ≡ 0 + length rows = omega arith in
-    if_ok c.counts_on.result (λ along. along.counts ≡ c.push.new.self ++ counts_from a.depth a.level a.slots.now after (flows_of c.in_ok-passing.passing)) _
+    if_ok c.counts_on.result (λ along. along.counts ≡ c.push.new.self ++ counts_from a.steps.now.registers.now.chain a.steps.now.level a.steps.now.registers.now.sizes.now after (flows_of c.in_ok-passing.passing)) _
     (λ along reported.
-    reported ∙ ap (λ ns. ns ++ counts_from a.depth a.level a.slots.now after (flows_of c.in_ok-passing.passing)) c.in_ok-push.ensures.ok
-    ∙ append_assoc a.before (a.together ∷ []) (counts_from a.depth a.level a.slots.now after (flows_of c.in_ok-passing.passing))
-    ∙ ap (λ fs. a.before ++ a.together ∷ counts_from a.depth a.level a.slots.now after fs) is
+    reported ∙ ap (λ ns. ns ++ counts_from a.steps.now.registers.now.chain a.steps.now.level a.steps.now.registers.now.sizes.now after (flows_of c.in_ok-passing.passing)) c.in_ok-push.ensures.ok
+    ∙ append_assoc a.before (a.found.together ∷ []) (counts_from a.steps.now.registers.now.chain a.steps.now.level a.steps.now.registers.now.sizes.now after (flows_of c.in_ok-passing.passing))
+    ∙ ap (λ fs. a.before ++ a.found.together ∷ counts_from a.steps.now.registers.now.chain a.steps.now.level a.steps.now.registers.now.sizes.now after fs) is
     ∙ ap (λ n. a.before ++ all n) (c.requires.together ∙ none)
-    ∙ ap (λ (os : List TOp). a.before ++ counts_from a.depth a.level a.slots.now os (starting rows ∷ [])) (sym are))
+    ∙ ap (λ (os : List TOp). a.before ++ counts_from a.steps.now.registers.now.chain a.steps.now.level a.steps.now.registers.now.sizes.now os (starting rows ∷ [])) (sym are))
     c.counts_on.ensures.counts

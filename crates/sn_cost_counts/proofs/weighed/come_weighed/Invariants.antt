@@ -10,6 +10,6 @@ use Rattle.sn_cost_counts.proofs.weighed.come_weighed.Given as goal
 
 abbrev pub invariant-loop-number : goal.invariant-loop-number
 invariant-loop-number g l = record {
-  come : ComeWeighed l.level l.ops (packet_rows (query_at l.t.queries l.q) l.b l.level l.kept (repeated (rows_at l.tuples (take l.number l.firsts.places.items)) (take l.number l.firsts.times.items))) l.found.reached.seen l.found.reached.passed l.found.rows l.found.weights.items;
-  columns : AllByRecursion (IsOf (first_columns (branch_at l.t.queries l.q l.b))) (packet_rows (query_at l.t.queries l.q) l.b l.level l.kept (repeated (rows_at l.tuples (take l.number l.firsts.places.items)) (take l.number l.firsts.times.items)));
+  come : ComeWeighed l.at.level l.ops (packet_rows (query_at l.at.t.now.queries l.at.q) l.at.b l.at.level l.at.kept (repeated (rows_at l.at.tuples.now (take l.number l.firsts.places.items)) (take l.number l.firsts.times.items))) l.found.reached.seen l.found.reached.passed l.found.rows l.found.weights.items;
+  columns : AllByRecursion (IsOf (first_columns (branch_at l.at.t.now.queries l.at.q l.at.b))) (packet_rows (query_at l.at.t.now.queries l.at.q) l.at.b l.at.level l.at.kept (repeated (rows_at l.at.tuples.now (take l.number l.firsts.places.items)) (take l.number l.firsts.times.items)));
 }
