@@ -22,7 +22,7 @@ import sys
 
 import plain as unsplit
 from plain import read, told
-from reference import costs, epochs, fields, generated, grammar, many as several, nets, plans, split, stays, switches, tokens, typing_rules, words
+from reference import costs, epochs, fields, generated, grammar, many as several, nets, plans, prices, split, stays, switches, tokens, typing_rules, words
 
 
 class Refused(Exception):
@@ -215,18 +215,27 @@ def check(given):
     switch = read_switch(switch_name)
     table = trained(window, queries, switch, train_name)
     entries = read_plan(certificate_name, lambda entries: plans.check_fits(queries, switch, entries))
-    reader = costs.TreeReader(held(certificate_name))
-    reader.plan()
+    chosen, text = costs.Partial(table, costs.choices_of(table, entries)), held(certificate_name)
     try:
-        number, nodes = reader.tree()
+        return (check_prices if prices.stand_after(text) else check_tree)(table, chosen, text)
     except tokens.Fault as fault:
         raise Refused(7, 'tree %s line %d' % (fault.kind, fault.line)) from fault
-    chosen = costs.Partial(table, costs.choices_of(table, entries))
-    try:
-        costs.check_tree(table, chosen, number, nodes)
     except costs.Untrue as untrue:
         raise Refused(7, 'tree %s node %d want %d got %d' % untrue.args) from untrue
+
+
+def check_tree(table, chosen, text):
+    reader = costs.TreeReader(text)
+    reader.plan()
+    number, nodes = reader.tree()
+    costs.check_tree(table, chosen, number, nodes)
     return b'yes cost %d nodes %d\n' % (number, len(nodes))
+
+
+def check_prices(table, chosen, text):
+    shown = prices.parse(text)
+    prices.check(table, chosen, shown)
+    return b'yes cost %d least %d\n' % (shown.cost, shown.least)
 
 
 def gen(given):

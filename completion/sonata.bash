@@ -6,7 +6,7 @@ declare -gA _sonata_endings=([plain]='query pcap' [plan]='switch query pcap' [ru
     [finish]='query plan reports' [detect]='query plan pcap' [many]='switch query plan pcap pcap pcap pcap pcap pcap pcap pcap'
     [check]='switch query pcap plan' [live]='switch query pcap pcap' [replan]='switch query pcap pcap')
 declare -gA _sonata_files=([plain]=2 [plan]=3 [run]=4 [emit]=4 [finish]=3 [detect]=3 [many]=11 [check]=4 [live]=4 [replan]=4 [gen]=0 [job]=0)
-declare -gA _sonata_options=([plan]='--nodes' [run]='--csv' [live]='--nodes --schedule --trace' [replan]='--nodes')
+declare -gA _sonata_options=([plan]='--nodes --prices' [run]='--csv' [live]='--nodes --schedule --trace' [replan]='--nodes')
 
 _sonata_named() {
     local word=$1 ending=$2 name

@@ -11,7 +11,7 @@ use Rattle.sn_cli.specs.declared.command.Command.TheVariants as commands
 use Rattle.sn_cli.specs.declared.options.Options.{Options}
 use Rattle.sn_cli.specs.Words.{IsNumber, texts, word_at}
 use Rattle.sn_cli.specs.Grammar.{no_options, Line, Numbered, Spells}
-use Rattle.sn_cli.specs.Reading.{same, is_flag, flag_of, numbered_of, options_from, all_file_words, line_of, lone_number, bare_of, plan_of, run_of, live_of, many_of, number_of, replan_at, replan_of, replan_with, command_with, command_of}
+use Rattle.sn_cli.specs.Reading.{same, is_flag, flag_of, numbered_of, options_from, all_file_words, line_of, lone_number, bare_of, plan_with, plan_of, run_of, live_of, many_of, number_of, replan_at, replan_of, replan_with, command_with, command_of}
 use Rattle.sn_cli.proofs.NumberLemmas.{and_left, and_right, none_some, some_same, taken, passed, number_is, is_number}
 use Rattle.sn_cli.proofs.OptionLemmas.{flag_step, options_found, options_are_said, no_words, word_is}
 use Rattle.sn_base.proofs.Tests.{not_to_false as is_false}
@@ -92,62 +92,77 @@ lone_is command (word ∷ more ∷ rest) n e = absurd (none_some e)
 
 -- ---- what a command takes of the options
 
-made : (a b : Options) → a.nodes ≡ b.nodes → a.schedule ≡ b.schedule → a.csv ≡ b.csv → a.trace ≡ b.trace → a ≡ b
-made a b e f g h = of a.nodes b.nodes a.schedule b.schedule a.csv b.csv a.trace b.trace e f g h
+made : (a b : Options) → a.nodes ≡ b.nodes → a.schedule ≡ b.schedule → a.csv ≡ b.csv → a.trace ≡ b.trace → a.prices ≡ b.prices → a ≡ b
+made a b e f g h i = of a.nodes b.nodes a.schedule b.schedule a.csv b.csv a.trace b.trace a.prices b.prices e f g h i
   where
-    of : (n m s t : Option ℕ) (c d u v : Bool) → n ≡ m → s ≡ t → c ≡ d → u ≡ v → ◌≡◌ {A = Options} (record { nodes = n; schedule = s; csv = c; trace = u }) (record { nodes = m; schedule = t; csv = d; trace = v })
-    of n m s t c d u v e f g h = rw (e, f, g, h) refl
+    of : (n m s t : Option ℕ) (c d u v w x : Bool) → n ≡ m → s ≡ t → c ≡ d → u ≡ v → w ≡ x → ◌≡◌ {A = Options} (record { nodes = n; schedule = s; csv = c; trace = u; prices = w }) (record { nodes = m; schedule = t; csv = d; trace = v; prices = x })
+    of n m s t c d u v w x e f g h i = rw (e, f, g, h, i) refl
 
 bare_is : (k : Command) (o : Options) (c : Command) → bare_of k o ≡ Some c → (c ≡ k) × (o ≡ no_options)
 bare_is k o c e =
-    let test : Bool = is_none o.nodes && is_none o.schedule && not o.csv && not o.trace in
+    let test : Bool = is_none o.nodes && is_none o.schedule && not o.csv && not o.trace && not o.prices in
     by_test test
     (λ is.
-    let a = and_left (is_none o.nodes && is_none o.schedule && not o.csv) (not o.trace) is in
+    let z = and_left (is_none o.nodes && is_none o.schedule && not o.csv && not o.trace) (not o.prices) is in
+    let a = and_left (is_none o.nodes && is_none o.schedule && not o.csv) (not o.trace) z in
     let b = and_left (is_none o.nodes && is_none o.schedule) (not o.csv) a in (
       sym (some_same (taken test _ _ is e)),
-      made o no_options (is_free o.nodes (and_left (is_none o.nodes) (is_none o.schedule) b)) (is_free o.schedule (and_right (is_none o.nodes) (is_none o.schedule) b)) (is_false o.csv (and_right (is_none o.nodes && is_none o.schedule) (not o.csv) a)) (is_false o.trace (and_right (is_none o.nodes && is_none o.schedule && not o.csv) (not o.trace) is)),
+      made o no_options (is_free o.nodes (and_left (is_none o.nodes) (is_none o.schedule) b)) (is_free o.schedule (and_right (is_none o.nodes) (is_none o.schedule) b)) (is_false o.csv (and_right (is_none o.nodes && is_none o.schedule) (not o.csv) a)) (is_false o.trace (and_right (is_none o.nodes && is_none o.schedule && not o.csv) (not o.trace) z))
+          (is_false o.prices (and_right (is_none o.nodes && is_none o.schedule && not o.csv && not o.trace) (not o.prices) is)),
     ))
     (λ isnt. absurd (none_some (passed test _ _ isnt e)))
 
-plan_is : (o : Options) (c : Command) → plan_of o ≡ Some c → (c ≡ commands.Plan (unwrap_or o.nodes 100000)) × (o ≡ record { nodes = o.nodes; schedule = None; csv = false; trace = false })
+plan_is : (o : Options) (c : Command) → plan_of o ≡ Some c → (c ≡ plan_with o.prices (unwrap_or o.nodes 100000)) × (o ≡ record { nodes = o.nodes; schedule = None; csv = false; trace = false; prices = o.prices })
 plan_is o c e =
     let test : Bool = is_none o.schedule && not o.csv && not o.trace in
     by_test test
     (λ is.
     let a = and_left (is_none o.schedule && not o.csv) (not o.trace) is in (
       sym (some_same (taken test _ _ is e)),
-      made o (record { nodes = o.nodes; schedule = None; csv = false; trace = false }) refl (is_free o.schedule (and_left (is_none o.schedule) (not o.csv) a)) (is_false o.csv (and_right (is_none o.schedule) (not o.csv) a)) (is_false o.trace (and_right (is_none o.schedule && not o.csv) (not o.trace) is)),
+      made o (record { nodes = o.nodes; schedule = None; csv = false; trace = false; prices = o.prices }) refl (is_free o.schedule (and_left (is_none o.schedule) (not o.csv) a)) (is_false o.csv (and_right (is_none o.schedule) (not o.csv) a)) (is_false o.trace (and_right (is_none o.schedule && not o.csv) (not o.trace) is)) refl,
     ))
     (λ isnt. absurd (none_some (passed test _ _ isnt e)))
 
-run_is : (o : Options) (c : Command) → run_of o ≡ Some c → (c ≡ commands.Run o.csv) × (o ≡ record { nodes = None; schedule = None; csv = o.csv; trace = false })
+run_is : (o : Options) (c : Command) → run_of o ≡ Some c → (c ≡ commands.Run o.csv) × (o ≡ record { nodes = None; schedule = None; csv = o.csv; trace = false; prices = false })
 run_is o c e =
-    let test : Bool = is_none o.nodes && is_none o.schedule && not o.trace in
+    let test : Bool = is_none o.nodes && is_none o.schedule && not o.trace && not o.prices in
     by_test test
     (λ is.
-    let a = and_left (is_none o.nodes && is_none o.schedule) (not o.trace) is in (
+    let z = and_left (is_none o.nodes && is_none o.schedule && not o.trace) (not o.prices) is in
+    let a = and_left (is_none o.nodes && is_none o.schedule) (not o.trace) z in (
       sym (some_same (taken test _ _ is e)),
-      made o (record { nodes = None; schedule = None; csv = o.csv; trace = false }) (is_free o.nodes (and_left (is_none o.nodes) (is_none o.schedule) a)) (is_free o.schedule (and_right (is_none o.nodes) (is_none o.schedule) a)) refl (is_false o.trace (and_right (is_none o.nodes && is_none o.schedule) (not o.trace) is)),
+      made o (record { nodes = None; schedule = None; csv = o.csv; trace = false; prices = false }) (is_free o.nodes (and_left (is_none o.nodes) (is_none o.schedule) a)) (is_free o.schedule (and_right (is_none o.nodes) (is_none o.schedule) a)) refl (is_false o.trace (and_right (is_none o.nodes && is_none o.schedule) (not o.trace) z))
+          (is_false o.prices (and_right (is_none o.nodes && is_none o.schedule && not o.trace) (not o.prices) is)),
     ))
     (λ isnt. absurd (none_some (passed test _ _ isnt e)))
 
-live_is : (o : Options) (c : Command) → live_of o ≡ Some c → (c ≡ commands.Live (unwrap_or o.nodes 100000) (unwrap_or o.schedule 0) o.trace) × (o ≡ record { nodes = o.nodes; schedule = o.schedule; csv = false; trace = o.trace })
+live_is : (o : Options) (c : Command) → live_of o ≡ Some c → (c ≡ commands.Live (unwrap_or o.nodes 100000) (unwrap_or o.schedule 0) o.trace) × (o ≡ record { nodes = o.nodes; schedule = o.schedule; csv = false; trace = o.trace; prices = false })
 live_is o c e =
-    by_test (not o.csv)
-    (λ is. (sym (some_same (taken (not o.csv) _ _ is e)), made o (record { nodes = o.nodes; schedule = o.schedule; csv = false; trace = o.trace }) refl refl (is_false o.csv is) refl))
-    (λ isnt. absurd (none_some (passed (not o.csv) _ _ isnt e)))
-
-replan_is : (n : ℕ) (o : Options) (c : Command) → replan_with n o ≡ Some c → (c ≡ commands.Replan n (unwrap_or o.nodes 100000)) × (o ≡ record { nodes = o.nodes; schedule = None; csv = false; trace = false })
-replan_is n o c e =
-    let test : Bool = is_none o.schedule && not o.csv && not o.trace in
+    let test : Bool = not o.csv && not o.prices in
     by_test test
-    (λ is.
-    let a = and_left (is_none o.schedule && not o.csv) (not o.trace) is in (
+    (λ is. (
       sym (some_same (taken test _ _ is e)),
-      made o (record { nodes = o.nodes; schedule = None; csv = false; trace = false }) refl (is_free o.schedule (and_left (is_none o.schedule) (not o.csv) a)) (is_false o.csv (and_right (is_none o.schedule) (not o.csv) a)) (is_false o.trace (and_right (is_none o.schedule && not o.csv) (not o.trace) is)),
+      made o (record { nodes = o.nodes; schedule = o.schedule; csv = false; trace = o.trace; prices = false }) refl refl (is_false o.csv (and_left (not o.csv) (not o.prices) is)) refl (is_false o.prices (and_right (not o.csv) (not o.prices) is)),
     ))
     (λ isnt. absurd (none_some (passed test _ _ isnt e)))
+
+replan_is : (n : ℕ) (o : Options) (c : Command) → replan_with n o ≡ Some c → (c ≡ commands.Replan n (unwrap_or o.nodes 100000)) × (o ≡ record { nodes = o.nodes; schedule = None; csv = false; trace = false; prices = false })
+replan_is n o c e =
+    let test : Bool = is_none o.schedule && not o.csv && not o.trace && not o.prices in
+    by_test test
+    (λ is.
+    let z = and_left (is_none o.schedule && not o.csv && not o.trace) (not o.prices) is in
+    let a = and_left (is_none o.schedule && not o.csv) (not o.trace) z in (
+      sym (some_same (taken test _ _ is e)),
+      made o (record { nodes = o.nodes; schedule = None; csv = false; trace = false; prices = false }) refl (is_free o.schedule (and_left (is_none o.schedule) (not o.csv) a)) (is_false o.csv (and_right (is_none o.schedule) (not o.csv) a)) (is_false o.trace (and_right (is_none o.schedule && not o.csv) (not o.trace) z))
+          (is_false o.prices (and_right (is_none o.schedule && not o.csv && not o.trace) (not o.prices) is)),
+    ))
+    (λ isnt. absurd (none_some (passed test _ _ isnt e)))
+
+-- the line of `plan`, with prices or without them
+plan_spelled : (words : List (List ℕ)) (prices : Bool) (given : Option ℕ) → Line (codes "plan") 3 (record { nodes = given; schedule = None; csv = false; trace = false; prices = prices }) words → Spells words (plan_with prices (unwrap_or given 100000))
+plan_spelled words true given l = (given, l, refl)
+plan_spelled words false given l = (given, l, refl)
 
 -- ---- commands
 
@@ -162,7 +177,7 @@ module _ (rest : List (List ℕ)) (c : Command) where
   plan_found e =
       let b = following plan_of (line_of 3 rest) c e in
       let is = plan_is b.value c b.gives in
-      subst (λ (d : Command). Spells (codes "plan" ∷ rest) d) (sym is.0) (b.value.nodes, line_is (codes "plan") 3 rest _ (b.is ∙ ap (λ o. Some o) is.1), refl)
+      subst (λ (d : Command). Spells (codes "plan" ∷ rest) d) (sym is.0) (plan_spelled (codes "plan" ∷ rest) b.value.prices b.value.nodes (line_is (codes "plan") 3 rest _ (b.is ∙ ap (λ o. Some o) is.1)))
 
   run_found : option_and_then run_of (line_of 4 rest) ≡ Some c → Spells (codes "run" ∷ rest) c
   run_found e =
@@ -247,6 +262,7 @@ many_read rest captures few most all is =
 pub spelled_is_read : (words : List (List ℕ)) (c : Command) → Spells words c → command_of words ≡ Some c
 spelled_is_read words commands.Plain l = let s = stands (codes "plain") 2 no_options words l in ap command_of s.are ∙ ap (option_and_then (bare_of commands.Plain)) s.is
 spelled_is_read words (commands.Plan nodes) (given, l, e) = let s = stands (codes "plan") 3 _ words l in ap command_of s.are ∙ ap (option_and_then plan_of) s.is ∙ ap (λ n. Some (commands.Plan n)) (sym e)
+spelled_is_read words (commands.PlanPrices nodes) (given, l, e) = let s = stands (codes "plan") 3 _ words l in ap command_of s.are ∙ ap (option_and_then plan_of) s.is ∙ ap (λ n. Some (commands.PlanPrices n)) (sym e)
 spelled_is_read words (commands.Run csv) l = let s = stands (codes "run") 4 _ words l in ap command_of s.are ∙ ap (option_and_then run_of) s.is
 spelled_is_read words commands.Emit l = let s = stands (codes "emit") 4 no_options words l in ap command_of s.are ∙ ap (option_and_then (bare_of commands.Emit)) s.is
 spelled_is_read words commands.Finish l = let s = stands (codes "finish") 3 no_options words l in ap command_of s.are ∙ ap (option_and_then (bare_of commands.Finish)) s.is
@@ -261,7 +277,7 @@ spelled_is_read words (commands.Many captures) (few, most, l) =
     let rest : s.rest ≡ l.names = same_rest (sym s.are ∙ all) in
     ap command_of s.are ∙ many_read s.rest captures few most (ap length rest ∙ l.as_many) s.is
 spelled_is_read words (commands.Replan early most) (given, l, n, e) =
-    let opts : Options = record { nodes = given; schedule = None; csv = false; trace = false } in
+    let opts : Options = record { nodes = given; schedule = None; csv = false; trace = false; prices = false } in
     let s = stands (codes "replan") 5 opts words l in
     ap command_of s.are ∙ ap (option_and_then (replan_at s.rest)) s.is
     ∙ ap (option_and_then (λ k. replan_with k opts)) (is_number 0 4294967295 (word_at s.rest 4) early (subst (λ (ws : List (List ℕ)). IsNumber 0 4294967295 (word_at ws 5) early) s.are n))

@@ -9,7 +9,7 @@ use Rattle.sn_cli.specs.Words.{is_file_word, word_at, IsNumber}
 
 -- no option is given
 abbrev pub no_options : Options
-no_options = record { nodes = None; schedule = None; csv = false; trace = false }
+no_options = record { nodes = None; schedule = None; csv = false; trace = false; prices = false }
 
 -- words that are options, in any order and each at most once, and what they say
 pub data AreOptions : List (List ℕ) → Options → Type 0 where
@@ -26,6 +26,9 @@ pub data AreOptions : List (List ℕ) → Options → Type 0 where
   -- `--trace` before options without it
   trace : (words : List (List ℕ)) (rest : Options) → rest.trace ≡ false → AreOptions words rest
       → AreOptions (codes "--trace" ∷ words) (record rest { trace = true })
+  -- `--prices` before options without it
+  prices : (words : List (List ℕ)) (rest : Options) → rest.prices ≡ false → AreOptions words rest
+      → AreOptions (codes "--prices" ∷ words) (record rest { prices = true })
 
 -- a command word, this many file words, and after all of them the options that say this
 pub record Line (command : List ℕ) (files : ℕ) (options : Options) (words : List (List ℕ)) : Type 0 where
@@ -48,10 +51,15 @@ abbrev pub Spells : List (List ℕ) → Command → Type 0
 -- `plain QUERIES CAPTURE`
 Spells words commands.Plain = Line (codes "plain") 2 no_options words
 -- `plan SWITCH QUERIES TRAIN [--nodes N]`
-Spells words (commands.Plan most) = (given : Option ℕ) × Line (codes "plan") 3 (record { nodes = given; schedule = None; csv = false; trace = false }) words
+Spells words (commands.Plan most) =
+    (given : Option ℕ) × Line (codes "plan") 3 (record { nodes = given; schedule = None; csv = false; trace = false; prices = false }) words
+    × (most ≡ unwrap_or given 100000)
+-- `plan SWITCH QUERIES TRAIN --prices [--nodes N]`
+Spells words (commands.PlanPrices most) =
+    (given : Option ℕ) × Line (codes "plan") 3 (record { nodes = given; schedule = None; csv = false; trace = false; prices = true }) words
     × (most ≡ unwrap_or given 100000)
 -- `run SWITCH QUERIES PLAN CAPTURE [--csv]`
-Spells words (commands.Run table) = Line (codes "run") 4 (record { nodes = None; schedule = None; csv = table; trace = false }) words
+Spells words (commands.Run table) = Line (codes "run") 4 (record { nodes = None; schedule = None; csv = table; trace = false; prices = false }) words
 -- `emit SWITCH QUERIES PLAN CAPTURE`
 Spells words commands.Emit = Line (codes "emit") 4 no_options words
 -- `finish QUERIES PLAN REPORTS`
@@ -60,7 +68,7 @@ Spells words commands.Finish = Line (codes "finish") 3 no_options words
 Spells words commands.Check = Line (codes "check") 4 no_options words
 -- `live SWITCH QUERIES TRAIN CAPTURE [--nodes N] [--schedule K] [--trace]`
 Spells words (commands.Live most turn events) =
-    (given chosen : Option ℕ) × Line (codes "live") 4 (record { nodes = given; schedule = chosen; csv = false; trace = events }) words
+    (given chosen : Option ℕ) × Line (codes "live") 4 (record { nodes = given; schedule = chosen; csv = false; trace = events; prices = false }) words
     × (most ≡ unwrap_or given 100000) × (turn ≡ unwrap_or chosen 0)
 -- `detect QUERIES PLAN CAPTURE`
 Spells words commands.Detect = Line (codes "detect") 3 no_options words
@@ -68,7 +76,7 @@ Spells words commands.Detect = Line (codes "detect") 3 no_options words
 Spells words (commands.Many captures) = (2 ≤ captures) × (captures ≤ 8) × Line (codes "many") (3 + captures) no_options words
 -- `replan SWITCH QUERIES TRAIN CAPTURE MOST [--nodes N]`: the fifth word is a number from 0 to 4294967295
 Spells words (commands.Replan early most) =
-    (given : Option ℕ) × Line (codes "replan") 5 (record { nodes = given; schedule = None; csv = false; trace = false }) words
+    (given : Option ℕ) × Line (codes "replan") 5 (record { nodes = given; schedule = None; csv = false; trace = false; prices = false }) words
     × IsNumber 0 4294967295 (word_at words 5) early × (most ≡ unwrap_or given 100000)
 -- `gen NUMBER`
 Spells words (commands.Gen number) = Numbered (codes "gen") number words

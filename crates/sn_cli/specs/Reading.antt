@@ -1,6 +1,6 @@
 -- serves proofs
 -- How words are read, one after another. That this finds what words spell is proved.
-use Rattle.std.specs.Prelude.{ℕ, ◌-◌, List, [], ◌∷◌, Bool, true, not, ◌&&◌, ◌||◌, ◌==◌, nat_eq, nat_lt, nat_le, length, take, drop, Option, Some, None, is_none}
+use Rattle.std.specs.Prelude.{ℕ, ◌-◌, List, [], ◌∷◌, Bool, true, false, not, ◌&&◌, ◌||◌, ◌==◌, nat_eq, nat_lt, nat_le, length, take, drop, Option, Some, None, is_none}
 use Rattle.std.specs.Prelude.{unwrap_or, option_and_then, option_map, codes, if◌then◌else◌}
 use Rattle.std.specs.List.{list_all}
 use Rattle.std.specs.Cmp.Lexicographic.{pointwise}
@@ -28,12 +28,13 @@ number_of least most word = if (length word == 0) || nat_lt 10 (length word) the
 -- ---- options
 
 abbrev pub is_flag : List ℕ → Bool
-is_flag word = same word (codes "--csv") || same word (codes "--trace")
+is_flag word = same word (codes "--csv") || same word (codes "--trace") || same word (codes "--prices")
 
 abbrev pub flag_of : List ℕ → Options → Option Options
 flag_of word given =
     if same word (codes "--csv") && not given.csv then Some (record given { csv = true })
     else if same word (codes "--trace") && not given.trace then Some (record given { trace = true })
+    else if same word (codes "--prices") && not given.prices then Some (record given { prices = true })
     else None
 
 abbrev pub with_nodes : Options → ℕ → Options
@@ -71,16 +72,23 @@ lone_number (word ∷ []) = number_of 0 4294967295 word
 lone_number words = None
 
 abbrev pub bare_of : Command → Options → Option Command
-bare_of command given = if is_none given.nodes && is_none given.schedule && not given.csv && not given.trace then Some command else None
+bare_of command given =
+    if is_none given.nodes && is_none given.schedule && not given.csv && not given.trace && not given.prices then Some command else None
+
+-- with prices or without them
+abbrev pub plan_with : Bool → ℕ → Command
+plan_with true most = commands.PlanPrices most
+plan_with false most = commands.Plan most
 
 abbrev pub plan_of : Options → Option Command
-plan_of given = if is_none given.schedule && not given.csv && not given.trace then Some (commands.Plan (unwrap_or given.nodes 100000)) else None
+plan_of given = if is_none given.schedule && not given.csv && not given.trace then Some (plan_with given.prices (unwrap_or given.nodes 100000)) else None
 
 abbrev pub run_of : Options → Option Command
-run_of given = if is_none given.nodes && is_none given.schedule && not given.trace then Some (commands.Run given.csv) else None
+run_of given = if is_none given.nodes && is_none given.schedule && not given.trace && not given.prices then Some (commands.Run given.csv) else None
 
 abbrev pub live_of : Options → Option Command
-live_of given = if not given.csv then Some (commands.Live (unwrap_or given.nodes 100000) (unwrap_or given.schedule 0) given.trace) else None
+live_of given =
+    if not given.csv && not given.prices then Some (commands.Live (unwrap_or given.nodes 100000) (unwrap_or given.schedule 0) given.trace) else None
 
 -- each word names a file: three texts, and the captures
 abbrev pub many_of : List (List ℕ) → Option Command
@@ -90,7 +98,7 @@ many_of rest =
 
 abbrev pub replan_with : ℕ → Options → Option Command
 replan_with most given =
-    if is_none given.schedule && not given.csv && not given.trace then Some (commands.Replan most (unwrap_or given.nodes 100000)) else None
+    if is_none given.schedule && not given.csv && not given.trace && not given.prices then Some (commands.Replan most (unwrap_or given.nodes 100000)) else None
 
 -- the fifth word is a number too
 abbrev pub replan_at : List (List ℕ) → Options → Option Command

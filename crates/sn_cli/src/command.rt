@@ -17,6 +17,11 @@ pub enum Command {
         /// The most nodes that the tree may expand, 1 to 1000000.
         nodes: u32,
     },
+    /// `plan SWITCH QUERIES TRAIN --prices [--nodes N]`: a plan, its cost, and prices that show what no plan costs less than.
+    PlanPrices {
+        /// The most steps of each attempt to make a cheaper plan, 1 to 1000000.
+        nodes: u32,
+    },
     /// `run SWITCH QUERIES PLAN CAPTURE [--csv]`: the answers along a plan, and the tuples emitted.
     Run {
         /// The answers as comma-separated values.

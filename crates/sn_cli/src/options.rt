@@ -16,6 +16,8 @@ pub struct Options {
     pub csv: bool,
     /// `--trace` is given.
     pub trace: bool,
+    /// `--prices` is given.
+    pub prices: bool,
 }
 
 /// No option is given.
@@ -24,13 +26,14 @@ pub const NO_OPTIONS: Options = Options {
     schedule: None,
     csv: false,
     trace: false,
+    prices: false,
 };
 
 /// Whether a word is an option without a number.
 fn is_flag(word: &str) -> bool
     ensures { result ≡ is_flag word.now }
 {
-    word == "--csv" || word == "--trace"
+    word == "--csv" || word == "--trace" || word == "--prices"
 }
 
 /// What is given with an option without a number, if it wasn't given before.
@@ -42,6 +45,11 @@ fn flag(word: &str, given: Options) -> Option<Options>
     } else if word == "--trace" && !given.trace {
         Some(Options {
             trace: true,
+            ..given
+        })
+    } else if word == "--prices" && !given.prices {
+        Some(Options {
+            prices: true,
             ..given
         })
     } else {
@@ -70,7 +78,7 @@ fn numbered(word: &str, following: &str, given: Options) -> Option<Options>
     }
 }
 
-/// Reads words that are options, none of them given before. Each turn gives one that wasn't, so there are at most five.
+/// Reads words that are options, none of them given before. Each turn gives one that wasn't, so there are at most six.
 pub fn read_options(words: &[String], given: Options) -> Option<Options>
     ensures { result ≡ options_from given (texts words.now) }
 {

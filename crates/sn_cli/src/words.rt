@@ -2,7 +2,7 @@
 ghost use Rattle.std.specs.Prelude.{◌≡◌, IfOk, IsErr};
 ghost use Rattle.sn_cli.specs.declared.command.Command.{Command};
 ghost use Rattle.sn_cli.specs.Grammar.{Spells};
-ghost use Rattle.sn_cli.specs.Reading.{all_file_words, line_of, lone_number, bare_of, plan_of, run_of, live_of, many_of, replan_with, replan_of};
+ghost use Rattle.sn_cli.specs.Reading.{all_file_words, line_of, lone_number, bare_of, plan_with, plan_of, run_of, live_of, many_of, replan_with, replan_of};
 ghost use Rattle.sn_cli.specs.Reading.{command_with, command_of};
 ghost use Rattle.sn_cli.specs.Words.{texts, is_file_word, word_at};
 
@@ -10,7 +10,7 @@ use crate::command::{Command, WordFault};
 use crate::numbers::number;
 use crate::options::{NO_OPTIONS, Options, read_options};
 
-/// The most nodes that a tree may expand where no number is given.
+/// The most nodes that a tree may expand, or steps that an attempt may take, where no number is given.
 const NODES: u32 = 100_000;
 
 /// The texts before the captures of `many`: those of the switch, the queries and the plan.
@@ -74,8 +74,20 @@ fn bare(command: Command, given: Options) -> Option<Command>
             schedule: None,
             csv: false,
             trace: false,
+            prices: false,
         } => Some(command),
         _ => None,
+    }
+}
+
+/// `plan`, with prices or without them.
+fn plan_with(prices: bool, nodes: u32) -> Command
+    ensures { result ≡ plan_with prices nodes }
+{
+    if prices {
+        Command::PlanPrices { nodes }
+    } else {
+        Command::Plan { nodes }
     }
 }
 
@@ -88,9 +100,8 @@ fn plan(given: Options) -> Option<Command>
             schedule: None,
             csv: false,
             trace: false,
-        } => Some(Command::Plan {
-            nodes: nodes.unwrap_or(NODES),
-        }),
+            prices,
+        } => Some(plan_with(prices, nodes.unwrap_or(NODES))),
         _ => None,
     }
 }
@@ -104,6 +115,7 @@ fn run(given: Options) -> Option<Command>
             schedule: None,
             csv,
             trace: false,
+            prices: false,
         } => Some(Command::Run { csv }),
         _ => None,
     }
@@ -118,6 +130,7 @@ fn live(given: Options) -> Option<Command>
             schedule,
             csv: false,
             trace,
+            prices: false,
         } => Some(Command::Live {
             nodes: nodes.unwrap_or(NODES),
             schedule: schedule.unwrap_or(0),
@@ -157,6 +170,7 @@ fn replan_with(most: u32, given: Options) -> Option<Command>
             schedule: None,
             csv: false,
             trace: false,
+            prices: false,
         } => Some(Command::Replan {
             most,
             nodes: nodes.unwrap_or(NODES),

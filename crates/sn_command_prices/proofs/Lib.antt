@@ -1,4 +1,5 @@
 pub mod Alike
+pub mod Bare
 pub mod Counted
 pub mod Verdicts
 pub mod Makes

@@ -10,7 +10,7 @@ use Rattle.sn_types.specs.declared.typed_query.TypedQuery.{TypedQuery}
 use Rattle.sn_windows.specs.Rising.{Window}
 use Rattle.sn_command_prices.specs.Priced.{PricedFor, price_verdict, priced_cost, priced_least}
 
-equal_is : (n : ℕ) → (n == n) ≡ true
+pub equal_is : (n : ℕ) → (n == n) ≡ true
 equal_is n = grind (arith, nat_tests)
 
 reported_as_is : (cost least : ℕ) → Ok tt ≡ price_verdict cost least cost least

@@ -80,12 +80,12 @@ fn least_of(o: &Offers, sheet: &mut Sheet) -> u64 {
 /// names: each query at its finest level alone, with cut 0. Such pieces take up nothing of a switch, so that this comes only where
 /// what a piece costs, in parts of an item, reaches 2^64 - 1.
 ///
-/// The prices' numbers are in the text's ranges (`AreWritable`). Nothing else is promised: that the plan fits, what it costs and what the prices show is tested by
+/// Each of up to three attempts takes at most `most` steps. The prices' numbers are in the text's ranges (`AreWritable`). Nothing else is promised: that the plan fits, what it costs and what the prices show is tested by
 /// whoever writes them.
 ///
 /// # Errors
 /// Out of memory.
-pub fn find(t: &Typed, s: &Switch, c: &CostTable) -> Result<Found, Memory>
+pub fn find(t: &Typed, s: &Switch, c: &CostTable, most: u32) -> Result<Found, Memory>
     requires switch { IsSwitch s.now }
     requires places { HasPlaces c.now (length t.now.queries) }
     ensures { IfOk result (λ found. AreWritable found.prices) }
@@ -94,7 +94,7 @@ pub fn find(t: &Typed, s: &Switch, c: &CostTable) -> Result<Found, Memory>
     let o = gather(t.alloc, s, known.as_slice())?;
     let mut sheet = ascend(t.alloc, &o)?;
     let least = least_of(&o, &mut sheet);
-    let found = search(t.alloc, &o, &sheet, least)?;
+    let found = search(t.alloc, &o, &sheet, least, most)?;
     let choices = choices_of(t.alloc, &o, found.as_slice())?;
     let plan = plan_of(t, s, choices.as_slice())?;
     let prices = writable(t.alloc, &sheet)?;

@@ -11,8 +11,6 @@ use sn_prices_dual::sheet::Sheet;
 use sn_prices_offers::offers::Offers;
 use std::alloc::Global;
 
-/// The steps that a search takes at most.
-const STEPS: usize = 1000000;
 /// The steps that may change nothing before it ends.
 const IDLE: usize = 7000;
 /// How often a plan is made anew, with other numbers drawn.
@@ -46,16 +44,17 @@ fn numbers_below(alloc: Global, count: usize) -> Result<Vec<usize>, Memory> {
     Ok(numbers)
 }
 
-/// Takes steps until the plan costs no more than this, or long enough none made it cheaper.
+/// Takes at most so many steps, until the plan costs no more than this, or long enough none made it cheaper.
 fn improve(
     alloc: Global,
     o: &Offers,
     sheet: &Sheet,
     making: &mut Making,
     least: u64,
+    most: u32,
 ) -> Result<(), Memory> {
     let mut idle: usize = 0;
-    for _ in 0..STEPS {
+    for _ in 0..most {
         if idle >= IDLE || cost_of(making.choices.as_slice()) <= least {
             return Ok(());
         }
@@ -98,6 +97,7 @@ fn attempt(
     o: &Offers,
     sheet: &Sheet,
     least: u64,
+    most: u32,
     number: u64,
 ) -> Result<Making, Memory> {
     let mut board = bare(alloc, o)?;
@@ -113,26 +113,32 @@ fn attempt(
         order,
         draws: Draws { number },
     };
-    improve(alloc, o, sheet, &mut making, least)?;
+    improve(alloc, o, sheet, &mut making, least, most)?;
     Ok(making)
 }
 
 /// How each query stands in a plan that costs little, guided by prices. `least`: a number that no plan is known to cost less than;
 /// the search ends there. Where the queries, put in one after another, don't all find room, there are no choices, and no other
-/// attempt is made: each begins alike.
+/// attempt is made: each begins alike. Each of up to three attempts takes at most `most` steps.
 ///
 /// That it is the least isn't promised, nor that it fits: whoever runs it has it tested.
 ///
 /// # Errors
 /// Out of memory.
-pub fn search(alloc: Global, o: &Offers, sheet: &Sheet, least: u64) -> Result<Vec<Choice>, Memory> {
-    let mut best = attempt(alloc, o, sheet, least, 1)?;
+pub fn search(
+    alloc: Global,
+    o: &Offers,
+    sheet: &Sheet,
+    least: u64,
+    most: u32,
+) -> Result<Vec<Choice>, Memory> {
+    let mut best = attempt(alloc, o, sheet, least, most, 1)?;
     for number in 2..ATTEMPTS + 1 {
         let cost = cost_of(best.choices.as_slice());
         if cost <= least {
             break;
         }
-        let other = attempt(alloc, o, sheet, least, number)?;
+        let other = attempt(alloc, o, sheet, least, most, number)?;
         if cost_of(other.choices.as_slice()) < cost {
             best = other;
         }

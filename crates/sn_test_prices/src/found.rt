@@ -11,7 +11,7 @@ fn found(rt: &HostRuntime, space: &Space<'_>) -> Option<(u64, u128)> {
     let typed = queries(rt.alloc(), space.queries)?;
     let switch = switch(rt.alloc(), space.switch)?;
     let table = table(&typed, &switch, space.counts)?;
-    let found = find(&typed, &switch, &table).ok()?;
+    let found = find(&typed, &switch, &table, 1000000).ok()?;
     match fits(&typed, &switch, &found.plan) {
         Ok(()) => {}
         Err(_) => return None,

@@ -74,6 +74,7 @@ by_live reported nodes schedule false words w = begun w
 pub by_work : (reported : Telling) (command : Command) (words : List (List ℕ)) {before now : World} {answer : Result (Unit {0}) Refusal} → IsWork reported command words before answer now → Begun before answer now
 by_work reported commands.Plain words w = begun w
 by_work reported (commands.Plan nodes) words w = begun w
+by_work reported (commands.PlanPrices nodes) words w = begun w.works
 by_work reported (commands.Run csv) words w = begun w
 by_work reported commands.Emit words w = begun w
 by_work reported commands.Finish words w = begun w

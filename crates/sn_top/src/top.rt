@@ -20,7 +20,7 @@ ghost use Rattle.sn_command.specs.Worlds.{OutRose};
 ghost use Rattle.sn_top.specs.Plain.{Plain};
 ghost use Rattle.sn_command_run.specs.Run.{Run};
 ghost use Rattle.sn_command_run.specs.Planned.{as_they_are};
-ghost use Rattle.sn_top.specs.Top.{IsLiveWork, IsUsage, IsWork, around};
+ghost use Rattle.sn_top.specs.Top.{IsLiveWork, IsPricedRun, IsUsage, IsWork, around};
 
 use crate::plain::plain;
 use sn_cli::command::Command;
@@ -39,6 +39,7 @@ use sn_command_live::live::live;
 use sn_command_live::plan::plan;
 use sn_command_live::traced::live_traced;
 use sn_command_many::several::many;
+use sn_command_priced::plan::plan_by_prices;
 use sn_command_replan::replan::replan;
 use sn_command_run::run::run as answer_along;
 use sn_core_drive::machine::Machine;
@@ -115,6 +116,7 @@ fn work<M: Machine, I: Inputs, O: Sink>(
     match command {
         Command::Plain => plain(alloc, first, second, desk),
         Command::Plan { nodes } => plan(alloc, first, second, third, nodes, desk),
+        Command::PlanPrices { nodes } => plan_by_prices(alloc, first, second, third, nodes, desk),
         Command::Run { csv } => answer_along::<M, I, O>(
             alloc, csv, first, second, third, fourth, desk,
         ),
@@ -235,6 +237,12 @@ pub fn top<M: Machine, I: Inputs, O: Sink, E: Sink>(
     ensures planned { (nodes : ℕ) → Spells (texts words.now) (Command.Plan nodes) →
         IsCommandRun (word_at (texts words.now) 2 ∷ word_at (texts words.now) 1 ∷ word_at (texts words.now) 3 ∷ [])
         (Plan (word_at (texts words.now) 1) (word_at (texts words.now) 2) (word_at (texts words.now) 3) nodes)
+        (around I.Inputs O.Sink E.Sink files.old out.old err.old) result (around I.Inputs O.Sink E.Sink files.new out.new err.new) }
+
+    // `plan SWITCH QUERIES TRAIN --prices`, with the number of `--nodes`: for what the files hold a plan that fits is chosen, with its cost and with
+    // prices that show a number that no plan costs less than, and the run is that of the stages that write it.
+    ensures priced { (nodes : ℕ) → Spells (texts words.now) (Command.PlanPrices nodes) →
+        IsPricedRun (word_at (texts words.now) 1) (word_at (texts words.now) 2) (word_at (texts words.now) 3)
         (around I.Inputs O.Sink E.Sink files.old out.old err.old) result (around I.Inputs O.Sink E.Sink files.new out.new err.new) }
 
     // `live SWITCH QUERIES TRAIN CAPTURE`, with the number of `--nodes` and without `--trace`: the run is that of its stages, whatever the schedule.

@@ -92,6 +92,13 @@ returns-clause-planned g c = λ nodes spells.
     let out : c.out-1.given.0 ≡ c.run-answer.new.desk.out.now = search rules in
     rw (c.end_status.ensures, files, out) (command_run _ _ c.run-answer.result _ _ _ _ (c.run-answer.ensures.works (commands.Plan nodes) spells) c.tell.ensures)
 
+pub returns-clause-priced : goal.returns-clause-priced
+returns-clause-priced g c = λ nodes spells.
+    let files : c.files-1.given.0 ≡ c.run-answer.new.desk.files.now = search rules in
+    let out : c.out-1.given.0 ≡ c.run-answer.new.desk.out.now = search rules in
+    let work = c.run-answer.ensures.works (commands.PlanPrices nodes) spells in
+    rw (c.end_status.ensures, files, out) (record { choose = work.choose; right = work.right; run = command_run _ _ c.run-answer.result _ _ _ _ work.works c.tell.ensures })
+
 pub returns-clause-live : goal.returns-clause-live
 returns-clause-live g c = λ nodes schedule spells.
     let files : c.files-1.given.0 ≡ c.run-answer.new.desk.files.now = search rules in

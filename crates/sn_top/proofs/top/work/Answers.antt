@@ -6,6 +6,7 @@ use Rattle.sn_command_detect.specs.Detects.{Detects}
 use Rattle.sn_command_emit.specs.Emit.{Emit}
 use Rattle.sn_command_finish.specs.Finish.{Finish}
 use Rattle.sn_command_live.specs.Live.{Plan}
+use Rattle.sn_command_priced.specs.PlanPrices.{PlansByPrices}
 use Rattle.sn_command_replan.specs.Replan.{Replans}
 use Rattle.sn_command_run.specs.Run.{Run}
 use Rattle.sn_command.specs.Desks.{world}
@@ -21,6 +22,10 @@ returns-in-Plain g c =
 pub returns-in-Plan : goal.returns-in-Plan
 returns-in-Plan g c =
     rw c.in-Plan.is (of_three (λ (switch queries train : List ℕ). WorksFrom 2 (queries ∷ switch ∷ train ∷ []) (Plan switch queries train c.in-Plan.nodes) (world g.I.Inputs g.O.Sink c.args.desk.now) c.plan.result (world g.I.Inputs g.O.Sink c.plan.new.desk)) c.word-first.ensures c.word-second.ensures c.word-third.ensures c.plan.ensures)
+
+pub returns-in-PlanPrices : goal.returns-in-PlanPrices
+returns-in-PlanPrices g c =
+    rw c.in-PlanPrices.is (of_three (λ (switch queries train : List ℕ). PlansByPrices switch queries train (world g.I.Inputs g.O.Sink c.args.desk.now) c.plan_by_prices.result (world g.I.Inputs g.O.Sink c.plan_by_prices.new.desk)) c.word-first.ensures c.word-second.ensures c.word-third.ensures c.plan_by_prices.ensures)
 
 pub returns-in-Run : goal.returns-in-Run
 returns-in-Run g c =
