@@ -6,7 +6,9 @@
 Each crate of crates.txt must stand once in docs/ARCHITECTURE.md, under the heading that it has in crates.txt, and in docs/PROVED.md where it isn't one of tests
 or the program; and each path of a crate that a document names must be there, and the code of each CALLING.md must be that of a file of sn_test_callers, and that of docs/CALLING.md of
 sonata_entries, which the gate proves; and crates.txt may name below a crate only those that its text names. Under each "Proved" of docs/PROVED.md a crate's part must name a clause, a
-function or a definition that stands in that crate, and each name in brackets must stand in some crate. Prints how many crates there are, and the longest chain. The status is 0
+function or a definition that stands in that crate, and each name in brackets must stand in some crate; its lines have at most 300 signs, as a sentence has a line there. No count of `bounds.py` may be
+past its bound: what a reader must believe, and what is long or says too little, with the poorer words of CONTRIBUTING.md, of which no name has one. Prints how many crates there are, the
+longest chain, and the counts. The status is 0
 only where all is so. Python 3 alone."""
 
 import functools
@@ -14,6 +16,8 @@ import glob
 import os
 import re
 import sys
+
+import bounds
 
 TOP = os.path.dirname(os.path.dirname(os.path.abspath(__file__)))
 ROOM = re.compile(r'^\*\*([^*\n]+)\*\*:[^\n]*\n+```\n(.*?)```', re.M | re.S)
@@ -97,6 +101,13 @@ def unnamed_clauses(rooms):
             yield from (f'docs/PROVED.md: ({name}) stands in no crate' for name in sorted(bracketed - every))
 
 
+def long_lines():
+    """The lines of docs/PROVED.md that are too long to be read in a diff."""
+    for number, line in enumerate(text('docs', 'PROVED.md').splitlines(), 1):
+        if len(line) > 300:
+            yield f'docs/PROVED.md:{number}: {len(line)} signs on a line, and a sentence has a line'
+
+
 def is_there(crate, path, ending):
     """Whether a crate has a file or folder, or a definition file, test file or table of cases of this name."""
     folder = os.path.join(TOP, 'crates', crate)
@@ -127,7 +138,8 @@ def main():
     rooms, below = listed()
     chain = longest(below)
     print(f'{len(rooms)} crates, the longest chain has {len(chain)}: {" ".join(chain)}')
-    wrong = [*off_the_map(rooms), *unnamed(below), *lost_paths(), *unproved_callers(), *unnamed_clauses(rooms)]
+    counts = bounds.past()
+    wrong = [*counts, *off_the_map(rooms), *unnamed(below), *lost_paths(), *unproved_callers(), *unnamed_clauses(rooms), *long_lines()]
     print('\n'.join(wrong) or 'the documents name the house as it is')
     return 1 if wrong else 0
 
