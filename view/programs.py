@@ -57,3 +57,9 @@ def searched(program, switch, queries, capture, nodes):
     if status == 0:
         return text, int(text.split('\ncost ')[1].split(';')[0])
     return None, int(line.split()[-1])
+
+
+def priced(program, switch, queries, capture):
+    """What the plan of `plan --prices` costs, and the least that any plan that fits costs, as far as its prices show it."""
+    text = answered([program, 'plan', switch, queries, capture, '--prices'])[1]
+    return tuple(int(text.split('\n%s ' % word)[1].split(';')[0]) for word in ('cost', 'least'))

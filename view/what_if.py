@@ -7,8 +7,8 @@
     what_if.py SWITCH QUERIES TRAIN slots 128 128,512 128,512,2048 -o slots.svg
 
 The word is one of the switch text: stages, actions, bits, meta, chain, slots, entries or weight. All else stays as the text says. Each switch gets the plan of `sonata
-plan`, with a budget of --nodes. Where the search doesn't end, some_plan.py looks for a plan that fits, and the picture has a part of another colour from what that plan sends
-down to the least that any plan sends, as far as `sonata` knows it. A table of the same stands on standard output; in the picture
+plan --prices`, with the least that its prices show; where that is below the cost, `plan` may search with a budget of --nodes too. What lies between the two has another
+colour in the picture. A table of the same stands on standard output; in the picture
 the values stand side by side, each with a bar of its own, since what lies between two of them wasn't asked."""
 
 import os
@@ -18,7 +18,6 @@ import tempfile
 
 import pictures
 import programs
-import some_plan
 import texts
 from texts import switches, tokens
 
@@ -78,19 +77,20 @@ def bought(before, after):
     return '%s %s' % ('buys' if after < before else 'costs', format(abs(before - after), ','))
 
 
-def asked(given, value, known):
+def asked(given, value):
     """The point of a value."""
     with tempfile.TemporaryDirectory(prefix='sonata-what-if-') as folder:
         name = os.path.join(folder, 'other.switch')
         text = switch_text(texts.read_switch(given.switch), given.word, value)
         with open(name, 'w') as file:
             file.write(text)
-        switch = parsed(text, given.word, value)
-        found, least = programs.searched(given.sonata, name, given.queries, given.train, given.nodes)
-        if found is not None:
-            return Point(value, least, least)
-        entries = known.setdefault((switch.chain, tuple(switch.slots), switch.entries, switch.weight), {})
-        return Point(value, some_plan.planned(given.sonata, (name, given.queries, given.train), given.seconds, known=entries)[1], least)
+        parsed(text, given.word, value)
+        files = name, given.queries, given.train
+        sends, least = programs.priced(given.sonata, *files)
+        if least < sends:
+            found, known = programs.searched(given.sonata, *files, given.nodes)
+            sends, least = (known, known) if found is not None else (sends, max(least, known))
+        return Point(value, sends, least)
 
 
 def drawn(points, word):
@@ -121,22 +121,21 @@ def drawn(points, word):
 
 
 def main():
-    words = pictures.command_line(__doc__, pictures.PACKAGE + '\nWhere a search does not end, python3-scipy too.')
+    words = pictures.command_line(__doc__, pictures.PACKAGE)
     words.add_argument('switch')
     words.add_argument('queries')
     words.add_argument('train', help='the training capture')
     words.add_argument('word', choices=WORDS)
     words.add_argument('values', nargs='+', help='numbers, ranges as 4..10 or 32768..131072/16384, or for slots lists as 128,512')
     words.add_argument('--nodes', type=int, default=20000, help='the budget of each search (default 20000)')
-    words.add_argument('--seconds', type=float, default=60, help='where a search does not end, give the integer program so long (default 60)')
     programs.add_option(words)
     given = words.parse_args()
     pictures.form_of(given.output)
     pictures.drawing()
     programs.readable(given.switch, given.queries, given.train)
-    known, points = {}, []
+    points = []
     for value in values_of(given.word, given.values):
-        points.append(asked(given, value, known))
+        points.append(asked(given, value))
         print('%s %s' % (given.word, points[-1].words(points[-2] if points[1:] else None)), flush=True)
     pictures.save(drawn(points, given.word), given.output)
     return 0
